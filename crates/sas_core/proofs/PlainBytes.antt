@@ -1,0 +1,37 @@
+-- What a search for LF and CR says of the bytes.
+use Rattle.std.proofs.Common.{◌≡◌, ℕ, Bool, true, false, not, ◌&&◌, ◌||◌, ◌==◌, List, Option, Some, None, get_or, refl, sym, ◌∙◌, ap, arith}
+use Rattle.std.specs.List.{list_all}
+use Rattle.std.specs.Option.{is_some}
+use Rattle.std.proofs.lemmas.List.Folds.{list_all_at}
+use Rattle.std.proofs.lemmas.List.Elements.{All-from_get_or}
+use Rattle.std.proofs.lemmas.List.Sums.{list_all-from_AllPass}
+use Rattle.memchr.specs.Find.{IsFirstByte, is_byte2}
+use Rattle.sas_core.specs.Names.{is_plain}
+
+neither : (a b : Bool) → (not a && not b) ≡ not (a || b)
+neither true b = refl
+neither false b = refl
+
+is_plain-not_found : (byte : ℕ) → is_plain byte ≡ not (is_byte2 10 13 byte)
+is_plain-not_found byte = neither (byte == 10) (byte == 13)
+
+not-refuted : (b : Bool) → (b ≡ true → ⊥) → not b ≡ true
+not-refuted true never = absurd (never refl)
+not-refuted false _ = refl
+
+not-twice : (b : Bool) → b ≡ not (not b)
+not-twice true = refl
+not-twice false = refl
+
+-- a search for LF and CR finds a byte where some byte is one of these
+is_some-search : (bytes : List ℕ) (found : Option ℕ) → IsFirstByte (is_byte2 10 13) bytes found → is_some found ≡ not (list_all is_plain bytes)
+is_some-search bytes None nowhere =
+    ap not (sym (list_all-from_AllPass is_plain bytes (All-from_get_or (λ byte. is_plain byte ≡ true) bytes 0 (λ k below.
+    is_plain-not_found (get_or bytes k 0) ∙ not-refuted _ (nowhere k (omega arith) below)))))
+is_some-search bytes (Some k) here =
+    ap not (sym (list_all_at is_plain bytes k 0 here.0.high (is_plain-not_found (get_or bytes k 0) ∙ ap not here.1)))
+
+-- it finds none exactly where each byte is plain
+pub is_none-search : (bytes : List ℕ) (found : Option ℕ) (none : Bool) → IsFirstByte (is_byte2 10 13) bytes found → is_some found ≡ not none → none ≡ list_all is_plain bytes
+is_none-search bytes found none first said =
+    not-twice none ∙ ap not (sym said ∙ is_some-search bytes found first) ∙ sym (not-twice _)

@@ -1,0 +1,8 @@
+-- Each step so far is a name.
+use Rattle.std.proofs.Common.{take}
+use Rattle.std.specs.List.{AllByRecursion}
+use Rattle.sas_core.specs.Names.{IsName}
+use Rattle.sas_core.proofs.plan.first_bad_name.Given as goal
+
+abbrev pub invariant-loop-i : goal.invariant-loop-i
+invariant-loop-i l = AllByRecursion IsName (take l.i l.steps)

@@ -1,0 +1,24 @@
+-- Which plans there are.
+use Rattle.std.specs.Prelude.{◌≡◌, ℕ, ◌+◌, ◌^◌, ◌<◌, List, ◌∷◌, ◌++◌, length}
+use Rattle.std.specs.List.{AllByRecursion}
+use Rattle.sas_core.specs.Names.{IsName}
+use Rattle.sas_core.specs.PlanParts.{PlanParts}
+
+-- a plan's cost is at most 18,446,744,073,709,551,615
+abbrev pub IsPlanCost : ℕ → Type 0
+IsPlanCost n = n < 2 ^ 64
+
+-- each step is a name, and the cost is one that a plan file can say
+pub record WellNamed (p : PlanParts) : Type 0 where
+  pub steps : AllByRecursion IsName p.steps
+  pub cost : IsPlanCost p.cost
+
+-- the first step that isn't a name, counted from 1
+pub record IsFirstBadName (steps : List (List ℕ)) (step : ℕ) : Type 0 where
+  pub before : List (List ℕ)
+  pub bad : List ℕ
+  pub after : List (List ℕ)
+  pub whole : steps ≡ before ++ bad ∷ after
+  pub names : AllByRecursion IsName before
+  pub no_name : IsName bad → ⊥
+  pub place : step ≡ length before + 1

@@ -1,0 +1,109 @@
+// Plans: the names of their steps, and their cost.
+ghost use Rattle.std.specs.Prelude.{◌≡◌, IfOk, IfErr, IfSome, IfNone, IsOk, ◌↔◌};
+ghost use Rattle.std.specs.List.{AllByRecursion};
+ghost use Rattle.sas_core.specs.Names.{IsName};
+ghost use Rattle.sas_core.specs.PlanParts.{PlanParts};
+ghost use Rattle.sas_core.specs.Plans.{WellNamed, IsFirstBadName};
+
+use crate::items::Items;
+use crate::names::is_name;
+use std::marker::Model;
+
+/// The words behind a plan's cost. They are kept, and no verdict rests on them.
+#[derive(Clone, Copy, Debug, PartialEq, Eq)]
+pub enum CostKind {
+    /// `(unit cost)`
+    Unit,
+    /// `(general cost)`
+    General,
+}
+
+/// A step that isn't a name: the first one, counted from 1.
+#[derive(Clone, Copy, Debug, PartialEq, Eq)]
+pub struct BadName {
+    pub step: usize,
+}
+
+/// A plan: each step is a name. Two plans are equal if their steps, their costs and the words behind these are.
+#[derive(Debug, PartialEq, Eq, Drop)]
+pub struct Plan {
+    steps: Items<Items<u8>>,
+    cost: u64,
+    kind: CostKind,
+}
+
+impl Model for Plan {
+    ghost use Rattle.sas_core.specs.PlanParts.{PlanParts};
+    ghost use Rattle.sas_core.specs.Plans.{WellNamed};
+
+    ghost Value = { PlanParts };
+
+    ghost view = { λ p. record { steps = p.steps; cost = p.cost; kind = p.kind } };
+
+    ghost invariant = { λ p. WellNamed (record { steps = p.steps; cost = p.cost; kind = p.kind }) };
+
+    ghost inverse = { λ p. record { steps = p.steps; cost = p.cost; kind = p.kind } };
+}
+
+impl Plan {
+    /// The plan of these steps, unless one of them isn't a name: then the first that isn't, and the steps unchanged.
+    /// It takes no memory.
+    pub fn new(
+        steps: Items<Items<u8>>,
+        cost: u64,
+        kind: CostKind,
+    ) -> Result<Plan, (Items<Items<u8>>, BadName)>
+        ensures named { IsOk result ↔ AllByRecursion IsName steps }
+        ensures plan { IfOk result (λ p. p ≡ record { steps = steps; cost = cost; kind = kind }) }
+        ensures handed_back { IfErr result (λ e. e.0 ≡ steps) }
+        ensures first { IfErr result (λ e. IsFirstBadName steps e.1.step) }
+    {
+        match first_bad_name(steps.as_slice()) {
+            Some(step) => Err((steps, BadName { step })),
+            None => Ok(Plan { steps, cost, kind }),
+        }
+    }
+
+    /// The plan of these steps, where each of them is known to be a name. It takes no memory and looks at no step.
+    pub fn of_names(steps: Items<Items<u8>>, cost: u64, kind: CostKind) -> Plan
+        requires { AllByRecursion IsName steps }
+        ensures { result ≡ record { steps = steps; cost = cost; kind = kind } }
+    {
+        Plan { steps, cost, kind }
+    }
+
+    /// The names of the steps, in order.
+    pub fn steps(&self) -> &Items<Items<u8>>
+        ensures steps { result.now ≡ self.now.steps }
+        ensures names { AllByRecursion IsName self.now.steps }
+    {
+        &self.steps
+    }
+
+    /// The cost that the plan's last line says.
+    pub fn cost(&self) -> u64
+        ensures { result ≡ self.now.cost }
+    {
+        self.cost
+    }
+
+    /// The words behind the cost.
+    pub fn kind(&self) -> CostKind
+        ensures { result ≡ self.now.kind }
+    {
+        self.kind
+    }
+}
+
+/// The first step that isn't a name, counted from 1.
+fn first_bad_name(steps: &[Items<u8>]) -> Option<usize>
+    ensures none { IfNone result (AllByRecursion IsName steps.now) }
+    ensures first { IfSome result (IsFirstBadName steps.now) }
+{
+    for (i, step) in steps.iter().enumerate() {
+        if !is_name(step.as_slice()) {
+            return Some(i + 1);
+        }
+    }
+    None
+}

@@ -1,0 +1,54 @@
+-- Where a search for a separator stops, and a CR before a line's end.
+use Rattle.std.proofs.Common.{◌≡◌, ℕ, zero, suc, ◌+◌, ◌-◌, ◌<◌, ◌≢◌, List, [], ◌∷◌, ◌++◌, length, get_or, take, drop, refl, sym, ap, ◌∙◌, arith, inl, inr}
+use Rattle.std.proofs.lemmas.Bool.{eq-eqb, ne_eqb, eqb-true}
+use Rattle.std.proofs.lemmas.Bool.Decides.{eqb_tells}
+use Rattle.std.proofs.lemmas.List.{length-take, get_or-take, take-append-drop, drop_more, take_more}
+use Rattle.memchr.specs.Find.{Nowhere, NoneBefore, Passes, is_byte}
+use Rattle.sas_lines.specs.Lines.{without_return}
+use Rattle.sas_lines.proofs.Separated.{Without}
+
+Without-index : (separator : ℕ) (bytes : List ℕ) → ((k : ℕ) → k < length bytes → get_or bytes k 0 ≢ separator) → Without separator bytes
+Without-index separator [] h = tt
+Without-index separator (b ∷ bytes) h = (h 0 (omega arith), Without-index separator bytes (λ k l. h (suc k) (omega arith)))
+
+Without-take : (separator : ℕ) (bytes : List ℕ) (n : ℕ) → ((k : ℕ) → k < n → get_or bytes k 0 ≢ separator) → Without separator (take n bytes)
+Without-take separator bytes n h = Without-index separator (take n bytes) (λ k l. let s : k < n = omega (arith, length-take n bytes) in rw (get_or-take n bytes k 0 s) (h k s))
+
+pub not_found : (separator : ℕ) (bytes : List ℕ) → Nowhere (Passes (is_byte separator) bytes) 0 (length bytes) → Without separator bytes
+not_found separator bytes none = Without-index separator bytes (λ k l e. none k (omega arith) l (eq-eqb _ _ e))
+
+-- the first separator stands at this place
+pub record Found (separator : ℕ) (bytes : List ℕ) (place : ℕ) : Type 0 where
+  pub plain : Without separator (take place bytes)
+  pub within : place < length bytes
+  pub whole : bytes ≡ take place bytes ++ separator ∷ drop (place + 1) bytes
+  pub with_separator : take (place + 1) bytes ≡ take place bytes ++ separator ∷ []
+
+pub found : (separator : ℕ) (bytes : List ℕ) (place : ℕ) → NoneBefore (Passes (is_byte separator) bytes) 0 (length bytes) place × Passes (is_byte separator) bytes place → Found separator bytes place
+found separator bytes place h = record {
+  plain = Without-take separator bytes place (λ k l e. h.0.before k (omega arith) l (eq-eqb _ _ e));
+  within = h.0.high;
+  whole = sym (take-append-drop place bytes) ∙ ap (λ (l : List ℕ). take place bytes ++ l) (drop_more bytes place 0 h.0.high ∙ ap (λ (b : ℕ). b ∷ drop (place + 1) bytes) (eqb-true _ _ h.1));
+  with_separator = take_more bytes place 0 h.0.high ∙ ap (λ (b : ℕ). take place bytes ++ b ∷ []) (eqb-true _ _ h.1);
+}
+
+-- ---- a CR at the end
+
+pub return_at : (bytes : List ℕ) (n : ℕ) → length bytes ≡ suc n → get_or bytes n 0 ≡ 13 → without_return bytes ≡ take n bytes
+return_at [] n l e = absurd (omega arith)
+return_at (b ∷ []) zero l e = rw (eq-eqb b 13 e) refl
+return_at (b ∷ []) (suc n) l e = absurd (omega arith)
+return_at (b ∷ c ∷ bytes) zero l e = absurd (omega arith)
+return_at (b ∷ c ∷ bytes) (suc n) l e = ap (λ (r : List ℕ). b ∷ r) (return_at (c ∷ bytes) n (omega arith) e)
+
+pub no_return_at : (bytes : List ℕ) (n : ℕ) → length bytes ≡ suc n → get_or bytes n 0 ≢ 13 → without_return bytes ≡ bytes
+no_return_at [] n l e = absurd (omega arith)
+no_return_at (b ∷ []) zero l e = rw (ne_eqb b 13 e) refl
+no_return_at (b ∷ []) (suc n) l e = absurd (omega arith)
+no_return_at (b ∷ c ∷ bytes) zero l e = absurd (omega arith)
+no_return_at (b ∷ c ∷ bytes) (suc n) l e = ap (λ (r : List ℕ). b ∷ r) (no_return_at (c ∷ bytes) n (omega arith) e)
+
+pub Without-return : (separator : ℕ) (bytes : List ℕ) → Without separator bytes → Without separator (without_return bytes)
+Without-return separator [] h = tt
+Without-return separator (b ∷ []) h = elim (eqb_tells b 13) [ inl y ↦ rw y.0 tt | inr n ↦ rw n.0 h ]
+Without-return separator (b ∷ c ∷ bytes) h = (h.0, Without-return separator (c ∷ bytes) h.1)

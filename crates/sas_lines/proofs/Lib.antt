@@ -1,0 +1,7 @@
+mod Separated
+mod Sent
+mod Found
+mod Feeding
+mod Digits
+pub mod Splitting
+pub mod Words

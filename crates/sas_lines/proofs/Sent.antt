@@ -1,0 +1,11 @@
+-- What went out in two writes.
+use Rattle.std.proofs.Common.{◌≡◌, ◌+◌, ◌-◌, ℕ, List, ◌++◌, length, take, drop, Option, sym, ap, subst, ◌∙◌}
+use Rattle.std.proofs.Math.Seq.{take-add}
+use Rattle.std.proofs.lemmas.List.{take_rest}
+use Rattle.std.specs.Io.KnownBytes.{Appends}
+use Rattle.std.proofs.KnownBytes.{Appends-trans}
+
+pub sent_more : (before between after : Option (List ℕ)) (bytes : List ℕ) (written n : ℕ) → Appends before between (take written bytes) → Appends between after (take n (take (length bytes - written) (drop written bytes))) → Appends before after (take (written + n) bytes)
+sent_more before between after bytes written n first second =
+    let joined = take-add written n bytes ∙ ap (λ (l : List ℕ). take written bytes ++ take n l) (sym (take_rest bytes written)) in
+    subst (Appends before after) (sym joined) (Appends-trans _ _ _ _ _ first second)

@@ -1,0 +1,87 @@
+-- Byte lists in a row, and their lines.
+use Rattle.std.proofs.Common.{◌≡◌, ℕ, ◌≢◌, List, [], ◌∷◌, ◌++◌, refl, sym, ap, subst, ◌∙◌}
+use Rattle.std.proofs.lemmas.List.{append-nil}
+use Rattle.sas_lines.specs.Parts.{parts}
+use Rattle.sas_lines.specs.Lines.{without_return, lines_among, rest_among, lines, unfinished, NoEnd}
+use Rattle.sas_lines.proofs.Separated.{Without, Without-append, parts-first, parts-only, Some_parts, parts-some, front, parts-append, last-without}
+
+-- ---- parts in a row
+
+lines-front : (ps : List (List ℕ)) (q : List ℕ) (qs : List (List ℕ)) → lines_among (front ps ++ q ∷ qs) ≡ lines_among ps ++ lines_among (q ∷ qs)
+lines-front [] q qs = refl
+lines-front (p ∷ []) q qs = refl
+lines-front (p ∷ r ∷ []) q qs = refl
+lines-front (p ∷ r ∷ t ∷ ps) q qs = ap (λ (l : List (List ℕ)). without_return p ∷ l) (lines-front (r ∷ t ∷ ps) q qs)
+
+rest-front : (ps : List (List ℕ)) (q : List ℕ) (qs : List (List ℕ)) → rest_among (front ps ++ q ∷ qs) ≡ rest_among (q ∷ qs)
+rest-front [] q qs = refl
+rest-front (p ∷ []) q qs = refl
+rest-front (p ∷ r ∷ []) q qs = refl
+rest-front (p ∷ r ∷ t ∷ ps) q qs = rest-front (r ∷ t ∷ ps) q qs
+
+-- ---- any two byte lists
+
+pub lines-append : (a b : List ℕ) → lines (a ++ b) ≡ lines a ++ lines (unfinished a ++ b)
+unfolding lines unfinished
+lines-append a b =
+    let s = parts-some 10 (rest_among (parts 10 a) ++ b) in
+    ap lines_among (parts-append 10 a b ∙ ap (λ (l : List (List ℕ)). front (parts 10 a) ++ l) s.are) ∙ lines-front (parts 10 a) s.first s.others ∙ ap (λ (l : List (List ℕ)). lines_among (parts 10 a) ++ lines_among l) (sym s.are)
+
+pub unfinished-append : (a b : List ℕ) → unfinished (a ++ b) ≡ unfinished (unfinished a ++ b)
+unfolding unfinished
+unfinished-append a b =
+    let s = parts-some 10 (rest_among (parts 10 a) ++ b) in
+    ap rest_among (parts-append 10 a b ∙ ap (λ (l : List (List ℕ)). front (parts 10 a) ++ l) s.are) ∙ rest-front (parts 10 a) s.first s.others ∙ ap rest_among (sym s.are)
+
+pub lines-none : lines [] ≡ []
+unfolding lines parts
+lines-none = refl
+
+pub unfinished-none : unfinished [] ≡ []
+unfolding unfinished parts
+unfinished-none = refl
+
+pub unfinished-plain_all : (bytes : List ℕ) → NoEnd (unfinished bytes)
+unfolding unfinished
+unfinished-plain_all bytes = last-without 10 bytes
+
+-- ---- without a line end
+
+pub lines-without : (w : List ℕ) → NoEnd w → lines w ≡ []
+unfolding lines
+lines-without w h = ap lines_among (parts-only 10 w h)
+
+pub unfinished-without : (w : List ℕ) → NoEnd w → unfinished w ≡ w
+unfolding unfinished
+unfinished-without w h = ap rest_among (parts-only 10 w h)
+
+pub lines-part : (bytes w : List ℕ) → NoEnd w → lines (bytes ++ w) ≡ lines bytes
+lines-part bytes w h =
+    let n = Without-append 10 (unfinished bytes) w (unfinished-plain_all bytes) h in
+    lines-append bytes w ∙ ap (λ (l : List (List ℕ)). lines bytes ++ l) (lines-without (unfinished bytes ++ w) n) ∙ append-nil (lines bytes)
+
+pub unfinished-part : (bytes w : List ℕ) → NoEnd w → unfinished (bytes ++ w) ≡ unfinished bytes ++ w
+unfinished-part bytes w h = unfinished-append bytes w ∙ unfinished-without (unfinished bytes ++ w) (Without-append 10 (unfinished bytes) w (unfinished-plain_all bytes) h)
+
+pub lines-plain : (bytes : List ℕ) (byte : ℕ) → byte ≢ 10 → lines (bytes ++ byte ∷ []) ≡ lines bytes
+lines-plain bytes byte h = lines-part bytes (byte ∷ []) (h, tt)
+
+pub unfinished-plain : (bytes : List ℕ) (byte : ℕ) → byte ≢ 10 → unfinished (bytes ++ byte ∷ []) ≡ unfinished bytes ++ byte ∷ []
+unfinished-plain bytes byte h = unfinished-part bytes (byte ∷ []) (h, tt)
+
+-- ---- up to a line end
+
+-- one line
+pub lines-one : (w : List ℕ) → NoEnd w → lines (w ++ 10 ∷ []) ≡ without_return w ∷ []
+unfolding lines parts
+lines-one w h = ap lines_among (parts-first 10 w [] h)
+
+pub unfinished-one : (w : List ℕ) → NoEnd w → unfinished (w ++ 10 ∷ []) ≡ []
+unfolding unfinished parts
+unfinished-one w h = ap rest_among (parts-first 10 w [] h)
+
+pub lines-end : (bytes : List ℕ) → lines (bytes ++ 10 ∷ []) ≡ lines bytes ++ without_return (unfinished bytes) ∷ []
+lines-end bytes = lines-append bytes (10 ∷ []) ∙ ap (λ (l : List (List ℕ)). lines bytes ++ l) (lines-one (unfinished bytes) (unfinished-plain_all bytes))
+
+pub unfinished-end : (bytes : List ℕ) → unfinished (bytes ++ 10 ∷ []) ≡ []
+unfinished-end bytes = unfinished-append bytes (10 ∷ []) ∙ unfinished-one (unfinished bytes) (unfinished-plain_all bytes)

@@ -1,0 +1,19 @@
+-- What stands between separators.
+use Rattle.std.specs.Prelude.{ℕ, List, [], ◌∷◌, ◌++◌, ◌==◌, if◌then◌else◌, Option, Some, None}
+use Rattle.std.specs.Borrow.{Bor}
+
+-- the byte in front of the first part
+abbrev pub onto_first : ℕ → List (List ℕ) → List (List ℕ)
+onto_first byte [] = (byte ∷ []) ∷ []
+onto_first byte (part ∷ parts) = (byte ∷ part) ∷ parts
+
+-- the parts of the bytes before, between and behind the separators, in order: k separators give k + 1 parts, some
+-- perhaps empty
+unfoldable pub parts : ℕ → List ℕ → List (List ℕ)
+parts separator [] = [] ∷ []
+parts separator (byte ∷ bytes) = if byte == separator then [] ∷ parts separator bytes else onto_first byte (parts separator bytes)
+
+-- the parts of the bytes that may be there
+abbrev pub parts_within : ℕ → Option (Bor (List ℕ)) → List (List ℕ)
+parts_within separator None = []
+parts_within separator (Some bytes) = parts separator bytes.now

@@ -1,0 +1,18 @@
+//! Lines and numbers of a text, and devices that note their last failure.
+#![tactic(auto)]
+
+mod devices;
+mod lines;
+mod numbers;
+mod spelling;
+pub mod trial;
+mod writing;
+
+pub use devices::{Failed, Short, Watched, write_out};
+pub use lines::{Fed, Lines};
+pub use numbers::Numbers;
+pub use spelling::{cost, number, signed, spelling_is_decimal};
+pub use writing::{push_line, push_number};
+
+#[cfg(test)]
+mod tests;

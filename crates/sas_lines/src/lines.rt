@@ -1,0 +1,115 @@
+// The lines of a stream, however it is cut into pieces.
+ghost use Rattle.std.specs.Prelude.{◌≡◌, ◌≤◌, ◌<◌, [], ◌++◌, length, take, false, true, IfOk, OnErr, if◌then◌else◌};
+ghost use Rattle.sas_lines.specs.Lines.{lines, unfinished, without_return, TakesLine};
+ghost use Rattle.sas_lines.specs.Progress.{completed};
+
+use memchr::memchr;
+use std::alloc::{AllocError, Global};
+use std::marker::Model;
+
+/// What a feed took: so many bytes of its piece, and whether they complete a line.
+#[derive(Clone, Copy, Debug, PartialEq, Eq)]
+pub struct Fed {
+    pub taken: usize,
+    pub complete: bool,
+}
+
+/// Lets the bytes go if they are a complete line. The next line reuses their memory.
+fn let_line_go(held: &mut Vec<u8>, complete: bool)
+    ensures { held.new.items ≡ (if complete then [] else held.old.items) }
+{
+    if complete {
+        held.clear();
+    }
+}
+
+/// Takes one CR off the end, if there is one: it belongs to the line's end.
+#[tactic(auto, using(crate::proofs::Found::return_at, crate::proofs::Found::no_return_at))]
+fn drop_return(line: &mut Vec<u8>)
+    ensures { line.new.items ≡ without_return line.old.items }
+{
+    let Some(last) = line.len().checked_sub(1) else {
+        return;
+    };
+    if line[last] == b'\r' {
+        line.truncate(last);
+    }
+}
+
+/// Takes a text in pieces, cut anywhere, and gives it line by line.
+#[derive(Debug, Drop)]
+pub struct Lines {
+    held: Vec<u8>,
+    complete: bool,
+}
+
+impl Model for Lines {
+    ghost use Rattle.std.specs.Prelude.{[], if◌then◌else◌};
+    ghost use Rattle.sas_lines.specs.Lines.{NoEnd};
+    ghost use Rattle.sas_lines.specs.Progress.{Progress};
+
+    ghost Value = { Progress };
+
+    ghost view = { λ l. record { line = if l.complete then l.held.items else []; pending = if l.complete then [] else l.held.items } };
+
+    ghost invariant = { λ l. NoEnd l.held.items };
+}
+
+impl Lines {
+    /// Nothing has come yet. It takes no memory.
+    pub fn new(alloc: Global) -> Self
+        ensures line { result.line ≡ [] }
+        ensures pending { result.pending ≡ [] }
+    {
+        Lines {
+            held: Vec::new(alloc),
+            complete: false,
+        }
+    }
+
+    /// Takes the bytes of `piece` up to and with its first LF, or all of them if there is none. An `Err` comes only for
+    /// want of memory, and then nothing was taken.
+    pub fn feed(&mut self, piece: &[u8]) -> Result<Fed, AllocError>
+        // Up to and with the first LF, or all.
+        ensures taken { IfOk result (λ fed. TakesLine piece.now fed.taken fed.complete) }
+        // What was pending and what was taken are together the completed line and its end, or what is pending now.
+        ensures lines { IfOk result (λ fed. lines (self.old.pending ++ take fed.taken piece.now) ≡ completed fed.complete self.new.line) }
+        ensures pending { IfOk result (λ fed. unfinished (self.old.pending ++ take fed.taken piece.now) ≡ self.new.pending) }
+        ensures complete { IfOk result (λ fed. fed.complete ≡ true → self.new.pending ≡ []) }
+        ensures incomplete { IfOk result (λ fed. fed.complete ≡ false → self.new.line ≡ []) }
+        ensures refused { OnErr result (self.new ≡ record { line = []; pending = self.old.pending }) }
+    {
+        let_line_go(&mut self.held, self.complete);
+        self.complete = false;
+        let Some(end) = memchr(b'\n', piece) else {
+            self.held.extend_from_slice(piece)?;
+            return Ok(Fed {
+                taken: piece.len(),
+                complete: false,
+            });
+        };
+        self.held.extend_from_slice(&piece[..end])?;
+        drop_return(&mut self.held);
+        self.complete = true;
+        Ok(Fed {
+            taken: end + 1,
+            complete: true,
+        })
+    }
+
+    /// The line that the last feed completed, without its end. Empty where it completed none.
+    pub fn line(&self) -> &[u8]
+        ensures { result.now ≡ self.now.line }
+    {
+        let line = self.held.as_slice();
+        if self.complete { line } else { &[] }
+    }
+
+    /// What has come since the last LF. It may end in a CR that belongs to a line's end, if LF comes next.
+    pub fn pending(&self) -> &[u8]
+        ensures { result.now ≡ self.now.pending }
+    {
+        let pending = self.held.as_slice();
+        if self.complete { &[] } else { pending }
+    }
+}

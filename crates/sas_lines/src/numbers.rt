@@ -1,0 +1,59 @@
+// The parts of a line between single spaces.
+ghost use Rattle.std.specs.Prelude.{◌≡◌, ◌∷◌};
+ghost use Rattle.sas_lines.specs.Parts.{parts, parts_within};
+
+use memchr::memchr;
+use std::marker::Model;
+
+/// What stands before the first space, and what stands behind it, if there is one.
+fn cut(line: &[u8]) -> (&[u8], Option<&[u8]>)
+    ensures { parts 32 line.now ≡ result.0.now ∷ parts_within 32 result.1 }
+{
+    match memchr(b' ', line) {
+        Some(at) => (&line[..at], Some(&line[at + 1..])),
+        None => (line, None),
+    }
+}
+
+/// The parts of a line between its spaces, in order: k spaces give k + 1 parts, some perhaps empty.
+#[derive(Debug, Drop)]
+pub struct Numbers<'a> {
+    rest: Option<&'a [u8]>,
+}
+
+impl<'a> Model for Numbers<'a> {
+    ghost use Rattle.std.specs.Prelude.{ℕ, List};
+    ghost use Rattle.sas_lines.specs.Parts.{parts_within};
+
+    ghost Value = { List (List ℕ) };
+
+    ghost view = { λ numbers. parts_within 32 numbers.rest };
+}
+
+impl<'a> Numbers<'a> {
+    /// All parts of the line are left.
+    pub fn new(line: &'a [u8]) -> Numbers<'a>
+        ensures { result ≡ parts 32 line.now }
+    {
+        Numbers { rest: Some(line) }
+    }
+}
+
+impl<'a> Iterator for Numbers<'a> {
+    type Item = &'a [u8];
+
+    ghost use Rattle.std.specs.Iterator.{YieldsFirstRef, item_count};
+
+    ghost next_gives = { YieldsFirstRef (λ s. s) };
+
+    ghost remaining = { item_count (λ s. s) };
+
+    fn next(&mut self) -> Option<&'a [u8]> {
+        let Some(line) = self.rest else {
+            return None;
+        };
+        let (part, rest) = cut(line);
+        self.rest = rest;
+        Some(part)
+    }
+}

@@ -1,0 +1,95 @@
+// Numbers from their spelling.
+ghost use Rattle.std.specs.Prelude.{◌≡◌, ◌<◌, ◌≤◌, ◌^◌, ◌↔◌, ℕ, Option, Some, None, IfSome, IfNone, IsTrue, length, slice_index, decimal};
+ghost use Rattle.sas_lines.specs.Spelling.{IsNumber, IsSigned, IsCost, SpellingIsDecimal, signed_decimal};
+
+/// No number of a task file is as large.
+const NUMBER_LIMIT: u64 = 1 << 31;
+
+/// Whether more digits stand behind a zero at the front.
+fn has_leading_zero(digits: &[u8]) -> bool
+    ensures { IsTrue result ↔ (slice_index digits.now 0 ≡ 48) × (1 < length digits.now) }
+{
+    matches!(digits, [b'0', _, ..])
+}
+
+/// The value of at most 19 decimal digits without a leading zero. It fits, since 10 ^ 19 is below 2 ^ 64.
+fn short_number(digits: &[u8]) -> Option<u64>
+    requires { length digits.now ≤ 19 }
+    ensures found { IfSome result (λ n. (n < 10 ^ 19) × (digits.now ≡ decimal n)) }
+    ensures none { IfNone result ((n : ℕ) → n < 10 ^ 19 → digits.now ≡ decimal n → ⊥) }
+{
+    if digits.is_empty() || has_leading_zero(digits) {
+        return None;
+    }
+    let mut value: u64 = 0;
+    for digit in digits {
+        if *digit < b'0' || *digit > b'9' {
+            return None;
+        }
+        value = value * 10 + (*digit - b'0') as u64;
+    }
+    Some(value)
+}
+
+/// The number that the line spells: decimal digits without sign or leading zero, at most 2,147,483,647.
+pub fn number(line: &[u8]) -> Option<u32>
+    ensures found { IfSome result (λ n. IsNumber n × (line.now ≡ decimal n)) }
+    ensures none { IfNone result ((n : ℕ) → IsNumber n → line.now ≡ decimal n → ⊥) }
+{
+    if line.len() > 10 {
+        return None;
+    }
+    let Some(value) = short_number(line) else {
+        return None;
+    };
+    if value < NUMBER_LIMIT {
+        Some(value as u32)
+    } else {
+        None
+    }
+}
+
+/// The signed number that the line spells: a number, or `-1` for none.
+pub fn signed(line: &[u8]) -> Option<Option<u32>>
+    ensures found { IfSome result (λ n. IsSigned n × (line.now ≡ signed_decimal n)) }
+    ensures none { IfNone result ((n : Option ℕ) → IsSigned n → line.now ≡ signed_decimal n → ⊥) }
+{
+    if line == b"-1".as_slice() {
+        return Some(None);
+    }
+    let Some(n) = number(line) else {
+        return None;
+    };
+    Some(Some(n))
+}
+
+/// The plan cost that the line spells: decimal digits without sign or leading zero, at most 18,446,744,073,709,551,615.
+pub fn cost(line: &[u8]) -> Option<u64>
+    ensures found { IfSome result (λ n. IsCost n × (line.now ≡ decimal n)) }
+    ensures none { IfNone result ((n : ℕ) → IsCost n → line.now ≡ decimal n → ⊥) }
+{
+    if line.len() < 20 {
+        return short_number(line);
+    }
+    if line.len() > 20 {
+        return None;
+    }
+    // The first 19 digits are below 2 ^ 64, with one digit more only perhaps.
+    let last = line[19];
+    if last < b'0' || last > b'9' {
+        return None;
+    }
+    let Some(tenth) = short_number(&line[..19]) else {
+        return None;
+    };
+    let value = tenth as u128 * 10 + (last - b'0') as u128;
+    if value > u64::MAX as u128 {
+        return None;
+    }
+    Some(value as u64)
+}
+
+/// `decimal`, in which the clauses speak, in plain recursion.
+pub fn spelling_is_decimal()
+    ensures { SpellingIsDecimal }
+{}

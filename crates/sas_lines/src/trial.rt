@@ -1,0 +1,132 @@
+//! Devices that fail, for tests.
+ghost use Rattle.std.specs.Prelude.{◌≡◌, ◌++◌, ◌∷◌, [], Some, Ok, length, min, take, drop, true, false, IfOk, OnOk, OnErr, IsErrAnd, MatchResult};
+ghost use Rattle.std.specs.Io.{ReadsAtMost, WritesAtMost};
+ghost use Rattle.std.specs.Io.KnownBytes.{Keeps, ReadConsumes, WriteAppends};
+ghost use Rattle.std.specs.IoError.{error_kind};
+ghost use Rattle.sas_lines.specs.Trial.{Breaking, Narrowed, Refuses, break_kind, count_taken};
+
+use std::alloc::{AllocError, Global};
+use std::io;
+use std::io::{Error, ErrorKind, Read, Write};
+use std::marker::Model;
+
+/// A reader that gives its bytes and then fails at each read.
+#[derive(Drop)]
+pub struct Breaks<'a> {
+    bytes: &'a [u8],
+    interrupted: bool,
+}
+
+impl<'a> Model for Breaks<'a> {
+    ghost Value = { Breaking };
+
+    ghost view = { λ b. record { bytes = b.bytes.now; interrupted = b.interrupted } };
+}
+
+impl<'a> Breaks<'a> {
+    /// Gives these bytes. It then fails with `ErrorKind::Interrupted` if asked to, and else with `ErrorKind::Other`.
+    pub fn new(bytes: &'a [u8], interrupted: bool) -> Breaks<'a>
+        ensures { result ≡ record { bytes = bytes.entry.now; interrupted = interrupted } }
+    {
+        Breaks { bytes, interrupted }
+    }
+}
+
+impl<'a> Read for Breaks<'a> {
+    ghost remaining = { λ b. Some b.bytes };
+
+    fn read(&mut self, buf: &mut [u8]) -> io::Result<usize>
+        ensures bound { ReadsAtMost result buf.new }
+        ensures bytes { ReadConsumes (Some self.old.bytes) (Some self.new.bytes) result buf.new }
+        // As many as there are and as there is room for.
+        ensures count { (self.old.bytes ≡ [] → ⊥) → result ≡ Ok (min (length self.old.bytes) (length buf.old)) }
+        ensures copied { IfOk result (λ n. buf.new ≡ take n self.old.bytes ++ drop n buf.old) }
+        ensures rest { IfOk result (λ n. self.new ≡ record { bytes = drop n self.old.bytes; interrupted = self.old.interrupted }) }
+        // It fails when all bytes were given, and changes nothing then.
+        ensures fails { self.old.bytes ≡ [] → IsErrAnd result (λ e. error_kind e ≡ break_kind self.old.interrupted) }
+        ensures unchanged { OnErr result (self.new ≡ self.old) }
+        ensures untouched { OnErr result (buf.new ≡ buf.old) }
+    {
+        if self.bytes.is_empty() {
+            return Err(Error::from(if self.interrupted {
+                ErrorKind::Interrupted
+            } else {
+                ErrorKind::Other
+            }));
+        }
+        self.bytes.read(buf)
+    }
+}
+
+/// A writer into memory reserved beforehand, which takes little at a time, and only so much in all.
+#[derive(Drop)]
+pub struct Narrow {
+    kept: Vec<u8>,
+    piece: usize,
+    room: usize,
+    fails: bool,
+}
+
+impl Model for Narrow {
+    ghost use Rattle.std.specs.Prelude.{◌≤◌, length};
+    ghost use Rattle.std.specs.Vec.{vec_capacity};
+    ghost use Rattle.sas_lines.specs.Trial.{Narrowed};
+
+    ghost Value = { Narrowed };
+
+    ghost view = { λ n. record { kept = n.kept.items; piece = n.piece; room = n.room; fails = n.fails } };
+
+    // No write asks for memory.
+    ghost invariant = { λ n. (length n.kept.items ≤ n.room) × (n.room ≤ vec_capacity n.kept) };
+}
+
+impl Narrow {
+    /// Takes at most `piece` bytes at a time, and `room` in all. It then fails if `fails`, and else takes none. An `Err`
+    /// comes only for want of memory.
+    pub fn new(alloc: Global, piece: usize, room: usize, fails: bool) -> Result<Narrow, AllocError>
+        ensures { IfOk result (λ n. n ≡ record { kept = []; piece = piece; room = room; fails = fails }) }
+    {
+        Ok(Narrow {
+            kept: Vec::with_capacity(alloc, room)?,
+            piece,
+            room,
+            fails,
+        })
+    }
+
+    /// What it took.
+    pub fn kept(&self) -> &[u8]
+        ensures { result.now ≡ self.now.kept }
+    {
+        self.kept.as_slice()
+    }
+}
+
+impl Write for Narrow {
+    ghost contents = { λ n. Some n.kept };
+
+    fn write(&mut self, buf: &[u8]) -> io::Result<usize>
+        ensures bound { WritesAtMost result buf.now }
+        ensures bytes { WriteAppends (Some self.old.kept) (Some self.new.kept) result buf.now }
+        ensures count { (Refuses self.old → ⊥) → result ≡ Ok (count_taken self.old (length buf.now)) }
+        ensures kept { IfOk result (λ n. self.new ≡ record self.old { kept = self.old.kept ++ take n buf.now }) }
+        ensures fails { Refuses self.old → IsErrAnd result (λ e. error_kind e ≡ ErrorKind.Other) }
+        ensures unchanged { OnErr result (self.new ≡ self.old) }
+    {
+        let left = self.room - self.kept.len();
+        if left == 0 && self.fails {
+            return Err(Error::from(ErrorKind::Other));
+        }
+        let taken = buf.len().min(self.piece).min(left);
+        self.kept.extend_from_slice(&buf[..taken])?;
+        Ok(taken)
+    }
+
+    fn flush(&mut self) -> io::Result<()>
+        ensures bytes { Keeps (Some self.old.kept) (Some self.new.kept) }
+        ensures unchanged { self.new ≡ self.old }
+        ensures ok { result ≡ Ok tt }
+    {
+        Ok(())
+    }
+}

@@ -1,0 +1,15 @@
+mod Paths
+mod Live
+mod Whole
+mod Texts
+mod Faults
+mod PlanLines
+mod PlanGrammar
+mod Standing
+mod Pieces
+mod Advancing
+mod Fronts
+mod PlanJudging
+mod PlanSteps
+mod Conversion
+mod PlanStanding

@@ -1,0 +1,76 @@
+-- What a reader of plans stands for, in terms of the plan format.
+use Rattle.std.proofs.Common.{◌≡◌, ◌≢◌, ℕ, ◌≤◌, List, [], length, refl, sym, ap, subst, ◌∙◌, ◌⊎◌, inl, inr, Option, Some, None, Result, Ok, Err, arith}
+use Rattle.std.specs.Result.{OnOk, IfErr}
+use Rattle.sas_core.specs.PlanParts.{PlanParts}
+use Rattle.sas_text.specs.declared.fault.Fault.{Fault}
+use Rattle.sas_text.specs.declared.fault.Kind.{Kind}
+use Rattle.sas_text.specs.declared.fault.Kind.TheVariants as kinds
+use Rattle.sas_text.specs.declared.reader.Reader.{Reader}
+use Rattle.sas_text.specs.declared.plan_reader.PlanReader.{PlanReader}
+use Rattle.sas_text.specs.Format.{Reads, Live, FaultOf, EndOf, ReadsAs}
+use Rattle.sas_text.specs.PlanFormat.{PlanLine, plan_format}
+use Rattle.sas_text.specs.PlanStates.{PlanState, going, closed, plan_node, plan_start, IsClosed}
+use Rattle.sas_text.specs.PlanReading.{Stands, fault_so_far, limit_of}
+use Rattle.sas_text.specs.ReaderFacts.{answer}
+use Rattle.sas_text.specs.Reading as reading
+use Rattle.sas_text.specs.System.{Node, ended, Leads, Rejects}
+use Rattle.sas_text.proofs.Conversion.{Ending, fault_of_format, end_of_format, live_of_format, reads_of_format}
+use Rattle.sas_text.proofs.PlanGrammar.{plan_grammar}
+use Rattle.sas_text.proofs.Standing as standing
+
+abbrev pub plan_led : List (List ℕ) → PlanState → Type 0
+plan_led lines p = Leads plan_format plan_node plan_start lines p
+
+abbrev pub plan_rejects : PlanState → List ℕ → Kind → Type 0
+plan_rejects p line k = Rejects plan_format (plan_node p) line k
+
+closed_value : (p : PlanState) → IsClosed p → (v : PlanParts) × (plan_node p ≡ ended v)
+closed_value (going steps) h = absurd h
+closed_value (closed p) h = (p, refl)
+
+closed_is : (p : PlanState) (v : PlanParts) → plan_node p ≡ ended v → IsClosed p
+closed_is (going steps) v e = absurd cc
+closed_is (closed p) v e = tt
+
+pub plan_ending : Ending plan_node IsClosed
+plan_ending = record { value = closed_value; is = closed_is }
+
+pub into_stands : (r : PlanReader) (bytes : List ℕ) → reading.Stands plan_led IsClosed plan_rejects r.reader bytes → Stands r bytes
+unfolding Stands
+into_stands r bytes s = s
+
+pub from_stands : (r : PlanReader) (bytes : List ℕ) → Stands r bytes → reading.Stands plan_led IsClosed plan_rejects r.reader bytes
+unfolding Stands
+from_stands r bytes s = s
+
+-- ---- what an answer says
+
+pub on_ok_answer : (r : Result (Unit {0}) Fault) (o : Option Fault) (P : Type 0) → r ≡ answer o → (o ≡ None → P) → OnOk r P
+on_ok_answer (Ok u) None P e h = h refl
+on_ok_answer (Ok u) (Some f) P e h = absurd cc
+on_ok_answer (Err f) o P e h = tt
+
+pub if_err_answer : (r : Result (Unit {0}) Fault) (o : Option Fault) (P : Fault → Type 0) → r ≡ answer o → ((f : Fault) → o ≡ Some f → P f) → IfErr r P
+if_err_answer (Ok u) o P e h = tt
+if_err_answer (Err f) None P e h = absurd cc
+if_err_answer (Err f) (Some g) P e h = h f (let q : f ≡ g = cc in ap (λ x. Some x) (sym q))
+
+-- ---- a reader without a fault, and one with a fault
+
+pub live_plan : (r : Reader PlanState) (bytes : List ℕ) → r.fault ≡ None → reading.Stands plan_led IsClosed plan_rejects r bytes → Live plan_format r.limit bytes
+live_plan r bytes none s =
+    let h = standing.accepted_of plan_led IsClosed plan_rejects r bytes none s in
+    live_of_format plan_format plan_node plan_start plan_grammar IsClosed plan_ending r.limit r.machine bytes (omega (arith, h.taken, r.within)) h.reached
+
+pub fault_plan : (r : Reader PlanState) (bytes : List ℕ) (f : Fault) → r.fault ≡ Some f → f.kind ≢ kinds.Memory → reading.Stands plan_led IsClosed plan_rejects r bytes → FaultOf plan_format r.limit bytes f
+fault_plan r bytes f some ne s =
+    fault_of_format plan_format plan_node plan_start plan_grammar IsClosed plan_ending r.limit bytes f (standing.fault_of plan_led IsClosed plan_rejects r f bytes some s ne)
+
+-- ---- the end
+
+pub read_plan_parts : (limit : ℕ) (m : PlanState) (p : PlanParts) (bytes : List ℕ) → m ≡ closed p → reading.Reached plan_led IsClosed m bytes × (length bytes ≤ limit) → ReadsAs plan_format limit bytes (Ok p)
+read_plan_parts limit m p bytes e h = (reads_of_format plan_format plan_node plan_start plan_grammar IsClosed plan_ending m p bytes (ap plan_node e) h.0, h.1)
+
+pub refused_plan : (limit : ℕ) (bytes : List ℕ) (f : Fault) → reading.FaultIn plan_led IsClosed plan_rejects limit bytes f ⊎ reading.EndsEarly plan_led IsClosed limit bytes f → ReadsAs plan_format limit bytes (Err f)
+refused_plan limit bytes f (inl h) = inl (fault_of_format plan_format plan_node plan_start plan_grammar IsClosed plan_ending limit bytes f h)
+refused_plan limit bytes f (inr h) = inr (end_of_format plan_format plan_node plan_start plan_grammar IsClosed plan_ending limit bytes f h)

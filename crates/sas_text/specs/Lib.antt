@@ -1,0 +1,9 @@
+pub mod Format
+pub mod System
+pub mod PlanFormat
+pub mod PlanStates
+pub mod PlanLines
+pub mod Laws
+pub mod ReaderFacts
+pub mod Reading
+pub mod PlanReading

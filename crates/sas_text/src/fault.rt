@@ -1,0 +1,33 @@
+// What may be wrong with an input.
+
+/// The kinds of fault of an input.
+#[derive(Clone, Copy, Debug, PartialEq, Eq)]
+pub enum Kind {
+    /// A fixed word was due and the line isn't it; in a plan, the line begins like neither a step nor the cost.
+    Keyword,
+    /// A name was due and the line isn't one; in a plan, the line begins with `(` and isn't a step line.
+    Name,
+    /// The line isn't made of the numbers due, in their count and spelling; in a plan, the line begins like the cost line
+    /// and isn't one.
+    Shape,
+    /// The line has its shape, and a number in it isn't allowed there.
+    Value,
+    /// The input ends before the last line is complete.
+    End,
+    /// A byte follows the last line.
+    Trailing,
+    /// A byte follows the most bytes that are read.
+    TooLong,
+    /// A read failed.
+    Read,
+    /// Memory was refused.
+    Memory,
+}
+
+/// The first fault of an input. In every fault but `Memory`, whose line isn't fixed, the line is 1 plus the number of
+/// lines accepted before it.
+#[derive(Clone, Copy, Debug, PartialEq, Eq)]
+pub struct Fault {
+    pub line: u64,
+    pub kind: Kind,
+}
