@@ -5,7 +5,7 @@ use Rattle.std.proofs.lemmas.Bool.Decides.{eqb_tells}
 use Rattle.std.proofs.lemmas.List.{length-take, get_or-take, take-append-drop, drop_more, take_more}
 use Rattle.memchr.specs.Find.{Nowhere, NoneBefore, Passes, is_byte}
 use Rattle.sas_lines.specs.Lines.{without_return}
-use Rattle.sas_lines.proofs.Separated.{Without}
+use Rattle.sas_lines.specs.Parts.{Without, StandsFirst}
 
 Without-index : (separator : ℕ) (bytes : List ℕ) → ((k : ℕ) → k < length bytes → get_or bytes k 0 ≢ separator) → Without separator bytes
 Without-index separator [] h = tt
@@ -17,20 +17,18 @@ Without-take separator bytes n h = Without-index separator (take n bytes) (λ k 
 pub not_found : (separator : ℕ) (bytes : List ℕ) → Nowhere (Passes (is_byte separator) bytes) 0 (length bytes) → Without separator bytes
 not_found separator bytes none = Without-index separator bytes (λ k l e. none k (omega arith) l (eq-eqb _ _ e))
 
--- the first separator stands at this place
-pub record Found (separator : ℕ) (bytes : List ℕ) (place : ℕ) : Type 0 where
-  pub plain : Without separator (take place bytes)
-  pub within : place < length bytes
-  pub whole : bytes ≡ take place bytes ++ separator ∷ drop (place + 1) bytes
-  pub with_separator : take (place + 1) bytes ≡ take place bytes ++ separator ∷ []
-
-pub found : (separator : ℕ) (bytes : List ℕ) (place : ℕ) → NoneBefore (Passes (is_byte separator) bytes) 0 (length bytes) place × Passes (is_byte separator) bytes place → Found separator bytes place
+pub found : (separator : ℕ) (bytes : List ℕ) (place : ℕ) → NoneBefore (Passes (is_byte separator) bytes) 0 (length bytes) place × Passes (is_byte separator) bytes place → StandsFirst separator bytes place
 found separator bytes place h = record {
-  plain = Without-take separator bytes place (λ k l e. h.0.before k (omega arith) l (eq-eqb _ _ e));
   within = h.0.high;
-  whole = sym (take-append-drop place bytes) ∙ ap (λ (l : List ℕ). take place bytes ++ l) (drop_more bytes place 0 h.0.high ∙ ap (λ (b : ℕ). b ∷ drop (place + 1) bytes) (eqb-true _ _ h.1));
-  with_separator = take_more bytes place 0 h.0.high ∙ ap (λ (b : ℕ). take place bytes ++ b ∷ []) (eqb-true _ _ h.1);
+  before = Without-take separator bytes place (λ k l e. h.0.before k (omega arith) l (eq-eqb _ _ e));
+  here = eqb-true _ _ h.1;
 }
+
+pub up_to : (separator : ℕ) (bytes : List ℕ) (place : ℕ) → StandsFirst separator bytes place → take (place + 1) bytes ≡ take place bytes ++ separator ∷ []
+up_to separator bytes place f = take_more bytes place 0 f.within ∙ ap (λ (b : ℕ). take place bytes ++ b ∷ []) f.here
+
+pub in_two_at : (separator : ℕ) (bytes : List ℕ) (place : ℕ) → StandsFirst separator bytes place → bytes ≡ take place bytes ++ separator ∷ drop (place + 1) bytes
+in_two_at separator bytes place f = sym (take-append-drop place bytes) ∙ ap (λ (l : List ℕ). take place bytes ++ l) (drop_more bytes place 0 f.within ∙ ap (λ (b : ℕ). b ∷ drop (place + 1) bytes) f.here)
 
 -- ---- a CR at the end
 

@@ -1,13 +1,8 @@
 -- What stands between separators, by what stands at the end.
 use Rattle.std.proofs.Common.{◌≡◌, ℕ, ◌≢◌, Bool, true, false, cond, eqb, List, [], ◌∷◌, ◌++◌, refl, sym, ap, subst, ◌∙◌}
-use Rattle.std.specs.List.{AllByRecursion}
 use Rattle.std.proofs.lemmas.Bool.{ne_eqb, eq-eqb, eqb-false}
-use Rattle.sas_lines.specs.Parts.{onto_first, parts}
+use Rattle.sas_lines.specs.Parts.{Without, onto_first, parts}
 use Rattle.sas_lines.specs.Lines.{rest_among}
-
--- the bytes hold no separator
-abbrev pub Without : ℕ → List ℕ → Type 0
-Without separator bytes = AllByRecursion (λ b. b ≢ separator) bytes
 
 pub Without-append : (separator : ℕ) (a b : List ℕ) → Without separator a → Without separator b → Without separator (a ++ b)
 Without-append separator [] b h g = g

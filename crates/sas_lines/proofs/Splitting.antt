@@ -1,9 +1,11 @@
 -- Byte lists in a row, and their lines.
 use Rattle.std.proofs.Common.{◌≡◌, ℕ, ◌≢◌, List, [], ◌∷◌, ◌++◌, refl, sym, ap, subst, ◌∙◌}
+use Rattle.std.specs.List.{AllByRecursion}
+use Rattle.std.proofs.lemmas.Bool.{ne_eqb}
 use Rattle.std.proofs.lemmas.List.{append-nil}
 use Rattle.sas_lines.specs.Parts.{parts}
-use Rattle.sas_lines.specs.Lines.{without_return, lines_among, rest_among, lines, unfinished, NoEnd}
-use Rattle.sas_lines.proofs.Separated.{Without, Without-append, parts-first, parts-only, Some_parts, parts-some, front, parts-append, last-without}
+use Rattle.sas_lines.specs.Lines.{without_return, lines_among, rest_among, lines, unfinished, text, NoEnd}
+use Rattle.sas_lines.proofs.Separated.{Without-append, parts-first, parts-only, Some_parts, parts-some, front, parts-append, last-without}
 
 -- ---- parts in a row
 
@@ -85,3 +87,28 @@ lines-end bytes = lines-append bytes (10 ∷ []) ∙ ap (λ (l : List (List ℕ)
 
 pub unfinished-end : (bytes : List ℕ) → unfinished (bytes ++ 10 ∷ []) ≡ []
 unfinished-end bytes = unfinished-append bytes (10 ∷ []) ∙ unfinished-one (unfinished bytes) (unfinished-plain_all bytes)
+
+-- ---- a text that is written line by line
+
+pub without_return-none : (bytes : List ℕ) → AllByRecursion (λ b. b ≢ 13) bytes → without_return bytes ≡ bytes
+without_return-none [] h = refl
+without_return-none (b ∷ []) h = rw (ne_eqb b 13 h.0) refl
+without_return-none (b ∷ c ∷ bytes) h = ap (λ (l : List ℕ). b ∷ l) (without_return-none (c ∷ bytes) h.1)
+
+-- a line that is read as it is written
+pub record Plain (line : List ℕ) : Type 0 where
+  pub no_end : NoEnd line
+  pub no_return : without_return line ≡ line
+
+pub lines-text : (ls : List (List ℕ)) → AllByRecursion Plain ls → lines (text ls) ≡ ls
+lines-text [] h = lines-none
+lines-text (l ∷ ls) h =
+    let p : Plain l = h.0 in
+    lines-append (l ++ 10 ∷ []) (text ls)
+    ∙ ap (λ (u : List ℕ). lines (l ++ 10 ∷ []) ++ lines (u ++ text ls)) (unfinished-end l)
+    ∙ ap (λ (x : List (List ℕ)). x ++ lines (text ls)) (lines-one l p.no_end ∙ ap (λ (x : List ℕ). x ∷ []) p.no_return)
+    ∙ ap (λ (x : List (List ℕ)). l ∷ x) (lines-text ls h.1)
+
+pub unfinished-text : (ls : List (List ℕ)) → unfinished (text ls) ≡ []
+unfinished-text [] = unfinished-none
+unfinished-text (l ∷ ls) = unfinished-append (l ++ 10 ∷ []) (text ls) ∙ ap (λ (u : List ℕ). unfinished (u ++ text ls)) (unfinished-end l) ∙ unfinished-text ls

@@ -5,14 +5,15 @@ use Rattle.std.specs.Fmt.{decimal}
 use Rattle.std.specs.Str.Parse.{AllDigits}
 use Rattle.std.proofs.lemmas.Fmt.{digits_decimal, decimal_injective}
 use Rattle.std.proofs.lemmas.Str.Parse.{digit_from_value}
-use Rattle.sas_lines.specs.Parts.{parts}
+use Rattle.sas_lines.specs.Parts.{Without, parts}
 use Rattle.sas_lines.specs.Lines.{NoEnd}
 use Rattle.sas_lines.specs.Spelling.{IsNumber, IsSigned, signed_decimal}
-use Rattle.sas_lines.proofs.Separated.{Without, parts-first, parts-only}
+use Rattle.sas_lines.proofs.Separated.{parts-first, parts-only}
+use Rattle.sas_lines.proofs.Splitting.{Plain, without_return-none}
 use Rattle.sas_lines.proofs.Digits.{own}
 
 abbrev pub NoSpace : List ℕ → Type 0
-NoSpace bytes = AllByRecursion (λ b. b ≢ 32) bytes
+NoSpace bytes = Without 32 bytes
 
 -- words with one space between each two
 abbrev pub joined_after : List ℕ → List (List ℕ) → List ℕ
@@ -42,7 +43,8 @@ Without-digits : (separator : ℕ) (ds : List ℕ) → separator < 48 → AllDig
 Without-digits separator [] l h = tt
 Without-digits separator (d ∷ ds) l h = let r = digit_from_value d h.0 in let ne : d ≢ separator = omega (arith, r.0) in (ne, Without-digits separator ds l h.1)
 
-Without-decimal : (separator n : ℕ) → separator < 48 → n < 2 ^ 64 → Without separator (decimal n)
+-- a decimal holds no byte below the digits
+pub Without-decimal : (separator n : ℕ) → separator < 48 → n < 2 ^ 64 → Without separator (decimal n)
 Without-decimal separator n l h = Without-digits separator (decimal n) l (digits_decimal own n h)
 
 pub NoSpace-decimal : (n : ℕ) → n < 2 ^ 64 → NoSpace (decimal n)
@@ -50,6 +52,9 @@ NoSpace-decimal n h = Without-decimal 32 n (omega arith) h
 
 pub NoEnd-decimal : (n : ℕ) → n < 2 ^ 64 → NoEnd (decimal n)
 NoEnd-decimal n h = Without-decimal 10 n (omega arith) h
+
+pub Plain-decimal : (n : ℕ) → n < 2 ^ 64 → Plain (decimal n)
+Plain-decimal n h = record { no_end = NoEnd-decimal n h; no_return = without_return-none (decimal n) (Without-decimal 13 n (omega arith) h) }
 
 pub NoSpace-number : (n : ℕ) → IsNumber n → NoSpace (decimal n)
 NoSpace-number n h = NoSpace-decimal n (omega arith)

@@ -1,6 +1,17 @@
 -- What stands between separators.
-use Rattle.std.specs.Prelude.{ℕ, List, [], ◌∷◌, ◌++◌, ◌==◌, if◌then◌else◌, Option, Some, None}
+use Rattle.std.specs.Prelude.{◌≡◌, ◌≢◌, ℕ, ◌<◌, List, [], ◌∷◌, length, take, slice_index, ◌==◌, if◌then◌else◌, Option, Some, None}
+use Rattle.std.specs.List.{AllByRecursion}
 use Rattle.std.specs.Borrow.{Bor}
+
+-- no byte is the separator
+abbrev pub Without : ℕ → List ℕ → Type 0
+Without separator bytes = AllByRecursion (λ b. b ≢ separator) bytes
+
+-- the first separator stands at this place
+pub record StandsFirst (separator : ℕ) (bytes : List ℕ) (place : ℕ) : Type 0 where
+  pub within : place < length bytes
+  pub before : Without separator (take place bytes)
+  pub here : slice_index bytes place ≡ separator
 
 -- the byte in front of the first part
 abbrev pub onto_first : ℕ → List (List ℕ) → List (List ℕ)

@@ -4,6 +4,7 @@
 mod devices;
 mod lines;
 mod numbers;
+mod separators;
 mod spelling;
 pub mod trial;
 mod writing;

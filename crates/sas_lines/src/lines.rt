@@ -3,7 +3,7 @@ ghost use Rattle.std.specs.Prelude.{◌≡◌, ◌≤◌, ◌<◌, [], ◌++◌,
 ghost use Rattle.sas_lines.specs.Lines.{lines, unfinished, without_return, TakesLine};
 ghost use Rattle.sas_lines.specs.Progress.{completed};
 
-use memchr::memchr;
+use crate::separators::first_place;
 use std::alloc::{AllocError, Global};
 use std::marker::Model;
 
@@ -69,6 +69,7 @@ impl Lines {
 
     /// Takes the bytes of `piece` up to and with its first LF, or all of them if there is none. An `Err` comes only for
     /// want of memory, and then nothing was taken.
+    #[tactic(auto, using(crate::proofs::Feeding::feeding))]
     pub fn feed(&mut self, piece: &[u8]) -> Result<Fed, AllocError>
         // Up to and with the first LF, or all.
         ensures taken { IfOk result (λ fed. TakesLine piece.now fed.taken fed.complete) }
@@ -81,7 +82,7 @@ impl Lines {
     {
         let_line_go(&mut self.held, self.complete);
         self.complete = false;
-        let Some(end) = memchr(b'\n', piece) else {
+        let Some(end) = first_place(b'\n', piece) else {
             self.held.extend_from_slice(piece)?;
             return Ok(Fed {
                 taken: piece.len(),

@@ -1,37 +1,85 @@
 -- What a reader says of a machine that follows a grammar, said of the format.
-use Rattle.std.proofs.Common.{◌≡◌, ◌≢◌, ℕ, ◌+◌, ◌≤◌, List, [], ◌∷◌, ◌++◌, length, refl, sym, ap, subst, ◌∙◌, append_assoc, ◌⊎◌, inl, inr, Option, Some, None}
+use Rattle.std.proofs.Common.{◌≡◌, ◌≢◌, ℕ, ◌+◌, ◌≤◌, List, [], ◌∷◌, ◌++◌, length, refl, sym, ap, subst, ◌∙◌, append_assoc, ◌⊎◌, inl, inr, Err, Option, Some, None}
+use Rattle.std.specs.Io.KnownBytes.{Consumes, IsAtEnd}
+use Rattle.std.proofs.lemmas.List.{append-nil}
 use Rattle.sas_lines.specs.Lines.{without_return, lines, unfinished}
 use Rattle.sas_text.specs.declared.fault.Fault.{Fault}
 use Rattle.sas_text.specs.declared.fault.Kind.{Kind}
 use Rattle.sas_text.specs.declared.fault.Kind.TheVariants as kinds
-use Rattle.sas_text.specs.Format.{Format, Reads, Live, FaultOf, EndOf}
+use Rattle.sas_text.specs.Format.{Format, Reads, Live, FaultOf, EndOf, ReadsAs}
 use Rattle.sas_text.specs.System.{Node, ended, Rejects, Leads, Path, Grammar}
-use Rattle.sas_text.specs.Reading.{Reached, Stops, full, over, rejected, FaultIn, EndsEarly}
+use Rattle.sas_text.specs.Reading.{Reached, Stops, full, over, rejected, FaultIn, EndsEarly, ReadFails, unread, early, faulty}
+use Rattle.sas_text.specs.Refusals.{Refuses, unread_at, ended_at, faulty_at}
 use Rattle.sas_text.proofs.Live.{one_more, live, reads_done, fault_long, fault_done, fault_rejected, fault_stays, end_open}
 
--- Is_ended says of a state that it is at the end.
-pub record Ending {T V I S : Type 0} (node : T → Node T V I S) (Is_ended : T → Type 0) : Type 0 where
-  pub value : (p : T) → Is_ended p → (v : V) × (node p ≡ ended v)
-  pub is : (p : T) (v : V) → node p ≡ ended v → Is_ended p
+-- A machine that was led somewhere by lines stands at a state that these lead to: it has ended where that has, and a
+-- line that it rejects may not follow there.
+pub record At {T V I S M : Type 0} (F : Format V I S) (node : T → Node T V I S) (start : T) (Ended : M → Type 0) (rejects : M → List ℕ → Kind → Type 0) (ls : List (List ℕ)) (m : M) : Type 0 where
+  pub state : T
+  pub leads : Leads F node start ls state
+  pub value : Ended m → (v : V) × (node state ≡ ended v)
+  pub is_ended : (v : V) → node state ≡ ended v → Ended m
+  pub refuses : (line : List ℕ) (k : Kind) → (Ended m → ⊥) → rejects m line k → Rejects F (node state) line k
 
-module _ {T V I S : Type 0} (F : Format V I S) (node : T → Node T V I S) (start : T) (g : Grammar F node start) (Is_ended : T → Type 0) (e : Ending node Is_ended) where
-  pub path_of : (p : T) (bytes : List ℕ) → Reached (λ ls q. Leads F node start ls q) Is_ended p bytes → Path F node start p bytes
-  path_of p bytes h = record { leads = h.led; ended = λ v d. h.rest (e.is p v d) }
+abbrev pub Follows : {T V I S M : Type 0} (F : Format V I S) (node : T → Node T V I S) (start : T) → (List (List ℕ) → M → Type 0) → (M → Type 0) → (M → List ℕ → Kind → Type 0) → Type 0
+Follows {M = M} F node start led_by Ended rejects = (ls : List (List ℕ)) (m : M) → led_by ls m → At F node start Ended rejects ls m
 
-  stopped : (limit : ℕ) (p : T) (bytes : List ℕ) (byte : ℕ) (f : Fault) → Reached (λ ls q. Leads F node start ls q) Is_ended p bytes → f.line ≡ length (lines bytes) + 1 → Stops (λ ls q. Leads F node start ls q) Is_ended (λ q line k. Rejects F (node q) line k) limit p bytes byte f.kind → FaultOf F limit (one_more bytes byte) f
-  stopped limit p bytes byte f h n (full l k) = fault_long F node start g limit p bytes byte f (path_of p bytes h) l n k
-  stopped limit p bytes byte f h n (over l d k) = let v = e.value p d in fault_done F node start g limit p v.0 bytes byte f v.1 (path_of p bytes h) l n k
-  stopped limit p bytes byte f h n (rejected l going b r) = subst (λ (x : ℕ). FaultOf F limit (one_more bytes x) f) (sym b) (fault_rejected F node start g limit p bytes f (path_of p bytes h) r l n)
+module _ {T V I S M : Type 0} (F : Format V I S) (node : T → Node T V I S) (start : T) (g : Grammar F node start) (led_by : List (List ℕ) → M → Type 0) (Ended : M → Type 0) (rejects : M → List ℕ → Kind → Type 0) (follows : Follows F node start led_by Ended rejects) where
+  abbrev pub at : (m : M) (bytes : List ℕ) → Reached led_by Ended m bytes → At F node start Ended rejects (lines bytes) m
+  at m bytes h = follows (lines bytes) m h.led
 
-  pub fault_of_format : (limit : ℕ) (bytes : List ℕ) (f : Fault) → FaultIn (λ ls q. Leads F node start ls q) Is_ended (λ q line k. Rejects F (node q) line k) limit bytes f → FaultOf F limit bytes f
+  path_of : (m : M) (bytes : List ℕ) (h : Reached led_by Ended m bytes) → Path F node start (at m bytes h).state bytes
+  path_of m bytes h = let a = at m bytes h in record { leads = a.leads; ended = λ v d. h.rest (a.is_ended v d) }
+
+  stopped : (limit : ℕ) (m : M) (bytes : List ℕ) (byte : ℕ) (f : Fault) → Reached led_by Ended m bytes → f.line ≡ length (lines bytes) + 1 → Stops led_by Ended rejects limit m bytes byte f.kind → FaultOf F limit (one_more bytes byte) f
+  stopped limit m bytes byte f h n (full l k) = fault_long F node start g limit (at m bytes h).state bytes byte f (path_of m bytes h) l n k
+  stopped limit m bytes byte f h n (over l d k) = let v = (at m bytes h).value d in fault_done F node start g limit (at m bytes h).state v.0 bytes byte f v.1 (path_of m bytes h) l n k
+  stopped limit m bytes byte f h n (rejected l going b r) =
+      subst (λ (x : ℕ). FaultOf F limit (one_more bytes x) f) (sym b) (fault_rejected F node start g limit (at m bytes h).state bytes f (path_of m bytes h) ((at m bytes h).refuses (without_return (unfinished bytes)) f.kind going r) l n)
+
+  pub fault_of_format : (limit : ℕ) (bytes : List ℕ) (f : Fault) → FaultIn led_by Ended rejects limit bytes f → FaultOf F limit bytes f
   fault_of_format limit bytes f h =
       subst (λ (b : List ℕ). FaultOf F limit b f) (append_assoc h.before (h.byte ∷ []) h.after ∙ sym h.whole) (fault_stays F limit (one_more h.before h.byte) h.after f (stopped limit h.machine h.before h.byte f h.reached h.line h.stops))
 
-  pub end_of_format : (limit : ℕ) (bytes : List ℕ) (f : Fault) → EndsEarly (λ ls q. Leads F node start ls q) Is_ended limit bytes f → EndOf F limit bytes f
-  end_of_format limit bytes f h = end_open F node start g limit h.machine bytes f (path_of h.machine bytes h.reached) (λ v d. h.open_still (e.is h.machine v d)) h.short h.line h.kind
+  pub end_of_format : (limit : ℕ) (bytes : List ℕ) (f : Fault) → EndsEarly led_by Ended limit bytes f → EndOf F limit bytes f
+  end_of_format limit bytes f h =
+      end_open F node start g limit (at h.machine bytes h.reached).state bytes f (path_of h.machine bytes h.reached) (λ v d. h.open_still ((at h.machine bytes h.reached).is_ended v d)) h.short h.line h.kind
 
-  pub live_of_format : (limit : ℕ) (p : T) (bytes : List ℕ) → length bytes ≤ limit → Reached (λ ls q. Leads F node start ls q) Is_ended p bytes → Live F limit bytes
-  live_of_format limit p bytes l h = live F node start g limit p bytes l (path_of p bytes h)
+  pub live_of_format : (limit : ℕ) (m : M) (bytes : List ℕ) → length bytes ≤ limit → Reached led_by Ended m bytes → Live F limit bytes
+  live_of_format limit m bytes l h = live F node start g limit (at m bytes h).state bytes l (path_of m bytes h)
 
-  pub reads_of_format : (p : T) (v : V) (bytes : List ℕ) → node p ≡ ended v → Reached (λ ls q. Leads F node start ls q) Is_ended p bytes → Reads F bytes v
-  reads_of_format p v bytes d h = reads_done F node start g p v bytes d (path_of p bytes h)
+  pub reads_of_format : (m : M) (v : V) (bytes : List ℕ) (h : Reached led_by Ended m bytes) → node (at m bytes h).state ≡ ended v → Reads F bytes v
+  reads_of_format m v bytes h d = reads_done F node start g (at m bytes h).state v bytes d (path_of m bytes h)
+
+  -- at the end of a reader that has ended some value is read
+  pub some_read : (m : M) (bytes : List ℕ) → Reached led_by Ended m bytes → Ended m → (v : V) × Reads F bytes v
+  some_read m bytes h d = let v = (at m bytes h).value d in (v.0, reads_of_format m v.0 bytes h v.1)
+
+  pub refusal : (limit : ℕ) (bytes : List ℕ) (f : Fault) → FaultIn led_by Ended rejects limit bytes f ⊎ EndsEarly led_by Ended limit bytes f → ReadsAs F limit bytes (Err f)
+  refusal limit bytes f (inl h) = inl (fault_of_format limit bytes f h)
+  refusal limit bytes f (inr h) = inr (end_of_format limit bytes f h)
+
+  pub device_refusal : (limit : ℕ) (bytes : List ℕ) (End : Type 0) (f : Fault) → ReadFails led_by Ended rejects limit bytes End f → Refuses F limit bytes End f
+  device_refusal limit bytes End f (unread m h l n k) = unread_at (live_of_format limit m bytes l h) n k
+  device_refusal limit bytes End f (early e h) = ended_at e (end_of_format limit bytes f h)
+  device_refusal limit bytes End f (faulty h ne) = faulty_at (fault_of_format limit bytes f h) ne
+
+-- ---- inputs whose bytes are known
+
+-- what was read is their front
+front_read : (known new : Option (List ℕ)) (input bytes : List ℕ) → known ≡ Some input → Consumes known new bytes → (rest : List ℕ) × (bytes ++ rest ≡ input)
+front_read None new input bytes e c = absurd cc
+front_read (Some x) None input bytes e c = absurd c
+front_read (Some x) (Some rest) input bytes e c = (rest, sym c ∙ (let q : x ≡ input = cc in q))
+
+-- and all of it at their end
+pub all_read : (known new : Option (List ℕ)) (input bytes : List ℕ) → known ≡ Some input → Consumes known new bytes → IsAtEnd new → bytes ≡ input
+all_read None new input bytes e c d = absurd cc
+all_read (Some x) None input bytes e c d = absurd c
+all_read (Some x) (Some rest) input bytes e c d = sym (append-nil bytes) ∙ ap (λ (y : List ℕ). bytes ++ y) (sym d) ∙ sym c ∙ (let q : x ≡ input = cc in q)
+
+module _ {V I S : Type 0} (F : Format V I S) where
+  pub known_refusal : (limit : ℕ) (known new : Option (List ℕ)) (input bytes : List ℕ) (f : Fault) → known ≡ Some input → Consumes known new bytes → Refuses F limit bytes (IsAtEnd new) f → f.kind ≢ kinds.Read → ReadsAs F limit input (Err f)
+  known_refusal limit known new input bytes f e c (unread_at l n k) ne = absurd (ne k)
+  known_refusal limit known new input bytes f e c (ended_at d h) ne = inr (subst (λ (b : List ℕ). EndOf F limit b f) (all_read known new input bytes e c d) h)
+  known_refusal limit known new input bytes f e c (faulty_at h k) ne = let r = front_read known new input bytes e c in inl (subst (λ (b : List ℕ). FaultOf F limit b f) r.1 (fault_stays F limit bytes r.0 f h))

@@ -13,3 +13,4 @@ mod PlanJudging
 mod PlanSteps
 mod Conversion
 mod PlanStanding
+mod Every

@@ -14,7 +14,7 @@ use Rattle.sas_text.specs.PlanReading.{Stands, fault_so_far, limit_of}
 use Rattle.sas_text.specs.ReaderFacts.{answer}
 use Rattle.sas_text.specs.Reading as reading
 use Rattle.sas_text.specs.System.{Node, ended, Leads, Rejects}
-use Rattle.sas_text.proofs.Conversion.{Ending, fault_of_format, end_of_format, live_of_format, reads_of_format}
+use Rattle.sas_text.proofs.Conversion.{Follows, fault_of_format, live_of_format, reads_of_format, refusal}
 use Rattle.sas_text.proofs.PlanGrammar.{plan_grammar}
 use Rattle.sas_text.proofs.Standing as standing
 
@@ -32,8 +32,8 @@ closed_is : (p : PlanState) (v : PlanParts) → plan_node p ≡ ended v → IsCl
 closed_is (going steps) v e = absurd cc
 closed_is (closed p) v e = tt
 
-pub plan_ending : Ending plan_node IsClosed
-plan_ending = record { value = closed_value; is = closed_is }
+pub plan_follows : Follows plan_format plan_node plan_start plan_led IsClosed plan_rejects
+plan_follows ls p h = record { state = p; leads = h; value = closed_value p; is_ended = closed_is p; refuses = λ line k going_on r. r }
 
 pub into_stands : (r : PlanReader) (bytes : List ℕ) → reading.Stands plan_led IsClosed plan_rejects r.reader bytes → Stands r bytes
 unfolding Stands
@@ -60,17 +60,17 @@ if_err_answer (Err f) (Some g) P e h = h f (let q : f ≡ g = cc in ap (λ x. So
 pub live_plan : (r : Reader PlanState) (bytes : List ℕ) → r.fault ≡ None → reading.Stands plan_led IsClosed plan_rejects r bytes → Live plan_format r.limit bytes
 live_plan r bytes none s =
     let h = standing.accepted_of plan_led IsClosed plan_rejects r bytes none s in
-    live_of_format plan_format plan_node plan_start plan_grammar IsClosed plan_ending r.limit r.machine bytes (omega (arith, h.taken, r.within)) h.reached
+    live_of_format plan_format plan_node plan_start plan_grammar plan_led IsClosed plan_rejects plan_follows r.limit r.machine bytes (omega (arith, h.taken, r.within)) h.reached
 
 pub fault_plan : (r : Reader PlanState) (bytes : List ℕ) (f : Fault) → r.fault ≡ Some f → f.kind ≢ kinds.Memory → reading.Stands plan_led IsClosed plan_rejects r bytes → FaultOf plan_format r.limit bytes f
 fault_plan r bytes f some ne s =
-    fault_of_format plan_format plan_node plan_start plan_grammar IsClosed plan_ending r.limit bytes f (standing.fault_of plan_led IsClosed plan_rejects r f bytes some s ne)
+    fault_of_format plan_format plan_node plan_start plan_grammar plan_led IsClosed plan_rejects plan_follows r.limit bytes f (standing.fault_of plan_led IsClosed plan_rejects r f bytes some s ne)
 
 -- ---- the end
 
 pub read_plan_parts : (limit : ℕ) (m : PlanState) (p : PlanParts) (bytes : List ℕ) → m ≡ closed p → reading.Reached plan_led IsClosed m bytes × (length bytes ≤ limit) → ReadsAs plan_format limit bytes (Ok p)
-read_plan_parts limit m p bytes e h = (reads_of_format plan_format plan_node plan_start plan_grammar IsClosed plan_ending m p bytes (ap plan_node e) h.0, h.1)
+unfolding plan_follows
+read_plan_parts limit m p bytes e h = (reads_of_format plan_format plan_node plan_start plan_grammar plan_led IsClosed plan_rejects plan_follows m p bytes h.0 (ap plan_node e), h.1)
 
 pub refused_plan : (limit : ℕ) (bytes : List ℕ) (f : Fault) → reading.FaultIn plan_led IsClosed plan_rejects limit bytes f ⊎ reading.EndsEarly plan_led IsClosed limit bytes f → ReadsAs plan_format limit bytes (Err f)
-refused_plan limit bytes f (inl h) = inl (fault_of_format plan_format plan_node plan_start plan_grammar IsClosed plan_ending limit bytes f h)
-refused_plan limit bytes f (inr h) = inr (end_of_format plan_format plan_node plan_start plan_grammar IsClosed plan_ending limit bytes f h)
+refused_plan limit bytes f h = refusal plan_format plan_node plan_start plan_grammar plan_led IsClosed plan_rejects plan_follows limit bytes f h

@@ -1,14 +1,15 @@
 -- The laws of any format with a grammar.
-use Rattle.std.proofs.Common.{◌≡◌, ℕ, ◌+◌, ◌≤◌, List, [], ◌∷◌, ◌++◌, length, map, refl, sym, ap, subst, ◌∙◌, append_assoc, arith, ◌⊎◌, inl, inr, length-append, Ok, Err, Result}
+use Rattle.std.proofs.Common.{◌≡◌, ◌≢◌, ℕ, ◌+◌, ◌≤◌, List, [], ◌∷◌, ◌++◌, length, map, refl, sym, ap, subst, ◌∙◌, append_assoc, arith, ◌⊎◌, inl, inr, length-append, Ok, Err, Result}
 use Rattle.std.proofs.lemmas.List.{append-nil, append_cancel_left}
 use Rattle.std.proofs.lemmas.Bool.Decides.{eqb_tells}
 use Rattle.sas_lines.specs.Lines.{without_return, lines, unfinished}
 use Rattle.sas_lines.proofs.Splitting.{lines-plain, unfinished-plain, lines-end}
 use Rattle.sas_text.specs.declared.fault.Fault.{Fault}
 use Rattle.sas_text.specs.declared.fault.Kind.{Kind}
+use Rattle.sas_text.specs.declared.fault.Kind.TheVariants.{TooLong}
 use Rattle.sas_text.specs.Format.{Format, lines_of, Reads, Live, Next, KindAt, too_long, trailing, wrong, FaultOf, EndOf, ReadsAs}
 use Rattle.sas_text.specs.System.{Node, ended, After, Step, Ends, Grammar}
-use Rattle.sas_text.specs.Laws.{OneValue, OneSlot, NoSlotAtEnd, FaultIsDead, OneFault, TextIsLive, OneReading}
+use Rattle.sas_text.specs.Laws.{OneValue, OneSlot, NoSlotAtEnd, FaultIsDead, OneFault, TextIsLive, FaultIsNoText, OneReading}
 use Rattle.sas_text.proofs.Paths.{cut_at, ended_stops, same_path, ends_split, ends_after, slot_at, takes_at, one_ended}
 
 -- ---- how bytes go on: with more lines, or a longer rest
@@ -119,6 +120,23 @@ module _ {T V I S : Type 0} (F : Format V I S) (node : T → Node T V I S) (star
 
   pub fault_is_dead : FaultIsDead F
   fault_is_dead limit bytes f h a = h.dead (live-front limit (h.before ++ h.byte ∷ []) h.after (subst (Live F limit) (h.whole ∙ sym (append_assoc h.before (h.byte ∷ []) h.after)) a))
+
+  -- Bytes that aren't live within the limit, and don't pass it, aren't live within any.
+  any_limit : (limit wide : ℕ) (bytes : List ℕ) → length bytes ≤ limit → Live F wide bytes → Live F limit bytes
+  any_limit limit wide bytes l a = record { short = l; begun = a.begun; whole = a.whole }
+
+  within : (limit : ℕ) (bytes : List ℕ) (byte : ℕ) (k : Kind) → KindAt F limit bytes byte k → k ≢ TooLong → length bytes + 1 ≤ limit
+  within limit bytes byte k (too_long l e) ne = absurd (ne e)
+  within limit bytes byte k (trailing l v r e) ne = l
+  within limit bytes byte k (wrong l line h s n e) ne = l
+
+  pub fault_is_no_text : FaultIsNoText F
+  fault_is_no_text limit bytes more f v h ne r =
+      let front = h.before ++ h.byte ∷ [] in
+      let all : (front ++ h.after) ++ more ≡ bytes ++ more = ap (λ (x : List ℕ). x ++ more) (append_assoc h.before (h.byte ∷ []) h.after ∙ sym h.whole) in
+      let a : Live F (length (bytes ++ more)) ((front ++ h.after) ++ more) = subst (Live F (length (bytes ++ more))) (sym all) (text_is_live F (length (bytes ++ more)) (bytes ++ more) v (omega arith) r) in
+      let b = live-front (length (bytes ++ more)) front h.after (live-front (length (bytes ++ more)) (front ++ h.after) more a) in
+      h.dead (any_limit limit (length (bytes ++ more)) front (let w = within limit h.before h.byte f.kind h.kind ne in omega (arith, w, length-append h.before (h.byte ∷ []))) b)
 
   -- ---- one slot
 

@@ -1,7 +1,8 @@
 -- Laws over the definitions of a format.
-use Rattle.std.specs.Prelude.{◌≡◌, ℕ, ◌≤◌, ◌⊎◌, List, [], ◌∷◌, ◌++◌, length, Result, Ok, ◌↔◌}
+use Rattle.std.specs.Prelude.{◌≡◌, ◌≢◌, ℕ, ◌≤◌, ◌⊎◌, List, [], ◌∷◌, ◌++◌, length, Result, Ok, ◌↔◌}
 use Rattle.sas_lines.specs.Lines.{lines, text}
 use Rattle.sas_text.specs.declared.fault.Fault.{Fault}
+use Rattle.sas_text.specs.declared.fault.Kind.TheVariants.{TooLong}
 use Rattle.sas_text.specs.Format.{Format, lines_of, Reads, IsBegun, Live, Next, FaultOf, EndOf, ReadsAs}
 
 -- the bytes are these lines, each ended by LF or by CR LF
@@ -48,6 +49,10 @@ module _ {V I S : Type 0} (F : Format V I S) where
   abbrev pub FaultStays : Type 0
   FaultStays = (limit : ℕ) (bytes more : List ℕ) (f : Fault) → FaultOf F limit bytes f → FaultOf F limit (bytes ++ more) f
 
+  -- no text begins with bytes that have a fault, other than that they are too long
+  abbrev pub FaultIsNoText : Type 0
+  FaultIsNoText = (limit : ℕ) (bytes more : List ℕ) (f : Fault) (v : V) → FaultOf F limit bytes f → f.kind ≢ TooLong → Reads F (bytes ++ more) v → ⊥
+
   -- bytes are read as one thing, and they can't be read as nothing
   abbrev pub OneReading : Type 0
   OneReading = (limit : ℕ) (bytes : List ℕ) (r q : Result V Fault) → ReadsAs F limit bytes r → ReadsAs F limit bytes q → r ≡ q
@@ -67,5 +72,6 @@ module _ {V I S : Type 0} (F : Format V I S) where
     pub faultless_is_live : FaultlessIsLive
     pub one_fault : OneFault
     pub fault_stays : FaultStays
+    pub fault_is_no_text : FaultIsNoText
     pub one_reading : OneReading
     pub some_reading : SomeReading

@@ -7,3 +7,4 @@ pub mod Laws
 pub mod ReaderFacts
 pub mod Reading
 pub mod PlanReading
+pub mod Refusals

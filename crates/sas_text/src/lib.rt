@@ -3,10 +3,14 @@
 
 mod devices;
 mod fault;
+mod laws;
+mod plan;
 mod plan_line;
 mod plan_machine;
 mod plan_reader;
 mod reader;
 
 pub use fault::{Fault, Kind};
+pub use laws::plan_laws;
+pub use plan::{encode_plan, read_plan};
 pub use plan_reader::{LIMIT, PlanReader};

@@ -39,7 +39,7 @@ returns-then-taken-eq0-clause-fault g c =
     let b = v.read.0 in
     let whole : Consumes _ _ b = subst (Consumes _ _) (ap (λ (n : ℕ). b ++ take n c.take.new.buffer) c.if-taken-eq0.true ∙ append-nil b) (Consumes-trans _ _ _ b _ v.read.1 c.in-Ok.ensures.bytes.0) in
     if_err c.finish.result _ _ _ c.finish.ensures.fault c.finish.ensures.read (λ f fault read ne.
-      (b, whole, at_end g.M.Machine.led_by g.M.Machine.ended g.M.Machine.rejects c.args.reader.limit b _ f (c.in-Ok.ensures.bytes.1 c.if-taken-eq0.true (omega (arith, c.take.auto.buffer))) (λ e. let x = read e in let y : None ≡ Some f = sym v.fault ∙ x in cc)
+      (b, whole, at_end g.M.Machine.led_by g.M.Machine.ended g.M.Machine.rejects c.args.limit b _ f (c.in-Ok.ensures.bytes.1 c.if-taken-eq0.true (omega (arith, c.take.auto.buffer))) (λ e. let x = read e in let y : None ≡ Some f = sym v.fault ∙ x in cc)
         (subst (λ (l : ℕ). FaultIn g.M.Machine.led_by g.M.Machine.ended g.M.Machine.rejects l b f ⊎ EndsEarly g.M.Machine.led_by g.M.Machine.ended l b f) v.limit (fault ne b v.read.2))))
 
 pub returns-in-Err-feed-clause-fault : goal.returns-in-Err-feed-clause-fault

@@ -9,7 +9,7 @@ invariant-loop-n g l =
     record {
       note : l.device.failed ≡ false;
       fault : l.reader.fault ≡ None;
-      limit : l.reader.limit ≡ l.initial.reader.limit;
+      limit : l.reader.limit ≡ l.limit;
       read : (b : List ℕ) × Consumes (g.R.Read.remaining l.initial.device.device) (g.R.Read.remaining l.device.device) b × Stands g.M.Machine.led_by g.M.Machine.ended g.M.Machine.rejects l.reader b;
     }
 

@@ -1,0 +1,13 @@
+// Laws of the formats.
+ghost use Rattle.sas_text.specs.Laws.{Laws};
+ghost use Rattle.sas_text.specs.PlanFormat.{plan_format};
+ghost use Rattle.sas_text.specs.PlanStates.{plan_node, plan_start};
+ghost use Rattle.sas_text.specs.System.{Grammar};
+
+/// What holds of plan files. No byte list is a text of two plans; the texts of a plan are its lines, each ended by LF or
+/// by CR LF; bytes are live exactly where they have no fault, and have one fault at most; all bytes are read as one thing.
+pub fn plan_laws()
+    ensures laws { Laws plan_format }
+    ensures grammar { Grammar plan_format plan_node plan_start }
+{
+}
