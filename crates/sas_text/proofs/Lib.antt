@@ -14,3 +14,5 @@ mod PlanSteps
 mod Conversion
 mod PlanStanding
 mod Every
+mod PlanKeeping
+pub mod PlanLaws

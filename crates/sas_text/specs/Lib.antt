@@ -8,3 +8,4 @@ pub mod ReaderFacts
 pub mod Reading
 pub mod PlanReading
 pub mod Refusals
+pub mod PlanText

@@ -8,9 +8,10 @@ mod plan;
 mod plan_line;
 mod plan_machine;
 mod plan_reader;
+mod plan_text;
 mod reader;
 
 pub use fault::{Fault, Kind};
 pub use laws::plan_laws;
-pub use plan::{encode_plan, read_plan};
+pub use plan::{encode_plan, read_plan, read_plan_text};
 pub use plan_reader::{LIMIT, PlanReader};

@@ -5,12 +5,13 @@ ghost use Rattle.sas_core.specs.PlanParts.{PlanParts};
 ghost use Rattle.sas_lines.specs.Lines.{text};
 ghost use Rattle.sas_text.specs.Format.{ReadsAs, lines_of};
 ghost use Rattle.sas_text.specs.PlanFormat.{plan_format, plan_line_bytes, cost_words, step, cost};
-ghost use Rattle.sas_text.specs.Refusals.{Refuses, IsFaultOf};
+ghost use Rattle.sas_text.specs.Refusals.{Refuses, IsFaultOf, TextOf};
 
 use crate::devices::read_all;
 use crate::fault::{Fault, Kind};
 use crate::plan_machine::PlanMachine;
 use crate::plan_reader::LIMIT;
+use crate::plan_text::PlanText;
 use sas_core::{CostKind, Plan};
 use sas_lines::{Watched, push_line, push_number};
 use std::alloc::{AllocError, Global};
@@ -30,6 +31,24 @@ pub fn read_plan<R: Read>(alloc: Global, reader: &mut Watched<R>) -> Result<Plan
 {
     match read_all(alloc, PlanMachine::new(alloc), LIMIT, reader) {
         Ok(machine) => Ok(machine.into_plan()),
+        Err(fault) => Err(fault),
+    }
+}
+
+/// Reads a plan from a device as `read_plan` does, and gives its text: its lines, each ended by LF. It keeps no plan.
+pub fn read_plan_text<R: Read>(
+    alloc: Global,
+    reader: &mut Watched<R>,
+) -> Result<Vec<u8>, Fault>
+    requires { reader.old.failed ≡ false }
+    ensures read { IfOk result (λ t. (b : List ℕ) × Consumes (R.remaining reader.old.device) (R.remaining reader.new.device) b × IsAtEnd (R.remaining reader.new.device) × TextOf plan_format LIMIT b t.items) }
+    ensures fault { IfErr result (λ f. f.kind ≢ Kind.Memory → (b : List ℕ) × Consumes (R.remaining reader.old.device) (R.remaining reader.new.device) b × Refuses plan_format LIMIT b (IsAtEnd (R.remaining reader.new.device)) f) }
+    ensures known { (b : List ℕ) → R.remaining reader.old.device ≡ Some b → IfOk result (λ t. TextOf plan_format LIMIT b t.items) }
+    ensures known_fault { (b : List ℕ) → R.remaining reader.old.device ≡ Some b → IfErr result (IsFaultOf plan_format LIMIT b) }
+    ensures note { IsErrAnd result (λ f. f.kind ≡ Kind.Read) ↔ IsTrue reader.new.failed }
+{
+    match read_all(alloc, PlanText::new(alloc), LIMIT, reader) {
+        Ok(machine) => Ok(machine.into_text()),
         Err(fault) => Err(fault),
     }
 }
