@@ -5,7 +5,7 @@ use Rattle.sas_lines.specs.Lines.{lines, unfinished, TakesLine}
 use Rattle.sas_lines.specs.Progress.{Progress, completed}
 use Rattle.sas_text.specs.declared.fault.Kind.{Kind}
 use Rattle.sas_text.specs.declared.reader.Reader.{Reader}
-use Rattle.sas_text.specs.Reading.{Reached, Accepted, StopsIn}
+use Rattle.sas_text.specs.Reader.{Reached, Accepted, StopsIn}
 use Rattle.sas_text.proofs.Pieces.{takes_bound, front_of, takes_wider, lines_fed, unfinished_fed, reached_part, reached_line, stops_full, stops_over, stops_line}
 
 is_false : (b : Bool) → not b ≡ true → b ≡ false

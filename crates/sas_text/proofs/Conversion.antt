@@ -8,8 +8,8 @@ use Rattle.sas_text.specs.declared.fault.Kind.{Kind}
 use Rattle.sas_text.specs.declared.fault.Kind.TheVariants as kinds
 use Rattle.sas_text.specs.Format.{Format, Reads, Live, FaultOf, EndOf, ReadsAs}
 use Rattle.sas_text.specs.System.{Node, ended, Rejects, Leads, Path, Grammar}
-use Rattle.sas_text.specs.Reading.{Reached, Stops, full, over, rejected, FaultIn, EndsEarly, ReadFails, unread, early, faulty}
-use Rattle.sas_text.specs.Refusals.{Refuses, unread_at, ended_at, faulty_at}
+use Rattle.sas_text.specs.Reader.{Reached, Stops, full, over, rejected, FaultIn, EndsEarly, ReadFails, unread, early, faulty}
+use Rattle.sas_text.specs.Devices.{Refuses, unread_at, ended_at, faulty_at}
 use Rattle.sas_text.proofs.Live.{one_more, live, reads_done, fault_long, fault_done, fault_rejected, fault_stays, end_open}
 
 -- A machine that was led somewhere by lines stands at a state that these lead to: it has ended where that has, and a

@@ -76,5 +76,5 @@ module _ {T V I S : Type 0} (F : Format V I S) (node : T → Node T V I S) (star
   pub some_reading : SomeReading F
   some_reading limit bytes h =
       faultless_is_live limit bytes (λ f a. h (Err f) (inl a)) (λ a.
-        let end : EndOf F limit bytes (fault_with bytes End) = record { live = a; none = λ v r. h (Ok v) (r, a.short); line = refl; kind = refl } in
-        h (Err (fault_with bytes End)) (inr end))
+      let end : EndOf F limit bytes (fault_with bytes End) = record { live = a; none = λ v r. h (Ok v) (r, a.short); line = refl; kind = refl } in
+      h (Err (fault_with bytes End)) (inr end))

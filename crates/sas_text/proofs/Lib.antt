@@ -3,16 +3,19 @@ mod Live
 mod Whole
 mod Texts
 mod Faults
-mod PlanLines
-mod PlanGrammar
+mod Every
 mod Standing
 mod Pieces
 mod Advancing
+mod Conversion
+mod Sections
+mod SectionsExample
+mod PlanLines
+mod PlanGrammar
+mod PlanFilling
 mod Fronts
 mod PlanJudging
 mod PlanSteps
-mod Conversion
 mod PlanStanding
-mod Every
 mod PlanKeeping
 pub mod PlanLaws

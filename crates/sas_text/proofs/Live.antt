@@ -78,7 +78,11 @@ module _ {T V I S : Type 0} (F : Format V I S) (node : T → Node T V I S) (star
 
   pub fault_long : (limit : ℕ) (p : T) (bytes : List ℕ) (byte : ℕ) (f : Fault) → Path F node start p bytes → length bytes ≡ limit → f.line ≡ length (lines bytes) + 1 → f.kind ≡ TooLong → FaultOf F limit (one_more bytes byte) f
   fault_long limit p bytes byte f h l n k = record {
-    before = bytes; byte = byte; after = []; whole = refl; line = n;
+    before = bytes;
+    byte = byte;
+    after = [];
+    whole = refl;
+    line = n;
     live = live limit p bytes (omega arith) h;
     dead = λ x. let s : length (one_more bytes byte) ≤ limit = x.short in omega (arith, length-append bytes (byte ∷ []));
     kind = too_long (omega arith) k;
@@ -100,7 +104,11 @@ module _ {T V I S : Type 0} (F : Format V I S) (node : T → Node T V I S) (star
 
   pub fault_done : (limit : ℕ) (p : T) (v : V) (bytes : List ℕ) (byte : ℕ) (f : Fault) → node p ≡ ended v → Path F node start p bytes → length bytes + 1 ≤ limit → f.line ≡ length (lines bytes) + 1 → f.kind ≡ Trailing → FaultOf F limit (one_more bytes byte) f
   fault_done limit p v bytes byte f d h l n k = record {
-    before = bytes; byte = byte; after = []; whole = refl; line = n;
+    before = bytes;
+    byte = byte;
+    after = [];
+    whole = refl;
+    line = n;
     live = live limit p bytes (omega arith) h;
     dead = done_dead limit p v bytes byte d h;
     kind = trailing l v (reads_done p v bytes d h) k;
@@ -120,7 +128,11 @@ module _ {T V I S : Type 0} (F : Format V I S) (node : T → Node T V I S) (star
 
   pub fault_line : (limit : ℕ) (p : T) (s : S) (ok : I → Bool) (next : I → T) (bytes : List ℕ) (f : Fault) → node p ≡ before s ok next → Path F node start p bytes → Judged F s ok (without_return (unfinished bytes)) f.kind → length bytes + 1 ≤ limit → f.line ≡ length (lines bytes) + 1 → FaultOf F limit (one_more bytes 10) f
   fault_line limit p s ok next bytes f e h j l n = record {
-    before = bytes; byte = 10; after = []; whole = refl; line = n;
+    before = bytes;
+    byte = 10;
+    after = [];
+    whole = refl;
+    line = n;
     live = live limit p bytes (omega arith) h;
     dead = λ x. no_line p (lines bytes) (without_return (unfinished bytes)) h.leads (λ i is v a q. j.none i ((subst (λ n. Step F n i (λ r. Ends F node r is v)) e a).0) q) (subst (IsBegun F) (lines-end bytes) x.begun);
     kind = wrong l (without_return (unfinished bytes)) (lines-end bytes) s (next_slot p s ok next (lines bytes) e h.leads) j.kind;

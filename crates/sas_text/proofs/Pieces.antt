@@ -8,7 +8,7 @@ use Rattle.sas_lines.proofs.Splitting.{lines-none, unfinished-none, lines-append
 use Rattle.sas_text.specs.declared.fault.Fault.{Fault}
 use Rattle.sas_text.specs.declared.fault.Kind.{Kind}
 use Rattle.sas_text.specs.declared.fault.Kind.TheVariants as kinds
-use Rattle.sas_text.specs.Reading.{Reached, Stops, full, over, rejected, StopsIn, FaultIn}
+use Rattle.sas_text.specs.Reader.{Reached, Stops, full, over, rejected, StopsIn, FaultIn}
 
 -- ---- the front of a piece
 

@@ -7,8 +7,8 @@ use Rattle.std.proofs.Math.Seq.{take-append_seam}
 use Rattle.sas_core.specs.declared.plan.CostKind.{CostKind}
 use Rattle.sas_text.specs.declared.fault.Kind.TheVariants.{Keyword, Name, Shape}
 use Rattle.sas_text.specs.PlanFormat.{PlanLine, step, cost, plan_line_bytes, PlanLineFits, like_step, like_cost, like_none, cost_front, cost_words, BeginsWith, plan_format}
-use Rattle.sas_text.specs.PlanLines.{Names, Costs}
-use Rattle.sas_text.specs.PlanStates.{plan_line_ok}
+use Rattle.sas_text.specs.PlanLine.{Names, Costs}
+use Rattle.sas_text.specs.PlanMachine.{plan_line_ok}
 use Rattle.sas_text.specs.System.{Takes, Judged}
 
 begins_with : (front rest line : List ℕ) → line ≡ front ++ rest → BeginsWith front line

@@ -10,7 +10,7 @@ use Rattle.sas_text.specs.declared.fault.Kind.{Kind}
 use Rattle.sas_text.specs.declared.plan_text.PlanText.{PlanText}
 use Rattle.sas_text.specs.Format.{lines_of, Reads}
 use Rattle.sas_text.specs.PlanFormat.{PlanLine, step, cost, plan_line_bytes, plan_format}
-use Rattle.sas_text.specs.PlanStates.{PlanState, going, closed, plan_node, plan_next, plan_start, plan_line_ok, IsClosed}
+use Rattle.sas_text.specs.PlanMachine.{PlanState, going, closed, plan_node, plan_next, plan_start, plan_line_ok, IsClosed}
 use Rattle.sas_text.specs.PlanText.{KeepsLines}
 use Rattle.sas_text.specs.System.{Node, ended, Takes, Judged, Leads, Rejects}
 use Rattle.sas_text.proofs.Conversion.{At, Follows}

@@ -9,14 +9,15 @@ use Rattle.sas_text.specs.declared.reader.Reader.{Reader}
 use Rattle.sas_text.specs.declared.plan_reader.PlanReader.{PlanReader}
 use Rattle.sas_text.specs.Format.{Reads, Live, FaultOf, EndOf, ReadsAs}
 use Rattle.sas_text.specs.PlanFormat.{PlanLine, plan_format}
-use Rattle.sas_text.specs.PlanStates.{PlanState, going, closed, plan_node, plan_start, IsClosed}
-use Rattle.sas_text.specs.PlanReading.{Stands, fault_so_far, limit_of}
-use Rattle.sas_text.specs.ReaderFacts.{answer}
-use Rattle.sas_text.specs.Reading as reading
+use Rattle.sas_text.specs.PlanMachine.{PlanState, going, closed, plan_node, plan_start, IsClosed}
+use Rattle.sas_text.specs.PlanReader.{Stands, fault_so_far, limit_of}
+use Rattle.sas_text.specs.Faults.{answer}
+use Rattle.sas_text.specs.Reader as reading
 use Rattle.sas_text.specs.System.{Node, ended, Leads, Rejects}
 use Rattle.sas_text.proofs.Conversion.{Follows, fault_of_format, live_of_format, reads_of_format, refusal}
 use Rattle.sas_text.proofs.PlanGrammar.{plan_grammar}
 use Rattle.sas_text.proofs.Standing as standing
+use Rattle.sas_text.proofs.Whole.{fault_is_dead}
 
 abbrev pub plan_led : List (List ℕ) → PlanState → Type 0
 plan_led lines p = Leads plan_format plan_node plan_start lines p
@@ -65,6 +66,9 @@ live_plan r bytes none s =
 pub fault_plan : (r : Reader PlanState) (bytes : List ℕ) (f : Fault) → r.fault ≡ Some f → f.kind ≢ kinds.Memory → reading.Stands plan_led IsClosed plan_rejects r bytes → FaultOf plan_format r.limit bytes f
 fault_plan r bytes f some ne s =
     fault_of_format plan_format plan_node plan_start plan_grammar plan_led IsClosed plan_rejects plan_follows r.limit bytes f (standing.fault_of plan_led IsClosed plan_rejects r f bytes some s ne)
+
+pub dead_plan : (r : Reader PlanState) (bytes : List ℕ) (f : Fault) → r.fault ≡ Some f → f.kind ≢ kinds.Memory → reading.Stands plan_led IsClosed plan_rejects r bytes → Live plan_format r.limit bytes → ⊥
+dead_plan r bytes f some ne s a = fault_is_dead plan_format plan_node plan_start plan_grammar r.limit bytes f (fault_plan r bytes f some ne s) a
 
 -- ---- the end
 

@@ -3,7 +3,7 @@ use Rattle.std.proofs.Common.{◌≡◌, ℕ, List, [], ◌∷◌, ◌++◌, ref
 use Rattle.sas_core.specs.declared.plan.CostKind.{CostKind}
 use Rattle.sas_text.specs.System.{Takes, After, Leads}
 use Rattle.sas_text.specs.PlanFormat.{PlanLine, step, cost, plan_line_bytes, plan_format}
-use Rattle.sas_text.specs.PlanStates.{PlanState, going, closed, plan_node, plan_next, plan_line_ok, plan_start, plan_state, IsClosed, StepsOn}
+use Rattle.sas_text.specs.PlanMachine.{PlanState, going, closed, plan_node, plan_next, plan_line_ok, plan_start, plan_state, IsClosed, StepsOn}
 use Rattle.sas_text.proofs.Live.{leads_line}
 
 abbrev Led : List (List ℕ) → PlanState → Type 0

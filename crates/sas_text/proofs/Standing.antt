@@ -5,7 +5,7 @@ use Rattle.sas_text.specs.declared.fault.Fault.{Fault}
 use Rattle.sas_text.specs.declared.fault.Kind.{Kind}
 use Rattle.sas_text.specs.declared.fault.Kind.TheVariants as kinds
 use Rattle.sas_text.specs.declared.reader.Reader.{Reader}
-use Rattle.sas_text.specs.Reading.{Accepted, FaultIn, Stands, StandsAt}
+use Rattle.sas_text.specs.Reader.{Accepted, FaultIn, Stands, StandsAt}
 
 module _ {M : Type 0} (led_by : List (List ℕ) → M → Type 0) (ended : M → Type 0) (rejects : M → List ℕ → Kind → Type 0) where
   pub accepted_of : (r : Reader M) (bytes : List ℕ) → r.fault ≡ None → Stands led_by ended rejects r bytes → Accepted led_by ended r bytes

@@ -3,7 +3,7 @@ use Rattle.std.specs.Prelude.{◌≡◌, ℕ, List, IsTrue, ◌↔◌}
 use Rattle.sas_lines.specs.Lines.{text}
 use Rattle.sas_text.specs.declared.plan_text.PlanText.{PlanText}
 use Rattle.sas_text.specs.PlanFormat.{plan_format}
-use Rattle.sas_text.specs.PlanStates.{PlanState, plan_node, plan_start, IsClosed}
+use Rattle.sas_text.specs.PlanMachine.{PlanState, plan_node, plan_start, IsClosed}
 use Rattle.sas_text.specs.System.{Leads}
 
 -- the lines may begin a plan and are kept as a text, and it says whether the cost is among them

@@ -1,7 +1,7 @@
 // Reads a device to its end.
 ghost use Rattle.std.specs.Prelude.{◌≡◌, ◌≢◌, ◌≤◌, ◌^◌, ◌↔◌, ℕ, List, [], length, false, IfOk, IfErr, IsErrAnd, IsTrue};
 ghost use Rattle.std.specs.Io.KnownBytes.{Consumes, IsAtEnd};
-ghost use Rattle.sas_text.specs.Reading.{Reached, ReadFails};
+ghost use Rattle.sas_text.specs.Reader.{Reached, ReadFails};
 
 use crate::fault::{Fault, Kind};
 use crate::reader::{Machine, Reader};

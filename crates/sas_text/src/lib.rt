@@ -15,3 +15,6 @@ pub use fault::{Fault, Kind};
 pub use laws::plan_laws;
 pub use plan::{encode_plan, read_plan, read_plan_text};
 pub use plan_reader::{LIMIT, PlanReader};
+
+#[cfg(test)]
+mod tests;

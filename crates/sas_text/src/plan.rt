@@ -5,7 +5,7 @@ ghost use Rattle.sas_core.specs.PlanParts.{PlanParts};
 ghost use Rattle.sas_lines.specs.Lines.{text};
 ghost use Rattle.sas_text.specs.Format.{ReadsAs, lines_of};
 ghost use Rattle.sas_text.specs.PlanFormat.{plan_format, plan_line_bytes, cost_words, step, cost};
-ghost use Rattle.sas_text.specs.Refusals.{Refuses, IsFaultOf, TextOf};
+ghost use Rattle.sas_text.specs.Devices.{Refuses, IsFaultOf, TextOf};
 
 use crate::devices::read_all;
 use crate::fault::{Fault, Kind};
@@ -36,10 +36,7 @@ pub fn read_plan<R: Read>(alloc: Global, reader: &mut Watched<R>) -> Result<Plan
 }
 
 /// Reads a plan from a device as `read_plan` does, and gives its text: its lines, each ended by LF. It keeps no plan.
-pub fn read_plan_text<R: Read>(
-    alloc: Global,
-    reader: &mut Watched<R>,
-) -> Result<Vec<u8>, Fault>
+pub fn read_plan_text<R: Read>(alloc: Global, reader: &mut Watched<R>) -> Result<Vec<u8>, Fault>
     requires { reader.old.failed ≡ false }
     ensures read { IfOk result (λ t. (b : List ℕ) × Consumes (R.remaining reader.old.device) (R.remaining reader.new.device) b × IsAtEnd (R.remaining reader.new.device) × TextOf plan_format LIMIT b t.items) }
     ensures fault { IfErr result (λ f. f.kind ≢ Kind.Memory → (b : List ℕ) × Consumes (R.remaining reader.old.device) (R.remaining reader.new.device) b × Refuses plan_format LIMIT b (IsAtEnd (R.remaining reader.new.device)) f) }

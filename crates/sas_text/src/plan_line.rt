@@ -3,7 +3,7 @@ ghost use Rattle.std.specs.Prelude.{◌≡◌, ◌++◌, ℕ, List, MatchOption,
 ghost use Rattle.std.specs.Fmt.{decimal};
 ghost use Rattle.sas_core.specs.Plans.{IsPlanCost};
 ghost use Rattle.sas_text.specs.PlanFormat.{BeginsWith};
-ghost use Rattle.sas_text.specs.PlanLines.{Names, Costs, JudgesPlanLine};
+ghost use Rattle.sas_text.specs.PlanLine.{Names, Costs, JudgesPlanLine};
 
 use crate::fault::Kind;
 use sas_core::{CostKind, is_name};

@@ -19,7 +19,7 @@ pub struct PlanMachine {
 impl Model for PlanMachine {
     ghost use Rattle.std.specs.List.{AllByRecursion};
     ghost use Rattle.sas_core.specs.Names.{IsName};
-    ghost use Rattle.sas_text.specs.PlanStates.{PlanState, plan_state};
+    ghost use Rattle.sas_text.specs.PlanMachine.{PlanState, plan_state};
 
     ghost Value = { PlanState };
 
@@ -30,7 +30,7 @@ impl Model for PlanMachine {
 
 impl PlanMachine {
     ghost use Rattle.sas_core.specs.Names.{IsName};
-    ghost use Rattle.sas_text.specs.PlanStates.{closed, plan_start, IsClosed, StepsOn};
+    ghost use Rattle.sas_text.specs.PlanMachine.{closed, plan_start, IsClosed, StepsOn};
 
     /// Nothing has come.
     pub fn new(alloc: Global) -> Self
@@ -75,7 +75,7 @@ impl PlanMachine {
 
 impl Machine for PlanMachine {
     ghost use Rattle.sas_text.specs.PlanFormat.{plan_format};
-    ghost use Rattle.sas_text.specs.PlanStates.{plan_node, plan_start, IsClosed};
+    ghost use Rattle.sas_text.specs.PlanMachine.{plan_node, plan_start, IsClosed};
     ghost use Rattle.sas_text.specs.System.{Leads, Rejects};
 
     ghost led_by = { λ lines m. Leads plan_format plan_node plan_start lines m };

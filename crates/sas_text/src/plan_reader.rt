@@ -2,7 +2,7 @@
 ghost use Rattle.std.specs.Prelude.{◌≡◌, ◌≢◌, ◌≤◌, ◌^◌, ℕ, List, [], ◌++◌, Some, None, IfOk, IfErr, OnOk, Ok, Err};
 ghost use Rattle.sas_text.specs.Format.{Live, FaultOf, ReadsAs};
 ghost use Rattle.sas_text.specs.PlanFormat.{plan_format};
-ghost use Rattle.sas_text.specs.ReaderFacts.{IsOfBytes, answer};
+ghost use Rattle.sas_text.specs.Faults.{IsOfBytes, answer};
 
 use crate::fault::{Fault, Kind};
 use crate::plan_machine::PlanMachine;
@@ -20,7 +20,7 @@ pub struct PlanReader {
 }
 
 impl PlanReader {
-    ghost use Rattle.sas_text.specs.PlanReading.{Stands, fault_so_far, limit_of};
+    ghost use Rattle.sas_text.specs.PlanReader.{Stands, fault_so_far, limit_of};
 
     /// Nothing has come. It takes no memory.
     pub fn new(alloc: Global) -> Self
@@ -48,6 +48,7 @@ impl PlanReader {
         ensures stands { (bytes : List ℕ) → Stands self.old bytes → Stands self.new (bytes ++ piece.now) }
         ensures live { OnOk result ((bytes : List ℕ) → Stands self.old bytes → Live plan_format (limit_of self.old) (bytes ++ piece.now)) }
         ensures fault { IfErr result (λ f. f.kind ≢ Kind.Memory → (bytes : List ℕ) → Stands self.old bytes → FaultOf plan_format (limit_of self.old) (bytes ++ piece.now) f) }
+        ensures dead { IfErr result (λ f. f.kind ≢ Kind.Memory → (bytes : List ℕ) → Stands self.old bytes → Live plan_format (limit_of self.old) (bytes ++ piece.now) → ⊥) }
         ensures answer { result ≡ answer (fault_so_far self.new) }
         ensures kept { (f : Fault) → fault_so_far self.old ≡ Some f → fault_so_far self.new ≡ Some f }
         ensures kind { IfErr result (λ f. fault_so_far self.old ≡ None → IsOfBytes f.kind) }

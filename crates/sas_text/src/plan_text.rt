@@ -51,7 +51,7 @@ impl PlanText {
 impl Machine for PlanText {
     ghost use Rattle.std.specs.Prelude.{IsTrue};
     ghost use Rattle.sas_text.specs.PlanFormat.{plan_format};
-    ghost use Rattle.sas_text.specs.PlanStates.{plan_line_ok};
+    ghost use Rattle.sas_text.specs.PlanMachine.{plan_line_ok};
     ghost use Rattle.sas_text.specs.PlanText.{KeepsLines};
     ghost use Rattle.sas_text.specs.System.{Judged};
 

@@ -2,7 +2,7 @@
 ghost use Rattle.std.specs.Prelude.{◌≡◌, ◌≢◌, ◌⊎◌, ◌≤◌, ◌<◌, ◌+◌, ◌^◌, ◌↔◌, ℕ, List, [], ◌∷◌, ◌++◌, length, take, Some, None, Ok, Err, false, IfOk, IfErr, IfSome, IfNone, OnOk, OnErr, IsErrAnd, IsTrue};
 ghost use Rattle.std.specs.Io.KnownBytes.{Consumes, IsAtEnd};
 ghost use Rattle.sas_lines.specs.Lines.{lines};
-ghost use Rattle.sas_text.specs.ReaderFacts.{IsOfBytes, answer};
+ghost use Rattle.sas_text.specs.Faults.{IsOfBytes, answer};
 
 use crate::fault::{Fault, Kind};
 use sas_lines::{Lines, Watched};
@@ -49,7 +49,7 @@ pub struct Reader<M> {
 }
 
 impl<M: Machine> Reader<M> {
-    ghost use Rattle.sas_text.specs.Reading.{Accepted, Reached, EndsEarly, StopsIn, FaultIn, Stands};
+    ghost use Rattle.sas_text.specs.Reader.{Accepted, Reached, EndsEarly, StopsIn, FaultIn, Stands};
 
     /// Nothing has come yet.
     pub fn new(alloc: Global, machine: M, limit: u64) -> Self

@@ -6,8 +6,8 @@ use Rattle.std.proofs.lemmas.List.{append-nil}
 use Rattle.sas_text.specs.declared.fault.Fault.{Fault}
 use Rattle.sas_text.specs.declared.fault.Kind.{Kind}
 use Rattle.sas_text.specs.declared.fault.Kind.TheVariants as kinds
-use Rattle.sas_text.specs.ReaderFacts.{answer}
-use Rattle.sas_text.specs.Reading.{EndsEarly, FaultIn, ReadFails, unread, early, faulty}
+use Rattle.sas_text.specs.Faults.{answer}
+use Rattle.sas_text.specs.Reader.{EndsEarly, FaultIn, ReadFails, unread, early, faulty}
 use Rattle.sas_text.proofs.Standing.{accepted_of, fault_of}
 use Rattle.sas_text.proofs.devices.read_all.Goals as goal
 
@@ -38,9 +38,12 @@ returns-then-taken-eq0-clause-fault g c =
     let v = c.loop-n.invariant in
     let b = v.read.0 in
     let whole : Consumes _ _ b = subst (Consumes _ _) (ap (λ (n : ℕ). b ++ take n c.take.new.buffer) c.if-taken-eq0.true ∙ append-nil b) (Consumes-trans _ _ _ b _ v.read.1 c.in-Ok.ensures.bytes.0) in
-    if_err c.finish.result _ _ _ c.finish.ensures.fault c.finish.ensures.read (λ f fault read ne.
-      (b, whole, at_end g.M.Machine.led_by g.M.Machine.ended g.M.Machine.rejects c.args.limit b _ f (c.in-Ok.ensures.bytes.1 c.if-taken-eq0.true (omega (arith, c.take.auto.buffer))) (λ e. let x = read e in let y : None ≡ Some f = sym v.fault ∙ x in cc)
-        (subst (λ (l : ℕ). FaultIn g.M.Machine.led_by g.M.Machine.ended g.M.Machine.rejects l b f ⊎ EndsEarly g.M.Machine.led_by g.M.Machine.ended l b f) v.limit (fault ne b v.read.2))))
+    if_err c.finish.result _ _ _ c.finish.ensures.fault c.finish.ensures.read (λ f fault read ne. (
+      b,
+      whole,
+      at_end g.M.Machine.led_by g.M.Machine.ended g.M.Machine.rejects c.args.limit b _ f (c.in-Ok.ensures.bytes.1 c.if-taken-eq0.true (omega (arith, c.take.auto.buffer))) (λ e. let x = read e in let y : None ≡ Some f = sym v.fault ∙ x in cc)
+          (subst (λ (l : ℕ). FaultIn g.M.Machine.led_by g.M.Machine.ended g.M.Machine.rejects l b f ⊎ EndsEarly g.M.Machine.led_by g.M.Machine.ended l b f) v.limit (fault ne b v.read.2)),
+    ))
 
 pub returns-in-Err-feed-clause-fault : goal.returns-in-Err-feed-clause-fault
 returns-in-Err-feed-clause-fault g c = λ ne.

@@ -1,6 +1,6 @@
 use Rattle.std.proofs.Common.{◌≡◌, ◌-◌, ℕ, List, None, false}
 use Rattle.std.specs.Io.KnownBytes.{Consumes}
-use Rattle.sas_text.specs.Reading.{Stands}
+use Rattle.sas_text.specs.Reader.{Stands}
 use Rattle.sas_text.proofs.devices.read_all.Given as goal
 
 -- what was read is what the reader stands for

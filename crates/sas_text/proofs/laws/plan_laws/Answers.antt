@@ -1,4 +1,5 @@
 use Rattle.sas_text.proofs.PlanGrammar.{plan_grammar}
+use Rattle.sas_text.proofs.PlanFilling.{plan_is_filled}
 use Rattle.sas_text.proofs.PlanLaws.{plan_laws_hold}
 use Rattle.sas_text.proofs.laws.plan_laws.Goals as goal
 
@@ -7,3 +8,6 @@ returns-clause-laws c = plan_laws_hold
 
 pub returns-clause-grammar : goal.returns-clause-grammar
 returns-clause-grammar c = plan_grammar
+
+pub returns-clause-filled : goal.returns-clause-filled
+returns-clause-filled c = plan_is_filled

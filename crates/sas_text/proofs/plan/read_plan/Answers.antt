@@ -2,7 +2,7 @@ use Rattle.std.proofs.Common.{List, ℕ, subst, Ok}
 use Rattle.sas_text.specs.declared.plan_reader.TheConstants.{LIMIT}
 use Rattle.sas_text.specs.Format.{ReadsAs}
 use Rattle.sas_text.specs.PlanFormat.{plan_format}
-use Rattle.sas_text.specs.PlanStates.{plan_node, plan_start, IsClosed}
+use Rattle.sas_text.specs.PlanMachine.{plan_node, plan_start, IsClosed}
 use Rattle.sas_text.proofs.Conversion.{all_read, device_refusal, known_refusal}
 use Rattle.sas_text.proofs.PlanGrammar.{plan_grammar}
 use Rattle.sas_text.proofs.PlanStanding.{plan_led, plan_rejects, plan_follows, read_plan_parts}

@@ -2,10 +2,10 @@ use Rattle.std.proofs.Common.{◌≡◌, ◌≤◌, List, ℕ, length, subst, �
 use Rattle.sas_text.specs.declared.plan_reader.TheConstants.{LIMIT}
 use Rattle.sas_text.specs.declared.plan_text.PlanText.{PlanText}
 use Rattle.sas_text.specs.PlanFormat.{plan_format}
-use Rattle.sas_text.specs.PlanStates.{plan_node, plan_start}
+use Rattle.sas_text.specs.PlanMachine.{plan_node, plan_start}
 use Rattle.sas_text.specs.PlanText.{KeepsLines}
-use Rattle.sas_text.specs.Reading.{Reached}
-use Rattle.sas_text.specs.Refusals.{TextOf}
+use Rattle.sas_text.specs.Reader.{Reached}
+use Rattle.sas_text.specs.Devices.{TextOf}
 use Rattle.sas_text.proofs.Conversion.{all_read, device_refusal, known_refusal, some_read}
 use Rattle.sas_text.proofs.PlanGrammar.{plan_grammar}
 use Rattle.sas_text.proofs.PlanKeeping.{text_ended, text_rejects, text_follows, text_is}

@@ -1,5 +1,5 @@
 use Rattle.std.proofs.Common.{[], refl}
-use Rattle.sas_text.specs.PlanStates.{plan_start}
+use Rattle.sas_text.specs.PlanMachine.{plan_start}
 use Rattle.sas_text.proofs.plan_text.PlanText.new.Goals as goal
 
 pub returns : goal.returns

@@ -1,7 +1,7 @@
 use Rattle.std.proofs.Common.{ℕ, ◌+◌, ◌-◌, ◌≤◌, ◌≡◌, List, ◌++◌, take, drop, length, refl, sym, ap, subst, ◌∙◌, append_assoc, arith, length-drop}
 use Rattle.std.proofs.lemmas.List.{take_all}
 use Rattle.std.proofs.Math.Seq.{take-add}
-use Rattle.sas_text.specs.Reading.{Accepted, StopsIn}
+use Rattle.sas_text.specs.Reader.{Accepted, StopsIn}
 use Rattle.sas_text.proofs.Standing.{accepted_of, stands_accepted, stands_fault, stands_more}
 use Rattle.sas_text.proofs.Pieces.{fault_in_rest}
 use Rattle.sas_text.proofs.reader.Reader.feed.Goals as goal
@@ -41,10 +41,10 @@ returns-in-Err-clause-stands g c = λ bytes s.
     let v = c.loop-at.invariant in
     let h = v.accepted bytes (accepted_of g.M.Machine.led_by g.M.Machine.ended g.M.Machine.rejects c.args.self.now bytes v.none_before s) in
     stands_fault g.M.Machine.led_by g.M.Machine.ended g.M.Machine.rejects _ _ (bytes ++ piece) refl (λ ne.
-      fault_in_rest g.M.Machine.led_by g.M.Machine.ended g.M.Machine.rejects c.advance.new.self.limit bytes piece i _
-      (subst (λ (x : List ℕ). StopsIn g.M.Machine.led_by g.M.Machine.ended g.M.Machine.rejects c.advance.new.self.limit (bytes ++ take i piece) x c.in-Err.kind) (rest_of i piece)
-        (subst (λ (l : ℕ). StopsIn g.M.Machine.led_by g.M.Machine.ended g.M.Machine.rejects l (bytes ++ take i piece) (take (length piece - i) (drop i piece)) c.in-Err.kind) (sym c.in-Err.ensures.limit) (c.in-Err.ensures.stops ne (bytes ++ take i piece) h)))
-      (ap (λ (l : ℕ). l + 1) (c.in-Err.ensures.lines ∙ h.lines)))
+    fault_in_rest g.M.Machine.led_by g.M.Machine.ended g.M.Machine.rejects c.advance.new.self.limit bytes piece i _
+    (subst (λ (x : List ℕ). StopsIn g.M.Machine.led_by g.M.Machine.ended g.M.Machine.rejects c.advance.new.self.limit (bytes ++ take i piece) x c.in-Err.kind) (rest_of i piece)
+    (subst (λ (l : ℕ). StopsIn g.M.Machine.led_by g.M.Machine.ended g.M.Machine.rejects l (bytes ++ take i piece) (take (length piece - i) (drop i piece)) c.in-Err.kind) (sym c.in-Err.ensures.limit) (c.in-Err.ensures.stops ne (bytes ++ take i piece) h)))
+    (ap (λ (l : ℕ). l + 1) (c.in-Err.ensures.lines ∙ h.lines)))
 
 pub returns-clause-stands : goal.returns-clause-stands
 returns-clause-stands g c = λ bytes s.

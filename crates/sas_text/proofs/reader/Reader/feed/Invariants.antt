@@ -1,5 +1,5 @@
 use Rattle.std.proofs.Common.{length, ◌-◌, ◌≡◌, ◌≤◌, ◌+◌, ℕ, List, ◌++◌, take, None}
-use Rattle.sas_text.specs.Reading.{Accepted}
+use Rattle.sas_text.specs.Reader.{Accepted}
 use Rattle.sas_text.proofs.reader.Reader.feed.Given as goal
 
 -- what was taken of the piece is accepted, and no fault has come

@@ -8,7 +8,7 @@ use Rattle.sas_text.specs.declared.fault.Kind.{Kind}
 use Rattle.sas_text.specs.declared.plan_line.PlanLine as code
 use Rattle.sas_text.specs.declared.plan_line.PlanLine.TheVariants as variants
 use Rattle.sas_text.specs.PlanFormat.{PlanLine, step, cost, plan_line_bytes, plan_format, cost_words}
-use Rattle.sas_text.specs.PlanStates.{plan_line_ok}
+use Rattle.sas_text.specs.PlanMachine.{plan_line_ok}
 use Rattle.sas_text.specs.System.{Takes, Judged}
 
 -- behind its opening parenthesis a step is its name and the closing one

@@ -4,8 +4,8 @@ use Rattle.sas_core.specs.PlanParts.{PlanParts}
 use Rattle.sas_text.specs.declared.fault.Fault.{Fault}
 use Rattle.sas_text.specs.declared.plan_reader.PlanReader.{PlanReader}
 use Rattle.sas_text.specs.PlanFormat.{plan_format}
-use Rattle.sas_text.specs.PlanStates.{plan_node, plan_start, IsClosed}
-use Rattle.sas_text.specs.Reading as reading
+use Rattle.sas_text.specs.PlanMachine.{plan_node, plan_start, IsClosed}
+use Rattle.sas_text.specs.Reader as reading
 use Rattle.sas_text.specs.System.{Leads, Rejects}
 
 -- The byte lists that a reader stands for. Without a fault, it has taken them: their complete lines are those that it
