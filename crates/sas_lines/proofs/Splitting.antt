@@ -1,11 +1,11 @@
 -- Byte lists in a row, and their lines.
-use Rattle.std.proofs.Common.{◌≡◌, ℕ, ◌≢◌, List, [], ◌∷◌, ◌++◌, refl, sym, ap, subst, ◌∙◌}
+use Rattle.std.proofs.Common.{◌≡◌, ℕ, ◌≢◌, List, [], ◌∷◌, ◌++◌, refl, sym, ap, ◌∙◌}
 use Rattle.std.specs.List.{AllByRecursion}
 use Rattle.std.proofs.lemmas.Bool.{ne_eqb}
 use Rattle.std.proofs.lemmas.List.{append-nil}
 use Rattle.sas_lines.specs.Parts.{parts}
 use Rattle.sas_lines.specs.Lines.{without_return, lines_among, rest_among, lines, unfinished, text, NoEnd}
-use Rattle.sas_lines.proofs.Separated.{Without-append, parts-first, parts-only, Some_parts, parts-some, front, parts-append, last-without}
+use Rattle.sas_lines.proofs.Separated.{Without-append, parts-first, parts-only, parts-some, front, parts-append, last-without}
 
 -- ---- parts in a row
 

@@ -1,14 +1,15 @@
 -- The parts between single spaces, as the inverse of joining; decimals hold no space.
-use Rattle.std.proofs.Common.{◌≡◌, ℕ, suc, ◌<◌, ◌^◌, ◌≢◌, List, [], ◌∷◌, ◌++◌, refl, sym, ap, ◌∙◌, arith, Option, Some, None}
+use Rattle.std.proofs.Common.{◌≡◌, ℕ, ◌<◌, ◌^◌, ◌≢◌, Bool, true, false, cond, eqb, List, [], ◌∷◌, ◌++◌, refl, sym, ap, ◌∙◌, arith, Option, Some, None}
 use Rattle.std.specs.List.{AllByRecursion}
 use Rattle.std.specs.Fmt.{decimal}
 use Rattle.std.specs.Str.Parse.{AllDigits}
+use Rattle.std.proofs.lemmas.Bool.{eqb-true}
 use Rattle.std.proofs.lemmas.Fmt.{digits_decimal, decimal_injective}
 use Rattle.std.proofs.lemmas.Str.Parse.{digit_from_value}
-use Rattle.sas_lines.specs.Parts.{Without, parts}
+use Rattle.sas_lines.specs.Parts.{Without, onto_first, parts}
 use Rattle.sas_lines.specs.Lines.{NoEnd}
 use Rattle.sas_lines.specs.Spelling.{IsNumber, IsSigned, signed_decimal}
-use Rattle.sas_lines.proofs.Separated.{parts-first, parts-only}
+use Rattle.sas_lines.proofs.Separated.{parts-first, parts-only, parts-some}
 use Rattle.sas_lines.proofs.Splitting.{Plain, without_return-none}
 use Rattle.sas_lines.proofs.Digits.{own}
 
@@ -19,6 +20,10 @@ NoSpace bytes = Without 32 bytes
 abbrev pub joined_after : List ℕ → List (List ℕ) → List ℕ
 joined_after w [] = w
 joined_after w (v ∷ ws) = w ++ 32 ∷ joined_after v ws
+
+abbrev pub joined : List (List ℕ) → List ℕ
+joined [] = []
+joined (w ∷ ws) = joined_after w ws
 
 pub words-first : (w rest : List ℕ) → NoSpace w → parts 32 (w ++ 32 ∷ rest) ≡ w ∷ parts 32 rest
 words-first w rest h = parts-first 32 w rest h
@@ -36,6 +41,23 @@ same_words w v ws vs h g i j e = sym (words-joined w ws h g) ∙ ap (parts 32) e
 
 pub same_first : (w v a b : List ℕ) → NoSpace w → NoSpace v → w ++ 32 ∷ a ≡ v ++ 32 ∷ b → (w ≡ v) × (parts 32 a ≡ parts 32 b)
 same_first w v a b h i e = let l : w ∷ parts 32 a ≡ v ∷ parts 32 b = sym (words-first w a h) ∙ ap (parts 32) e ∙ words-first v b i in (cc, cc)
+
+joined-push : (b : ℕ) (ws : List (List ℕ)) → joined (onto_first b ws) ≡ b ∷ joined ws
+joined-push b [] = refl
+joined-push b (w ∷ []) = refl
+joined-push b (w ∷ v ∷ ws) = refl
+
+joined_by : (t : Bool) (b : ℕ) (w : List ℕ) (ws : List (List ℕ)) → eqb b 32 ≡ t → joined (cond t ([] ∷ w ∷ ws) (onto_first b (w ∷ ws))) ≡ b ∷ joined (w ∷ ws)
+joined_by true b w ws e = ap (λ (x : ℕ). x ∷ joined (w ∷ ws)) (sym (eqb-true b 32 e))
+joined_by false b w ws e = joined-push b (w ∷ ws)
+
+-- the parts joined again are the line
+pub joined-words : (line : List ℕ) → joined (parts 32 line) ≡ line
+unfolding parts
+joined-words [] = refl
+joined-words (b ∷ bytes) =
+    let s = parts-some 32 bytes in
+    ap (λ (x : List (List ℕ)). joined (cond (eqb b 32) ([] ∷ x) (onto_first b x))) s.are ∙ joined_by (eqb b 32) b s.first s.others refl ∙ ap (λ (x : List ℕ). b ∷ x) (ap joined (sym s.are) ∙ joined-words bytes)
 
 -- ---- numbers
 

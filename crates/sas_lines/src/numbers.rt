@@ -49,9 +49,7 @@ impl<'a> Iterator for Numbers<'a> {
     ghost remaining = { item_count (λ s. s) };
 
     fn next(&mut self) -> Option<&'a [u8]> {
-        let Some(line) = self.rest else {
-            return None;
-        };
+        let line = self.rest?;
         let (part, rest) = cut(line);
         self.rest = rest;
         Some(part)

@@ -23,7 +23,7 @@ fn short_number(digits: &[u8]) -> Option<u64>
     }
     let mut value: u64 = 0;
     for digit in digits {
-        if *digit < b'0' || *digit > b'9' {
+        if !digit.is_ascii_digit() {
             return None;
         }
         value = value * 10 + (*digit - b'0') as u64;
@@ -39,9 +39,7 @@ pub fn number(line: &[u8]) -> Option<u32>
     if line.len() > 10 {
         return None;
     }
-    let Some(value) = short_number(line) else {
-        return None;
-    };
+    let value = short_number(line)?;
     if value < NUMBER_LIMIT {
         Some(value as u32)
     } else {
@@ -57,10 +55,7 @@ pub fn signed(line: &[u8]) -> Option<Option<u32>>
     if line == b"-1".as_slice() {
         return Some(None);
     }
-    let Some(n) = number(line) else {
-        return None;
-    };
-    Some(Some(n))
+    number(line).map(Some)
 }
 
 /// The plan cost that the line spells: decimal digits without sign or leading zero, at most 18,446,744,073,709,551,615.
@@ -74,14 +69,12 @@ pub fn cost(line: &[u8]) -> Option<u64>
     if line.len() > 20 {
         return None;
     }
-    // The first 19 digits are below 2 ^ 64, with one digit more only perhaps.
+    // 19 digits always fit 64 bits, and 20 only perhaps.
     let last = line[19];
-    if last < b'0' || last > b'9' {
+    if !last.is_ascii_digit() {
         return None;
     }
-    let Some(tenth) = short_number(&line[..19]) else {
-        return None;
-    };
+    let tenth = short_number(&line[..19])?;
     let value = tenth as u128 * 10 + (last - b'0') as u128;
     if value > u64::MAX as u128 {
         return None;

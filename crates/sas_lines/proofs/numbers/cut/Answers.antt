@@ -1,4 +1,4 @@
-use Rattle.std.proofs.Common.{◌≡◌, ◌∷◌, ◌+◌, List, ℕ, take, drop, ap, ◌∙◌}
+use Rattle.std.proofs.Common.{◌+◌, take, drop, ap, ◌∙◌}
 use Rattle.std.proofs.lemmas.List.{take_rest}
 use Rattle.sas_lines.specs.Parts.{parts}
 use Rattle.sas_lines.proofs.Separated.{parts-first, parts-only}

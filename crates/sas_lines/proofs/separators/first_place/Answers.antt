@@ -1,4 +1,4 @@
-use Rattle.std.proofs.Common.{ℕ, List, length, Option, Some, None}
+use Rattle.std.proofs.Common.{ℕ, List, Option, Some, None}
 use Rattle.std.specs.Option.{MatchOption}
 use Rattle.memchr.specs.Find.{IsFirstByte, is_byte}
 use Rattle.sas_lines.specs.Parts.{Without, StandsFirst}

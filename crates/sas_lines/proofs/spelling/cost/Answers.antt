@@ -1,6 +1,7 @@
-use Rattle.std.proofs.Common.{arith, ◌≡◌, ◌<◌, ◌≤◌, ◌^◌, ◌+◌, ◌/◌, ℕ, List, length, take, Option, Some, None}
+use Rattle.std.proofs.Common.{arith, ◌≡◌, ◌<◌, ◌≤◌, ◌^◌, ◌/◌, ℕ, List, length, take, Option, Some, None}
 use Rattle.std.specs.Fmt.{decimal}
 use Rattle.std.specs.Option.{IfNone}
+use Rattle.std.proofs.lemmas.Bool.{MatchBool-at_true, MatchBool-at_false}
 use Rattle.sas_lines.proofs.Digits.{is_short, is_below, is_digit, same_value, in_two, put_together}
 use Rattle.sas_lines.proofs.spelling.cost.Goals as goal
 
@@ -8,28 +9,36 @@ short : (line : List ℕ) (r : Option ℕ) → length line ≤ 19 → IfNone r (
 short line None l h = λ n s e. h n (is_below line n 19 s e l) e
 short line (Some v) l h = tt
 
+if_none : (r : Option ℕ) {P : Type 0} → P → IfNone r P
+if_none None p = p
+if_none (Some v) p = tt
+
 pub returns-then-line-lt20-clause-none : goal.returns-then-line-lt20-clause-none
 returns-then-line-lt20-clause-none c = short c.args.line.now c.short_number.result (omega arith) c.short_number.ensures.none
 
 pub returns-then-line-gt20-clause-none : goal.returns-then-line-gt20-clause-none
 returns-then-line-gt20-clause-none c = λ n h e. omega (arith, is_short c.args.line.now n 20 (omega arith) (omega arith) h e)
 
-pub returns-then-last-lt48-clause-none : goal.returns-then-last-lt48-clause-none
-returns-then-last-lt48-clause-none c = λ n h e. let k = is_digit c.args.line.now n 19 h e (omega arith) in grind arith
+pub returns-then-not-is_ascii_digit-clause-none : goal.returns-then-not-is_ascii_digit-clause-none
+returns-then-not-is_ascii_digit-clause-none c = λ n h e.
+    let k = is_digit c.args.line.now n 19 h e (omega arith) in
+    let other = MatchBool-at_false _ _ c.if-not-is_ascii_digit.true c.is_ascii_digit.ensures.cases in
+    grind arith
 
-pub returns-in_default-clause-none : goal.returns-in_default-clause-none
-returns-in_default-clause-none c = λ n h e.
+pub returns-in_err-tenth-clause-none : goal.returns-in_err-tenth-clause-none
+returns-in_err-tenth-clause-none c = if_none c.from_residual.result (λ n h e.
     let two = in_two c.args.line.now n h e (omega arith) in
-    c.in_default.ensures.none (n / 10) (omega arith) two.front
+    c.in_err-tenth.ensures.none (n / 10) (omega arith) two.front)
 
 pub returns-then-value-clause-none : goal.returns-then-value-clause-none
 returns-then-value-clause-none c = λ n h e.
     let two = in_two c.args.line.now n h e (omega arith) in
-    let found = c.in-Some.ensures.found in
-    let same = same_value (take 19 c.args.line.now) c.in-Some.tenth (n / 10) (omega (arith, found.0)) (omega arith) found.1 two.front in
+    let found = c.in_ok-tenth.ensures.found in
+    let same = same_value (take 19 c.args.line.now) c.in_ok-tenth.tenth (n / 10) (omega (arith, found.0)) (omega arith) found.1 two.front in
     omega (arith, two.last, same)
 
 pub returns-clause-found : goal.returns-clause-found
 returns-clause-found c =
-    let found = c.in-Some.ensures.found in
-    (omega arith, put_together c.args.line.now c.in-Some.tenth (omega arith) found.1 found.0 (omega arith) (omega arith) (omega arith))
+    let found = c.in_ok-tenth.ensures.found in
+    let here = MatchBool-at_true _ _ c.if-not-is_ascii_digit.false c.is_ascii_digit.ensures.cases in
+    (omega arith, put_together c.args.line.now c.in_ok-tenth.tenth (omega arith) found.1 found.0 (omega (arith, here)) (omega (arith, here)) (omega arith))

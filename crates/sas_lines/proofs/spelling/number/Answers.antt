@@ -7,5 +7,5 @@ returns-then-line-gt10-clause-none c = λ n h e. omega (arith, is_short c.args.l
 
 pub returns-else-value-lt-NUMBER_LIMIT-clause-none : goal.returns-else-value-lt-NUMBER_LIMIT-clause-none
 returns-else-value-lt-NUMBER_LIMIT-clause-none c = λ n h e.
-    let found = c.in-Some.ensures.found in
-    omega (arith, same_value c.args.line.now c.in-Some.value n (omega (arith, found.0)) (omega arith) found.1 e)
+    let found = c.in_ok-value.ensures.found in
+    omega (arith, same_value c.args.line.now c.in_ok-value.value n (omega (arith, found.0)) (omega arith) found.1 e)

@@ -1,6 +1,6 @@
 use Rattle.std.proofs.Common.{arith, length, ◌<◌, ◌≡◌, get_or, refl}
 use Rattle.std.proofs.lemmas.Int.Digits.{digits_more, digits_value_more}
-use Rattle.std.proofs.lemmas.Bool.{iff_false}
+use Rattle.std.proofs.lemmas.Bool.{iff_false, MatchBool-at_true, MatchBool-at_false}
 use Rattle.std.proofs.lemmas.Bool.Decides.{nat_tests}
 use Rattle.sas_lines.proofs.Digits.{is_not_empty, is_zero, is_digit, so_far_short, digit_in, is_read}
 use Rattle.sas_lines.proofs.spelling.short_number.Goals as goal
@@ -12,8 +12,11 @@ returns-then-is_empty-clause-none c = λ n h e.
     let z : get_or digits 0 0 ≡ 48 → 1 < length digits → ⊥ = is_zero digits n (omega arith) e in
     grind (arith, nat_tests)
 
-pub returns-then-digit-lt48-clause-none : goal.returns-then-digit-lt48-clause-none
-returns-then-digit-lt48-clause-none c = λ n h e. let k = is_digit c.args.digits.now n c.loop-digit.digit-index (omega arith) e c.loop-digit-test.true in grind arith
+pub returns-then-not-is_ascii_digit-clause-none : goal.returns-then-not-is_ascii_digit-clause-none
+returns-then-not-is_ascii_digit-clause-none c = λ n h e.
+    let k = is_digit c.args.digits.now n c.loop-digit.digit-index (omega arith) e c.loop-digit-test.true in
+    let other = MatchBool-at_false _ _ c.if-not-is_ascii_digit.true c.is_ascii_digit.ensures.cases in
+    grind arith
 
 pub overflow_mul-value : goal.overflow_mul-value
 overflow_mul-value c = let k = so_far_short c.args.digits.now c.loop-digit.digit-index c.loop-digit.invariant.0 (omega arith) in omega (arith, k, c.loop-digit.invariant.1)
@@ -25,7 +28,8 @@ pub loop-digit-preserved : goal.loop-digit-preserved
 loop-digit-preserved c =
     let digits = c.args.digits.now in
     let i = c.loop-digit.digit-index in
-    let d = digit_in (get_or digits i 0) c.if-digit-lt48.false c.if-digit-gt57.false in
+    let here = MatchBool-at_true _ _ c.if-not-is_ascii_digit.false c.is_ascii_digit.ensures.cases in
+    let d = digit_in (get_or digits i 0) (omega (arith, here)) (omega (arith, here)) in
     let m = digits_value_more 10 digits i c.loop-digit-test.true in
     (digits_more 10 digits i c.loop-digit-test.true c.loop-digit.invariant.0 (omega arith), rw (m, ← c.loop-digit.invariant.1, d) refl)
 

@@ -1,4 +1,4 @@
-use Rattle.std.proofs.Common.{arith, ◌+◌, take, drop, length}
+use Rattle.std.proofs.Common.{arith, ◌+◌, take, drop}
 use Rattle.std.proofs.lemmas.List.{length-take}
 use Rattle.sas_lines.proofs.Found.{in_two_at}
 use Rattle.sas_lines.proofs.lines.Lines.feed.Goals as goal
