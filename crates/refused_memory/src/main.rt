@@ -1,0 +1,259 @@
+//! Says how a call of the libraries answers when an allocation of it is refused. For tests alone: `sas` uses none of it.
+//!
+//! Standard input is the name of a call and a number. The program makes so many allocations, then the call, and prints
+//! what came of it. It is to be run with a certain allocation of the process refused: the number then says which one of
+//! the call that is.
+#![tactic(auto)]
+
+use sas_core::{CostKind, Items, Plan};
+use sas_lines::trial::Narrow;
+use sas_lines::{Lines, Watched, push_line, push_number};
+use sas_text::{Fault, Kind, PlanReader, encode_plan, read_plan, read_plan_text};
+use sas_tool::{Request, Status, ToolFault, run};
+use std::alloc::{AllocError, Global};
+use std::io;
+use std::io::Read;
+use std::process::ExitCode;
+
+/// A plan file, the text that its plan is written as, and the names of its steps.
+const PLAN: &[u8] =
+    b"(go )\r\n(open door)\n(a step of many more bytes than those before)\n; cost = 3 (unit cost)\n";
+
+const WRITTEN: &[u8] =
+    b"(go )\n(open door)\n(a step of many more bytes than those before)\n; cost = 3 (unit cost)\n";
+
+const NAMES: [&[u8]; 3] = [
+    b"go ",
+    b"open door",
+    b"a step of many more bytes than those before",
+];
+
+/// What came of a call.
+#[derive(Clone, Copy, Debug, PartialEq, Eq)]
+enum Outcome {
+    /// Want of memory, and what has to stand then does.
+    Wanting,
+    /// The answer that it gives with ample memory.
+    Whole,
+    /// Anything else.
+    Wrong,
+}
+
+impl Outcome {
+    /// What came of a call that answered, rightly or not.
+    fn of_answer(right: bool) -> Outcome {
+        if right {
+            Outcome::Whole
+        } else {
+            Outcome::Wrong
+        }
+    }
+
+    /// What came of a call that wants memory, where all that has to stand does, or not.
+    fn of_want(stands: bool) -> Outcome {
+        if stands {
+            Outcome::Wanting
+        } else {
+            Outcome::Wrong
+        }
+    }
+
+    /// What came of a reader that ended with this fault.
+    fn of_fault(fault: Fault) -> Outcome {
+        Outcome::of_want(fault.kind == Kind::Memory)
+    }
+}
+
+/// Makes so many allocations.
+fn spend(alloc: Global, count: usize) -> Result<(), AllocError> {
+    for _ in 0..count {
+        let _spent = Box::new(alloc, 0u8)?;
+    }
+    Ok(())
+}
+
+/// `Lines::feed`, of a long line in two pieces.
+fn lines_feed(alloc: Global, count: usize) -> Result<Outcome, AllocError> {
+    spend(alloc, count)?;
+    let (first, second) = b"a line of many more bytes than are taken first\n"
+        .as_slice()
+        .split_at(3);
+    let mut lines = Lines::new(alloc);
+    if lines.feed(first).is_err() {
+        return Ok(Outcome::of_want(lines.pending().is_empty()));
+    }
+    if lines.feed(second).is_err() {
+        return Ok(Outcome::of_want(lines.pending() == first));
+    }
+    Ok(Outcome::of_answer(
+        lines.line() == b"a line of many more bytes than are taken first".as_slice(),
+    ))
+}
+
+/// `push_number`, behind a text that fills its memory.
+fn number(alloc: Global, count: usize) -> Result<Outcome, AllocError> {
+    let mut text = Vec::from_slice(alloc, b"n = ")?;
+    spend(alloc, count)?;
+    Ok(match push_number(&mut text, u128::MAX) {
+        Ok(()) => Outcome::of_answer(
+            text.as_slice() == b"n = 340282366920938463463374607431768211455".as_slice(),
+        ),
+        Err(_) => Outcome::of_want(text.as_slice() == b"n = ".as_slice()),
+    })
+}
+
+/// `push_line`, behind a text that fills its memory.
+fn line(alloc: Global, count: usize) -> Result<Outcome, AllocError> {
+    let mut text = Vec::from_slice(alloc, b"one\n")?;
+    spend(alloc, count)?;
+    Ok(match push_line(&mut text, b"two and more than that") {
+        Ok(()) => Outcome::of_answer(
+            text.as_slice() == b"one\ntwo and more than that\n".as_slice(),
+        ),
+        Err(_) => Outcome::of_want(text.as_slice() == b"one\n".as_slice()),
+    })
+}
+
+/// Whether the plan is that of the file.
+fn is_plan(plan: &Plan) -> bool {
+    let steps = plan.steps().as_slice();
+    steps.len() == NAMES.len()
+        && steps
+            .iter()
+            .zip(NAMES)
+            .all(|(step, name)| step.as_slice() == name)
+        && plan.cost() == 3
+        && plan.kind() == CostKind::Unit
+}
+
+/// `PlanReader::feed` and `finish`, of a file in two pieces. A reader that met want of memory answers it again.
+fn plan_feed(alloc: Global, count: usize) -> Result<Outcome, AllocError> {
+    spend(alloc, count)?;
+    let (first, second) = PLAN.split_at(40);
+    let mut reader = PlanReader::new(alloc);
+    if let Err(fault) = reader.feed(first) {
+        return Ok(if reader.feed(second) == Err(fault) {
+            Outcome::of_fault(fault)
+        } else {
+            Outcome::Wrong
+        });
+    }
+    if let Err(fault) = reader.feed(second) {
+        return Ok(Outcome::of_fault(fault));
+    }
+    Ok(match reader.finish() {
+        Ok(plan) => Outcome::of_answer(is_plan(&plan)),
+        Err(_) => Outcome::Wrong,
+    })
+}
+
+/// `read_plan`.
+fn plan(alloc: Global, count: usize) -> Result<Outcome, AllocError> {
+    spend(alloc, count)?;
+    Ok(match read_plan(alloc, &mut Watched::new(PLAN)) {
+        Ok(plan) => Outcome::of_answer(is_plan(&plan)),
+        Err(fault) => Outcome::of_fault(fault),
+    })
+}
+
+/// `read_plan_text`.
+fn plan_text(alloc: Global, count: usize) -> Result<Outcome, AllocError> {
+    spend(alloc, count)?;
+    Ok(match read_plan_text(alloc, &mut Watched::new(PLAN)) {
+        Ok(text) => Outcome::of_answer(text.as_slice() == WRITTEN),
+        Err(fault) => Outcome::of_fault(fault),
+    })
+}
+
+/// `encode_plan`.
+fn encoded(alloc: Global, count: usize) -> Result<Outcome, AllocError> {
+    let mut steps = Items::new(alloc);
+    for name in NAMES {
+        steps.push(Items::from_vec(Vec::from_slice(alloc, name)?))?;
+    }
+    let Ok(plan) = Plan::new(steps, 3, CostKind::Unit) else {
+        return Ok(Outcome::Wrong);
+    };
+    spend(alloc, count)?;
+    Ok(match encode_plan(alloc, &plan) {
+        Ok(text) => Outcome::of_answer(text.as_slice() == WRITTEN),
+        Err(_) => Outcome::Wanting,
+    })
+}
+
+/// `run` with `Steps`, for this plan file and this output. Nothing is written at want of memory.
+fn steps(
+    alloc: Global,
+    count: usize,
+    plan: &[u8],
+    status: Status,
+    text: &[u8],
+) -> Result<Outcome, AllocError> {
+    let mut out = Watched::new(Narrow::new(alloc, 8, 200, true)?);
+    spend(alloc, count)?;
+    let mut task = Watched::new(io::empty());
+    let result = run(
+        alloc,
+        Request::Steps,
+        &mut task,
+        &mut Watched::new(plan),
+        &mut out,
+    );
+    let written = out.into_device();
+    Ok(match result {
+        Ok(answer) => Outcome::of_answer(answer == status && written.kept() == text),
+        Err(fault) => Outcome::of_want(fault == ToolFault::Memory && written.kept().is_empty()),
+    })
+}
+
+/// What comes of the call of this name.
+fn outcome_of(alloc: Global, call: &str, count: usize) -> Result<Outcome, AllocError> {
+    match call {
+        "feed-lines" => lines_feed(alloc, count),
+        "push-number" => number(alloc, count),
+        "push-line" => line(alloc, count),
+        "feed-plan" => plan_feed(alloc, count),
+        "read-plan" => plan(alloc, count),
+        "read-plan-text" => plan_text(alloc, count),
+        "encode-plan" => encoded(alloc, count),
+        "run-steps" => steps(alloc, count, PLAN, Status::Yes, WRITTEN),
+        "run-steps-refusal" => steps(
+            alloc,
+            count,
+            b"(go )\n",
+            Status::No,
+            b"plan refused: line 2: end\n",
+        ),
+        _ => Ok(Outcome::Wrong),
+    }
+}
+
+/// The words of the input, and what comes of them.
+fn answer(rt: &(impl AllocGlobal + Input)) -> Result<Outcome, AllocError> {
+    let alloc = rt.alloc();
+    let mut words = [0u8; 64];
+    let Ok(length) = rt.reader().read(&mut words) else {
+        return Ok(Outcome::Wrong);
+    };
+    let Ok(words) = str::from_utf8(&words[..length]) else {
+        return Ok(Outcome::Wrong);
+    };
+    let Some((call, count)) = words.trim_end().split_once(' ') else {
+        return Ok(Outcome::Wrong);
+    };
+    let Ok(count) = count.parse::<usize>() else {
+        return Ok(Outcome::Wrong);
+    };
+    outcome_of(alloc, call, count)
+}
+
+fn main(rt: HostRuntime) {
+    let word = match answer(&rt) {
+        Ok(Outcome::Whole) => "whole",
+        Ok(Outcome::Wanting) => "wanting",
+        Ok(Outcome::Wrong) => "WRONG",
+        // An allocation before the call was refused.
+        Err(_) => "before",
+    };
+    let _ = rt.println(word);
+}

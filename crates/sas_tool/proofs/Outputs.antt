@@ -1,0 +1,75 @@
+-- Outputs about one file.
+use Rattle.std.proofs.Common.{◌≡◌, ◌≢◌, ℕ, ◌+◌, ◌<◌, List, ◌∷◌, length, length-append, arith, refl, sym, ap, subst, ◌∙◌, inl, inr, Option, Some, None, Result, Ok, Err}
+use Rattle.std.specs.Prelude.{option_map, IfOk, IsErrOf}
+use Rattle.std.proofs.lemmas.Option.{none-some}
+use Rattle.sas_text.specs.declared.fault.Fault.{Fault}
+use Rattle.sas_text.specs.declared.fault.Kind.{Kind}
+use Rattle.sas_text.specs.declared.fault.Kind.TheVariants.{TooLong, Read, Memory}
+use Rattle.sas_text.specs.declared.plan_reader.TheConstants.{LIMIT}
+use Rattle.sas_text.specs.Format.{Format, FaultOf, KindAt, too_long, trailing, wrong, ReadsAs}
+use Rattle.sas_text.specs.Laws.{Laws}
+use Rattle.sas_text.specs.PlanFormat.{PlanKind, like_step, like_cost, like_none}
+use Rattle.sas_text.specs.Devices.{IsFaultOf}
+use Rattle.sas_tool.specs.declared.answers.Answer.{Answer}
+use Rattle.sas_tool.specs.declared.ToolFault.{ToolFault}
+use Rattle.sas_tool.specs.declared.ToolFault.TheVariants as tool_fault
+use Rattle.sas_tool.specs.Answering.{Answers, output_of}
+use Rattle.sas_tool.specs.Output.{Output, word_of, refusal, answer_or_refusal, FileOut}
+
+-- no word, no refusal
+no_word : (word : Option (List ℕ)) (said : List ℕ → Output) → None ≡ option_map said word → word ≡ None
+no_word None said e = refl
+no_word (Some word) said e = absurd (none-some (said word) e)
+
+-- a kind that is refused has a word
+refused_kind : (k : Kind) (other : Kind) (said : List ℕ → Output) (o : Output) → word_of other ≡ None → option_map said (word_of k) ≡ Some o → k ≢ other
+refused_kind k other said o none e same =
+    none-some o (subst (λ (word : Option (List ℕ)). option_map said word ≡ Some o) (ap word_of same ∙ none) e)
+
+too_long_else : (k : Kind) (other : Kind) → k ≡ TooLong → (TooLong ≡ other → ⊥) → k ≢ other
+too_long_else k other e apart same = apart (sym e ∙ same)
+
+-- every kind of a wrong line has a word
+abbrev pub Worded : {V I S : Type 0} → Format V I S → Type 0
+Worded F = (s : _) (line : List ℕ) (k : Kind) → F.KindOf s line k → word_of k ≡ None → ⊥
+
+pub plan_worded : (line : List ℕ) (k : Kind) → PlanKind line k → word_of k ≡ None → ⊥
+plan_worded line k (like_step b) none = none-some _ (sym none)
+plan_worded line k (like_cost b) none = none-some _ (sym none)
+plan_worded line k (like_none a b) none = none-some _ (sym none)
+
+module _ {V I S : Type 0} (F : Format V I S) (name : List ℕ) (answer : V → Output) (bytes : List ℕ) where
+  file_refused : (f : Fault) (o : Output) → refusal name f ≡ Some o → IsFaultOf F LIMIT bytes f → FileOut F name answer bytes (Some o)
+  file_refused f o e fault = (Err f, fault (refused_kind f.kind Memory _ o refl e) (refused_kind f.kind Read _ o refl e), sym e)
+
+  file_too_long : (f : Fault) → f.kind ≡ TooLong → IsFaultOf F LIMIT bytes f → FileOut F name answer bytes None
+  file_too_long f e fault = (Err f, fault (too_long_else f.kind Memory e (λ h. absurd cc)) (too_long_else f.kind Read e (λ h. absurd cc)), rw e refl)
+
+  -- the refusal, or why the run ends
+  pub file_refusal : (f : Fault) (r : Result Answer ToolFault) → IfOk r (λ a. refusal name f ≡ Some (output_of a)) → (IsErrOf r tool_fault.TooLong → f.kind ≡ TooLong) → IsFaultOf F LIMIT bytes f → Answers (FileOut F name answer bytes) r
+  file_refusal f (Ok a) ok long fault = file_refused f (output_of a) ok fault
+  file_refusal f (Err e) ok long fault = λ is. file_too_long f (long (ap Err is)) fault
+
+  pub one_file_output : Laws F → (o p : Option Output) → FileOut F name answer bytes o → FileOut F name answer bytes p → o ≡ p
+  one_file_output laws o p a b = a.2 ∙ ap (answer_or_refusal name answer) (laws.one_reading LIMIT bytes a.0 b.0 a.1 b.1) ∙ sym b.2
+
+  pub some_file_output : Laws F → ((o : Option Output) → FileOut F name answer bytes o → ⊥) → ⊥
+  some_file_output laws none = laws.some_reading LIMIT bytes (λ r reads. none (answer_or_refusal name answer r) (r, reads, refl))
+
+  too_long_at : Worded F → (before : List ℕ) (byte : ℕ) (k : Kind) → KindAt F LIMIT before byte k → word_of k ≡ None → LIMIT < length before + 1
+  too_long_at worded before byte k (too_long long e) none = long
+  too_long_at worded before byte k (trailing short v reads e) none = absurd (none-some _ (sym none ∙ ap word_of e))
+  too_long_at worded before byte k (wrong short line is s next kind) none = absurd (worded s line k kind none)
+
+  too_long_fault : Worded F → (f : Fault) → FaultOf F LIMIT bytes f → word_of f.kind ≡ None → LIMIT < length bytes
+  too_long_fault worded f fault none =
+      let long = too_long_at worded fault.before fault.byte f.kind fault.kind none in
+      rw fault.whole (omega (arith, length-append fault.before (fault.byte ∷ fault.after)))
+
+  no_output_reading : Worded F → (r : Result V Fault) → ReadsAs F LIMIT bytes r → None ≡ answer_or_refusal name answer r → LIMIT < length bytes
+  no_output_reading worded (Ok v) reads e = absurd (none-some _ e)
+  no_output_reading worded (Err f) (inl fault) e = too_long_fault worded f fault (no_word (word_of f.kind) _ e)
+  no_output_reading worded (Err f) (inr early) e = absurd (none-some _ (sym (no_word (word_of f.kind) _ e) ∙ ap word_of early.kind))
+
+  pub no_file_output : Worded F → FileOut F name answer bytes None → LIMIT < length bytes
+  no_file_output worded out = no_output_reading worded out.0 out.1 out.2

@@ -1,0 +1,12 @@
+use Rattle.std.proofs.Common.{codes, Ok, refl}
+use Rattle.sas_text.specs.PlanFormat.{plan_format}
+use Rattle.sas_tool.specs.Output.{printed}
+use Rattle.sas_tool.proofs.Outputs.{file_refusal}
+use Rattle.sas_tool.proofs.answers.steps.Goals as goal
+
+pub returns-in-Ok-clause-output : goal.returns-in-Ok-clause-output
+returns-in-Ok-clause-output g c = λ bytes known. let (p, reads, is) = c.in-Ok.ensures.known bytes known in (Ok p, reads, rw is refl)
+
+pub returns-in-Err-clause-output : goal.returns-in-Err-clause-output
+returns-in-Err-clause-output g c = λ bytes known.
+    file_refusal plan_format (codes "plan") (printed plan_format) bytes c.in-Err.fault c.refuse.result c.refuse.ensures.ok c.refuse.ensures.long (c.in-Err.ensures.known_fault bytes known)

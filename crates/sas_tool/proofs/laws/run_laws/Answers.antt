@@ -1,0 +1,25 @@
+use Rattle.std.proofs.Common.{codes, inr}
+use Rattle.sas_text.specs.PlanFormat.{plan_format}
+use Rattle.sas_text.proofs.PlanLaws.{plan_laws_hold}
+use Rattle.sas_tool.specs.Output.{OneOutput, SomeOutput, NoneIsLong, printed}
+use Rattle.sas_tool.specs.declared.Request.TheVariants.{Steps}
+use Rattle.sas_tool.proofs.Outputs.{one_file_output, some_file_output, no_file_output, plan_worded}
+use Rattle.sas_tool.proofs.laws.run_laws.Goals as goal
+
+one : OneOutput
+one Steps b c o p = one_file_output plan_format (codes "plan") (printed plan_format) c plan_laws_hold o p
+
+some : SomeOutput
+some Steps b c = some_file_output plan_format (codes "plan") (printed plan_format) c plan_laws_hold
+
+long : NoneIsLong
+long Steps b c out = inr (no_file_output plan_format (codes "plan") (printed plan_format) c (λ s line k. plan_worded line k) out)
+
+pub returns-clause-one : goal.returns-clause-one
+returns-clause-one c = one
+
+pub returns-clause-some : goal.returns-clause-some
+returns-clause-some c = some
+
+pub returns-clause-long : goal.returns-clause-long
+returns-clause-long c = long

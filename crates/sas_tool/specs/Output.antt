@@ -1,0 +1,68 @@
+-- What the program prints: one output for each request and its inputs.
+use Rattle.std.specs.Prelude.{◌≡◌, ℕ, ◌<◌, List, ◌++◌, length, codes, decimal, Option, Some, None, option_map, Result, Ok, Err, ◌⊎◌}
+use Rattle.sas_lines.specs.Lines.{text}
+use Rattle.sas_text.specs.declared.fault.Fault.{Fault}
+use Rattle.sas_text.specs.declared.fault.Kind.{Kind}
+use Rattle.sas_text.specs.declared.fault.Kind.TheVariants.{Keyword, Name, Shape, Value, End, Trailing, TooLong, Read, Memory}
+use Rattle.sas_text.specs.declared.plan_reader.TheConstants.{LIMIT}
+use Rattle.sas_text.specs.Format.{Format, ReadsAs, lines_of}
+use Rattle.sas_text.specs.PlanFormat.{plan_format}
+use Rattle.sas_tool.specs.declared.Request.{Request}
+use Rattle.sas_tool.specs.declared.Request.TheVariants.{Steps}
+use Rattle.sas_tool.specs.declared.Status.{Status}
+use Rattle.sas_tool.specs.declared.Status.TheVariants.{Yes, No}
+
+-- what is printed, and the status
+pub record Output : Type 0 where
+  pub text : List ℕ
+  pub status : Status
+
+-- the word for what is wrong with a file; the other kinds say that it was not read as a whole
+abbrev pub word_of : Kind → Option (List ℕ)
+word_of Keyword = Some (codes "keyword")
+word_of Name = Some (codes "name")
+word_of Shape = Some (codes "shape")
+word_of Value = Some (codes "value")
+word_of End = Some (codes "end")
+word_of Trailing = Some (codes "trailing")
+word_of TooLong = None
+word_of Read = None
+word_of Memory = None
+
+-- the line that refuses the file of this name
+abbrev pub refusal_line : List ℕ → ℕ → List ℕ → List ℕ
+refusal_line name line word = name ++ codes " refused: line " ++ decimal line ++ codes ": " ++ word ++ codes "\n"
+
+-- the refusal of a file for its fault; a file that is too long has none
+abbrev pub refusal : List ℕ → Fault → Option Output
+refusal name fault = option_map (λ word. record { text = refusal_line name fault.line word; status = No }) (word_of fault.kind)
+
+-- the answer to what a file is read as: to its value, or the refusal
+abbrev pub answer_or_refusal : {V : Type 0} → List ℕ → (V → Output) → Result V Fault → Option Output
+answer_or_refusal name answer (Ok value) = Some (answer value)
+answer_or_refusal name answer (Err fault) = refusal name fault
+
+module _ {V I S : Type 0} (F : Format V I S) where
+  -- a value is printed as its lines, each ended by LF
+  abbrev pub printed : V → Output
+  printed value = record { text = text (lines_of F value); status = Yes }
+
+  -- the output about the bytes of a file
+  abbrev pub FileOut : List ℕ → (V → Output) → List ℕ → Option Output → Type 0
+  FileOut name answer bytes output = (read : Result V Fault) × ReadsAs F LIMIT bytes read × (output ≡ answer_or_refusal name answer read)
+
+-- the output for the bytes b of the task and c of the plan, where a file that decides it isn't too long; else none
+abbrev pub Out : Request → List ℕ → List ℕ → Option Output → Type 0
+Out Steps b c output = FileOut plan_format (codes "plan") (printed plan_format) c output
+
+-- a request has one output over the same inputs
+abbrev pub OneOutput : Type 0
+OneOutput = (request : Request) (b c : List ℕ) (o p : Option Output) → Out request b c o → Out request b c p → o ≡ p
+
+-- and it can't have nothing
+abbrev pub SomeOutput : Type 0
+SomeOutput = (request : Request) (b c : List ℕ) → ((o : Option Output) → Out request b c o → ⊥) → ⊥
+
+-- there is none only where an input passes the limit
+abbrev pub NoneIsLong : Type 0
+NoneIsLong = (request : Request) (b c : List ℕ) → Out request b c None → (LIMIT < length b) ⊎ (LIMIT < length c)

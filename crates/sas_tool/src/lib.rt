@@ -1,0 +1,96 @@
+//! The requests of the tool: what each answers about its inputs, how it is written, and the words that ask for it.
+#![tactic(auto)]
+
+mod answers;
+mod laws;
+mod program;
+mod words;
+
+ghost use Rattle.std.specs.Prelude.{◌≡◌, ◌⊎◌, ◌↔◌, ◌||◌, false, List, ℕ, Some, IfErr, IsErrAnd, IsErrOf, IsTrue};
+ghost use Rattle.std.specs.Io.KnownBytes.{Appends};
+ghost use Rattle.sas_tool.specs.Output.{Out};
+ghost use Rattle.sas_tool.specs.Ending.{Ends, IsWrite};
+
+use answers::answer_to;
+pub use laws::run_laws;
+pub use program::start;
+use sas_lines::{Watched, write_out};
+use std::alloc::{AllocError, Global};
+use std::io::{Read, Write};
+use thiserror::Error;
+
+/// What is asked.
+#[derive(Clone, Copy, Debug, PartialEq, Eq)]
+pub enum Request {
+    /// The steps of a plan and its cost, printed again.
+    Steps,
+}
+
+/// The answer in one word.
+#[derive(Clone, Copy, Debug, PartialEq, Eq)]
+pub enum Status {
+    Yes,
+    No,
+}
+
+/// Why there is no answer, or not all of it was written.
+#[derive(Clone, Copy, Debug, PartialEq, Eq, Error)]
+pub enum ToolFault {
+    /// Memory was refused.
+    #[error("out of memory")]
+    Memory,
+    /// A read failed.
+    #[error("read failed")]
+    Read,
+    /// An input goes past the most bytes that are read.
+    #[error("input too long")]
+    TooLong,
+    /// A write failed, and the first `written` bytes of the answer had gone out.
+    #[error("write failed")]
+    Write { written: usize },
+}
+
+impl From<AllocError> for ToolFault {
+    ghost use Rattle.sas_tool.specs.declared.ToolFault.TheVariants.{Memory};
+
+    ghost from_gives = { λ _ e. e ≡ Memory };
+
+    fn from(_error: AllocError) -> ToolFault {
+        ToolFault::Memory
+    }
+}
+
+/// Answers the request about the inputs. `Steps` reads the plan alone. Nothing is written before the answer is whole, so
+/// at any fault but `Write` nothing was written, and at `Write` the first bytes of the answer. A fault of a file's
+/// content is no fault of the run: the answer then is a refusal, and the status `No`. Not to be called with a device that
+/// has failed.
+pub fn run<T: Read, P: Read, W: Write>(
+    alloc: Global,
+    request: Request,
+    task: &mut Watched<T>,
+    plan: &mut Watched<P>,
+    out: &mut Watched<W>,
+) -> Result<Status, ToolFault>
+    requires task { task.old.failed ≡ false }
+    requires plan { plan.old.failed ≡ false }
+    requires out { out.old.failed ≡ false }
+    // Of inputs whose bytes are known, the output went out, or its first bytes, or there is none.
+    ensures output { (b c : List ℕ) → T.remaining task.old.device ≡ Some b → P.remaining plan.old.device ≡ Some c
+        → Ends (Out request b c) (Appends (W.contents out.old.device) (W.contents out.new.device)) result }
+    ensures nothing { IfErr result (λ e. IsWrite e ⊎ (out.new ≡ out.old)) }
+    // A device that the request doesn't read stays as it was.
+    ensures task_spared { request ≡ Request.Steps → task.new ≡ task.old }
+    ensures reads { IsErrOf result ToolFault.Read ↔ IsTrue (task.new.failed || plan.new.failed) }
+    ensures writes { IsErrAnd result IsWrite ↔ IsTrue out.new.failed }
+{
+    let answer = answer_to(alloc, request, task, plan)?;
+    match write_out(out, answer.text.as_slice()) {
+        Ok(()) => Ok(answer.status),
+        Err(short) => Err(ToolFault::Write {
+            written: short.written,
+        }),
+    }
+}
+
+#[cfg(test)]
+mod tests;

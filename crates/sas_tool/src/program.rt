@@ -1,0 +1,127 @@
+// The program: its words, its devices and how it ends.
+ghost use Rattle.std.specs.Prelude.{◌≡◌, false, IfOk};
+
+use crate::words::{Job, Source, WordsFault, command};
+use crate::{Status, ToolFault, run};
+use sas_lines::Watched;
+use std::io::{ErrorKind, Read, Write};
+use std::process::ExitCode;
+use std::rt::{Env, Files};
+use std::{env, fs, io};
+
+/// The exit status where the answer is yes, where it is no, where the words aren't understood, and at any other fault.
+const YES: u8 = 0;
+
+const NO: u8 = 1;
+
+const NOT_UNDERSTOOD: u8 = 2;
+
+const FAULT: u8 = 3;
+
+const OUT_OF_MEMORY: &str = "sas: out of memory";
+
+const WRITE_FAILED: &str = "sas: write failed";
+
+/// Runs the program. In this order: its words, opening its inputs, the run, and flushing standard output. The first of
+/// these that fails is told by a line on standard error; a failure to write that line is ignored.
+pub fn start<R: AllocGlobal + Env + Files + Input + Print + Eprint>(rt: &R) -> ExitCode {
+    let job = match job_of_words(rt) {
+        Ok(job) => job,
+        Err(status) => return status,
+    };
+    let Ok(mut task) = open_source(rt, job.task) else {
+        return stop(rt, FAULT, "sas: cannot open the task");
+    };
+    let Ok(mut plan) = open_source(rt, job.plan) else {
+        return stop(rt, FAULT, "sas: cannot open the plan");
+    };
+    let mut out = Watched::new(io::writer(rt));
+    let result = run(rt.alloc(), job.request, &mut task, &mut plan, &mut out);
+    if result.is_ok() && out.into_device().flush().is_err() {
+        return stop(rt, FAULT, WRITE_FAILED);
+    }
+    match ending(&result) {
+        (status, None) => ExitCode::from(status),
+        (status, Some(line)) => stop(rt, status, line),
+    }
+}
+
+/// The job that the words ask for, or the exit status where they ask for none.
+fn job_of_words<R: AllocGlobal + Env + Eprint>(rt: &R) -> Result<Job, ExitCode> {
+    let words = match env::args(rt) {
+        Ok(words) => words,
+        Err(error) => return Err(not_text(rt, error.kind())),
+    };
+    let Ok(words) = words.collect(rt.alloc()) else {
+        return Err(stop(rt, FAULT, OUT_OF_MEMORY));
+    };
+    match command(rt.alloc(), words) {
+        Ok(job) => Ok(job),
+        Err(WordsFault::Refused(error)) => {
+            let _ = rt.eprint(error);
+            Err(ExitCode::from(NOT_UNDERSTOOD))
+        }
+        Err(WordsFault::Memory) => Err(stop(rt, FAULT, OUT_OF_MEMORY)),
+    }
+}
+
+/// Ends where the words can't be had as text.
+fn not_text<R: Eprint>(rt: &R, kind: ErrorKind) -> ExitCode {
+    match kind {
+        ErrorKind::OutOfMemory => stop(rt, FAULT, OUT_OF_MEMORY),
+        _ => stop(rt, NOT_UNDERSTOOD, "sas: a word is no text in UTF-8"),
+    }
+}
+
+/// The exit status, and the line for standard error.
+fn ending(outcome: &Result<Status, ToolFault>) -> (u8, Option<&'static str>) {
+    match outcome {
+        Ok(Status::Yes) => (YES, None),
+        Ok(Status::No) => (NO, None),
+        Err(ToolFault::Memory) => (FAULT, Some(OUT_OF_MEMORY)),
+        Err(ToolFault::Read) => (FAULT, Some("sas: read failed")),
+        Err(ToolFault::TooLong) => (FAULT, Some("sas: input too long")),
+        Err(ToolFault::Write { .. }) => (FAULT, Some(WRITE_FAILED)),
+    }
+}
+
+/// Says the line on standard error, and gives the exit status.
+fn stop<R: Eprint>(rt: &R, status: u8, line: &str) -> ExitCode {
+    let _ = rt.eprintln(line);
+    ExitCode::from(status)
+}
+
+/// An input of the program: a file, standard input, or nothing for a request that doesn't read it.
+#[derive(Drop)]
+enum Device<F, I> {
+    File(F),
+    Input(I),
+    Nothing,
+}
+
+impl<F: Read, I: Read> Read for Device<F, I> {
+    fn read(&mut self, buf: &mut [u8]) -> io::Result<usize> {
+        match self {
+            Device::File(file) => file.read(buf),
+            Device::Input(input) => input.read(buf),
+            Device::Nothing => Ok(0),
+        }
+    }
+}
+
+fn open_source<R: Files + Input>(
+    rt: &R,
+    source: Option<Source>,
+) -> io::Result<Watched<Device<R::File, R::Reader>>>
+    ensures { IfOk result (λ w. w.failed ≡ false) }
+{
+    let device = match source {
+        None => Device::Nothing,
+        Some(Source::Input) => Device::Input(rt.reader()),
+        Some(Source::File(name)) => Device::File(fs::open(rt, name.as_str())?),
+    };
+    Ok(Watched::new(device))
+}
+
+#[cfg(test)]
+mod tests;

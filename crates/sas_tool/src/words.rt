@@ -1,0 +1,85 @@
+// The words of the command line.
+use crate::Request;
+use clap::error::ErrorKind;
+use clap::{Arg, ArgMatches, Command, Error};
+use std::alloc::{AllocError, Global};
+
+/// Where an input comes from.
+#[derive(Debug, PartialEq, Eq, Drop)]
+pub enum Source {
+    /// Standard input.
+    Input,
+    /// The file of this name.
+    File(String),
+}
+
+/// What the words ask for. An input that the request doesn't read has no source.
+#[derive(Debug, PartialEq, Eq, Drop)]
+pub struct Job {
+    pub request: Request,
+    pub task: Option<Source>,
+    pub plan: Option<Source>,
+}
+
+/// Why the words are no job.
+#[derive(Drop)]
+pub enum WordsFault {
+    /// They aren't understood, or ask for help; the error has the text for the user.
+    Refused(Error),
+    /// Memory was refused.
+    Memory,
+}
+
+impl From<AllocError> for WordsFault {
+    fn from(_error: AllocError) -> WordsFault {
+        WordsFault::Memory
+    }
+}
+
+/// The job that the words ask for. The first word is the program's name.
+pub fn command(alloc: Global, words: Vec<String>) -> Result<Job, WordsFault> {
+    match grammar(alloc)?.try_get_matches_from(words.as_slice()) {
+        Ok(matches) => Ok(job_of(alloc, &matches)?),
+        Err(error) => Err(refused(error)),
+    }
+}
+
+/// The words that are understood.
+fn grammar<'a>(alloc: Global) -> Result<Command<'a>, AllocError> {
+    let plan = Arg::new(alloc, "PLAN")
+        .required(true)
+        .help("the plan file, or - for standard input");
+    Command::new(alloc, "sas").subcommand(Command::new(alloc, "steps").arg(plan)?)
+}
+
+/// The job of words that were understood: without a request, the steps of the plan on standard input.
+fn job_of(alloc: Global, matches: &ArgMatches<'_>) -> Result<Job, AllocError> {
+    let plan = match matches.subcommand() {
+        Some((_steps, inner)) => named(alloc, inner, "PLAN")?,
+        None => Some(Source::Input),
+    };
+    Ok(Job {
+        request: Request::Steps,
+        task: None,
+        plan,
+    })
+}
+
+/// The source that stands for an argument.
+fn named(alloc: Global, matches: &ArgMatches<'_>, id: &str) -> Result<Option<Source>, AllocError> {
+    match matches.get_str(id) {
+        Some("-") => Ok(Some(Source::Input)),
+        Some(word) => Ok(Some(Source::File(String::from_str(alloc, word)?))),
+        None => Ok(None),
+    }
+}
+
+fn refused(error: Error) -> WordsFault {
+    match error.kind() {
+        ErrorKind::OutOfMemory => WordsFault::Memory,
+        _ => WordsFault::Refused(error),
+    }
+}
+
+#[cfg(test)]
+mod tests;

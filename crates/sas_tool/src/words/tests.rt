@@ -1,0 +1,58 @@
+use super::*;
+
+fn words_of(alloc: Global, text: &str) -> Result<Vec<String>, AllocError> {
+    text.split(' ')
+        .map(|word| String::from_str(alloc, word))
+        .try_collect(alloc)
+}
+
+#[test]
+fn tells_the_job(rt: HostRuntime) -> Result<(), AllocError> {
+    let alloc = rt.alloc();
+    for (text, file) in [
+        ("sas", None),
+        ("sas steps -", None),
+        ("sas steps -- -", None),
+        ("sas steps p.txt", Some("p.txt")),
+        ("sas steps ", Some("")),
+        ("sas steps -- -x", Some("-x")),
+    ] {
+        let plan = match file {
+            None => Source::Input,
+            Some(name) => Source::File(String::from_str(alloc, name)?),
+        };
+        let want = Job {
+            request: Request::Steps,
+            task: None,
+            plan: Some(plan),
+        };
+        let Ok(job) = command(alloc, words_of(alloc, text)?) else {
+            panic!(rt; "{text}");
+        };
+        assert_eq!(rt; job, want, "{text}");
+    }
+    Ok(())
+}
+
+#[test]
+fn refuses_other_words(rt: HostRuntime) -> Result<(), AllocError> {
+    let alloc = rt.alloc();
+    for text in [
+        "sas steps",
+        "sas steps a b",
+        "sas steps -x",
+        "sas steps --help",
+        "sas -",
+        "sas nonsense",
+        "sas Steps p.txt",
+        "sas help",
+        "sas --help",
+        "sas -h",
+        "sas --version",
+        "sas ",
+    ] {
+        let job = command(alloc, words_of(alloc, text)?);
+        assert!(rt; matches!(&job, Err(WordsFault::Refused(_))), "{text}");
+    }
+    Ok(())
+}
