@@ -1,12 +1,12 @@
 -- One step of a reader: it takes a piece up to and with the first line end, or all of it.
-use Rattle.std.proofs.Common.{◌≡◌, ◌≢◌, ℕ, ◌+◌, ◌<◌, ◌≤◌, Bool, true, false, not, List, [], ◌∷◌, ◌++◌, length, take, refl, sym, ap, subst, ◌∙◌, arith, length-append}
+use Rattle.std.proofs.Common.{◌≡◌, ℕ, ◌+◌, ◌≤◌, Bool, true, false, not, List, [], ◌∷◌, ◌++◌, length, take, refl, sym, ap, subst, ◌∙◌, arith, length-append}
 use Rattle.std.proofs.lemmas.List.{append-nil, length-take}
 use Rattle.sas_lines.specs.Lines.{lines, unfinished, TakesLine}
 use Rattle.sas_lines.specs.Progress.{Progress, completed}
 use Rattle.sas_text.specs.declared.fault.Kind.{Kind}
 use Rattle.sas_text.specs.declared.reader.Reader.{Reader}
 use Rattle.sas_text.specs.Reader.{Reached, Accepted, StopsIn}
-use Rattle.sas_text.proofs.Pieces.{takes_bound, front_of, takes_wider, lines_fed, unfinished_fed, reached_part, reached_line, stops_full, stops_over, stops_line}
+use Rattle.sas_text.proofs.Pieces.{takes_bound, front_of, takes_wider, lines_fed, unfinished_fed, reached_part, reached_line, stops_line}
 
 is_false : (b : Bool) → not b ≡ true → b ≡ false
 is_false true h = absurd cc

@@ -1,12 +1,12 @@
 -- Bytes that aren't live have a fault, and so all bytes are read as something.
-use Rattle.std.proofs.Common.{◌≡◌, ℕ, ◌+◌, ◌≤◌, ◌≢◌, Bool, List, [], ◌∷◌, ◌++◌, length, refl, sym, subst, ◌∙◌, append_assoc, arith, ◌⊎◌, inl, inr, length-append, Ok, Err, Result}
+use Rattle.std.proofs.Common.{◌≡◌, ℕ, ◌+◌, ◌≤◌, ◌≢◌, Bool, List, [], ◌∷◌, ◌++◌, length, refl, sym, subst, ◌∙◌, append_assoc, arith, ◌⊎◌, inl, inr, length-append, Ok, Err}
 use Rattle.std.proofs.lemmas.List.{append-nil}
 use Rattle.std.proofs.lemmas.Bool.Decides.{eqb_tells}
 use Rattle.sas_lines.specs.Lines.{without_return, lines, unfinished}
 use Rattle.sas_text.specs.declared.fault.Fault.{Fault}
 use Rattle.sas_text.specs.declared.fault.Kind.{Kind}
 use Rattle.sas_text.specs.declared.fault.Kind.TheVariants.{End, Trailing, TooLong}
-use Rattle.sas_text.specs.Format.{Format, Live, FaultOf, EndOf, ReadsAs}
+use Rattle.sas_text.specs.Format.{Format, Live, FaultOf, EndOf}
 use Rattle.sas_text.specs.System.{Node, ended, before, Takes, Step, After, Path, Grammar}
 use Rattle.sas_text.specs.Laws.{FaultlessIsLive, SomeReading}
 use Rattle.sas_text.proofs.Live.{one_more, live, path_start, path_plain, path_line, fault_long, fault_done, fault_line, fault_stays}

@@ -8,7 +8,7 @@ use Rattle.sas_text.specs.declared.fault.Fault.{Fault}
 use Rattle.sas_text.specs.declared.fault.Kind.{Kind}
 use Rattle.sas_text.specs.declared.fault.Kind.TheVariants.{End, Trailing, TooLong}
 use Rattle.sas_text.specs.Format.{Format, lines_of, Reads, IsBegun, Live, Next, too_long, trailing, wrong, FaultOf, EndOf}
-use Rattle.sas_text.specs.System.{Node, ended, before, Takes, Step, After, Ends, Judged, Rejects, Leads, Path, Grammar}
+use Rattle.sas_text.specs.System.{Node, ended, before, Step, After, Ends, Judged, Rejects, Leads, Path, Grammar}
 use Rattle.sas_text.proofs.Paths.{cut_at, map-append, ended_stops, after_append, after_ends, ends_split, ends_after, same_path}
 
 -- one byte more

@@ -7,8 +7,8 @@ use Rattle.sas_core.specs.declared.plan.CostKind.TheVariants as costs
 use Rattle.sas_core.specs.Names.{IsName}
 use Rattle.sas_core.specs.PlanParts.{PlanParts}
 use Rattle.sas_core.specs.Plans.{WellNamed}
-use Rattle.sas_text.specs.Format.{IsBegun, lines_of}
-use Rattle.sas_text.specs.PlanFormat.{PlanLine, step, cost, plan_line_bytes, plan_format}
+use Rattle.sas_text.specs.Format.{lines_of}
+use Rattle.sas_text.specs.PlanFormat.{step, cost, plan_line_bytes, plan_format}
 use Rattle.sas_text.specs.PlanLaws.{PlanIsFilled, filling}
 
 abbrev step_lines : List (List ℕ) → List (List ℕ)

@@ -1,5 +1,5 @@
 -- The grammar of plan files.
-use Rattle.std.proofs.Common.{◌≡◌, ◌≢◌, ℕ, Bool, true, false, eqb, List, [], ◌∷◌, ◌++◌, map, refl, sym, ap, subst, ◌∙◌, append_assoc, arith, IsTrue, not}
+use Rattle.std.proofs.Common.{◌≡◌, ◌≢◌, ℕ, Bool, true, false, List, [], ◌∷◌, ◌++◌, map, refl, sym, ap, subst, ◌∙◌, append_assoc, arith, IsTrue, not}
 use Rattle.std.specs.Prelude.{codes, ◌==◌, ◌&&◌, length}
 use Rattle.std.specs.List.{AllByRecursion, list_all}
 use Rattle.std.specs.Fmt.{decimal}
@@ -11,9 +11,9 @@ use Rattle.sas_core.specs.Names.{is_plain, IsName}
 use Rattle.sas_core.specs.PlanParts.{PlanParts}
 use Rattle.sas_core.specs.Plans.{IsPlanCost, WellNamed}
 use Rattle.sas_text.specs.Format.{lines_of}
-use Rattle.sas_text.specs.System.{Node, ended, Takes, Ends, Grammar, IsPlain}
+use Rattle.sas_text.specs.System.{Node, ended, Ends, Grammar, IsPlain}
 use Rattle.sas_text.specs.PlanFormat.{PlanLine, step, cost, plan_line_bytes, plan_layout, plan_format, cost_front, cost_words}
-use Rattle.sas_text.specs.PlanMachine.{PlanState, going, closed, plan_node, plan_next, plan_line_ok, plan_start}
+use Rattle.sas_text.specs.PlanMachine.{PlanState, going, closed, plan_node, plan_start}
 use Rattle.sas_text.proofs.Paths.{one_ended}
 use Rattle.sas_text.proofs.PlanLines.{plain-cost, one_plan_line, one_plan_kind, some_plan_kind}
 

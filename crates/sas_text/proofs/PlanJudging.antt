@@ -1,5 +1,5 @@
 -- Why a line may not stand in a plan.
-use Rattle.std.proofs.Common.{◌≡◌, ℕ, ◌+◌, List, [], ◌∷◌, ◌++◌, length, take, get_or, refl, sym, ap, subst, ◌∙◌, arith, IsTrue}
+use Rattle.std.proofs.Common.{◌≡◌, ℕ, List, ◌++◌, length, take, get_or, sym, ap, ◌∙◌, arith, IsTrue}
 use Rattle.std.specs.Prelude.{codes}
 use Rattle.std.specs.Fmt.{decimal}
 use Rattle.std.proofs.lemmas.List.{append_cancel_left}
@@ -9,7 +9,7 @@ use Rattle.sas_text.specs.declared.fault.Kind.TheVariants.{Keyword, Name, Shape}
 use Rattle.sas_text.specs.PlanFormat.{PlanLine, step, cost, plan_line_bytes, PlanLineFits, like_step, like_cost, like_none, cost_front, cost_words, BeginsWith, plan_format}
 use Rattle.sas_text.specs.PlanLine.{Names, Costs}
 use Rattle.sas_text.specs.PlanMachine.{plan_line_ok}
-use Rattle.sas_text.specs.System.{Takes, Judged}
+use Rattle.sas_text.specs.System.{Judged}
 
 begins_with : (front rest line : List ℕ) → line ≡ front ++ rest → BeginsWith front line
 begins_with front rest line e = ap (take (length front)) e ∙ take-append_seam front rest

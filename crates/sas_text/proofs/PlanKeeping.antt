@@ -1,5 +1,5 @@
 -- A plan's text that is kept line by line.
-use Rattle.std.proofs.Common.{◌≡◌, ℕ, Bool, true, false, List, [], ◌∷◌, ◌++◌, refl, sym, ap, subst, ◌∙◌, IsTrue}
+use Rattle.std.proofs.Common.{◌≡◌, ℕ, true, List, [], ◌∷◌, ◌++◌, refl, sym, ap, ◌∙◌, IsTrue}
 use Rattle.std.specs.Prelude.{◌↔◌}
 use Rattle.std.proofs.lemmas.Grind.{flat_map-append}
 use Rattle.std.proofs.lemmas.List.{append-nil}
@@ -9,11 +9,11 @@ use Rattle.sas_lines.specs.Lines.{text, lines}
 use Rattle.sas_text.specs.declared.fault.Kind.{Kind}
 use Rattle.sas_text.specs.declared.plan_text.PlanText.{PlanText}
 use Rattle.sas_text.specs.Format.{lines_of, Reads}
-use Rattle.sas_text.specs.PlanFormat.{PlanLine, step, cost, plan_line_bytes, plan_format}
+use Rattle.sas_text.specs.PlanFormat.{step, cost, plan_line_bytes, plan_format}
 use Rattle.sas_text.specs.PlanMachine.{PlanState, going, closed, plan_node, plan_next, plan_start, plan_line_ok, IsClosed}
 use Rattle.sas_text.specs.PlanText.{KeepsLines}
-use Rattle.sas_text.specs.System.{Node, ended, Takes, Judged, Leads, Rejects}
-use Rattle.sas_text.proofs.Conversion.{At, Follows}
+use Rattle.sas_text.specs.System.{ended, Takes, Judged, Leads, Rejects}
+use Rattle.sas_text.proofs.Conversion.{Follows}
 use Rattle.sas_text.proofs.PlanSteps.{led_on}
 
 text-push : (ls : List (List ℕ)) (line : List ℕ) → text (ls ++ line ∷ []) ≡ text ls ++ (line ++ 10 ∷ [])

@@ -1,5 +1,5 @@
 -- What a reader of plans stands for, in terms of the plan format.
-use Rattle.std.proofs.Common.{◌≡◌, ◌≢◌, ℕ, ◌≤◌, List, [], length, refl, sym, ap, subst, ◌∙◌, ◌⊎◌, inl, inr, Option, Some, None, Result, Ok, Err, arith}
+use Rattle.std.proofs.Common.{◌≡◌, ◌≢◌, ℕ, ◌≤◌, List, length, refl, sym, ap, ◌⊎◌, Option, Some, None, Result, Ok, Err, arith}
 use Rattle.std.specs.Result.{OnOk, IfErr}
 use Rattle.sas_core.specs.PlanParts.{PlanParts}
 use Rattle.sas_text.specs.declared.fault.Fault.{Fault}
@@ -7,13 +7,13 @@ use Rattle.sas_text.specs.declared.fault.Kind.{Kind}
 use Rattle.sas_text.specs.declared.fault.Kind.TheVariants as kinds
 use Rattle.sas_text.specs.declared.reader.Reader.{Reader}
 use Rattle.sas_text.specs.declared.plan_reader.PlanReader.{PlanReader}
-use Rattle.sas_text.specs.Format.{Reads, Live, FaultOf, EndOf, ReadsAs}
-use Rattle.sas_text.specs.PlanFormat.{PlanLine, plan_format}
+use Rattle.sas_text.specs.Format.{Live, FaultOf, ReadsAs}
+use Rattle.sas_text.specs.PlanFormat.{plan_format}
 use Rattle.sas_text.specs.PlanMachine.{PlanState, going, closed, plan_node, plan_start, IsClosed}
-use Rattle.sas_text.specs.PlanReader.{Stands, fault_so_far, limit_of}
+use Rattle.sas_text.specs.PlanReader.{Stands}
 use Rattle.sas_text.specs.Faults.{answer}
 use Rattle.sas_text.specs.Reader as reading
-use Rattle.sas_text.specs.System.{Node, ended, Leads, Rejects}
+use Rattle.sas_text.specs.System.{ended, Leads, Rejects}
 use Rattle.sas_text.proofs.Conversion.{Follows, fault_of_format, live_of_format, reads_of_format, refusal}
 use Rattle.sas_text.proofs.PlanGrammar.{plan_grammar}
 use Rattle.sas_text.proofs.Standing as standing

@@ -1,7 +1,7 @@
 -- One line more of a plan.
-use Rattle.std.proofs.Common.{◌≡◌, ℕ, List, [], ◌∷◌, ◌++◌, refl, sym, ap, subst, ◌∙◌, Option, None, Some}
+use Rattle.std.proofs.Common.{◌≡◌, ℕ, List, [], ◌∷◌, ◌++◌, refl, sym, subst, ◌∙◌, Option, None, Some}
 use Rattle.sas_core.specs.declared.plan.CostKind.{CostKind}
-use Rattle.sas_text.specs.System.{Takes, After, Leads}
+use Rattle.sas_text.specs.System.{Takes, Leads}
 use Rattle.sas_text.specs.PlanFormat.{PlanLine, step, cost, plan_line_bytes, plan_format}
 use Rattle.sas_text.specs.PlanMachine.{PlanState, going, closed, plan_node, plan_next, plan_line_ok, plan_start, plan_state, IsClosed, StepsOn}
 use Rattle.sas_text.proofs.Live.{leads_line}

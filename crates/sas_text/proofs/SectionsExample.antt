@@ -128,7 +128,7 @@ mark_section of h = leaf number_says (record { fits = λ n g. g.0; passes = λ n
 roll_section : Section roll_format roll_layout GoodRoll a_roll
 roll_section = converted (λ p. record { title = p.0; names = p.1.0; marks = p.1.1 })
     (within (word_section (codes "begin")) (word_section (codes "end"))
-      (name_section then both (list count_section name_section) (λ names g. for_each mark_section names g.1)))
+    (name_section then both (list count_section name_section) (λ names g. for_each mark_section names g.1)))
     (record {
       good = λ p g. record { title = g.0; few = g.1.0.0; names = g.1.0.1; marks = g.1.1 };
       lines = λ p g. refl;

@@ -1,6 +1,5 @@
 -- What a reader stands for, by its fault.
-use Rattle.std.proofs.Common.{◌≡◌, ◌≢◌, ℕ, ◌+◌, List, [], ◌∷◌, ◌++◌, refl, sym, ap, subst, ◌∙◌, append_assoc, Some, None, Option}
-use Rattle.sas_lines.specs.Lines.{lines}
+use Rattle.std.proofs.Common.{◌≡◌, ◌≢◌, ℕ, List, ◌∷◌, ◌++◌, sym, ap, subst, ◌∙◌, append_assoc, Some, None}
 use Rattle.sas_text.specs.declared.fault.Fault.{Fault}
 use Rattle.sas_text.specs.declared.fault.Kind.{Kind}
 use Rattle.sas_text.specs.declared.fault.Kind.TheVariants as kinds

@@ -1,5 +1,5 @@
 -- The laws of any format with a grammar.
-use Rattle.std.proofs.Common.{◌≡◌, ◌≢◌, ℕ, ◌+◌, ◌≤◌, List, [], ◌∷◌, ◌++◌, length, map, refl, sym, ap, subst, ◌∙◌, append_assoc, arith, ◌⊎◌, inl, inr, length-append, Ok, Err, Result}
+use Rattle.std.proofs.Common.{◌≡◌, ◌≢◌, ℕ, ◌+◌, ◌≤◌, List, [], ◌∷◌, ◌++◌, length, map, refl, sym, ap, subst, ◌∙◌, append_assoc, arith, ◌⊎◌, inl, inr, length-append, Ok, Err}
 use Rattle.std.proofs.lemmas.List.{append-nil, append_cancel_left}
 use Rattle.std.proofs.lemmas.Bool.Decides.{eqb_tells}
 use Rattle.sas_lines.specs.Lines.{without_return, lines, unfinished}
@@ -7,8 +7,8 @@ use Rattle.sas_lines.proofs.Splitting.{lines-plain, unfinished-plain, lines-end}
 use Rattle.sas_text.specs.declared.fault.Fault.{Fault}
 use Rattle.sas_text.specs.declared.fault.Kind.{Kind}
 use Rattle.sas_text.specs.declared.fault.Kind.TheVariants.{TooLong}
-use Rattle.sas_text.specs.Format.{Format, lines_of, Reads, Live, Next, KindAt, too_long, trailing, wrong, FaultOf, EndOf, ReadsAs}
-use Rattle.sas_text.specs.System.{Node, ended, After, Step, Ends, Grammar}
+use Rattle.sas_text.specs.Format.{Format, lines_of, Reads, Live, Next, KindAt, too_long, trailing, wrong, FaultOf, EndOf}
+use Rattle.sas_text.specs.System.{Node, ended, After, Ends, Grammar}
 use Rattle.sas_text.specs.Laws.{OneValue, OneSlot, NoSlotAtEnd, FaultIsDead, OneFault, TextIsLive, FaultIsNoText, OneReading}
 use Rattle.sas_text.proofs.Paths.{cut_at, ended_stops, same_path, ends_split, ends_after, slot_at, takes_at, one_ended}
 

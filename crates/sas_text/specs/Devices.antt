@@ -1,5 +1,5 @@
 -- Why an input is refused, by the bytes of it that were read.
-use Rattle.std.specs.Prelude.{◌≡◌, ◌≢◌, ℕ, ◌+◌, List, length, Result, Ok, Err}
+use Rattle.std.specs.Prelude.{◌≡◌, ◌≢◌, ℕ, ◌+◌, List, length, Ok, Err}
 use Rattle.sas_lines.specs.Lines.{lines, text}
 use Rattle.sas_text.specs.declared.fault.Fault.{Fault}
 use Rattle.sas_text.specs.declared.fault.Kind.TheVariants as kinds

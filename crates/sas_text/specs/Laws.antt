@@ -1,9 +1,9 @@
 -- Laws over the definitions of a format.
-use Rattle.std.specs.Prelude.{◌≡◌, ◌≢◌, ℕ, ◌≤◌, ◌⊎◌, List, [], ◌∷◌, ◌++◌, length, Result, Ok, ◌↔◌}
-use Rattle.sas_lines.specs.Lines.{lines, text}
+use Rattle.std.specs.Prelude.{◌≡◌, ◌≢◌, ℕ, ◌≤◌, ◌⊎◌, List, [], ◌∷◌, ◌++◌, length, Result, ◌↔◌}
+use Rattle.sas_lines.specs.Lines.{text}
 use Rattle.sas_text.specs.declared.fault.Fault.{Fault}
 use Rattle.sas_text.specs.declared.fault.Kind.TheVariants.{TooLong}
-use Rattle.sas_text.specs.Format.{Format, lines_of, Reads, IsBegun, Live, Next, FaultOf, EndOf, ReadsAs}
+use Rattle.sas_text.specs.Format.{Format, lines_of, Reads, Live, Next, FaultOf, ReadsAs}
 
 -- the bytes are these lines, each ended by LF or by CR LF
 abbrev pub EndedLines : List (List ℕ) → List ℕ → Type 0

@@ -1,6 +1,5 @@
 -- What a reader of plans stands for.
 use Rattle.std.specs.Prelude.{ℕ, List, Option}
-use Rattle.sas_core.specs.PlanParts.{PlanParts}
 use Rattle.sas_text.specs.declared.fault.Fault.{Fault}
 use Rattle.sas_text.specs.declared.plan_reader.PlanReader.{PlanReader}
 use Rattle.sas_text.specs.PlanFormat.{plan_format}

@@ -1,5 +1,5 @@
 -- What may still come: states, each at the end with a value, or before a line.
-use Rattle.std.specs.Prelude.{◌≡◌, ◌≢◌, ℕ, Bool, List, [], ◌∷◌, ◌++◌, IsTrue, map}
+use Rattle.std.specs.Prelude.{◌≡◌, ◌≢◌, ℕ, Bool, List, [], ◌∷◌, IsTrue, map}
 use Rattle.std.specs.List.{AllByRecursion}
 use Rattle.sas_lines.specs.Lines.{lines, unfinished}
 use Rattle.sas_text.specs.declared.fault.Kind.{Kind}

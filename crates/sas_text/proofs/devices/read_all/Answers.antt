@@ -1,6 +1,6 @@
-use Rattle.std.proofs.Common.{refl, ◌≡◌, ◌≢◌, ◌+◌, ◌++◌, ℕ, List, [], ap, subst, ◌∙◌, sym, arith, ◌⊎◌, inl, inr, take, Result, Ok, Err, None, Some, Option}
+use Rattle.std.proofs.Common.{refl, ◌≡◌, ◌≢◌, ◌+◌, ◌++◌, ℕ, List, ap, subst, ◌∙◌, sym, arith, ◌⊎◌, inl, inr, take, Result, Ok, Err, None, Some, Option}
 use Rattle.std.specs.Result.{IfErr}
-use Rattle.std.specs.Io.KnownBytes.{Consumes, IsAtEnd}
+use Rattle.std.specs.Io.KnownBytes.{Consumes}
 use Rattle.std.proofs.KnownBytes.{Consumes-trans, Consumes-kept}
 use Rattle.std.proofs.lemmas.List.{append-nil}
 use Rattle.sas_text.specs.declared.fault.Fault.{Fault}
