@@ -16,7 +16,7 @@ TOP = os.path.dirname(os.path.dirname(os.path.abspath(__file__)))
 def counts(command):
     """Runs a command, shows what it prints, and gives how many checks of it passed and failed."""
     last = ""
-    with subprocess.Popen(command, stdout=subprocess.PIPE, text=True, cwd=TOP) as process:
+    with subprocess.Popen(command, stdout=subprocess.PIPE, encoding="utf-8", errors="replace", cwd=TOP) as process:
         for line in process.stdout:
             print(line, end="", flush=True)
             last = line.strip() or last

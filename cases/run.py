@@ -9,6 +9,7 @@ standard error. program.json: words and devices, by these names.
     words        the words behind the program's name; FOLDER in one stands for an empty folder
     input        standard input, empty where it is left out
     input_ends   false: standard input stays open until the program has ended
+    memory       how many bytes of memory the program may have; left out: as many as there are
     output_to    where standard output goes: "full device", "closed pipe"; left out: to be compared with `output`
     output       standard output, exactly
     status       the exit status
@@ -20,6 +21,7 @@ comes. The cases run at the top of the repository. Each case that fails has a li
 """
 import json
 import os
+import resource
 import subprocess
 import sys
 import tempfile
@@ -61,6 +63,13 @@ def output_device(case):
     return writing
 
 
+def memory_limit(case):
+    """What sets the limit in the program's process, where there is one."""
+    if "memory" not in case:
+        return None
+    return lambda: resource.setrlimit(resource.RLIMIT_AS, (case["memory"], case["memory"]))
+
+
 def leave_open(process, given):
     """Gives the bytes, and waits for the end of the program while its input is still open."""
     try:
@@ -77,7 +86,14 @@ def answer_of(program, case, folder):
     given = as_bytes(case.get("input", ""))
     output = output_device(case)
     pipe = subprocess.PIPE
-    process = subprocess.Popen([program, *words], stdin=pipe, stdout=output, stderr=pipe, cwd=os.path.dirname(CASES))
+    process = subprocess.Popen(
+        [program, *words],
+        stdin=pipe,
+        stdout=output,
+        stderr=pipe,
+        cwd=os.path.dirname(CASES),
+        preexec_fn=memory_limit(case),
+    )
     try:
         if not case.get("input_ends", True):
             leave_open(process, given)

@@ -1,6 +1,7 @@
 -- Outputs about one file.
-use Rattle.std.proofs.Common.{◌≡◌, ◌≢◌, ℕ, ◌+◌, ◌<◌, List, ◌∷◌, length, length-append, arith, refl, sym, ap, subst, ◌∙◌, inl, inr, Option, Some, None, Result, Ok, Err}
-use Rattle.std.specs.Prelude.{option_map, IfOk, IsErrOf}
+use Rattle.std.proofs.Common.{◌≡◌, ◌≢◌, ℕ, ◌+◌, ◌<◌, List, [], ◌∷◌, length, length-append, arith, refl, sym, ap, subst, ◌∙◌, inl, inr, Option, Some, None, Result, Ok, Err}
+use Rattle.std.specs.Prelude.{option_map, IfOk, IfErr, IsErrOf}
+use Rattle.std.specs.Io.KnownBytes.{Consumes, IsAtEnd}
 use Rattle.std.proofs.lemmas.Option.{none-some}
 use Rattle.sas_text.specs.declared.fault.Fault.{Fault}
 use Rattle.sas_text.specs.declared.fault.Kind.{Kind}
@@ -9,11 +10,12 @@ use Rattle.sas_text.specs.declared.plan_reader.TheConstants.{LIMIT}
 use Rattle.sas_text.specs.Format.{Format, FaultOf, KindAt, too_long, trailing, wrong, ReadsAs}
 use Rattle.sas_text.specs.Laws.{Laws}
 use Rattle.sas_text.specs.PlanFormat.{PlanKind, like_step, like_cost, like_none}
-use Rattle.sas_text.specs.Devices.{IsFaultOf}
+use Rattle.sas_text.specs.Devices.{IsFaultOf, Refuses, unread_at, ended_at, faulty_at}
 use Rattle.sas_tool.specs.declared.answers.Answer.{Answer}
 use Rattle.sas_tool.specs.declared.ToolFault.{ToolFault}
 use Rattle.sas_tool.specs.declared.ToolFault.TheVariants as tool_fault
 use Rattle.sas_tool.specs.Answering.{Answers, output_of}
+use Rattle.sas_tool.specs.Ending.{IsDecided, IsWrite}
 use Rattle.sas_tool.specs.Output.{Output, word_of, refusal, answer_or_refusal, FileOut}
 
 -- no word, no refusal
@@ -28,6 +30,17 @@ refused_kind k other said o none e same =
 
 too_long_else : (k : Kind) (other : Kind) → k ≡ TooLong → (TooLong ≡ other → ⊥) → k ≢ other
 too_long_else k other e apart same = apart (sym e ∙ same)
+
+-- the fault of bytes that a device gave
+reading_of_refusal : {V I S : Type 0} (F : Format V I S) (bytes : List ℕ) (At_end : Type 0) (f : Fault) → Refuses F LIMIT bytes At_end f → f.kind ≢ Read → ReadsAs F LIMIT bytes (Err f)
+reading_of_refusal F bytes At_end f (unread_at live line kind) other = absurd (other kind)
+reading_of_refusal F bytes At_end f (ended_at at_end early) other = inr early
+reading_of_refusal F bytes At_end f (faulty_at fault other_kind) other = inl fault
+
+-- nothing is taken of a device that stays as it is
+pub takes_nothing : (remaining : Option (List ℕ)) → Consumes remaining remaining []
+takes_nothing None = tt
+takes_nothing (Some bytes) = refl
 
 -- every kind of a wrong line has a word
 abbrev pub Worded : {V I S : Type 0} → Format V I S → Type 0
@@ -49,6 +62,14 @@ module _ {V I S : Type 0} (F : Format V I S) (name : List ℕ) (answer : V → O
   pub file_refusal : (f : Fault) (r : Result Answer ToolFault) → IfOk r (λ a. refusal name f ≡ Some (output_of a)) → (IsErrOf r tool_fault.TooLong → f.kind ≡ TooLong) → IsFaultOf F LIMIT bytes f → Answers (FileOut F name answer bytes) r
   file_refusal f (Ok a) ok long fault = file_refused f (output_of a) ok fault
   file_refusal f (Err e) ok long fault = λ is. file_too_long f (long (ap Err is)) fault
+
+  -- such a fault is that of the bytes
+  decided_kind : (f : Fault) (r : Result Answer ToolFault) → IsDecided r → IfOk r (λ a. refusal name f ≡ Some (output_of a)) → (IsErrOf r tool_fault.TooLong → f.kind ≡ TooLong) → IfErr r (λ e. IsWrite e → ⊥) → (f.kind ≢ Memory) × (f.kind ≢ Read)
+  decided_kind f (Ok a) decided ok long writes = (refused_kind f.kind Memory _ (output_of a) refl ok, refused_kind f.kind Read _ (output_of a) refl ok)
+  decided_kind f (Err tool_fault.TooLong) decided ok long writes = (too_long_else f.kind Memory (long refl) (λ h. absurd cc), too_long_else f.kind Read (long refl) (λ h. absurd cc))
+  decided_kind f (Err tool_fault.Memory) decided ok long writes = absurd decided
+  decided_kind f (Err tool_fault.Read) decided ok long writes = absurd decided
+  decided_kind f (Err (tool_fault.Write n)) decided ok long writes = absurd (writes tt)
 
   pub one_file_output : Laws F → (o p : Option Output) → FileOut F name answer bytes o → FileOut F name answer bytes p → o ≡ p
   one_file_output laws o p a b = a.2 ∙ ap (answer_or_refusal name answer) (laws.one_reading LIMIT bytes a.0 b.0 a.1 b.1) ∙ sym b.2
@@ -73,3 +94,14 @@ module _ {V I S : Type 0} (F : Format V I S) (name : List ℕ) (answer : V → O
 
   pub no_file_output : Worded F → FileOut F name answer bytes None → LIMIT < length bytes
   no_file_output worded out = no_output_reading worded out.0 out.1 out.2
+
+-- what a device gave is refused as the bytes that it gave
+module _ {V I S : Type 0} (F : Format V I S) (name : List ℕ) (answer : V → Output) where
+  pub taken_refusal : (old new : Option (List ℕ)) (f : Fault) (r : Result Answer ToolFault)
+      → (f.kind ≢ Memory → (bytes : List ℕ) × Consumes old new bytes × Refuses F LIMIT bytes (IsAtEnd new) f)
+      → IfOk r (λ a. refusal name f ≡ Some (output_of a)) → (IsErrOf r tool_fault.TooLong → f.kind ≡ TooLong) → IfErr r (λ e. IsWrite e → ⊥) → IsDecided r
+      → (bytes : List ℕ) × Consumes old new bytes × Answers (FileOut F name answer bytes) r
+  taken_refusal old new f r taken ok long writes decided =
+      let (memory, read) = decided_kind F name answer [] f r decided ok long writes in
+      let (bytes, consumed, why) = taken memory in
+      (bytes, consumed, file_refusal F name answer bytes f r ok long (λ m n. reading_of_refusal F bytes (IsAtEnd new) f why read))

@@ -1,8 +1,9 @@
 // The answer to each request, before anything of it is written.
 ghost use Rattle.std.specs.Prelude.{◌≡◌, ◌↔◌, ◌||◌, List, ℕ, codes, false, Some, IfOk, IfErr, IsErrOf, IsTrue};
+ghost use Rattle.std.specs.Io.KnownBytes.{Consumes};
 ghost use Rattle.sas_text.specs.PlanFormat.{plan_format};
 ghost use Rattle.sas_tool.specs.Answering.{Answers, output_of};
-ghost use Rattle.sas_tool.specs.Ending.{IsWrite};
+ghost use Rattle.sas_tool.specs.Ending.{IsDecided, IsWrite};
 ghost use Rattle.sas_tool.specs.Output.{FileOut, Out, printed, refusal, refusal_line, word_of};
 
 use crate::{Request, Status, ToolFault};
@@ -28,6 +29,7 @@ pub fn answer_to<T: Read, P: Read>(
     requires task { task.old.failed ≡ false }
     requires plan { plan.old.failed ≡ false }
     ensures output { (b c : List ℕ) → T.remaining task.old.device ≡ Some b → P.remaining plan.old.device ≡ Some c → Answers (Out request b c) result }
+    ensures taken { IsDecided result → (b c : List ℕ) × Consumes (T.remaining task.old.device) (T.remaining task.new.device) b × Consumes (P.remaining plan.old.device) (P.remaining plan.new.device) c × Answers (Out request b c) result }
     ensures task_spared { request ≡ Request.Steps → task.new ≡ task.old }
     ensures reads { IsErrOf result ToolFault.Read ↔ IsTrue (task.new.failed || plan.new.failed) }
     ensures writes { IfErr result (λ e. IsWrite e → ⊥) }
@@ -41,6 +43,7 @@ pub fn answer_to<T: Read, P: Read>(
 fn steps<R: Read>(alloc: Global, plan: &mut Watched<R>) -> Result<Answer, ToolFault>
     requires { plan.old.failed ≡ false }
     ensures output { (c : List ℕ) → R.remaining plan.old.device ≡ Some c → Answers (FileOut plan_format (codes "plan") (printed plan_format) c) result }
+    ensures taken { IsDecided result → (c : List ℕ) × Consumes (R.remaining plan.old.device) (R.remaining plan.new.device) c × Answers (FileOut plan_format (codes "plan") (printed plan_format) c) result }
     ensures reads { IsErrOf result ToolFault.Read ↔ IsTrue plan.new.failed }
     ensures writes { IfErr result (λ e. IsWrite e → ⊥) }
 {

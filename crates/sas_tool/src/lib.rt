@@ -7,9 +7,9 @@ mod program;
 mod words;
 
 ghost use Rattle.std.specs.Prelude.{◌≡◌, ◌⊎◌, ◌↔◌, ◌||◌, false, List, ℕ, Some, IfErr, IsErrAnd, IsErrOf, IsTrue};
-ghost use Rattle.std.specs.Io.KnownBytes.{Appends};
+ghost use Rattle.std.specs.Io.KnownBytes.{Appends, Consumes};
 ghost use Rattle.sas_tool.specs.Output.{Out};
-ghost use Rattle.sas_tool.specs.Ending.{Ends, IsWrite};
+ghost use Rattle.sas_tool.specs.Ending.{Ends, IsDecided, IsWrite};
 
 use answers::answer_to;
 pub use laws::run_laws;
@@ -77,6 +77,10 @@ pub fn run<T: Read, P: Read, W: Write>(
     // Of inputs whose bytes are known, the output went out, or its first bytes, or there is none.
     ensures output { (b c : List ℕ) → T.remaining task.old.device ≡ Some b → P.remaining plan.old.device ≡ Some c
         → Ends (Out request b c) (Appends (W.contents out.old.device) (W.contents out.new.device)) result }
+    // And of any inputs, the output for the bytes that were read of them.
+    ensures taken { IsDecided result → (b c : List ℕ) × Consumes (T.remaining task.old.device) (T.remaining task.new.device) b × Consumes (P.remaining plan.old.device) (P.remaining plan.new.device) c
+        × Ends (Out request b c) (Appends (W.contents out.old.device) (W.contents out.new.device)) result }
+    // Before the answer is whole nothing is written.
     ensures nothing { IfErr result (λ e. IsWrite e ⊎ (out.new ≡ out.old)) }
     // A device that the request doesn't read stays as it was.
     ensures task_spared { request ≡ Request.Steps → task.new ≡ task.old }

@@ -9,13 +9,16 @@ use std::process::ExitCode;
 use std::rt::{Env, Files};
 use std::{env, fs, io};
 
-/// The exit status where the answer is yes, where it is no, where the words aren't understood, and at any other fault.
+/// The exit status where the answer is yes.
 const YES: u8 = 0;
 
+/// The exit status where the answer is no.
 const NO: u8 = 1;
 
+/// The exit status where the words aren't understood.
 const NOT_UNDERSTOOD: u8 = 2;
 
+/// The exit status at any other fault.
 const FAULT: u8 = 3;
 
 const OUT_OF_MEMORY: &str = "sas: out of memory";
@@ -100,6 +103,10 @@ enum Device<F, I> {
 }
 
 impl<F: Read, I: Read> Read for Device<F, I> {
+    ghost use Rattle.sas_tool.specs.Devices.{left_of};
+
+    ghost remaining = { left_of F.remaining I.remaining };
+
     fn read(&mut self, buf: &mut [u8]) -> io::Result<usize> {
         match self {
             Device::File(file) => file.read(buf),

@@ -1,7 +1,7 @@
 use Rattle.std.proofs.Common.{codes, Ok, refl}
 use Rattle.sas_text.specs.PlanFormat.{plan_format}
 use Rattle.sas_tool.specs.Output.{printed}
-use Rattle.sas_tool.proofs.Outputs.{file_refusal}
+use Rattle.sas_tool.proofs.Outputs.{file_refusal, taken_refusal}
 use Rattle.sas_tool.proofs.answers.steps.Goals as goal
 
 pub returns-in-Ok-clause-output : goal.returns-in-Ok-clause-output
@@ -10,3 +10,11 @@ returns-in-Ok-clause-output g c = λ bytes known. let (p, reads, is) = c.in-Ok.e
 pub returns-in-Err-clause-output : goal.returns-in-Err-clause-output
 returns-in-Err-clause-output g c = λ bytes known.
     file_refusal plan_format (codes "plan") (printed plan_format) bytes c.in-Err.fault c.refuse.result c.refuse.ensures.ok c.refuse.ensures.long (c.in-Err.ensures.known_fault bytes known)
+
+pub returns-in-Ok-clause-taken : goal.returns-in-Ok-clause-taken
+returns-in-Ok-clause-taken g c = λ decided.
+    let (bytes, consumed, at_end, text) = c.in-Ok.ensures.read in
+    (bytes, consumed, (Ok text.0, text.1, rw text.2 refl))
+
+pub returns-in-Err-clause-taken : goal.returns-in-Err-clause-taken
+returns-in-Err-clause-taken g c = taken_refusal plan_format (codes "plan") (printed plan_format) _ _ c.in-Err.fault c.refuse.result c.in-Err.ensures.fault c.refuse.ensures.ok c.refuse.ensures.long c.refuse.ensures.writes
