@@ -1,2 +1,5 @@
 pub mod PlainBytes
 pub mod BadNames
+pub mod FirstFaults
+pub mod ChecksAreRules
+pub mod SameParts

@@ -1,5 +1,8 @@
 ghost use Rattle.std.specs.Prelude.{◌≡◌, IsTrue, ◌↔◌};
 
+mod small_tasks;
+mod tasks;
+
 use super::*;
 use std::alloc::{AllocError, Global};
 
@@ -23,12 +26,12 @@ fn make_pair(alloc: Global, name: &[u8], facts: &[u32]) -> Result<Pair, AllocErr
     })
 }
 
-fn steps(alloc: Global, names: &[&[u8]]) -> Result<Items<Items<u8>>, AllocError> {
-    let mut steps = Items::new(alloc);
+fn name_list(alloc: Global, names: &[&[u8]]) -> Result<Items<Items<u8>>, AllocError> {
+    let mut list_of_names = Items::new(alloc);
     for name in names {
-        steps.push(list(alloc, name)?)?;
+        list_of_names.push(list(alloc, name)?)?;
     }
-    Ok(steps)
+    Ok(list_of_names)
 }
 
 #[test]
@@ -98,11 +101,11 @@ fn equal_structs_of_lists(rt: HostRuntime) -> Result<(), AllocError> {
 #[test]
 fn plans_of_names(rt: HostRuntime) -> Result<(), AllocError> {
     let names: [&[u8]; 2] = [b"a", b"go "];
-    let made = Plan::new(steps(rt.alloc(), &names)?, 2, CostKind::Unit);
+    let made = Plan::new(name_list(rt.alloc(), &names)?, 2, CostKind::Unit);
     let Ok(plan) = made else {
         panic!(rt; "each step is a name");
     };
-    assert_eq!(rt; plan.steps(), &steps(rt.alloc(), &names)?);
+    assert_eq!(rt; plan.steps(), &name_list(rt.alloc(), &names)?);
     assert_eq!(rt; plan.cost(), 2);
     assert_eq!(rt; plan.kind(), CostKind::Unit);
     Ok(())
@@ -116,8 +119,8 @@ fn plans_with_a_bad_name(rt: HostRuntime) -> Result<(), AllocError> {
         (&[b"a", b"b", b"c\r", b""], 3),
     ];
     for (names, step) in cases {
-        let made = Plan::new(steps(rt.alloc(), names)?, 0, CostKind::General);
-        let want = (steps(rt.alloc(), names)?, BadName { step });
+        let made = Plan::new(name_list(rt.alloc(), names)?, 0, CostKind::General);
+        let want = (name_list(rt.alloc(), names)?, BadName { step });
         assert_eq!(rt; made, Err(want));
     }
     Ok(())
@@ -139,9 +142,9 @@ fn equal_plans(rt: HostRuntime) -> Result<(), AllocError> {
         (&[b"a"], u64::MAX, CostKind::Unit, false),
         (&[b"a"], 1, CostKind::General, false),
     ];
-    let first = Plan::new(steps(rt.alloc(), &[b"a"])?, 1, CostKind::Unit);
+    let first = Plan::new(name_list(rt.alloc(), &[b"a"])?, 1, CostKind::Unit);
     for (names, cost, kind, want) in cases {
-        let other = Plan::new(steps(rt.alloc(), names)?, cost, kind);
+        let other = Plan::new(name_list(rt.alloc(), names)?, cost, kind);
         assert_eq!(rt; first == other, want, "{other:?}");
     }
     let empty = Plan::of_names(Items::new(rt.alloc()), 0, CostKind::Unit);

@@ -8,7 +8,7 @@ use Rattle.std.proofs.lemmas.Fmt.{digits_decimal, decimal_injective}
 use Rattle.std.proofs.lemmas.Str.Parse.{digit_from_value}
 use Rattle.sas_lines.specs.Parts.{Without, onto_first, parts}
 use Rattle.sas_lines.specs.Lines.{NoEnd}
-use Rattle.sas_lines.specs.Spelling.{IsNumber, IsSigned, signed_decimal}
+use Rattle.sas_lines.specs.Spelling.{IsNumber, IsSigned, signed_decimal, joined}
 use Rattle.sas_lines.proofs.Separated.{parts-first, parts-only, parts-some}
 use Rattle.sas_lines.proofs.Splitting.{Plain, without_return-none}
 use Rattle.sas_lines.proofs.Digits.{own}
@@ -16,27 +16,18 @@ use Rattle.sas_lines.proofs.Digits.{own}
 abbrev pub NoSpace : List ℕ → Type 0
 NoSpace bytes = Without 32 bytes
 
--- words with one space between each two
-abbrev pub joined_after : List ℕ → List (List ℕ) → List ℕ
-joined_after w [] = w
-joined_after w (v ∷ ws) = w ++ 32 ∷ joined_after v ws
-
-abbrev pub joined : List (List ℕ) → List ℕ
-joined [] = []
-joined (w ∷ ws) = joined_after w ws
-
 pub words-first : (w rest : List ℕ) → NoSpace w → parts 32 (w ++ 32 ∷ rest) ≡ w ∷ parts 32 rest
 words-first w rest h = parts-first 32 w rest h
 
 pub words-only : (w : List ℕ) → NoSpace w → parts 32 w ≡ w ∷ []
 words-only w h = parts-only 32 w h
 
-pub words-joined : (w : List ℕ) (ws : List (List ℕ)) → NoSpace w → AllByRecursion NoSpace ws → parts 32 (joined_after w ws) ≡ w ∷ ws
+pub words-joined : (w : List ℕ) (ws : List (List ℕ)) → NoSpace w → AllByRecursion NoSpace ws → parts 32 (joined (w ∷ ws)) ≡ w ∷ ws
 words-joined w [] h g = words-only w h
-words-joined w (v ∷ ws) h g = words-first w (joined_after v ws) h ∙ ap (λ (l : List (List ℕ)). w ∷ l) (words-joined v ws g.0 g.1)
+words-joined w (v ∷ ws) h g = words-first w (joined (v ∷ ws)) h ∙ ap (λ (l : List (List ℕ)). w ∷ l) (words-joined v ws g.0 g.1)
 
 -- words without a space are told from what they are joined to
-pub same_words : (w v : List ℕ) (ws vs : List (List ℕ)) → NoSpace w → AllByRecursion NoSpace ws → NoSpace v → AllByRecursion NoSpace vs → joined_after w ws ≡ joined_after v vs → w ∷ ws ≡ v ∷ vs
+pub same_words : (w v : List ℕ) (ws vs : List (List ℕ)) → NoSpace w → AllByRecursion NoSpace ws → NoSpace v → AllByRecursion NoSpace vs → joined (w ∷ ws) ≡ joined (v ∷ vs) → w ∷ ws ≡ v ∷ vs
 same_words w v ws vs h g i j e = sym (words-joined w ws h g) ∙ ap (parts 32) e ∙ words-joined v vs i j
 
 pub same_first : (w v a b : List ℕ) → NoSpace w → NoSpace v → w ++ 32 ∷ a ≡ v ++ 32 ∷ b → (w ≡ v) × (parts 32 a ≡ parts 32 b)

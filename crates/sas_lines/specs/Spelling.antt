@@ -1,4 +1,5 @@
--- How numbers are spelled. `decimal n` is the digit of n below 10, else `decimal (n / 10)` and then the digit of n % 10.
+-- How numbers are spelled, alone and several on a line. `decimal n` is the digit of n below 10, else `decimal (n / 10)`
+-- and then the digit of n % 10.
 use Rattle.std.specs.Prelude.{◌≡◌, ℕ, ◌+◌, ◌/◌, ◌%◌, ◌^◌, ◌<◌, ◌≤◌, List, [], ◌∷◌, ◌++◌, Option, Some, None, codes}
 use Rattle.std.specs.Fmt.{decimal}
 
@@ -19,6 +20,12 @@ IsCost n = n < 2 ^ 64
 abbrev pub signed_decimal : Option ℕ → List ℕ
 signed_decimal None = codes "-1"
 signed_decimal (Some n) = decimal n
+
+-- words with one space between each two
+abbrev pub joined : List (List ℕ) → List ℕ
+joined [] = []
+joined (word ∷ []) = word
+joined (word ∷ next ∷ words) = word ++ 32 ∷ joined (next ∷ words)
 
 -- `decimal` in plain recursion, at every number of 128 bits: one digit below 10, else the decimal of a tenth and one
 -- digit more

@@ -18,4 +18,19 @@ mod PlanJudging
 mod PlanSteps
 mod PlanStanding
 mod PlanKeeping
+mod TaskSections
+mod TaskLines
+mod TaskPlain
+mod TaskGrammar
+mod TaskExample
+mod VariablesBehind
+mod TaskFilling
+mod TaskMoves
+mod TaskEnds
+mod TaskStanding
+mod TaskReading
+mod TaskJudging
+mod TaskSteps
+mod TaskTexts
 pub mod PlanLaws
+pub mod TaskLaws

@@ -71,14 +71,14 @@ plain_byte b h =
     let p = and_parts (not (b == 10)) (not (b == 13)) h in
     (λ e. is_not (b == 10) p.0 (eq-eqb b 10 e), λ e. is_not (b == 13) p.1 (eq-eqb b 13 e))
 
-plain_bytes : (bytes : List ℕ) → IsTrue (list_all is_plain bytes) → IsPlain bytes
+pub plain_bytes : (bytes : List ℕ) → IsTrue (list_all is_plain bytes) → IsPlain bytes
 plain_bytes [] h = tt
 plain_bytes (b ∷ bytes) h = let p = and_parts (is_plain b) (list_all is_plain bytes) h in (plain_byte b p.0, plain_bytes bytes p.1)
 
-plain-name : (bytes : List ℕ) → IsName bytes → IsPlain bytes
+pub plain-name : (bytes : List ℕ) → IsName bytes → IsPlain bytes
 plain-name bytes h = plain_bytes bytes ((and_parts (not (length bytes == 0)) (list_all is_plain bytes) h).1)
 
-plain-append : (a b : List ℕ) → IsPlain a → IsPlain b → IsPlain (a ++ b)
+pub plain-append : (a b : List ℕ) → IsPlain a → IsPlain b → IsPlain (a ++ b)
 plain-append [] b h g = g
 plain-append (x ∷ a) b h g = (h.0, plain-append a b h.1 g)
 

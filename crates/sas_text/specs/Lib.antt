@@ -11,3 +11,12 @@ pub mod PlanMachine
 pub mod PlanLine
 pub mod PlanReader
 pub mod PlanText
+pub mod TaskFormat
+pub mod TaskProcess
+pub mod TaskPlaces
+pub mod TaskWords
+pub mod TaskLine
+pub mod TaskText
+pub mod TaskMachine
+pub mod TaskReader
+pub mod TaskLaws

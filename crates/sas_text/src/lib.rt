@@ -10,11 +10,19 @@ mod plan_machine;
 mod plan_reader;
 mod plan_text;
 mod reader;
+mod task;
+mod task_line;
+mod task_machine;
+mod task_reader;
+mod task_writer;
 
 pub use fault::{Fault, Kind};
-pub use laws::plan_laws;
+pub use laws::{plan_laws, task_laws};
 pub use plan::{encode_plan, read_plan, read_plan_text};
 pub use plan_reader::{LIMIT, PlanReader};
+pub use task::read_task;
+pub use task_reader::TaskReader;
+pub use task_writer::encode_task;
 
 #[cfg(test)]
 mod tests;

@@ -1,0 +1,19 @@
+-- No check of the parts fails exactly where they are well ranged.
+use Rattle.std.proofs.Common.{◌≡◌, Some, None, refl, sym, ◌∙◌}
+use Rattle.std.proofs.lemmas.Bool.{false≢true}
+use Rattle.sas_core.proofs.ChecksAreRules.{checks_are_the_rules}
+use Rattle.sas_core.proofs.task.Task.new.Goals as goal
+
+pub invariant_of-result : goal.invariant_of-result
+invariant_of-result c = (checks_are_the_rules c.args.parts).0 (sym c.in-Ok.ensures)
+
+pub returns-in-Err-clause-well_ranged : goal.returns-in-Err-clause-well_ranged
+returns-in-Err-clause-well_ranged c = (
+  λ ok. absurd (false≢true ok),
+  λ fit.
+      let impossible : Some c.in-Err.fault ≡ None = c.in-Err.ensures ∙ (checks_are_the_rules c.args.parts).1 fit in
+      absurd (cc),
+)
+
+pub returns-in-Ok-clause-well_ranged : goal.returns-in-Ok-clause-well_ranged
+returns-in-Ok-clause-well_ranged c = (λ ok. (checks_are_the_rules c.args.parts).0 (sym c.in-Ok.ensures), λ fit. refl)

@@ -1,0 +1,93 @@
+-- The rules of a task file as tests in the order of the file, each with the fault that it finds.
+use Rattle.std.specs.Prelude.{◌≡◌, ℕ, ◌↔◌, ◌==◌, Bool, not, nat_lt, if◌then◌else◌, List, [], ◌∷◌, ◌++◌, length, zip, flat_map, Option, Some, None}
+use Rattle.std.specs.List.{list_all}
+use Rattle.sas_core.specs.declared.checks.PartsFault.{PartsFault}
+use Rattle.sas_core.specs.declared.checks.PartsFault.TheVariants.{NoVariable, TooMany, BadName, BadNumber, BadRange, BadFact, InitLength}
+use Rattle.sas_core.specs.declared.parts.Fact.{Fact}
+use Rattle.sas_core.specs.declared.parts.Variable.{Variable}
+use Rattle.sas_core.specs.declared.parts.Effect.{Effect}
+use Rattle.sas_core.specs.declared.parts.Operator.{Operator}
+use Rattle.sas_core.specs.declared.parts.Rule.{Rule}
+use Rattle.sas_core.specs.declared.parts.Parts.{Parts}
+use Rattle.sas_core.specs.Names.{is_name}
+use Rattle.sas_core.specs.Numbers.{is_number}
+use Rattle.sas_core.specs.Variables.{has_value, fact_exists}
+use Rattle.sas_core.specs.WellRanged.{WellRanged}
+
+-- a test of some parts, and what is wrong with them where it fails
+pub record Check : Type 0 where
+  pub passes : Bool
+  pub fault : PartsFault
+
+-- the fault of the first check that fails
+abbrev pub first_fault : List Check → Option PartsFault
+first_fault [] = None
+first_fault (check ∷ checks) = if check.passes then first_fault checks else Some check.fault
+
+-- one check
+abbrev pub check : Bool → PartsFault → List Check
+check passes fault = record { passes = passes; fault = fault } ∷ []
+
+-- a list behind its count: the count first, then each item in turn
+abbrev pub listed : {A : Type 0} → (A → List Check) → List A → List Check
+listed checks_of items = check (is_number (length items)) TooMany ++ flat_map checks_of items
+
+abbrev pub name_checks : List ℕ → List Check
+name_checks name = check (is_name name) BadName
+
+-- an optional number, which a file writes as -1 where there is none
+abbrev pub signed_checks : Option ℕ → List Check
+signed_checks None = []
+signed_checks (Some n) = check (is_number n) BadNumber
+
+abbrev pub variable_checks : Variable → List Check
+variable_checks v =
+    name_checks v.name
+    ++ signed_checks v.layer
+    ++ check (not (length v.values == 0)) BadRange
+    ++ listed name_checks v.values
+
+abbrev pub fact_checks : List Variable → Fact → List Check
+fact_checks variables fact = check (fact_exists variables fact) BadFact
+
+-- what an effect or a rule changes: the old value of its variable, if one is asked for, and the new one
+abbrev pub change_checks : List Variable → ℕ → Option ℕ → ℕ → List Check
+change_checks variables var None new = check (has_value variables var new) BadFact
+change_checks variables var (Some old) new = check (has_value variables var old) BadFact ++ check (has_value variables var new) BadFact
+
+abbrev pub effect_checks : List Variable → Effect → List Check
+effect_checks variables e = listed (fact_checks variables) e.conditions ++ change_checks variables e.var e.old e.new
+
+abbrev pub operator_checks : List Variable → Operator → List Check
+operator_checks variables o =
+    name_checks o.name
+    ++ listed (fact_checks variables) o.prevail
+    ++ listed (effect_checks variables) o.effects
+    ++ check (is_number o.cost) BadNumber
+
+abbrev pub rule_checks : List Variable → Rule → List Check
+rule_checks variables r = listed (fact_checks variables) r.conditions ++ change_checks variables r.var r.old r.new
+
+-- whether each value is in the range of the variable at its place
+abbrev pub values_in_range : List Variable → List ℕ → Bool
+values_in_range variables values = list_all (λ (p : Variable × ℕ). nat_lt p.1 (length p.0.values)) (zip variables values)
+
+abbrev pub state_checks : List Variable → List ℕ → List Check
+state_checks variables values =
+    check (length values == length variables) InitLength
+    ++ check (values_in_range variables values) BadFact
+
+-- all the checks of some parts, section by section
+abbrev pub checks : Parts → List Check
+checks p =
+    check (not (length p.variables == 0)) NoVariable
+    ++ listed variable_checks p.variables
+    ++ listed (listed (fact_checks p.variables)) p.groups
+    ++ state_checks p.variables p.init
+    ++ listed (fact_checks p.variables) p.goal
+    ++ listed (operator_checks p.variables) p.operators
+    ++ listed (rule_checks p.variables) p.rules
+
+-- no check fails exactly where the parts are well ranged
+abbrev pub ChecksAreTheRules : Type 0
+ChecksAreTheRules = (p : Parts) → (first_fault (checks p) ≡ None) ↔ WellRanged p

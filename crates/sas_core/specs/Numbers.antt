@@ -1,0 +1,14 @@
+-- Which numbers may stand in a file.
+use Rattle.std.specs.Prelude.{ℕ, ◌^◌, ◌<◌, Bool, nat_lt, Option, None, Some}
+
+-- a number is at most 2,147,483,647
+abbrev pub IsNumber : ℕ → Type 0
+IsNumber n = n < 2 ^ 31
+
+abbrev pub is_number : ℕ → Bool
+is_number n = nat_lt n (2 ^ 31)
+
+-- an optional number, which a file writes as -1 where there is none
+abbrev pub IsSigned : Option ℕ → Type 0
+IsSigned None = Unit {0}
+IsSigned (Some n) = IsNumber n

@@ -1,0 +1,120 @@
+// Tasks: parts that follow all the rules of a task file.
+ghost use Rattle.std.specs.Prelude.{◌≡◌, ◌<◌, ◌↔◌, length, Some, None, IsTrue, IsOk, IfOk, IfErr, option_map};
+ghost use Rattle.std.specs.Result.{result_err};
+ghost use Rattle.sas_core.specs.Checks.{first_fault, checks, ChecksAreTheRules};
+ghost use Rattle.sas_core.specs.Tasks.{cost_of};
+ghost use Rattle.sas_core.specs.Variables.{range_of, IsDerived, FactExists};
+ghost use Rattle.sas_core.specs.WellRanged.{WellRanged};
+
+use crate::checks::{PartsFault, check_parts, has_value};
+use crate::parts::{Fact, Parts};
+use std::marker::Model;
+
+/// A task: its parts are well ranged. Two tasks are equal if their parts are.
+#[derive(Debug, PartialEq, Eq, Drop)]
+pub struct Task {
+    parts: Parts,
+}
+
+impl Model for Task {
+    ghost use Rattle.sas_core.specs.declared.parts.Parts.{Parts};
+    ghost use Rattle.sas_core.specs.WellRanged.{WellRanged};
+
+    ghost Value = { Parts };
+
+    ghost view = { λ t. t.parts };
+
+    ghost invariant = { λ t. WellRanged t.parts };
+
+    ghost inverse = { λ p. record { parts = p } };
+}
+
+impl Task {
+    /// The task of these parts, if they are well ranged; else their first fault in the order of the file, and the parts
+    /// unchanged. It takes no memory.
+    ///
+    /// That order is: `NoVariable`, and `TooMany` variables; per variable its name, its layer, `BadRange` where it has no
+    /// value, the number and the names of its values; the number of groups, and per group the number of its facts and
+    /// these; `InitLength`, and the values of the state section; the goal; the number of operators, and per operator its
+    /// name, the number of its prevail conditions and these, the number of its effects and these, and its cost; the
+    /// number of rules, and these. Of an effect or a rule the number of its conditions and these come first, then its
+    /// variable with its old and its new value.
+    pub fn new(parts: Parts) -> Result<Task, (Parts, PartsFault)>
+        ensures well_ranged { IsOk result ↔ WellRanged parts }
+        ensures task { IfOk result (λ t. t ≡ parts) }
+        ensures handed_back { IfErr result (λ e. e.0 ≡ parts) }
+        ensures first { option_map (λ e. e.1) (result_err result) ≡ first_fault (checks parts) }
+    {
+        match check_parts(&parts) {
+            Err(fault) => Err((parts, fault)),
+            Ok(()) => Ok(Task { parts }),
+        }
+    }
+
+    /// The task of these parts, where they are known to be well ranged. It takes no memory and looks at no part.
+    pub fn of_parts(parts: Parts) -> Task
+        requires { WellRanged parts }
+        ensures { result ≡ parts }
+    {
+        Task { parts }
+    }
+
+    /// The task's parts.
+    pub fn parts(&self) -> &Parts
+        ensures parts { result.now ≡ self.now }
+        ensures well_ranged { WellRanged self.now }
+    {
+        &self.parts
+    }
+
+    /// The task's parts, for good. It takes no memory.
+    pub fn into_parts(self) -> Parts
+        ensures parts { result ≡ self }
+        ensures well_ranged { WellRanged self }
+    {
+        let Task { parts } = self;
+        parts
+    }
+
+    /// What the operator costs: what its cost line says under metric 1, and 1 under metric 0.
+    pub fn cost(&self, operator: u32) -> u32
+        requires { operator < length self.now.operators }
+        ensures { result ≡ cost_of self.now operator }
+    {
+        if self.parts.metric {
+            self.parts.operators.as_slice()[operator as usize].cost
+        } else {
+            1
+        }
+    }
+
+    /// How many values the variable has.
+    pub fn range(&self, var: u32) -> u32
+        requires { var < length self.now.variables }
+        ensures { result ≡ range_of self.now.variables var }
+    {
+        self.parts.variables.as_slice()[var as usize].values.len() as u32
+    }
+
+    /// Whether the variable is derived: whether it has a layer.
+    pub fn derived(&self, var: u32) -> bool
+        requires { var < length self.now.variables }
+        ensures { IsTrue result ↔ IsDerived self.now.variables var }
+    {
+        self.parts.variables.as_slice()[var as usize]
+            .layer
+            .is_some()
+    }
+
+    /// Whether the fact's variable exists and has the fact's value.
+    pub fn has_fact(&self, fact: Fact) -> bool
+        ensures { IsTrue result ↔ FactExists self.now.variables fact }
+    {
+        has_value(&self.parts.variables, fact.var, fact.value)
+    }
+}
+
+/// A law: no check of some parts fails exactly where they are well ranged.
+pub fn task_laws()
+    ensures { ChecksAreTheRules }
+{}

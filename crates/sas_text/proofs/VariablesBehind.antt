@@ -1,0 +1,16 @@
+-- The variables behind the first so many.
+use Rattle.std.proofs.Common.{◌≡◌, ℕ, zero, suc, ◌<◌, List, [], ◌∷◌, length, refl, arith}
+use Rattle.std.specs.Prelude.{drop}
+use Rattle.sas_core.specs.declared.parts.Variable.{Variable}
+use Rattle.sas_core.specs.Variables.{range_of}
+
+-- the variables behind the first so many: one of this range, and those behind one more
+pub record Behind (vs : List Variable) (i : ℕ) : Type 0 where
+  pub first : Variable
+  pub are : drop i vs ≡ first ∷ drop (suc i) vs
+  pub range : range_of vs i ≡ length first.values
+
+pub behind : (vs : List Variable) (i : ℕ) → i < length vs → Behind vs i
+behind [] i l = absurd (omega arith)
+behind (v ∷ vs) zero l = record { first = v; are = refl; range = refl }
+behind (v ∷ vs) (suc i) l = let b = behind vs i (omega arith) in record { first = b.first; are = b.are; range = b.range }

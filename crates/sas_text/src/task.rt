@@ -1,0 +1,33 @@
+// Task files: read from a device.
+ghost use Rattle.std.specs.Prelude.{◌≡◌, ◌≢◌, ◌↔◌, ℕ, List, false, Some, Ok, Err, IfOk, IfErr, IsErrAnd, IsTrue};
+ghost use Rattle.std.specs.Io.KnownBytes.{Consumes, IsAtEnd};
+ghost use Rattle.sas_text.specs.Format.{ReadsAs};
+ghost use Rattle.sas_text.specs.TaskFormat.{task_format};
+ghost use Rattle.sas_text.specs.Devices.{Refuses, IsFaultOf};
+
+use crate::devices::read_all;
+use crate::fault::{Fault, Kind};
+use crate::plan_reader::LIMIT;
+use crate::task_machine::TaskMachine;
+use sas_core::Task;
+use sas_lines::Watched;
+use std::alloc::Global;
+use std::io::Read;
+
+/// Reads a task from a device: in pieces of at most 4,096 bytes, to its end or to the first fault.
+pub fn read_task<R: Read>(alloc: Global, reader: &mut Watched<R>) -> Result<Task, Fault>
+    requires { reader.old.failed ≡ false }
+    // What was read is all, and a text of the task.
+    ensures read { IfOk result (λ t. (b : List ℕ) × Consumes (R.remaining reader.old.device) (R.remaining reader.new.device) b × IsAtEnd (R.remaining reader.new.device) × ReadsAs task_format LIMIT b (Ok t)) }
+    // What was read shows the fault.
+    ensures fault { IfErr result (λ f. f.kind ≢ Kind.Memory → (b : List ℕ) × Consumes (R.remaining reader.old.device) (R.remaining reader.new.device) b × Refuses task_format LIMIT b (IsAtEnd (R.remaining reader.new.device)) f) }
+    // So of an input whose bytes are known, the answer is the task that it is a text of, or its fault.
+    ensures known { (b : List ℕ) → R.remaining reader.old.device ≡ Some b → IfOk result (λ t. ReadsAs task_format LIMIT b (Ok t)) }
+    ensures known_fault { (b : List ℕ) → R.remaining reader.old.device ≡ Some b → IfErr result (IsFaultOf task_format LIMIT b) }
+    ensures note { IsErrAnd result (λ f. f.kind ≡ Kind.Read) ↔ IsTrue reader.new.failed }
+{
+    match read_all(alloc, TaskMachine::new(alloc), LIMIT, reader) {
+        Ok(machine) => Ok(Task::of_parts(machine.into_parts())),
+        Err(fault) => Err(fault),
+    }
+}

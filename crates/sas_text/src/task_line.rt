@@ -1,0 +1,314 @@
+// One line of a task file, by what is due there.
+ghost use Rattle.std.specs.Prelude.{◌≡◌, ◌↔◌, ℕ, List, [], Option, nat_lt, true, ◌==◌, IsTrue, IfOk, IfSome, IfNone};
+ghost use Rattle.std.specs.List.{list_all};
+ghost use Rattle.sas_core.specs.Names.{is_name};
+ghost use Rattle.sas_core.specs.Variables.{has_value, fact_exists};
+ghost use Rattle.sas_text.specs.TaskFormat as format;
+ghost use Rattle.sas_text.specs.TaskProcess.{any, positive, name_in, number_in, fact_in, effect_in, head_in, may_change, effect_may_stand, head_may_stand};
+ghost use Rattle.sas_text.specs.TaskLine.{Says};
+ghost use Rattle.sas_text.specs.TaskWords.{Spells, TakesNumber, TakesSigned, TakesFact, TakesFacts, TakesHead};
+
+use crate::fault::Kind;
+use sas_core::{Effect, Fact, Items, Variable, is_name};
+use sas_lines::{Numbers, number, signed};
+use std::alloc::{AllocError, Global};
+
+/// The version of the format.
+const VERSION: u32 = 3;
+
+/// What the head of a rule says: its variable, the old value that it asks for, if any, and its new one.
+#[derive(Clone, Copy, Debug, PartialEq, Eq)]
+pub struct Change {
+    pub var: u32,
+    pub old: Option<u32>,
+    pub new: u32,
+}
+
+/// The fixed word.
+pub fn word_at(line: &[u8], word: &[u8]) -> Result<(), Kind>
+    ensures { Says (format.word_slot word.now) (λ _. true) (λ _. format.word word.now) line.now result }
+{
+    if line == word {
+        Ok(())
+    } else {
+        Err(Kind::Keyword)
+    }
+}
+
+/// A name.
+pub fn name_at(alloc: Global, line: &[u8]) -> Result<Items<u8>, Kind>
+    ensures { Says format.name_slot (λ i. is_name (name_in i)) format.name line.now result }
+{
+    if !is_name(line) {
+        return Err(Kind::Name);
+    }
+    match Vec::from_slice(alloc, line) {
+        Ok(name) => Ok(Items::from_vec(name)),
+        Err(_) => Err(Kind::Memory),
+    }
+}
+
+/// A number.
+pub fn number_at(line: &[u8]) -> Result<u32, Kind>
+    ensures { Says format.number_slot (λ i. any (number_in i)) format.number line.now result }
+{
+    match number(line) {
+        Some(n) => Ok(n),
+        None => Err(Kind::Shape),
+    }
+}
+
+/// A number that isn't 0.
+pub fn positive_at(line: &[u8]) -> Result<u32, Kind>
+    ensures { Says format.number_slot (λ i. positive (number_in i)) format.number line.now result }
+{
+    match number(line) {
+        None => Err(Kind::Shape),
+        Some(0) => Err(Kind::Value),
+        Some(n) => Ok(n),
+    }
+}
+
+/// A number below a bound.
+pub fn number_below(line: &[u8], bound: usize) -> Result<u32, Kind>
+    ensures { Says format.number_slot (λ i. nat_lt (number_in i) bound) format.number line.now result }
+{
+    match number(line) {
+        None => Err(Kind::Shape),
+        Some(n) if (n as usize) < bound => Ok(n),
+        Some(_) => Err(Kind::Value),
+    }
+}
+
+/// The version.
+pub fn version_at(line: &[u8]) -> Result<u32, Kind>
+    ensures { Says format.number_slot (λ i. number_in i == 3) format.number line.now result }
+{
+    match number(line) {
+        None => Err(Kind::Shape),
+        Some(VERSION) => Ok(VERSION),
+        Some(_) => Err(Kind::Value),
+    }
+}
+
+/// A number, or none.
+pub fn signed_at(line: &[u8]) -> Result<Option<u32>, Kind>
+    ensures { Says format.signed_slot (λ _. true) format.signed line.now result }
+{
+    match signed(line) {
+        Some(n) => Ok(n),
+        None => Err(Kind::Shape),
+    }
+}
+
+/// The next part, as a number.
+fn take_number(parts: &mut Numbers<'_>) -> Option<u32>
+    ensures found { IfSome result (λ n. TakesNumber parts.old n parts.new) }
+    ensures none { IfNone result ((n : ℕ) (rest : List (List ℕ)) → TakesNumber parts.old n rest → ⊥) }
+{
+    match parts.next() {
+        Some(part) => number(part),
+        None => None,
+    }
+}
+
+/// The next part, as a number or none.
+fn take_signed(parts: &mut Numbers<'_>) -> Option<Option<u32>>
+    ensures found { IfSome result (λ n. TakesSigned parts.old n parts.new) }
+    ensures none { IfNone result ((n : Option ℕ) (rest : List (List ℕ)) → TakesSigned parts.old n rest → ⊥) }
+{
+    match parts.next() {
+        Some(part) => signed(part),
+        None => None,
+    }
+}
+
+/// The next two parts, as a fact.
+fn take_fact(parts: &mut Numbers<'_>) -> Option<Fact>
+    ensures found { IfSome result (λ f. TakesFact parts.old f parts.new) }
+    ensures none { IfNone result ((f : Fact) (rest : List (List ℕ)) → TakesFact parts.old f rest → ⊥) }
+{
+    let Some(var) = take_number(parts) else {
+        return None;
+    };
+    let Some(value) = take_number(parts) else {
+        return None;
+    };
+    Some(Fact { var, value })
+}
+
+/// The next parts, as so many facts. Nothing is reserved for them, since a line may say any count and hold few parts.
+fn take_facts(
+    alloc: Global,
+    parts: &mut Numbers<'_>,
+    count: u32,
+) -> Result<Option<Items<Fact>>, AllocError>
+    ensures found { IfOk result (λ found. IfSome found (λ facts. TakesFacts parts.old count facts parts.new)) }
+    ensures none { IfOk result (λ found. IfNone found ((facts : List Fact) (rest : List (List ℕ)) → TakesFacts parts.old count facts rest → ⊥)) }
+{
+    let mut facts = Items::new(alloc);
+    for _i in 0..count {
+        let Some(fact) = take_fact(parts) else {
+            return Ok(None);
+        };
+        facts.push(fact)?;
+    }
+    Ok(Some(facts))
+}
+
+/// The next three parts, as a change.
+fn take_change(parts: &mut Numbers<'_>) -> Option<Change>
+    ensures found { IfSome result (λ (c : Change). TakesHead parts.old c.var c.old c.new parts.new) }
+    ensures none { IfNone result ((var : ℕ) (old : Option ℕ) (new : ℕ) (rest : List (List ℕ)) → TakesHead parts.old var old new rest → ⊥) }
+{
+    let Some(var) = take_number(parts) else {
+        return None;
+    };
+    let Some(old) = take_signed(parts) else {
+        return None;
+    };
+    let Some(new) = take_number(parts) else {
+        return None;
+    };
+    Some(Change { var, old, new })
+}
+
+/// Whether no part is left.
+fn is_over(parts: &mut Numbers<'_>) -> bool
+    ensures { IsTrue result ↔ (parts.old ≡ []) }
+{
+    parts.next().is_none()
+}
+
+/// The fact that the line spells, whether it exists or not.
+fn fact_of(line: &[u8]) -> Option<Fact>
+    ensures found { IfSome result (λ f. Spells (format.fact f) line.now) }
+    ensures none { IfNone result ((f : Fact) → Spells (format.fact f) line.now → ⊥) }
+{
+    let mut parts = Numbers::new(line);
+    let Some(fact) = take_fact(&mut parts) else {
+        return None;
+    };
+    if is_over(&mut parts) {
+        Some(fact)
+    } else {
+        None
+    }
+}
+
+/// The effect that the line spells, whether its facts exist or not.
+fn effect_of(alloc: Global, line: &[u8]) -> Result<Option<Effect>, AllocError>
+    ensures found { IfOk result (λ found. IfSome found (λ e. Spells (format.effect e) line.now)) }
+    ensures none { IfOk result (λ found. IfNone found ((e : Effect) → Spells (format.effect e) line.now → ⊥)) }
+{
+    let mut parts = Numbers::new(line);
+    let Some(count) = take_number(&mut parts) else {
+        return Ok(None);
+    };
+    let Some(conditions) = take_facts(alloc, &mut parts, count)? else {
+        return Ok(None);
+    };
+    let Some(Change { var, old, new }) = take_change(&mut parts) else {
+        return Ok(None);
+    };
+    if !is_over(&mut parts) {
+        return Ok(None);
+    }
+    Ok(Some(Effect {
+        conditions,
+        var,
+        old,
+        new,
+    }))
+}
+
+/// The change that the line spells, whether its values exist or not.
+fn change_of(line: &[u8]) -> Option<Change>
+    ensures found { IfSome result (λ (c : Change). Spells (format.head c.var c.old c.new) line.now) }
+    ensures none { IfNone result ((var : ℕ) (old : Option ℕ) (new : ℕ) → Spells (format.head var old new) line.now → ⊥) }
+{
+    let mut parts = Numbers::new(line);
+    let Some(change) = take_change(&mut parts) else {
+        return None;
+    };
+    if is_over(&mut parts) {
+        Some(change)
+    } else {
+        None
+    }
+}
+
+/// Whether the variable exists and has the value.
+fn has_value(variables: &Items<Variable>, var: u32, value: u32) -> bool
+    ensures { result ≡ has_value variables.now var value }
+{
+    match variables.get(var as usize) {
+        Some(variable) => (value as usize) < variable.values.len(),
+        None => false,
+    }
+}
+
+/// Whether the variable exists and has the new value and the old one, if any.
+fn may_change(variables: &Items<Variable>, var: u32, old: Option<u32>, new: u32) -> bool
+    ensures { result ≡ may_change variables.now var old new }
+{
+    match old {
+        Some(old) => has_value(variables, var, old) && has_value(variables, var, new),
+        None => has_value(variables, var, new),
+    }
+}
+
+/// Whether all facts exist.
+fn facts_exist(variables: &Items<Variable>, facts: &Items<Fact>) -> bool
+    ensures { result ≡ list_all (fact_exists variables.now) facts.now }
+{
+    facts
+        .as_slice()
+        .iter()
+        .all(|fact| has_value(variables, fact.var, fact.value))
+}
+
+/// Whether each fact of the effect exists.
+fn effect_may_stand(variables: &Items<Variable>, effect: &Effect) -> bool
+    ensures { result ≡ effect_may_stand variables.now effect.now }
+{
+    facts_exist(variables, &effect.conditions)
+        && may_change(variables, effect.var, effect.old, effect.new)
+}
+
+/// A fact that exists.
+pub fn fact_at(variables: &Items<Variable>, line: &[u8]) -> Result<Fact, Kind>
+    ensures { Says format.fact_slot (λ i. fact_exists variables.now (fact_in i)) format.fact line.now result }
+{
+    match fact_of(line) {
+        None => Err(Kind::Shape),
+        Some(fact) if has_value(variables, fact.var, fact.value) => Ok(fact),
+        Some(_) => Err(Kind::Value),
+    }
+}
+
+/// An effect of which each fact exists.
+pub fn effect_at(alloc: Global, variables: &Items<Variable>, line: &[u8]) -> Result<Effect, Kind>
+    ensures { Says format.effect_slot (λ i. effect_may_stand variables.now (effect_in i)) format.effect line.now result }
+{
+    // The whole line is read before a fact is looked up, since a wrong shape is told before a fact that doesn't exist.
+    let Ok(found) = effect_of(alloc, line) else {
+        return Err(Kind::Memory);
+    };
+    match found {
+        None => Err(Kind::Shape),
+        Some(effect) if effect_may_stand(variables, &effect) => Ok(effect),
+        Some(_) => Err(Kind::Value),
+    }
+}
+
+/// The head of a rule, of which each fact exists.
+pub fn head_at(variables: &Items<Variable>, line: &[u8]) -> Result<Change, Kind>
+    ensures { Says format.head_slot (λ i. head_may_stand variables.now (head_in i)) (λ (c : Change). format.head c.var c.old c.new) line.now result }
+{
+    match change_of(line) {
+        None => Err(Kind::Shape),
+        Some(change) if may_change(variables, change.var, change.old, change.new) => Ok(change),
+        Some(_) => Err(Kind::Value),
+    }
+}
