@@ -17,26 +17,29 @@ import sys
 import tempfile
 
 TOP = os.path.dirname(os.path.dirname(os.path.abspath(__file__)))
-CALLS = [
-    "feed-lines",
-    "push-number",
-    "push-line",
-    "feed-plan",
-    "read-plan",
-    "read-plan-text",
-    "encode-plan",
-    "run-steps",
-    "run-steps-refusal",
-]
+# each call, and how many runs are enough for it: the numbers that stand before its own allocations, and these
+CALLS = {
+    "feed-lines": 20,
+    "push-number": 20,
+    "push-line": 20,
+    "feed-plan": 30,
+    "read-plan": 30,
+    "read-plan-text": 30,
+    "encode-plan": 30,
+    "feed-task": 80,
+    "read-task": 80,
+    "encode-task": 80,
+    "run-steps": 30,
+    "run-steps-refusal": 30,
+}
 REFUSED = 100
-MOST = 30
 
 
 def outcomes():
     """What came of each call, where the allocation refused is its first, its second and so on; some come before it."""
     with tempfile.TemporaryDirectory() as folder:
-        for call in CALLS:
-            for spent in range(REFUSED - MOST, REFUSED):
+        for call, runs in CALLS.items():
+            for spent in range(REFUSED - runs, REFUSED):
                 with open(os.path.join(folder, f"{call} {spent}"), "w", encoding="ascii") as file:
                     file.write(f"{call} {spent}\n")
         command = ["rt", "try", "--fail-alloc", str(REFUSED), "--cases", folder]
@@ -44,7 +47,7 @@ def outcomes():
             command, cwd=f"{TOP}/crates/refused_memory", stdin=subprocess.DEVNULL, capture_output=True, text=True, check=False
         )
     said = dict(re.findall(r"^== (\S+ \d+)\n(.*)$", ran.stdout, re.M))
-    return {call: [said.get(f"{call} {spent}") for spent in range(REFUSED - 1, REFUSED - MOST - 1, -1)] for call in CALLS}
+    return {call: [said.get(f"{call} {REFUSED - 1 - run}") for run in range(runs)] for call, runs in CALLS.items()}
 
 
 def main():

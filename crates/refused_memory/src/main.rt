@@ -5,10 +5,13 @@
 //! the call that is.
 #![tactic(auto)]
 
-use sas_core::{CostKind, Items, Plan};
+use sas_core::{CostKind, Items, Plan, Task};
 use sas_lines::trial::Narrow;
 use sas_lines::{Lines, Watched, push_line, push_number};
-use sas_text::{Fault, Kind, PlanReader, encode_plan, read_plan, read_plan_text};
+use sas_text::{
+    Fault, Kind, PlanReader, TaskReader, encode_plan, encode_task, read_plan, read_plan_text,
+    read_task,
+};
 use sas_tool::{Request, Status, ToolFault, run};
 use std::alloc::{AllocError, Global};
 use std::io;
@@ -27,6 +30,10 @@ const NAMES: [&[u8]; 3] = [
     b"open door",
     b"a step of many more bytes than those before",
 ];
+
+/// A task file with a line of each sort.
+const TASK: &[u8] =
+    b"begin_version\n3\nend_version\nbegin_metric\n1\nend_metric\n2\nbegin_variable\nlamp\n-1\n2\noff\non\nend_variable\nbegin_variable\nroom is lit\n0\n2\nno\nyes\nend_variable\n1\nbegin_mutex_group\n2\n0 0\n0 1\nend_mutex_group\nbegin_state\n0\n0\nend_state\nbegin_goal\n1\n1 1\nend_goal\n1\nbegin_operator\nswitch lamp on\n1\n0 0\n1\n1 0 0 0 0 1\n7\nend_operator\n1\nbegin_rule\n1\n0 1\n1 0 1\nend_rule\n";
 
 /// What came of a call.
 #[derive(Clone, Copy, Debug, PartialEq, Eq)]
@@ -181,6 +188,50 @@ fn encoded(alloc: Global, count: usize) -> Result<Outcome, AllocError> {
     })
 }
 
+/// What came of a reader of the task file: the task that it gave is written again.
+fn of_task(alloc: Global, read: Result<Task, Fault>) -> Outcome {
+    match read {
+        Ok(task) => match encode_task(alloc, &task) {
+            Ok(text) => Outcome::of_answer(text.as_slice() == TASK),
+            Err(_) => Outcome::Wanting,
+        },
+        Err(fault) => Outcome::of_fault(fault),
+    }
+}
+
+/// `TaskReader::feed` and `finish`, of a file in two pieces. A reader that met want of memory answers it again.
+fn task_feed(alloc: Global, count: usize) -> Result<Outcome, AllocError> {
+    spend(alloc, count)?;
+    let (first, second) = TASK.split_at(100);
+    let mut reader = TaskReader::new(alloc);
+    if let Err(fault) = reader.feed(first) {
+        return Ok(if reader.feed(second) == Err(fault) {
+            Outcome::of_fault(fault)
+        } else {
+            Outcome::Wrong
+        });
+    }
+    if let Err(fault) = reader.feed(second) {
+        return Ok(Outcome::of_fault(fault));
+    }
+    Ok(of_task(alloc, reader.finish()))
+}
+
+/// `read_task`.
+fn task(alloc: Global, count: usize) -> Result<Outcome, AllocError> {
+    spend(alloc, count)?;
+    Ok(of_task(alloc, read_task(alloc, &mut Watched::new(TASK))))
+}
+
+/// `encode_task`.
+fn task_encoded(alloc: Global, count: usize) -> Result<Outcome, AllocError> {
+    let Ok(task) = read_task(alloc, &mut Watched::new(TASK)) else {
+        return Ok(Outcome::Wrong);
+    };
+    spend(alloc, count)?;
+    Ok(of_task(alloc, Ok(task)))
+}
+
 /// `run` with `Steps`, for this plan file and this output. Nothing is written at want of memory.
 fn steps(
     alloc: Global,
@@ -216,6 +267,9 @@ fn outcome_of(alloc: Global, call: &str, count: usize) -> Result<Outcome, AllocE
         "read-plan" => plan(alloc, count),
         "read-plan-text" => plan_text(alloc, count),
         "encode-plan" => encoded(alloc, count),
+        "feed-task" => task_feed(alloc, count),
+        "read-task" => task(alloc, count),
+        "encode-task" => task_encoded(alloc, count),
         "run-steps" => steps(alloc, count, PLAN, Status::Yes, WRITTEN),
         "run-steps-refusal" => steps(
             alloc,
