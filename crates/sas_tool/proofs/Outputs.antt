@@ -10,6 +10,7 @@ use Rattle.sas_text.specs.declared.plan_reader.TheConstants.{LIMIT}
 use Rattle.sas_text.specs.Format.{Format, FaultOf, KindAt, too_long, trailing, wrong, ReadsAs}
 use Rattle.sas_text.specs.Laws.{Laws}
 use Rattle.sas_text.specs.PlanFormat.{PlanKind, like_step, like_cost, like_none}
+use Rattle.sas_text.specs.TaskFormat.{TaskSlot, word_slot, name_slot, number_slot, signed_slot, fact_slot, effect_slot, head_slot, NumbersKind, no_shape, no_value, TaskKind}
 use Rattle.sas_text.specs.Devices.{IsFaultOf, Refuses, unread_at, ended_at, faulty_at}
 use Rattle.sas_tool.specs.declared.answers.Answer.{Answer}
 use Rattle.sas_tool.specs.declared.ToolFault.{ToolFault}
@@ -50,6 +51,19 @@ pub plan_worded : (line : List ℕ) (k : Kind) → PlanKind line k → word_of k
 plan_worded line k (like_step b) none = none-some _ (sym none)
 plan_worded line k (like_cost b) none = none-some _ (sym none)
 plan_worded line k (like_none a b) none = none-some _ (sym none)
+
+numbers_worded : (s : TaskSlot) (line : List ℕ) (k : Kind) → NumbersKind s line k → word_of k ≡ None → ⊥
+numbers_worded s line k (no_shape other) none = none-some _ (sym none)
+numbers_worded s line k (no_value shape) none = none-some _ (sym none)
+
+pub task_worded : (s : TaskSlot) (line : List ℕ) (k : Kind) → TaskKind s line k → word_of k ≡ None → ⊥
+task_worded (word_slot w) line k e none = none-some _ (sym none ∙ ap word_of e)
+task_worded name_slot line k e none = none-some _ (sym none ∙ ap word_of e)
+task_worded number_slot line k why none = numbers_worded number_slot line k why none
+task_worded signed_slot line k why none = numbers_worded signed_slot line k why none
+task_worded fact_slot line k why none = numbers_worded fact_slot line k why none
+task_worded effect_slot line k why none = numbers_worded effect_slot line k why none
+task_worded head_slot line k why none = numbers_worded head_slot line k why none
 
 module _ {V I S : Type 0} (F : Format V I S) (name : List ℕ) (answer : V → Output) (bytes : List ℕ) where
   file_refused : (f : Fault) (o : Output) → refusal name f ≡ Some o → IsFaultOf F LIMIT bytes f → FileOut F name answer bytes (Some o)

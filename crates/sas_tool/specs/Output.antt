@@ -7,8 +7,9 @@ use Rattle.sas_text.specs.declared.fault.Kind.TheVariants.{Keyword, Name, Shape,
 use Rattle.sas_text.specs.declared.plan_reader.TheConstants.{LIMIT}
 use Rattle.sas_text.specs.Format.{Format, ReadsAs, lines_of}
 use Rattle.sas_text.specs.PlanFormat.{plan_format}
+use Rattle.sas_text.specs.TaskFormat.{task_format}
 use Rattle.sas_tool.specs.declared.Request.{Request}
-use Rattle.sas_tool.specs.declared.Request.TheVariants.{Steps}
+use Rattle.sas_tool.specs.declared.Request.TheVariants.{Print, Steps}
 use Rattle.sas_tool.specs.declared.Status.{Status}
 use Rattle.sas_tool.specs.declared.Status.TheVariants.{Yes, No}
 
@@ -53,6 +54,7 @@ module _ {V I S : Type 0} (F : Format V I S) where
 
 -- the output for the bytes b of the task and c of the plan, where a file that decides it isn't too long; else none
 abbrev pub Out : Request → List ℕ → List ℕ → Option Output → Type 0
+Out Print b c output = FileOut task_format (codes "task") (printed task_format) b output
 Out Steps b c output = FileOut plan_format (codes "plan") (printed plan_format) c output
 
 -- a request has one output over the same inputs

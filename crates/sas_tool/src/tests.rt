@@ -9,6 +9,19 @@ use std::test::Fail;
 /// A plan of two steps.
 const PLAN: &[u8] = b"(go )\n(open door)\n; cost = 2 (unit cost)\n";
 
+/// A task of one variable, which has its first value and is to have it. Its operators and rules are none.
+const TASK: &[u8] =
+    b"begin_version\n3\nend_version\nbegin_metric\n0\nend_metric\n1\nbegin_variable\nvar0\n-1\n2\nAtom dummy(val1)\nAtom dummy(val2)\nend_variable\n0\nbegin_state\n0\nend_state\nbegin_goal\n1\n0 0\nend_goal\n0\n0\n";
+
+/// A task, as it is written again into memory.
+fn print<R: Read + Drop>(alloc: Global, task: R) -> (Result<Status, ToolFault>, Vec<u8>) {
+    let mut task = Watched::new(task);
+    let mut plan = Watched::new(io::empty());
+    let mut out = Watched::new(Vec::new(alloc));
+    let result = run(alloc, Request::Print, &mut task, &mut plan, &mut out);
+    (result, out.into_device())
+}
+
 /// The steps of a plan, as they are written into memory.
 fn steps<R: Read + Drop>(alloc: Global, plan: R) -> (Result<Status, ToolFault>, Vec<u8>) {
     let mut task = Watched::new(io::empty());
@@ -167,4 +180,86 @@ fn prints_a_long_name(rt: HostRuntime) -> Result<(), AllocError> {
     assert_eq!(rt; result, Ok(Status::Yes));
     assert_eq!(rt; written, plan);
     Ok(())
+}
+
+/// The bytes with the second in place of the first, wherever that stands.
+fn with_each(alloc: Global, bytes: &[u8], old: u8, new: &[u8]) -> Result<Vec<u8>, AllocError> {
+    let mut out = Vec::new(alloc);
+    for byte in bytes {
+        if *byte == old {
+            out.extend_from_slice(new)?;
+        } else {
+            out.push(*byte)?;
+        }
+    }
+    Ok(out)
+}
+
+#[test]
+fn prints_tasks(rt: HostRuntime) -> Result<(), AllocError> {
+    let alloc = rt.alloc();
+    let (result, written) = print(alloc, TASK);
+    assert_eq!(rt; result, Ok(Status::Yes));
+    assert_eq!(rt; written.as_slice(), TASK);
+    let returns = with_each(alloc, TASK, b'\n', b"\r\n")?;
+    assert_eq!(rt; returns.len(), 208);
+    let (result, written) = print(alloc, returns.as_slice());
+    assert_eq!(rt; result, Ok(Status::Yes));
+    assert_eq!(rt; written.as_slice(), TASK);
+    Ok(())
+}
+
+#[test]
+fn refuses_tasks(rt: HostRuntime) -> Result<(), AllocError> {
+    let alloc = rt.alloc();
+    for (task, refusal) in [
+        (b"".as_slice(), "line 1: end"),
+        (b"begin_version\n", "line 2: end"),
+        (b"begin_version \n", "line 1: keyword"),
+        (b"begin_version\n4\n", "line 2: value"),
+        (b"begin_version\n03\n", "line 2: shape"),
+        (
+            b"begin_version\n3\nend_version\nbegin_metric\n2\n",
+            "line 5: value",
+        ),
+    ] {
+        let (result, written) = print(alloc, task);
+        assert_eq!(rt; result, Ok(Status::No), "{task:?}");
+        let line = format!(in alloc; "task refused: {refusal}\n")?;
+        assert_eq!(rt; written.as_slice(), line.as_bytes(), "{task:?}");
+    }
+    let mut longer = Vec::from_slice(alloc, TASK)?;
+    longer.push(b'\n')?;
+    let (result, written) = print(alloc, longer.as_slice());
+    assert_eq!(rt; result, Ok(Status::No));
+    assert_eq!(rt;
+        written.as_slice(),
+        b"task refused: line 25: trailing\n".as_slice()
+    );
+    Ok(())
+}
+
+#[test]
+fn refuses_a_task_that_is_cut_off(rt: HostRuntime) -> Result<(), AllocError> {
+    let alloc = rt.alloc();
+    for length in 0..TASK.len() {
+        let (result, written) = print(alloc, &TASK[..length]);
+        let ended = TASK[..length].iter().filter(|&&byte| byte == b'\n').count() as u64;
+        assert_eq!(rt; result, Ok(Status::No), "{length}");
+        let line = format!(in alloc; "task refused: line {}: end\n", u128::from(ended) + 1)?;
+        assert_eq!(rt; written.as_slice(), line.as_bytes(), "{length}");
+    }
+    Ok(())
+}
+
+#[test]
+fn a_reader_of_a_task_fails(rt: HostRuntime) {
+    let alloc = rt.alloc();
+    for length in 0..TASK.len() + 1 {
+        for interrupted in [false, true] {
+            let (result, written) = print(alloc, Breaks::new(&TASK[..length], interrupted));
+            assert_eq!(rt; result, Err(ToolFault::Read), "{length}");
+            assert!(rt; written.is_empty(), "{length}");
+        }
+    }
 }

@@ -46,23 +46,36 @@ pub fn command(alloc: Global, words: Vec<String>) -> Result<Job, WordsFault> {
 
 /// The words that are understood.
 fn grammar<'a>(alloc: Global) -> Result<Command<'a>, AllocError> {
+    let task = Arg::new(alloc, "TASK")
+        .required(true)
+        .help("the task file, or - for standard input");
     let plan = Arg::new(alloc, "PLAN")
         .required(true)
         .help("the plan file, or - for standard input");
-    Command::new(alloc, "sas").subcommand(Command::new(alloc, "steps").arg(plan)?)
+    Command::new(alloc, "sas")
+        .subcommand(Command::new(alloc, "print").arg(task)?)?
+        .subcommand(Command::new(alloc, "steps").arg(plan)?)
 }
 
 /// The job of words that were understood: without a request, the steps of the plan on standard input.
 fn job_of(alloc: Global, matches: &ArgMatches<'_>) -> Result<Job, AllocError> {
-    let plan = match matches.subcommand() {
-        Some((_steps, inner)) => named(alloc, inner, "PLAN")?,
-        None => Some(Source::Input),
-    };
-    Ok(Job {
-        request: Request::Steps,
-        task: None,
-        plan,
-    })
+    match matches.subcommand() {
+        Some(("print", inner)) => Ok(Job {
+            request: Request::Print,
+            task: named(alloc, inner, "TASK")?,
+            plan: None,
+        }),
+        Some((_steps, inner)) => Ok(Job {
+            request: Request::Steps,
+            task: None,
+            plan: named(alloc, inner, "PLAN")?,
+        }),
+        None => Ok(Job {
+            request: Request::Steps,
+            task: None,
+            plan: Some(Source::Input),
+        }),
+    }
 }
 
 /// The source that stands for an argument.

@@ -1,5 +1,11 @@
+use Rattle.std.proofs.Common.{refl}
 use Rattle.sas_tool.specs.Answering.{output_of}
 use Rattle.sas_tool.proofs.run.Goals as goal
+
+pub returns-in-Ok-clause-output : goal.returns-in-Ok-clause-output
+returns-in-Ok-clause-output g c = λ b c' task plan.
+    let sent = rw c.as_slice.ensures.value at c.in-Ok.ensures.ok in
+    (output_of c.in_ok-answer.answer, c.in_ok-answer.ensures.output b c' task plan, refl, sent)
 
 pub returns-clause-output : goal.returns-clause-output
 returns-clause-output g c = λ b c' task plan.

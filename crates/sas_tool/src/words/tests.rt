@@ -35,6 +35,33 @@ fn tells_the_job(rt: HostRuntime) -> Result<(), AllocError> {
 }
 
 #[test]
+fn tells_the_job_over_a_task(rt: HostRuntime) -> Result<(), AllocError> {
+    let alloc = rt.alloc();
+    for (text, file) in [
+        ("sas print -", None),
+        ("sas print -- -", None),
+        ("sas print t.sas", Some("t.sas")),
+        ("sas print ", Some("")),
+        ("sas print -- -x", Some("-x")),
+    ] {
+        let task = match file {
+            None => Source::Input,
+            Some(name) => Source::File(String::from_str(alloc, name)?),
+        };
+        let want = Job {
+            request: Request::Print,
+            task: Some(task),
+            plan: None,
+        };
+        let Ok(job) = command(alloc, words_of(alloc, text)?) else {
+            panic!(rt; "{text}");
+        };
+        assert_eq!(rt; job, want, "{text}");
+    }
+    Ok(())
+}
+
+#[test]
 fn refuses_other_words(rt: HostRuntime) -> Result<(), AllocError> {
     let alloc = rt.alloc();
     for text in [
@@ -42,9 +69,14 @@ fn refuses_other_words(rt: HostRuntime) -> Result<(), AllocError> {
         "sas steps a b",
         "sas steps -x",
         "sas steps --help",
+        "sas print",
+        "sas print a b",
+        "sas print -x",
+        "sas print --help",
         "sas -",
         "sas nonsense",
         "sas Steps p.txt",
+        "sas Print t.sas",
         "sas help",
         "sas --help",
         "sas -h",

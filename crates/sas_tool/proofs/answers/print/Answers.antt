@@ -1,0 +1,12 @@
+use Rattle.std.proofs.Common.{codes}
+use Rattle.sas_text.specs.TaskFormat.{task_format}
+use Rattle.sas_tool.specs.Output.{printed}
+use Rattle.sas_tool.proofs.Outputs.{file_refusal, taken_refusal}
+use Rattle.sas_tool.proofs.answers.print.Goals as goal
+
+pub returns-in-Err-clause-output : goal.returns-in-Err-clause-output
+returns-in-Err-clause-output g c = λ bytes known.
+    file_refusal task_format (codes "task") (printed task_format) bytes c.in-Err.fault c.refuse.result c.refuse.ensures.ok c.refuse.ensures.long (c.in-Err.ensures.known_fault bytes known)
+
+pub returns-in-Err-clause-taken : goal.returns-in-Err-clause-taken
+returns-in-Err-clause-taken g c = taken_refusal task_format (codes "task") (printed task_format) _ _ c.in-Err.fault c.refuse.result c.in-Err.ensures.fault c.refuse.ensures.ok c.refuse.ensures.long c.refuse.ensures.writes
