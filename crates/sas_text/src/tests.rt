@@ -1,5 +1,8 @@
 ghost use Rattle.std.specs.Prelude.{◌≤◌, ◌^◌, length};
 
+mod small_files;
+mod tasks;
+
 use super::*;
 use sas_core::{CostKind, Items, Plan};
 use sas_lines::Watched;
