@@ -31,6 +31,8 @@ CALLS = {
     "encode-task": 80,
     "run-steps": 30,
     "run-steps-refusal": 30,
+    "run-print": 90,
+    "run-print-refusal": 30,
 }
 REFUSED = 100
 

@@ -14,7 +14,6 @@ use sas_text::{
 };
 use sas_tool::{Request, Status, ToolFault, run};
 use std::alloc::{AllocError, Global};
-use std::io;
 use std::io::Read;
 use std::process::ExitCode;
 
@@ -232,24 +231,20 @@ fn task_encoded(alloc: Global, count: usize) -> Result<Outcome, AllocError> {
     Ok(of_task(alloc, Ok(task)))
 }
 
-/// `run` with `Steps`, for this plan file and this output. Nothing is written at want of memory.
-fn steps(
+/// `run` with this request, where this is the task file and the plan file alike. Nothing is written at want of memory.
+fn request(
     alloc: Global,
     count: usize,
-    plan: &[u8],
+    request: Request,
+    file: &[u8],
     status: Status,
     text: &[u8],
 ) -> Result<Outcome, AllocError> {
-    let mut out = Watched::new(Narrow::new(alloc, 8, 200, true)?);
+    let mut out = Watched::new(Narrow::new(alloc, 8, 500, true)?);
     spend(alloc, count)?;
-    let mut task = Watched::new(io::empty());
-    let result = run(
-        alloc,
-        Request::Steps,
-        &mut task,
-        &mut Watched::new(plan),
-        &mut out,
-    );
+    let mut task = Watched::new(file);
+    let mut plan = Watched::new(file);
+    let result = run(alloc, request, &mut task, &mut plan, &mut out);
     let written = out.into_device();
     Ok(match result {
         Ok(answer) => Outcome::of_answer(answer == status && written.kept() == text),
@@ -270,13 +265,23 @@ fn outcome_of(alloc: Global, call: &str, count: usize) -> Result<Outcome, AllocE
         "feed-task" => task_feed(alloc, count),
         "read-task" => task(alloc, count),
         "encode-task" => task_encoded(alloc, count),
-        "run-steps" => steps(alloc, count, PLAN, Status::Yes, WRITTEN),
-        "run-steps-refusal" => steps(
+        "run-steps" => request(alloc, count, Request::Steps, PLAN, Status::Yes, WRITTEN),
+        "run-steps-refusal" => request(
             alloc,
             count,
+            Request::Steps,
             b"(go )\n",
             Status::No,
             b"plan refused: line 2: end\n",
+        ),
+        "run-print" => request(alloc, count, Request::Print, TASK, Status::Yes, TASK),
+        "run-print-refusal" => request(
+            alloc,
+            count,
+            Request::Print,
+            b"begin_version\n4\n",
+            Status::No,
+            b"task refused: line 2: value\n",
         ),
         _ => Ok(Outcome::Wrong),
     }
