@@ -26,6 +26,7 @@ mod TaskExample
 mod VariablesBehind
 mod TaskFilling
 mod TaskMoves
+mod TaskRanges
 mod TaskEnds
 mod TaskStanding
 mod TaskReading

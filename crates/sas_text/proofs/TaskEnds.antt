@@ -5,12 +5,13 @@ use Rattle.sas_core.specs.declared.parts.Fact.{Fact}
 use Rattle.sas_core.specs.declared.parts.Variable.{Variable}
 use Rattle.sas_core.specs.declared.parts.Effect.{Effect}
 use Rattle.sas_core.specs.declared.parts.Parts.{Parts}
-use Rattle.sas_text.specs.declared.task_machine.Place.{Place}
-use Rattle.sas_text.specs.declared.task_machine.Place.TheVariants as at
-use Rattle.sas_text.specs.declared.task_machine.TaskMachine.{TaskMachine}
+use Rattle.sas_text.specs.declared.task_judge.Place.{Place}
+use Rattle.sas_text.specs.declared.task_judge.Place.TheVariants as at
+use Rattle.sas_text.specs.declared.task_events.SoFar.{SoFar}
+use Rattle.sas_text.specs.declared.task_judge.TaskJudge.{TaskJudge}
 use Rattle.sas_text.specs.Process.{process_node}
 use Rattle.sas_text.specs.System.{ended}
-use Rattle.sas_text.specs.TaskMachine.{state_at, task_state, HasEnded}
+use Rattle.sas_text.specs.TaskJudge.{state_at, state_of, HasEnded}
 use Rattle.sas_text.specs.TaskProcess.{IsDone}
 use Rattle.sas_text.specs.TaskPlaces.{variable_begin, variable_values, group_begin, group_facts, state_values_of, goal_facts, operator_begin, operator_prevail, operator_effects, rule_begin, rule_conditions}
 
@@ -60,43 +61,43 @@ rules : (left : ℕ) (p : Parts) → IsDone (rule_begin left p) → left ≡ 0
 rules zero p h = refl
 rules (suc left) p h = absurd h
 
--- ---- the machine
+-- ---- the judge
 
-ends_at : (place : Place) (m : TaskMachine) → IsDone (state_at place m) → (place ≡ at.Rules) × (m.left ≡ 0)
-ends_at at.VersionBegin m h = absurd h
-ends_at at.VersionNumber m h = absurd h
-ends_at at.VersionEnd m h = absurd h
-ends_at at.MetricBegin m h = absurd h
-ends_at at.MetricNumber m h = absurd h
-ends_at at.MetricEnd m h = absurd h
-ends_at at.VariableCount m h = absurd h
-ends_at at.Variables m h = absurd (variables m.left m.parts h)
-ends_at at.VariableName m h = absurd h
-ends_at at.VariableLayer m h = absurd h
-ends_at at.VariableRange m h = absurd h
-ends_at at.VariableValues m h = absurd (values m.left m.parts m.name m.layer m.more m.values h)
-ends_at at.Groups m h = absurd (groups m.left m.parts h)
-ends_at at.GroupSize m h = absurd h
-ends_at at.GroupFacts m h = absurd (facts m.left m.parts m.more m.facts h)
-ends_at at.StateValues m h = absurd (state (drop (length m.parts.init) m.parts.variables) m.parts h)
-ends_at at.GoalBegin m h = absurd h
-ends_at at.GoalSize m h = absurd h
-ends_at at.GoalFacts m h = absurd (goal m.more m.parts h)
-ends_at at.OperatorCount m h = absurd h
-ends_at at.Operators m h = absurd (operators m.left m.parts h)
-ends_at at.OperatorName m h = absurd h
-ends_at at.PrevailCount m h = absurd h
-ends_at at.Prevail m h = absurd (prevail m.left m.parts m.name m.more m.facts h)
-ends_at at.Effects m h = absurd (effects m.left m.parts m.name m.facts m.more m.effects h)
-ends_at at.OperatorEnd m h = absurd h
-ends_at at.Rules m h = (refl, rules m.left m.parts h)
-ends_at at.RuleSize m h = absurd h
-ends_at at.RuleConditions m h = absurd (conditions m.left m.parts m.more m.facts h)
-ends_at at.RuleEnd m h = absurd h
+ends_at : (place : Place) (j : TaskJudge) (s : SoFar) → IsDone (state_at place j s) → (place ≡ at.Rules) × (j.left ≡ 0)
+ends_at at.VersionBegin j s h = absurd h
+ends_at at.VersionNumber j s h = absurd h
+ends_at at.VersionEnd j s h = absurd h
+ends_at at.MetricBegin j s h = absurd h
+ends_at at.MetricNumber j s h = absurd h
+ends_at at.MetricEnd j s h = absurd h
+ends_at at.VariableCount j s h = absurd h
+ends_at at.Variables j s h = absurd (variables j.left s.parts h)
+ends_at at.VariableName j s h = absurd h
+ends_at at.VariableLayer j s h = absurd h
+ends_at at.VariableRange j s h = absurd h
+ends_at at.VariableValues j s h = absurd (values j.left s.parts s.name s.layer j.more s.values h)
+ends_at at.Groups j s h = absurd (groups j.left s.parts h)
+ends_at at.GroupSize j s h = absurd h
+ends_at at.GroupFacts j s h = absurd (facts j.left s.parts j.more s.facts h)
+ends_at at.StateValues j s h = absurd (state (drop (length s.parts.init) s.parts.variables) s.parts h)
+ends_at at.GoalBegin j s h = absurd h
+ends_at at.GoalSize j s h = absurd h
+ends_at at.GoalFacts j s h = absurd (goal j.more s.parts h)
+ends_at at.OperatorCount j s h = absurd h
+ends_at at.Operators j s h = absurd (operators j.left s.parts h)
+ends_at at.OperatorName j s h = absurd h
+ends_at at.PrevailCount j s h = absurd h
+ends_at at.Prevail j s h = absurd (prevail j.left s.parts s.name j.more s.facts h)
+ends_at at.Effects j s h = absurd (effects j.left s.parts s.name s.facts j.more s.effects h)
+ends_at at.OperatorEnd j s h = absurd h
+ends_at at.Rules j s h = (refl, rules j.left s.parts h)
+ends_at at.RuleSize j s h = absurd h
+ends_at at.RuleConditions j s h = absurd (conditions j.left s.parts j.more s.facts h)
+ends_at at.RuleEnd j s h = absurd h
 
-pub ended_if_done : (m : TaskMachine) → IsDone (task_state m) → HasEnded m
-ended_if_done m h = ends_at m.place m h
+pub ended_if_done : (j : TaskJudge) (s : SoFar) → IsDone (state_of j s) → HasEnded j
+ended_if_done j s h = ends_at j.place j s h
 
 -- where it has ended, it is at the end with its parts
-pub ends_with : (m : TaskMachine) → HasEnded m → process_node (task_state m) ≡ ended m.parts
-ends_with m h = ap (λ (place : Place). process_node (state_at place m)) h.0 ∙ ap (λ (left : ℕ). process_node (rule_begin left m.parts)) h.1
+pub ends_with : (j : TaskJudge) (s : SoFar) → HasEnded j → process_node (state_of j s) ≡ ended s.parts
+ends_with j s h = ap (λ (place : Place). process_node (state_at place j s)) h.0 ∙ ap (λ (left : ℕ). process_node (rule_begin left s.parts)) h.1

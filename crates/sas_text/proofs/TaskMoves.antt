@@ -1,6 +1,8 @@
--- One line of a task moves the machine on.
-use Rattle.std.proofs.Common.{◌≡◌, ◌≢◌, ℕ, zero, suc, ◌<◌, ◌-◌, Bool, nat_lt, length, List, [], ◌∷◌, ◌++◌, refl, sym, ap, subst, ◌∙◌, arith, Result, Ok, Err}
-use Rattle.std.specs.Prelude.{drop}
+-- One line of a task moves the judge on.
+use Rattle.std.proofs.Common.{◌≡◌, ◌≢◌, ℕ, zero, suc, ◌<◌, ◌≤◌, ◌-◌, Bool, nat_lt, length, List, [], ◌∷◌, ◌++◌, refl, sym, ap, subst, ◌∙◌, arith, codes, Result, Ok, Err}
+use Rattle.std.specs.Prelude.{drop, Option, Some, None}
+use Rattle.std.specs.Result.{result_err}
+use Rattle.std.proofs.lemmas.Option.{none-some}
 use Rattle.sas_text.specs.declared.fault.Kind.{Kind}
 use Rattle.sas_text.specs.declared.fault.Kind.TheVariants as kinds
 use Rattle.sas_text.specs.Faults.{IsOfBytes}
@@ -10,27 +12,30 @@ use Rattle.sas_text.specs.TaskFormat.{TaskLine, TaskSlot, number_slot, task_line
 use Rattle.sas_core.specs.declared.parts.Parts.{Parts}
 use Rattle.sas_core.specs.declared.parts.Variable.{Variable}
 use Rattle.sas_core.specs.Variables.{range_of}
-use Rattle.sas_text.specs.TaskPlaces.{state_values, state_values_of}
-use Rattle.sas_text.specs.declared.task_machine.Place.{Place}
-use Rattle.sas_text.specs.declared.task_machine.Place.TheVariants as at
+use Rattle.sas_text.specs.declared.task_events.Event.{Event}
+use Rattle.sas_text.specs.declared.task_events.SoFar.{SoFar}
+use Rattle.sas_text.specs.declared.task_judge.Place.{Place}
+use Rattle.sas_text.specs.declared.task_judge.Place.TheVariants as at
+use Rattle.sas_text.specs.declared.task_judge.TaskJudge.{TaskJudge}
 use Rattle.sas_text.specs.declared.task_machine.TaskMachine.{TaskMachine}
-use Rattle.std.specs.Result.{OnOk}
-use Rattle.sas_text.specs.TaskMachine.{state_at, task_state, Moves}
-use Rattle.sas_text.proofs.TaskSteps.{TaskLed, line_led}
+use Rattle.sas_text.specs.TaskEvents.{after}
+use Rattle.sas_text.specs.TaskMachine.{LedBy}
+use Rattle.sas_text.specs.TaskPlaces.{state_values, state_values_of, goal_begin}
+use Rattle.sas_text.specs.TaskJudge.{state_at, state_of, Fits, LeadsOn, RejectsLine, Moves}
+use Rattle.sas_text.proofs.TaskRanges.{many_same}
+use Rattle.sas_text.proofs.TaskSteps.{line_led}
 use Rattle.sas_text.proofs.VariablesBehind.{behind}
-use Rattle.sas_text.specs.TaskProcess.{TaskProcess, a_number, number_in}
+use Rattle.sas_text.specs.TaskProcess.{TaskProcess, a_word, a_number, number_in}
 
 -- a line that may stand leads on
 pub on : (p q : TaskProcess) (slot : TaskSlot) (test : TaskLine → Bool) (next : TaskLine → TaskProcess) (i : TaskLine) (line : List ℕ)
-    → p ≡ read slot test next → Takes task_format slot test i × (task_line_bytes i ≡ line) → next i ≡ q
-    → (x : TaskLine) × Step task_format (process_node p) x (λ r. r ≡ q) × (task_line_bytes x ≡ line)
+    → p ≡ read slot test next → Takes task_format slot test i × (task_line_bytes i ≡ line) → next i ≡ q → LeadsOn p line q
 on p q slot test next i line at says n = (i, subst (λ (t : TaskProcess). Step task_format (process_node t) i (λ r. r ≡ q)) (sym at) (says.0, n), says.1)
 
--- a line that may not stand leads nowhere
+-- a line that may not stand is rejected
 pub off : (p : TaskProcess) (slot : TaskSlot) (test : TaskLine → Bool) (next : TaskLine → TaskProcess) (line : List ℕ) (kind : Kind)
-    → p ≡ read slot test next → IsOfBytes kind × (kind ≢ kinds.Memory → Judged task_format slot test line kind)
-    → IsOfBytes kind × (kind ≢ kinds.Memory → Rejects task_format (process_node p) line kind)
-off p slot test next line kind at says = (says.0, λ h. subst (λ (t : TaskProcess). Rejects task_format (process_node t) line kind) (sym at) (says.1 h))
+    → p ≡ read slot test next → Judged task_format slot test line kind → Rejects task_format (process_node p) line kind
+off p slot test next line kind at j = subst (λ (t : TaskProcess). Rejects task_format (process_node t) line kind) (sym at) j
 
 -- one of so many more, and then so many less one
 pub next_of : (n : ℕ) → 0 < n → n ≡ suc (n - 1)
@@ -52,15 +57,43 @@ value_due p l =
     ∙ ap (λ (r : ℕ). read number_slot (λ i. nat_lt (number_in i) r) (λ i. state_values_of (drop (suc (length p.init)) p.variables) (after i))) (sym b.range)
     ∙ ap (λ (f : ℕ → ℕ). read number_slot (λ i. nat_lt (number_in i) (range_of p.variables (length p.init))) (λ i. state_values_of (drop (f (number_in i)) p.variables) (after i))) (sym (one_longer p.init))
 
-pub value_due_at : (m : TaskMachine) → m.place ≡ at.StateValues → length m.parts.init < length m.parts.variables
-    → task_state m ≡ a_number (λ n. nat_lt n (range_of m.parts.variables (length m.parts.init))) (λ n. task_state (record m { parts = record m.parts { init = m.parts.init ++ n ∷ [] } }))
-value_due_at m here l =
-    ap (λ (place : Place). state_at place m) here
-    ∙ value_due m.parts l
-    ∙ ap (λ (place : Place). a_number (λ n. nat_lt n (range_of m.parts.variables (length m.parts.init))) (λ n. state_at place (record m { parts = record m.parts { init = m.parts.init ++ n ∷ [] } }))) (sym here)
+-- ---- the judge
 
--- a line that moves the machine on leads on from where it was led
-pub moves_lead : (p q : TaskProcess) (line : List ℕ) (r : Result (Unit {0}) Kind) → Moves p line q r
-    → OnOk r ((before : List (List ℕ)) → TaskLed before p → TaskLed (before ++ line ∷ []) q)
-moves_lead p q line (Ok done) m = λ before led. line_led before p q m.0 line led m.1 m.2
-moves_lead p q line (Err kind) m = tt
+-- where each variable has its value, `end_state` is due
+over : (n : ℕ) (vs : List Variable) → length vs ≤ n → drop n vs ≡ []
+over zero [] h = refl
+over zero (v ∷ vs) h = absurd (omega arith)
+over (suc n) [] h = refl
+over (suc n) (v ∷ vs) h = over n vs (omega arith)
+
+pub state_is_over : (j : TaskJudge) (s : SoFar) → j.place ≡ at.StateValues → length j.ranges ≤ j.valued → Fits s j → state_of j s ≡ a_word (codes "end_state") (λ _. goal_begin s.parts)
+state_is_over j s here l f =
+    ap (λ (place : Place). state_at place j s) here
+    ∙ ap (λ (vs : List Variable). state_values_of vs s.parts) (over (length s.parts.init) s.parts.variables (omega (arith, l, many_same s j f, f.valued)))
+
+-- else the value of the next variable is
+pub state_goes_on : (j : TaskJudge) (s : SoFar) → j.place ≡ at.StateValues → j.valued < length j.ranges → Fits s j
+    → state_of j s ≡ a_number (λ n. nat_lt n (range_of s.parts.variables (length s.parts.init))) (λ n. state_values (record s.parts { init = s.parts.init ++ n ∷ [] }))
+state_goes_on j s here l f = ap (λ (place : Place). state_at place j s) here ∙ value_due s.parts (omega (arith, l, many_same s j f, f.valued))
+
+-- the kind, if there is one
+abbrev pub some_or : Kind → Option Kind → Kind
+some_or other None = other
+some_or other (Some kind) = kind
+
+-- a line that the judge refuses
+pub refused : (j : TaskJudge) (line : List ℕ) (r : Result Event Kind) (kind : Kind) → result_err r ≡ Some kind → IsOfBytes kind × (kind ≢ kinds.Memory → RejectsLine j line kind) → Moves j line j r
+refused j line (Ok event) kind e h = absurd (none-some kind e)
+refused j line (Err other) kind e h = subst (λ (k : Kind). IsOfBytes k × (k ≢ kinds.Memory → RejectsLine j line k)) (sym (ap (some_or other) e)) h
+
+-- a machine that a line moves on is led by it too
+pub led_on : {K : Type 0} (keeps : List (List ℕ) → SoFar → K → Type 0) (before : List (List ℕ)) (m n : TaskMachine K) (event : Event) (line : List ℕ) → LedBy keeps before m → Moves m.judge line n.judge (Ok event)
+    → ((lines : List (List ℕ)) (s : SoFar) → keeps lines s m.kept → keeps (lines ++ line ∷ []) (after s event line) n.kept) → LedBy keeps (before ++ line ∷ []) n
+led_on keeps before m n event line h moves keeps_on =
+    let moved = moves h.so_far h.fits in
+    record {
+      so_far = after h.so_far event line;
+      leads = line_led before (state_of m.judge h.so_far) (state_of n.judge (after h.so_far event line)) moved.1.0 line h.leads moved.1.1 moved.1.2;
+      fits = moved.0;
+      kept = keeps_on before h.so_far h.kept;
+    }

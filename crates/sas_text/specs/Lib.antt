@@ -17,6 +17,9 @@ pub mod TaskPlaces
 pub mod TaskWords
 pub mod TaskLine
 pub mod TaskText
+pub mod TaskRanges
+pub mod TaskEvents
+pub mod TaskJudge
 pub mod TaskMachine
 pub mod TaskReader
 pub mod TaskLaws

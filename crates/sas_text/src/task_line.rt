@@ -2,14 +2,14 @@
 ghost use Rattle.std.specs.Prelude.{◌≡◌, ◌↔◌, ℕ, List, [], Option, nat_lt, true, ◌==◌, IsTrue, IfOk, IfSome, IfNone};
 ghost use Rattle.std.specs.List.{list_all};
 ghost use Rattle.sas_core.specs.Names.{is_name};
-ghost use Rattle.sas_core.specs.Variables.{has_value, fact_exists};
 ghost use Rattle.sas_text.specs.TaskFormat as format;
-ghost use Rattle.sas_text.specs.TaskProcess.{any, positive, name_in, number_in, fact_in, effect_in, head_in, may_change, effect_may_stand, head_may_stand};
+ghost use Rattle.sas_text.specs.TaskProcess.{any, positive, name_in, number_in, fact_in, effect_in, head_in};
+ghost use Rattle.sas_text.specs.TaskRanges.{value_in, change_in, fact_in_ranges, effect_in_ranges};
 ghost use Rattle.sas_text.specs.TaskLine.{Says};
 ghost use Rattle.sas_text.specs.TaskWords.{Spells, TakesNumber, TakesSigned, TakesFact, TakesFacts, TakesHead};
 
 use crate::fault::Kind;
-use sas_core::{Effect, Fact, Items, Variable, is_name};
+use sas_core::{Effect, Fact, Items, is_name};
 use sas_lines::{Numbers, number, signed};
 use std::alloc::{AllocError, Global};
 
@@ -35,16 +35,14 @@ pub fn word_at(line: &[u8], word: &[u8]) -> Result<(), Kind>
     }
 }
 
-/// A name.
-pub fn name_at(alloc: Global, line: &[u8]) -> Result<Items<u8>, Kind>
-    ensures { Says format.name_slot (λ i. is_name (name_in i)) format.name line.now result }
+/// A name: the line itself.
+pub fn name_at(line: &[u8]) -> Result<(), Kind>
+    ensures { Says format.name_slot (λ i. is_name (name_in i)) (λ _. format.name line.now) line.now result }
 {
-    if !is_name(line) {
-        return Err(Kind::Name);
-    }
-    match Vec::from_slice(alloc, line) {
-        Ok(name) => Ok(Items::from_vec(name)),
-        Err(_) => Err(Kind::Memory),
+    if is_name(line) {
+        Ok(())
+    } else {
+        Err(Kind::Name)
     }
 }
 
@@ -238,58 +236,58 @@ fn change_of(line: &[u8]) -> Option<Change>
     }
 }
 
-/// Whether the variable exists and has the value.
-fn has_value(variables: &Items<Variable>, var: u32, value: u32) -> bool
-    ensures { result ≡ has_value variables.now var value }
+/// Whether the variable exists and has the value, by the number of each variable's values.
+fn has_value(ranges: &Items<u32>, var: u32, value: u32) -> bool
+    ensures { result ≡ value_in ranges.now var value }
 {
-    match variables.get(var as usize) {
-        Some(variable) => (value as usize) < variable.values.len(),
+    match ranges.get(var as usize) {
+        Some(&range) => value < range,
         None => false,
     }
 }
 
 /// Whether the variable exists and has the new value and the old one, if any.
-fn may_change(variables: &Items<Variable>, var: u32, old: Option<u32>, new: u32) -> bool
-    ensures { result ≡ may_change variables.now var old new }
+fn may_change(ranges: &Items<u32>, var: u32, old: Option<u32>, new: u32) -> bool
+    ensures { result ≡ change_in ranges.now var old new }
 {
     match old {
-        Some(old) => has_value(variables, var, old) && has_value(variables, var, new),
-        None => has_value(variables, var, new),
+        Some(old) => has_value(ranges, var, old) && has_value(ranges, var, new),
+        None => has_value(ranges, var, new),
     }
 }
 
 /// Whether all facts exist.
-fn facts_exist(variables: &Items<Variable>, facts: &Items<Fact>) -> bool
-    ensures { result ≡ list_all (fact_exists variables.now) facts.now }
+fn facts_exist(ranges: &Items<u32>, facts: &Items<Fact>) -> bool
+    ensures { result ≡ list_all (fact_in_ranges ranges.now) facts.now }
 {
     facts
         .as_slice()
         .iter()
-        .all(|fact| has_value(variables, fact.var, fact.value))
+        .all(|fact| has_value(ranges, fact.var, fact.value))
 }
 
 /// Whether each fact of the effect exists.
-fn effect_may_stand(variables: &Items<Variable>, effect: &Effect) -> bool
-    ensures { result ≡ effect_may_stand variables.now effect.now }
+fn effect_may_stand(ranges: &Items<u32>, effect: &Effect) -> bool
+    ensures { result ≡ effect_in_ranges ranges.now effect.now }
 {
-    facts_exist(variables, &effect.conditions)
-        && may_change(variables, effect.var, effect.old, effect.new)
+    facts_exist(ranges, &effect.conditions)
+        && may_change(ranges, effect.var, effect.old, effect.new)
 }
 
 /// A fact that exists.
-pub fn fact_at(variables: &Items<Variable>, line: &[u8]) -> Result<Fact, Kind>
-    ensures { Says format.fact_slot (λ i. fact_exists variables.now (fact_in i)) format.fact line.now result }
+pub fn fact_at(ranges: &Items<u32>, line: &[u8]) -> Result<Fact, Kind>
+    ensures { Says format.fact_slot (λ i. fact_in_ranges ranges.now (fact_in i)) format.fact line.now result }
 {
     match fact_of(line) {
         None => Err(Kind::Shape),
-        Some(fact) if has_value(variables, fact.var, fact.value) => Ok(fact),
+        Some(fact) if has_value(ranges, fact.var, fact.value) => Ok(fact),
         Some(_) => Err(Kind::Value),
     }
 }
 
 /// An effect of which each fact exists.
-pub fn effect_at(alloc: Global, variables: &Items<Variable>, line: &[u8]) -> Result<Effect, Kind>
-    ensures { Says format.effect_slot (λ i. effect_may_stand variables.now (effect_in i)) format.effect line.now result }
+pub fn effect_at(alloc: Global, ranges: &Items<u32>, line: &[u8]) -> Result<Effect, Kind>
+    ensures { Says format.effect_slot (λ i. effect_in_ranges ranges.now (effect_in i)) format.effect line.now result }
 {
     // The whole line is read before a fact is looked up, since a wrong shape is told before a fact that doesn't exist.
     let Ok(found) = effect_of(alloc, line) else {
@@ -297,18 +295,18 @@ pub fn effect_at(alloc: Global, variables: &Items<Variable>, line: &[u8]) -> Res
     };
     match found {
         None => Err(Kind::Shape),
-        Some(effect) if effect_may_stand(variables, &effect) => Ok(effect),
+        Some(effect) if effect_may_stand(ranges, &effect) => Ok(effect),
         Some(_) => Err(Kind::Value),
     }
 }
 
 /// The head of a rule, of which each fact exists.
-pub fn head_at(variables: &Items<Variable>, line: &[u8]) -> Result<Change, Kind>
-    ensures { Says format.head_slot (λ i. head_may_stand variables.now (head_in i)) (λ (c : Change). format.head c.var c.old c.new) line.now result }
+pub fn head_at(ranges: &Items<u32>, line: &[u8]) -> Result<Change, Kind>
+    ensures { Says format.head_slot (λ i. change_in ranges.now (head_in i).var (head_in i).old (head_in i).new) (λ (c : Change). format.head c.var c.old c.new) line.now result }
 {
     match change_of(line) {
         None => Err(Kind::Shape),
-        Some(change) if may_change(variables, change.var, change.old, change.new) => Ok(change),
+        Some(change) if may_change(ranges, change.var, change.old, change.new) => Ok(change),
         Some(_) => Err(Kind::Value),
     }
 }

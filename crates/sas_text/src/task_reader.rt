@@ -3,12 +3,13 @@ ghost use Rattle.std.specs.Prelude.{◌≡◌, ◌≢◌, ◌≤◌, ◌^◌, �
 ghost use Rattle.sas_text.specs.Format.{Live, FaultOf, ReadsAs};
 ghost use Rattle.sas_text.specs.TaskFormat.{task_format};
 ghost use Rattle.sas_text.specs.Reader as reading;
-ghost use Rattle.sas_text.specs.TaskMachine.{LedBy, HasEnded, RejectsLine};
+ghost use Rattle.sas_text.specs.TaskMachine.{LedTo, EndedAt, RejectsAt};
 ghost use Rattle.sas_text.specs.Faults.{IsOfBytes, answer};
 
 use crate::fault::{Fault, Kind};
 use crate::plan_reader::LIMIT;
 use crate::reader::Reader;
+use crate::task_events::SoFar;
 use crate::task_machine::TaskMachine;
 use sas_core::Task;
 use std::alloc::Global;
@@ -16,9 +17,9 @@ use std::alloc::Global;
 /// Reads a task file that comes in pieces, cut anywhere.
 #[derive(Drop)]
 pub struct TaskReader {
-    reader: Reader<TaskMachine>,
+    reader: Reader<TaskMachine<SoFar>>,
     // It stands for some bytes: those that it has taken.
-    ghost some: { ∥ ((bytes : List ℕ) × reading.Stands LedBy HasEnded RejectsLine reader bytes) ∥₁ },
+    ghost some: { ∥ ((bytes : List ℕ) × reading.Stands LedTo EndedAt RejectsAt reader bytes) ∥₁ },
 }
 
 impl TaskReader {
@@ -41,7 +42,7 @@ impl TaskReader {
         ensures fault { fault_so_far result ≡ None }
     {
         TaskReader {
-            reader: Reader::new(alloc, TaskMachine::new(alloc), limit),
+            reader: Reader::new(alloc, TaskMachine::new(alloc, SoFar::new(alloc)), limit),
         }
     }
 
@@ -68,7 +69,7 @@ impl TaskReader {
     {
         let TaskReader { reader } = self;
         match reader.finish() {
-            Ok(machine) => Ok(Task::of_parts(machine.into_parts())),
+            Ok(machine) => Ok(Task::of_parts(machine.into_kept().into_parts())),
             Err(fault) => Err(fault),
         }
     }

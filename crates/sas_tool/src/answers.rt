@@ -9,7 +9,7 @@ ghost use Rattle.sas_tool.specs.Output.{FileOut, Out, printed, refusal, refusal_
 
 use crate::{Request, Status, ToolFault};
 use sas_lines::{Watched, push_line, push_number};
-use sas_text::{Fault, Kind, encode_task, read_plan_text, read_task};
+use sas_text::{Fault, Kind, read_plan_text, read_task_text};
 use std::alloc::{AllocError, Global};
 use std::io::Read;
 
@@ -50,14 +50,13 @@ fn print<R: Read>(alloc: Global, reader: &mut Watched<R>) -> Result<Answer, Tool
     ensures reads { IsErrOf result ToolFault.Read ↔ IsTrue reader.new.failed }
     ensures writes { IfErr result (λ e. IsWrite e → ⊥) }
 {
-    let task = match read_task(alloc, reader) {
-        Ok(task) => task,
-        Err(fault) => return refuse(alloc, "task", fault),
-    };
-    Ok(Answer {
-        text: encode_task(alloc, &task)?,
-        status: Status::Yes,
-    })
+    match read_task_text(alloc, reader) {
+        Ok(text) => Ok(Answer {
+            text,
+            status: Status::Yes,
+        }),
+        Err(fault) => refuse(alloc, "task", fault),
+    }
 }
 
 /// The steps of a plan and its cost.
