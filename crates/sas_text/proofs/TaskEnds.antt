@@ -7,7 +7,7 @@ use Rattle.sas_core.specs.declared.parts.Effect.{Effect}
 use Rattle.sas_core.specs.declared.parts.Parts.{Parts}
 use Rattle.sas_text.specs.declared.task_judge.Place.{Place}
 use Rattle.sas_text.specs.declared.task_judge.Place.TheVariants as at
-use Rattle.sas_text.specs.declared.task_events.SoFar.{SoFar}
+use Rattle.sas_text.specs.declared.task_parts.SoFar.{SoFar}
 use Rattle.sas_text.specs.declared.task_judge.TaskJudge.{TaskJudge}
 use Rattle.sas_text.specs.Process.{process_node}
 use Rattle.sas_text.specs.System.{ended}

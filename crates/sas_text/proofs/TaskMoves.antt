@@ -13,7 +13,7 @@ use Rattle.sas_core.specs.declared.parts.Parts.{Parts}
 use Rattle.sas_core.specs.declared.parts.Variable.{Variable}
 use Rattle.sas_core.specs.Variables.{range_of}
 use Rattle.sas_text.specs.declared.task_events.Event.{Event}
-use Rattle.sas_text.specs.declared.task_events.SoFar.{SoFar}
+use Rattle.sas_text.specs.declared.task_parts.SoFar.{SoFar}
 use Rattle.sas_text.specs.declared.task_judge.Place.{Place}
 use Rattle.sas_text.specs.declared.task_judge.Place.TheVariants as at
 use Rattle.sas_text.specs.declared.task_judge.TaskJudge.{TaskJudge}

@@ -7,7 +7,7 @@ use Rattle.sas_core.specs.WellRanged.{WellRanged}
 use Rattle.sas_text.specs.declared.fault.Fault.{Fault}
 use Rattle.sas_text.specs.declared.fault.Kind.TheVariants as kinds
 use Rattle.sas_text.specs.declared.reader.Reader.{Reader}
-use Rattle.sas_text.specs.declared.task_events.SoFar.{SoFar}
+use Rattle.sas_text.specs.declared.task_parts.SoFar.{SoFar}
 use Rattle.sas_text.specs.declared.task_machine.TaskMachine.{TaskMachine}
 use Rattle.sas_text.specs.declared.task_reader.TaskReader.{TaskReader}
 use Rattle.sas_text.specs.Format.{Live, FaultOf, Reads, ReadsAs}

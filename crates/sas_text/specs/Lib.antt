@@ -21,5 +21,7 @@ pub mod TaskRanges
 pub mod TaskEvents
 pub mod TaskJudge
 pub mod TaskMachine
+pub mod TaskOutline
 pub mod TaskReader
+pub mod Outline
 pub mod TaskLaws

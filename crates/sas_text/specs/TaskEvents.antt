@@ -1,8 +1,14 @@
 -- What each line of a task file adds to what has come.
-use Rattle.std.specs.Prelude.{ℕ, List, [], ◌∷◌, ◌++◌}
+use Rattle.std.specs.Global.{Global}
+use Rattle.std.specs.Prelude.{ℕ, List, [], ◌∷◌, ◌++◌, None}
 use Rattle.sas_text.specs.declared.task_events.Event.{Event}
 use Rattle.sas_text.specs.declared.task_events.Event.TheVariants as event
-use Rattle.sas_text.specs.declared.task_events.SoFar.{SoFar}
+use Rattle.sas_text.specs.declared.task_parts.SoFar.{SoFar}
+use Rattle.sas_text.specs.TaskPlaces.{no_parts}
+
+-- nothing has come
+abbrev pub nothing_yet : Global → SoFar
+nothing_yet alloc = record { alloc = alloc; parts = no_parts; name = []; layer = None; values = []; facts = []; effects = [] }
 
 -- what has come behind a line that says this
 abbrev pub after : SoFar → Event → List ℕ → SoFar

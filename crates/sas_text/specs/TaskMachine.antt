@@ -1,13 +1,14 @@
 -- What the machine of task files stands for: lines that lead to what has come, and what is kept of it.
 use Rattle.std.specs.Prelude.{◌≡◌, ℕ, List, []}
+use Rattle.std.specs.Global.{Global}
 use Rattle.sas_text.specs.declared.fault.Kind.{Kind}
-use Rattle.sas_text.specs.declared.task_events.SoFar.{SoFar}
+use Rattle.sas_text.specs.declared.task_parts.SoFar.{SoFar}
 use Rattle.sas_text.specs.declared.task_machine.TaskMachine.{TaskMachine}
 use Rattle.sas_text.specs.Process.{process_node}
 use Rattle.sas_text.specs.System.{Leads}
 use Rattle.sas_text.specs.TaskFormat.{task_format}
-use Rattle.sas_text.specs.TaskPlaces.{no_parts}
 use Rattle.sas_text.specs.TaskProcess.{task_start}
+use Rattle.sas_text.specs.TaskEvents.{nothing_yet}
 use Rattle.sas_text.specs.TaskJudge.{Fits, state_of, HasEnded, RejectsLine}
 
 module _ {K : Type 0} (keeps : List (List ℕ) → SoFar → K → Type 0) where
@@ -19,10 +20,8 @@ module _ {K : Type 0} (keeps : List (List ℕ) → SoFar → K → Type 0) where
     pub kept : keeps lines so_far m.kept
 
   -- it keeps what is asked for where nothing has come
-  pub record IsFresh (kept : K) : Type 0 where
-    pub so_far : SoFar
-    pub nothing : so_far.parts ≡ no_parts
-    pub keeps_it : keeps [] so_far kept
+  abbrev pub IsFresh : K → Type 0
+  IsFresh kept = (alloc : Global) × keeps [] (nothing_yet alloc) kept
 
 -- the machine of the reader keeps all that has come
 abbrev pub LedTo : List (List ℕ) → TaskMachine SoFar → Type 0

@@ -8,8 +8,8 @@ ghost use Rattle.sas_text.specs.Devices.{Refuses, IsFaultOf, TextOf};
 use crate::devices::read_all;
 use crate::fault::{Fault, Kind};
 use crate::plan_reader::LIMIT;
-use crate::task_events::SoFar;
 use crate::task_machine::TaskMachine;
+use crate::task_parts::SoFar;
 use crate::task_text::TaskText;
 use sas_core::Task;
 use sas_lines::Watched;
@@ -28,7 +28,12 @@ pub fn read_task<R: Read>(alloc: Global, reader: &mut Watched<R>) -> Result<Task
     ensures known_fault { (b : List ℕ) → R.remaining reader.old.device ≡ Some b → IfErr result (IsFaultOf task_format LIMIT b) }
     ensures note { IsErrAnd result (λ f. f.kind ≡ Kind.Read) ↔ IsTrue reader.new.failed }
 {
-    match read_all(alloc, TaskMachine::new(alloc, SoFar::new(alloc)), LIMIT, reader) {
+    match read_all(
+        alloc,
+        TaskMachine::new(alloc, SoFar::new(alloc)),
+        LIMIT,
+        reader,
+    ) {
         Ok(machine) => Ok(Task::of_parts(machine.into_kept().into_parts())),
         Err(fault) => Err(fault),
     }
@@ -43,7 +48,12 @@ pub fn read_task_text<R: Read>(alloc: Global, reader: &mut Watched<R>) -> Result
     ensures known_fault { (b : List ℕ) → R.remaining reader.old.device ≡ Some b → IfErr result (IsFaultOf task_format LIMIT b) }
     ensures note { IsErrAnd result (λ f. f.kind ≡ Kind.Read) ↔ IsTrue reader.new.failed }
 {
-    match read_all(alloc, TaskMachine::new(alloc, TaskText::new(alloc)), LIMIT, reader) {
+    match read_all(
+        alloc,
+        TaskMachine::new(alloc, TaskText::new(alloc)),
+        LIMIT,
+        reader,
+    ) {
         Ok(machine) => Ok(machine.into_kept().into_text()),
         Err(fault) => Err(fault),
     }

@@ -1,7 +1,6 @@
-// What the lines of a task file say, and what has come of a task.
+// What a line of a task file says.
 use crate::task_line::Change;
-use sas_core::{Effect, Fact, Items, Parts};
-use std::alloc::Global;
+use sas_core::{Effect, Fact};
 
 /// What a line adds to what has come. A name is the line itself.
 #[derive(Drop)]
@@ -35,17 +34,4 @@ pub enum Event {
     Operator(u32),
     /// The head of a rule, which has come with it.
     Rule(Change),
-}
-
-/// The parts that have come, and what has come of a variable, group, operator or rule that has begun.
-#[derive(Drop)]
-pub struct SoFar {
-    pub alloc: Global,
-    pub parts: Parts,
-    pub name: Items<u8>,
-    pub layer: Option<u32>,
-    pub values: Items<Items<u8>>,
-    /// The facts of a group, the prevail conditions of an operator, or the conditions of a rule.
-    pub facts: Items<Fact>,
-    pub effects: Items<Effect>,
 }

@@ -11,7 +11,7 @@ use std::alloc::Global;
 
 /// What is kept of a task as its lines come.
 pub trait Keeper: Drop {
-    ghost use Rattle.sas_text.specs.declared.task_events.SoFar.{SoFar};
+    ghost use Rattle.sas_text.specs.declared.task_parts.SoFar.{SoFar};
     ghost use Rattle.sas_text.specs.TaskEvents.{after};
 
     /// It keeps what it is asked to of these lines, with which so much of a task has come.

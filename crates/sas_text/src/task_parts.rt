@@ -1,16 +1,28 @@
 // What keeps all that a task file says.
 ghost use Rattle.std.specs.Prelude.{◌≡◌, List, [], ◌∷◌, ◌++◌, IfErr, IfOk, OnOk};
 ghost use Rattle.sas_text.specs.declared.task_events.Event.TheVariants as event;
-ghost use Rattle.sas_text.specs.TaskEvents.{after};
-ghost use Rattle.sas_text.specs.TaskPlaces.{no_parts};
+ghost use Rattle.sas_text.specs.TaskEvents.{nothing_yet, after};
 
 use crate::fault::Kind;
-use crate::task_events::{Event, SoFar};
+use crate::task_events::Event;
 use crate::task_line::Change;
 use crate::task_machine::Keeper;
-use sas_core::{Items, Operator, Parts, Rule, Variable};
+use sas_core::{Effect, Fact, Items, Operator, Parts, Rule, Variable};
 use std::alloc::Global;
 use std::mem;
+
+/// The parts that have come, and what has come of a variable, group, operator or rule that has begun.
+#[derive(Drop)]
+pub struct SoFar {
+    pub alloc: Global,
+    pub parts: Parts,
+    pub name: Items<u8>,
+    pub layer: Option<u32>,
+    pub values: Items<Items<u8>>,
+    /// The facts of a group, the prevail conditions of an operator, or the conditions of a rule.
+    pub facts: Items<Fact>,
+    pub effects: Items<Effect>,
+}
 
 /// Pushes the item.
 fn push<T: Drop>(items: &mut Items<T>, item: T) -> Result<(), Kind>
@@ -37,7 +49,7 @@ fn copy_of(alloc: Global, line: &[u8]) -> Result<Items<u8>, Kind>
 impl SoFar {
     /// Nothing has come.
     pub fn new(alloc: Global) -> Self
-        ensures { result.parts ≡ no_parts }
+        ensures { result ≡ nothing_yet alloc }
     {
         SoFar {
             alloc,
@@ -70,8 +82,12 @@ impl SoFar {
         ensures ok { OnOk result (self.new ≡ after self.old event.Name line.now) }
         ensures err { IfErr result (λ k. k ≡ Kind.Memory) }
     {
-        self.name = copy_of(self.alloc, line)?;
-        Ok(())
+        // Most often it is an operator's, and its memory is there already.
+        self.name.clear();
+        match self.name.extend_from_slice(line) {
+            Ok(()) => Ok(()),
+            Err(_) => Err(Kind::Memory),
+        }
     }
 
     fn value(&mut self, line: &[u8]) -> Result<(), Kind>
@@ -129,7 +145,7 @@ impl SoFar {
     }
 
     /// Takes what the line says.
-    fn add(&mut self, line: &[u8], event: Event) -> Result<(), Kind>
+    pub fn add(&mut self, line: &[u8], event: Event) -> Result<(), Kind>
         ensures ok { OnOk result (self.new ≡ after self.old event line.now) }
         ensures err { IfErr result (λ k. k ≡ Kind.Memory) }
     {

@@ -9,8 +9,8 @@ ghost use Rattle.sas_text.specs.Faults.{IsOfBytes, answer};
 use crate::fault::{Fault, Kind};
 use crate::plan_reader::LIMIT;
 use crate::reader::Reader;
-use crate::task_events::SoFar;
 use crate::task_machine::TaskMachine;
+use crate::task_parts::SoFar;
 use sas_core::Task;
 use std::alloc::Global;
 

@@ -1,7 +1,7 @@
-use Rattle.std.proofs.Common.{◌≡◌, ◌≤◌, List, ℕ, [], None, length, refl, ap, subst, ◌∙◌}
+use Rattle.std.proofs.Common.{◌≡◌, ◌≤◌, List, ℕ, length, ap, subst, ◌∙◌}
 use Rattle.sas_lines.specs.Lines.{text}
 use Rattle.sas_text.specs.declared.plan_reader.TheConstants.{LIMIT}
-use Rattle.sas_text.specs.declared.task_events.SoFar.{SoFar}
+use Rattle.sas_text.specs.declared.task_parts.SoFar.{SoFar}
 use Rattle.sas_text.specs.declared.task_machine.TaskMachine.{TaskMachine}
 use Rattle.sas_text.specs.declared.task_text.TaskText.{TaskText}
 use Rattle.sas_text.specs.Devices.{TextOf}
@@ -10,7 +10,6 @@ use Rattle.sas_text.specs.Reader.{Reached}
 use Rattle.sas_text.specs.TaskFormat.{task_format}
 use Rattle.sas_text.specs.TaskJudge.{HasEnded}
 use Rattle.sas_text.specs.TaskMachine.{LedBy}
-use Rattle.sas_text.specs.TaskPlaces.{no_parts}
 use Rattle.sas_text.specs.TaskProcess.{task_start}
 use Rattle.sas_text.proofs.Conversion.{all_read, device_refusal, known_refusal}
 use Rattle.sas_text.proofs.TaskGrammar.{task_grammar}
@@ -25,7 +24,7 @@ abbrev Ended : TaskMachine TaskText → Type 0
 Ended m = HasEnded m.judge
 
 pub new-requires-2 : goal.new-requires-2
-new-requires-2 g c = record { so_far = record { alloc = c.args.alloc; parts = no_parts; name = []; layer = None; values = []; facts = []; effects = [] }; nothing = refl; keeps_it = c.new.ensures }
+new-requires-2 g c = (c.args.alloc, c.new.ensures)
 
 -- where the machine has ended, it holds the text of what was read
 text_of : (m : TaskMachine TaskText) (bytes t : List ℕ) → Reached (LedBy Keeps) Ended m bytes → length bytes ≤ LIMIT → Ended m → t ≡ m.kept.text.items → TextOf task_format LIMIT bytes t
