@@ -20,3 +20,4 @@ pub mod TaskText
 pub mod TaskMachine
 pub mod TaskReader
 pub mod TaskLaws
+pub mod Outline

@@ -4,6 +4,7 @@
 mod devices;
 mod fault;
 mod laws;
+mod outline;
 mod plan;
 mod plan_line;
 mod plan_machine;
@@ -18,6 +19,7 @@ mod task_writer;
 
 pub use fault::{Fault, Kind};
 pub use laws::{plan_laws, task_laws};
+pub use outline::{Outline, read_outline};
 pub use plan::{encode_plan, read_plan, read_plan_text};
 pub use plan_reader::{LIMIT, PlanReader};
 pub use task::read_task;

@@ -1,5 +1,6 @@
 ghost use Rattle.std.specs.Prelude.{◌≤◌, ◌^◌, length};
 
+mod outlines;
 mod small_files;
 mod tasks;
 
