@@ -4,6 +4,7 @@
 mod answers;
 mod laws;
 mod program;
+mod summary;
 mod words;
 
 ghost use Rattle.std.specs.Prelude.{◌≡◌, ◌⊎◌, ◌↔◌, ◌||◌, false, List, ℕ, Some, IfErr, IsErrAnd, IsErrOf, IsTrue};
