@@ -28,9 +28,12 @@ CALLS = {
     "encode-plan": 30,
     "feed-task": 80,
     "read-task": 80,
+    "read-outline": 80,
     "encode-task": 80,
     "run-steps": 30,
     "run-steps-refusal": 30,
+    "run-show": 90,
+    "run-show-refusal": 30,
     "run-print": 90,
     "run-print-refusal": 30,
 }

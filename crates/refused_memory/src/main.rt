@@ -5,12 +5,12 @@
 //! the call that is.
 #![tactic(auto)]
 
-use sas_core::{CostKind, Items, Plan, Task};
+use sas_core::{CostKind, Fact, Items, Plan, Task};
 use sas_lines::trial::Narrow;
 use sas_lines::{Lines, Watched, push_line, push_number};
 use sas_text::{
-    Fault, Kind, PlanReader, TaskReader, encode_plan, encode_task, read_plan, read_plan_text,
-    read_task,
+    Fault, Kind, Outline, PlanReader, TaskReader, encode_plan, encode_task, read_outline,
+    read_plan, read_plan_text, read_task,
 };
 use sas_tool::{Request, Status, ToolFault, run};
 use std::alloc::{AllocError, Global};
@@ -33,6 +33,10 @@ const NAMES: [&[u8]; 3] = [
 /// A task file with a line of each sort.
 const TASK: &[u8] =
     b"begin_version\n3\nend_version\nbegin_metric\n1\nend_metric\n2\nbegin_variable\nlamp\n-1\n2\noff\non\nend_variable\nbegin_variable\nroom is lit\n0\n2\nno\nyes\nend_variable\n1\nbegin_mutex_group\n2\n0 0\n0 1\nend_mutex_group\nbegin_state\n0\n0\nend_state\nbegin_goal\n1\n1 1\nend_goal\n1\nbegin_operator\nswitch lamp on\n1\n0 0\n1\n1 0 0 0 0 1\n7\nend_operator\n1\nbegin_rule\n1\n0 1\n1 0 1\nend_rule\n";
+
+/// Its summary.
+const SUMMARY: &[u8] =
+    b"metric 1\nvariables 2\nderived 1\ngroups 1\noperators 1\nrules 1\ninitial 0 0 off\ninitial 1 0 no\ngoal 1 1 yes\n";
 
 /// What came of a call.
 #[derive(Clone, Copy, Debug, PartialEq, Eq)]
@@ -222,6 +226,26 @@ fn task(alloc: Global, count: usize) -> Result<Outcome, AllocError> {
     Ok(of_task(alloc, read_task(alloc, &mut Watched::new(TASK))))
 }
 
+/// Whether the outline is that of the task file.
+fn is_outline(outline: &Outline) -> bool {
+    outline.metric
+        && outline.variables.len() == 2
+        && outline.groups == 1
+        && outline.init.as_slice() == [0u32, 0].as_slice()
+        && outline.goal.as_slice() == [Fact { var: 1, value: 1 }].as_slice()
+        && outline.operators == 1
+        && outline.rules == 1
+}
+
+/// `read_outline`.
+fn outline(alloc: Global, count: usize) -> Result<Outcome, AllocError> {
+    spend(alloc, count)?;
+    Ok(match read_outline(alloc, &mut Watched::new(TASK)) {
+        Ok(outline) => Outcome::of_answer(is_outline(&outline)),
+        Err(fault) => Outcome::of_fault(fault),
+    })
+}
+
 /// `encode_task`.
 fn task_encoded(alloc: Global, count: usize) -> Result<Outcome, AllocError> {
     let Ok(task) = read_task(alloc, &mut Watched::new(TASK)) else {
@@ -264,6 +288,7 @@ fn outcome_of(alloc: Global, call: &str, count: usize) -> Result<Outcome, AllocE
         "encode-plan" => encoded(alloc, count),
         "feed-task" => task_feed(alloc, count),
         "read-task" => task(alloc, count),
+        "read-outline" => outline(alloc, count),
         "encode-task" => task_encoded(alloc, count),
         "run-steps" => request(alloc, count, Request::Steps, PLAN, Status::Yes, WRITTEN),
         "run-steps-refusal" => request(
@@ -273,6 +298,15 @@ fn outcome_of(alloc: Global, call: &str, count: usize) -> Result<Outcome, AllocE
             b"(go )\n",
             Status::No,
             b"plan refused: line 2: end\n",
+        ),
+        "run-show" => request(alloc, count, Request::Show, TASK, Status::Yes, SUMMARY),
+        "run-show-refusal" => request(
+            alloc,
+            count,
+            Request::Show,
+            b"begin_version\n4\n",
+            Status::No,
+            b"task refused: line 2: value\n",
         ),
         "run-print" => request(alloc, count, Request::Print, TASK, Status::Yes, TASK),
         "run-print-refusal" => request(

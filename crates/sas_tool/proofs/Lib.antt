@@ -1,1 +1,2 @@
 mod Outputs
+mod Summaries

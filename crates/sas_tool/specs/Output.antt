@@ -1,5 +1,6 @@
 -- What the program prints: one output for each request and its inputs.
 use Rattle.std.specs.Prelude.{◌≡◌, ℕ, ◌<◌, List, ◌++◌, length, codes, decimal, Option, Some, None, option_map, Result, Ok, Err, ◌⊎◌}
+use Rattle.sas_core.specs.declared.parts.Parts.{Parts}
 use Rattle.sas_lines.specs.Lines.{text}
 use Rattle.sas_text.specs.declared.fault.Fault.{Fault}
 use Rattle.sas_text.specs.declared.fault.Kind.{Kind}
@@ -9,9 +10,10 @@ use Rattle.sas_text.specs.Format.{Format, ReadsAs, lines_of}
 use Rattle.sas_text.specs.PlanFormat.{plan_format}
 use Rattle.sas_text.specs.TaskFormat.{task_format}
 use Rattle.sas_tool.specs.declared.Request.{Request}
-use Rattle.sas_tool.specs.declared.Request.TheVariants.{Print, Steps}
+use Rattle.sas_tool.specs.declared.Request.TheVariants.{Show, Print, Steps}
 use Rattle.sas_tool.specs.declared.Status.{Status}
 use Rattle.sas_tool.specs.declared.Status.TheVariants.{Yes, No}
+use Rattle.sas_tool.specs.Summary.{summary_lines}
 
 -- what is printed, and the status
 pub record Output : Type 0 where
@@ -43,6 +45,10 @@ abbrev pub answer_or_refusal : {V : Type 0} → List ℕ → (V → Output) → 
 answer_or_refusal name answer (Ok value) = Some (answer value)
 answer_or_refusal name answer (Err fault) = refusal name fault
 
+-- a task is shown by the lines of its summary, each ended by LF
+abbrev pub shown : Parts → Output
+shown p = record { text = text (summary_lines p); status = Yes }
+
 module _ {V I S : Type 0} (F : Format V I S) where
   -- a value is printed as its lines, each ended by LF
   abbrev pub printed : V → Output
@@ -54,6 +60,7 @@ module _ {V I S : Type 0} (F : Format V I S) where
 
 -- the output for the bytes b of the task and c of the plan, where a file that decides it isn't too long; else none
 abbrev pub Out : Request → List ℕ → List ℕ → Option Output → Type 0
+Out Show b c output = FileOut task_format (codes "task") shown b output
 Out Print b c output = FileOut task_format (codes "task") (printed task_format) b output
 Out Steps b c output = FileOut plan_format (codes "plan") (printed plan_format) c output
 

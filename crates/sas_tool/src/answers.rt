@@ -1,15 +1,16 @@
 // The answer to each request, before anything of it is written.
-ghost use Rattle.std.specs.Prelude.{◌≡◌, ◌↔◌, ◌||◌, List, ℕ, codes, false, Some, IfOk, IfErr, IsErrOf, IsTrue};
+ghost use Rattle.std.specs.Prelude.{◌≡◌, ◌≢◌, ◌↔◌, ◌||◌, List, ℕ, codes, false, Some, IfOk, IfErr, IsErrOf, IsTrue};
 ghost use Rattle.std.specs.Io.KnownBytes.{Consumes};
 ghost use Rattle.sas_text.specs.PlanFormat.{plan_format};
 ghost use Rattle.sas_text.specs.TaskFormat.{task_format};
 ghost use Rattle.sas_tool.specs.Answering.{Answers, output_of};
 ghost use Rattle.sas_tool.specs.Ending.{IsDecided, IsWrite};
-ghost use Rattle.sas_tool.specs.Output.{FileOut, Out, printed, refusal, refusal_line, word_of};
+ghost use Rattle.sas_tool.specs.Output.{FileOut, Out, shown, printed, refusal, refusal_line, word_of};
 
+use crate::summary::summary_text;
 use crate::{Request, Status, ToolFault};
 use sas_lines::{Watched, push_line, push_number};
-use sas_text::{Fault, Kind, read_plan_text, read_task_text};
+use sas_text::{Fault, Kind, read_outline, read_plan_text, read_task_text};
 use std::alloc::{AllocError, Global};
 use std::io::Read;
 
@@ -32,14 +33,33 @@ pub fn answer_to<T: Read, P: Read>(
     ensures output { (b c : List ℕ) → T.remaining task.old.device ≡ Some b → P.remaining plan.old.device ≡ Some c → Answers (Out request b c) result }
     ensures taken { IsDecided result → (b c : List ℕ) × Consumes (T.remaining task.old.device) (T.remaining task.new.device) b × Consumes (P.remaining plan.old.device) (P.remaining plan.new.device) c × Answers (Out request b c) result }
     ensures task_spared { request ≡ Request.Steps → task.new ≡ task.old }
-    ensures plan_spared { request ≡ Request.Print → plan.new ≡ plan.old }
+    ensures plan_spared { request ≢ Request.Steps → plan.new ≡ plan.old }
     ensures reads { IsErrOf result ToolFault.Read ↔ IsTrue (task.new.failed || plan.new.failed) }
     ensures writes { IfErr result (λ e. IsWrite e → ⊥) }
 {
     match request {
+        Request::Show => show(alloc, task),
         Request::Print => print(alloc, task),
         Request::Steps => steps(alloc, plan),
     }
+}
+
+/// The summary of a task.
+fn show<R: Read>(alloc: Global, reader: &mut Watched<R>) -> Result<Answer, ToolFault>
+    requires { reader.old.failed ≡ false }
+    ensures output { (b : List ℕ) → R.remaining reader.old.device ≡ Some b → Answers (FileOut task_format (codes "task") shown b) result }
+    ensures taken { IsDecided result → (b : List ℕ) × Consumes (R.remaining reader.old.device) (R.remaining reader.new.device) b × Answers (FileOut task_format (codes "task") shown b) result }
+    ensures reads { IsErrOf result ToolFault.Read ↔ IsTrue reader.new.failed }
+    ensures writes { IfErr result (λ e. IsWrite e → ⊥) }
+{
+    let outline = match read_outline(alloc, reader) {
+        Ok(outline) => outline,
+        Err(fault) => return refuse(alloc, "task", fault),
+    };
+    Ok(Answer {
+        text: summary_text(alloc, &outline)?,
+        status: Status::Yes,
+    })
 }
 
 /// The lines of a task.

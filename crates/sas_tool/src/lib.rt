@@ -4,9 +4,10 @@
 mod answers;
 mod laws;
 mod program;
+mod summary;
 mod words;
 
-ghost use Rattle.std.specs.Prelude.{◌≡◌, ◌⊎◌, ◌↔◌, ◌||◌, false, List, ℕ, Some, IfErr, IsErrAnd, IsErrOf, IsTrue};
+ghost use Rattle.std.specs.Prelude.{◌≡◌, ◌≢◌, ◌⊎◌, ◌↔◌, ◌||◌, false, List, ℕ, Some, IfErr, IsErrAnd, IsErrOf, IsTrue};
 ghost use Rattle.std.specs.Io.KnownBytes.{Appends, Consumes};
 ghost use Rattle.sas_tool.specs.Output.{Out};
 ghost use Rattle.sas_tool.specs.Ending.{Ends, IsDecided, IsWrite};
@@ -22,6 +23,8 @@ use thiserror::Error;
 /// What is asked.
 #[derive(Clone, Copy, Debug, PartialEq, Eq)]
 pub enum Request {
+    /// The summary of a task.
+    Show,
     /// A task, printed again.
     Print,
     /// The steps of a plan and its cost, printed again.
@@ -62,10 +65,10 @@ impl From<AllocError> for ToolFault {
     }
 }
 
-/// Answers the request about the inputs. `Print` reads the task alone, and `Steps` the plan. Nothing is written before the
-/// answer is whole, so at any fault but `Write` nothing was written, and at `Write` the first bytes of the answer. A fault
-/// of a file's content is no fault of the run: the answer then is a refusal, and the status `No`. Not to be called with a
-/// device that has failed.
+/// Answers the request about the inputs. `Show` and `Print` read the task alone, and `Steps` the plan. Nothing is written
+/// before the answer is whole, so at any fault but `Write` nothing was written, and at `Write` the first bytes of the
+/// answer. A fault of a file's content is no fault of the run: the answer then is a refusal, and the status `No`. Not to be
+/// called with a device that has failed.
 pub fn run<T: Read, P: Read, W: Write>(
     alloc: Global,
     request: Request,
@@ -86,7 +89,7 @@ pub fn run<T: Read, P: Read, W: Write>(
     ensures nothing { IfErr result (λ e. IsWrite e ⊎ (out.new ≡ out.old)) }
     // A device that the request doesn't read stays as it was.
     ensures task_spared { request ≡ Request.Steps → task.new ≡ task.old }
-    ensures plan_spared { request ≡ Request.Print → plan.new ≡ plan.old }
+    ensures plan_spared { request ≢ Request.Steps → plan.new ≡ plan.old }
     ensures reads { IsErrOf result ToolFault.Read ↔ IsTrue (task.new.failed || plan.new.failed) }
     ensures writes { IsErrAnd result IsWrite ↔ IsTrue out.new.failed }
 {

@@ -1,3 +1,5 @@
+mod summaries;
+
 use crate::{Request, Status, ToolFault, run, run_laws};
 use sas_lines::Watched;
 use sas_lines::trial::{Breaks, Narrow};
@@ -13,13 +15,30 @@ const PLAN: &[u8] = b"(go )\n(open door)\n; cost = 2 (unit cost)\n";
 const TASK: &[u8] =
     b"begin_version\n3\nend_version\nbegin_metric\n0\nend_metric\n1\nbegin_variable\nvar0\n-1\n2\nAtom dummy(val1)\nAtom dummy(val2)\nend_variable\n0\nbegin_state\n0\nend_state\nbegin_goal\n1\n0 0\nend_goal\n0\n0\n";
 
-/// A task, as it is written again into memory.
-fn print<R: Read + Drop>(alloc: Global, task: R) -> (Result<Status, ToolFault>, Vec<u8>) {
+/// The requests over a task alone.
+const OVER_A_TASK: [Request; 2] = [Request::Show, Request::Print];
+
+/// The answer to a request over a task alone, as it is written into memory.
+fn over_a_task<R: Read + Drop>(
+    alloc: Global,
+    request: Request,
+    task: R,
+) -> (Result<Status, ToolFault>, Vec<u8>) {
     let mut task = Watched::new(task);
     let mut plan = Watched::new(io::empty());
     let mut out = Watched::new(Vec::new(alloc));
-    let result = run(alloc, Request::Print, &mut task, &mut plan, &mut out);
+    let result = run(alloc, request, &mut task, &mut plan, &mut out);
     (result, out.into_device())
+}
+
+/// The summary of a task, as it is written into memory.
+fn show<R: Read + Drop>(alloc: Global, task: R) -> (Result<Status, ToolFault>, Vec<u8>) {
+    over_a_task(alloc, Request::Show, task)
+}
+
+/// A task, as it is written again into memory.
+fn print<R: Read + Drop>(alloc: Global, task: R) -> (Result<Status, ToolFault>, Vec<u8>) {
+    over_a_task(alloc, Request::Print, task)
 }
 
 /// The steps of a plan, as they are written into memory.
@@ -212,6 +231,8 @@ fn prints_tasks(rt: HostRuntime) -> Result<(), AllocError> {
 #[test]
 fn refuses_tasks(rt: HostRuntime) -> Result<(), AllocError> {
     let alloc = rt.alloc();
+    let mut longer = Vec::from_slice(alloc, TASK)?;
+    longer.push(b'\n')?;
     for (task, refusal) in [
         (b"".as_slice(), "line 1: end"),
         (b"begin_version\n", "line 2: end"),
@@ -222,20 +243,15 @@ fn refuses_tasks(rt: HostRuntime) -> Result<(), AllocError> {
             b"begin_version\n3\nend_version\nbegin_metric\n2\n",
             "line 5: value",
         ),
+        (longer.as_slice(), "line 25: trailing"),
     ] {
-        let (result, written) = print(alloc, task);
-        assert_eq!(rt; result, Ok(Status::No), "{task:?}");
-        let line = format!(in alloc; "task refused: {refusal}\n")?;
-        assert_eq!(rt; written.as_slice(), line.as_bytes(), "{task:?}");
+        for request in OVER_A_TASK {
+            let (result, written) = over_a_task(alloc, request, task);
+            assert_eq!(rt; result, Ok(Status::No), "{request:?} {task:?}");
+            let line = format!(in alloc; "task refused: {refusal}\n")?;
+            assert_eq!(rt; written.as_slice(), line.as_bytes(), "{request:?} {task:?}");
+        }
     }
-    let mut longer = Vec::from_slice(alloc, TASK)?;
-    longer.push(b'\n')?;
-    let (result, written) = print(alloc, longer.as_slice());
-    assert_eq!(rt; result, Ok(Status::No));
-    assert_eq!(rt;
-        written.as_slice(),
-        b"task refused: line 25: trailing\n".as_slice()
-    );
     Ok(())
 }
 
@@ -243,11 +259,13 @@ fn refuses_tasks(rt: HostRuntime) -> Result<(), AllocError> {
 fn refuses_a_task_that_is_cut_off(rt: HostRuntime) -> Result<(), AllocError> {
     let alloc = rt.alloc();
     for length in 0..TASK.len() {
-        let (result, written) = print(alloc, &TASK[..length]);
         let ended = TASK[..length].iter().filter(|&&byte| byte == b'\n').count() as u64;
-        assert_eq!(rt; result, Ok(Status::No), "{length}");
         let line = format!(in alloc; "task refused: line {}: end\n", u128::from(ended) + 1)?;
-        assert_eq!(rt; written.as_slice(), line.as_bytes(), "{length}");
+        for request in OVER_A_TASK {
+            let (result, written) = over_a_task(alloc, request, &TASK[..length]);
+            assert_eq!(rt; result, Ok(Status::No), "{request:?} {length}");
+            assert_eq!(rt; written.as_slice(), line.as_bytes(), "{request:?} {length}");
+        }
     }
     Ok(())
 }
@@ -257,9 +275,30 @@ fn a_reader_of_a_task_fails(rt: HostRuntime) {
     let alloc = rt.alloc();
     for length in 0..TASK.len() + 1 {
         for interrupted in [false, true] {
-            let (result, written) = print(alloc, Breaks::new(&TASK[..length], interrupted));
-            assert_eq!(rt; result, Err(ToolFault::Read), "{length}");
-            assert!(rt; written.is_empty(), "{length}");
+            for request in OVER_A_TASK {
+                let task = Breaks::new(&TASK[..length], interrupted);
+                let (result, written) = over_a_task(alloc, request, task);
+                assert_eq!(rt; result, Err(ToolFault::Read), "{request:?} {length}");
+                assert!(rt; written.is_empty(), "{request:?} {length}");
+            }
         }
     }
+}
+
+#[test]
+fn a_fault_of_a_task_comes_before_a_failed_read(rt: HostRuntime) -> Result<(), AllocError> {
+    let alloc = rt.alloc();
+    let mut longer = Vec::from_slice(alloc, TASK)?;
+    longer.push(b'x')?;
+    for request in OVER_A_TASK {
+        let task = Breaks::new(longer.as_slice(), false);
+        let (result, written) = over_a_task(alloc, request, task);
+        assert_eq!(rt; result, Ok(Status::No), "{request:?}");
+        assert_eq!(rt;
+            written.as_slice(),
+            b"task refused: line 25: trailing\n".as_slice(),
+            "{request:?}"
+        );
+    }
+    Ok(())
 }

@@ -46,25 +46,28 @@ pub fn command(alloc: Global, words: Vec<String>) -> Result<Job, WordsFault> {
 
 /// The words that are understood.
 fn grammar<'a>(alloc: Global) -> Result<Command<'a>, AllocError> {
-    let task = Arg::new(alloc, "TASK")
-        .required(true)
-        .help("the task file, or - for standard input");
     let plan = Arg::new(alloc, "PLAN")
         .required(true)
         .help("the plan file, or - for standard input");
     Command::new(alloc, "sas")
-        .subcommand(Command::new(alloc, "print").arg(task)?)?
+        .subcommand(over_task(alloc, "show")?)?
+        .subcommand(over_task(alloc, "print")?)?
         .subcommand(Command::new(alloc, "steps").arg(plan)?)
+}
+
+/// The words of a request over a task alone.
+fn over_task<'a>(alloc: Global, name: &'a str) -> Result<Command<'a>, AllocError> {
+    let task = Arg::new(alloc, "TASK")
+        .required(true)
+        .help("the task file, or - for standard input");
+    Command::new(alloc, name).arg(task)
 }
 
 /// The job of words that were understood: without a request, the steps of the plan on standard input.
 fn job_of(alloc: Global, matches: &ArgMatches<'_>) -> Result<Job, AllocError> {
     match matches.subcommand() {
-        Some(("print", inner)) => Ok(Job {
-            request: Request::Print,
-            task: named(alloc, inner, "TASK")?,
-            plan: None,
-        }),
+        Some(("show", inner)) => job_over_task(alloc, Request::Show, inner),
+        Some(("print", inner)) => job_over_task(alloc, Request::Print, inner),
         Some((_steps, inner)) => Ok(Job {
             request: Request::Steps,
             task: None,
@@ -76,6 +79,19 @@ fn job_of(alloc: Global, matches: &ArgMatches<'_>) -> Result<Job, AllocError> {
             plan: Some(Source::Input),
         }),
     }
+}
+
+/// The job of a request over a task alone.
+fn job_over_task(
+    alloc: Global,
+    request: Request,
+    matches: &ArgMatches<'_>,
+) -> Result<Job, AllocError> {
+    Ok(Job {
+        request,
+        task: named(alloc, matches, "TASK")?,
+        plan: None,
+    })
 }
 
 /// The source that stands for an argument.

@@ -37,26 +37,29 @@ fn tells_the_job(rt: HostRuntime) -> Result<(), AllocError> {
 #[test]
 fn tells_the_job_over_a_task(rt: HostRuntime) -> Result<(), AllocError> {
     let alloc = rt.alloc();
-    for (text, file) in [
-        ("sas print -", None),
-        ("sas print -- -", None),
-        ("sas print t.sas", Some("t.sas")),
-        ("sas print ", Some("")),
-        ("sas print -- -x", Some("-x")),
-    ] {
-        let task = match file {
-            None => Source::Input,
-            Some(name) => Source::File(String::from_str(alloc, name)?),
-        };
-        let want = Job {
-            request: Request::Print,
-            task: Some(task),
-            plan: None,
-        };
-        let Ok(job) = command(alloc, words_of(alloc, text)?) else {
-            panic!(rt; "{text}");
-        };
-        assert_eq!(rt; job, want, "{text}");
+    for (word, request) in [("show", Request::Show), ("print", Request::Print)] {
+        for (text, file) in [
+            ("-", None),
+            ("-- -", None),
+            ("t.sas", Some("t.sas")),
+            ("", Some("")),
+            ("-- -x", Some("-x")),
+        ] {
+            let task = match file {
+                None => Source::Input,
+                Some(name) => Source::File(String::from_str(alloc, name)?),
+            };
+            let want = Job {
+                request,
+                task: Some(task),
+                plan: None,
+            };
+            let words = format!(in alloc; "sas {word} {text}")?;
+            let Ok(job) = command(alloc, words_of(alloc, words.as_str())?) else {
+                panic!(rt; "{words}");
+            };
+            assert_eq!(rt; job, want, "{words}");
+        }
     }
     Ok(())
 }
@@ -69,6 +72,10 @@ fn refuses_other_words(rt: HostRuntime) -> Result<(), AllocError> {
         "sas steps a b",
         "sas steps -x",
         "sas steps --help",
+        "sas show",
+        "sas show a b",
+        "sas show -x",
+        "sas show --help",
         "sas print",
         "sas print a b",
         "sas print -x",
@@ -76,6 +83,7 @@ fn refuses_other_words(rt: HostRuntime) -> Result<(), AllocError> {
         "sas -",
         "sas nonsense",
         "sas Steps p.txt",
+        "sas Show t.sas",
         "sas Print t.sas",
         "sas help",
         "sas --help",

@@ -3,20 +3,23 @@ use Rattle.sas_text.specs.PlanFormat.{plan_format}
 use Rattle.sas_text.specs.TaskFormat.{task_format}
 use Rattle.sas_text.proofs.PlanLaws.{plan_laws_hold}
 use Rattle.sas_text.proofs.TaskLaws.{task_laws_hold}
-use Rattle.sas_tool.specs.Output.{OneOutput, SomeOutput, NoneIsLong, printed}
-use Rattle.sas_tool.specs.declared.Request.TheVariants.{Print, Steps}
+use Rattle.sas_tool.specs.Output.{OneOutput, SomeOutput, NoneIsLong, shown, printed}
+use Rattle.sas_tool.specs.declared.Request.TheVariants.{Show, Print, Steps}
 use Rattle.sas_tool.proofs.Outputs.{one_file_output, some_file_output, no_file_output, plan_worded, task_worded}
 use Rattle.sas_tool.proofs.laws.run_laws.Goals as goal
 
 one : OneOutput
+one Show b c o p = one_file_output task_format (codes "task") shown b task_laws_hold o p
 one Print b c o p = one_file_output task_format (codes "task") (printed task_format) b task_laws_hold o p
 one Steps b c o p = one_file_output plan_format (codes "plan") (printed plan_format) c plan_laws_hold o p
 
 some : SomeOutput
+some Show b c = some_file_output task_format (codes "task") shown b task_laws_hold
 some Print b c = some_file_output task_format (codes "task") (printed task_format) b task_laws_hold
 some Steps b c = some_file_output plan_format (codes "plan") (printed plan_format) c plan_laws_hold
 
 long : NoneIsLong
+long Show b c out = inl (no_file_output task_format (codes "task") shown b task_worded out)
 long Print b c out = inl (no_file_output task_format (codes "task") (printed task_format) b task_worded out)
 long Steps b c out = inr (no_file_output plan_format (codes "plan") (printed plan_format) c (λ s line k. plan_worded line k) out)
 

@@ -1,0 +1,49 @@
+-- The summary of a task: a line for each of its numbers, for each variable's initial value and for each fact of its goal.
+use Rattle.std.specs.Prelude.{ℕ, Bool, if◌then◌else◌, List, [], ◌∷◌, ◌++◌, length, map, count_by, is_some, unwrap_or, option_and_then, slice_get, codes, decimal}
+use Rattle.std.specs.List.{enumerate_from}
+use Rattle.sas_core.specs.declared.parts.Fact.{Fact}
+use Rattle.sas_core.specs.declared.parts.Variable.{Variable}
+use Rattle.sas_core.specs.declared.parts.Parts.{Parts}
+
+-- `WORD N`
+abbrev pub count_line : List ℕ → ℕ → List ℕ
+count_line word n = word ++ codes " " ++ decimal n
+
+-- `metric M`, where M is 1 where cost lines count, else 0
+abbrev pub metric_line : Bool → List ℕ
+metric_line metric = count_line (codes "metric") (if metric then 1 else 0)
+
+-- how many variables have a layer
+abbrev pub derived_count : List Variable → ℕ
+derived_count variables = count_by (λ (v : Variable). is_some v.layer) variables
+
+-- the lines of the task's numbers: `metric M`, `variables N`, `derived D`, `groups G`, `operators O`, `rules R`
+abbrev pub count_lines : Parts → List (List ℕ)
+count_lines p =
+    metric_line p.metric
+    ∷ count_line (codes "variables") (length p.variables)
+    ∷ count_line (codes "derived") (derived_count p.variables)
+    ∷ count_line (codes "groups") (length p.groups)
+    ∷ count_line (codes "operators") (length p.operators)
+    ∷ count_line (codes "rules") (length p.rules)
+    ∷ []
+
+-- the name of a variable's value; where there is no such value, no byte
+abbrev pub value_name : List Variable → ℕ → ℕ → List ℕ
+value_name variables var value = unwrap_or (option_and_then (λ (v : Variable). slice_get v.values value) (slice_get variables var)) []
+
+-- `WORD VAR VALUE NAME`, where NAME is the value's name
+abbrev pub fact_line : List ℕ → List Variable → ℕ → ℕ → List ℕ
+fact_line word variables var value = word ++ codes " " ++ decimal var ++ codes " " ++ decimal value ++ codes " " ++ value_name variables var value
+
+-- `initial VAR VALUE NAME` for each variable, with its value in the initial state
+abbrev pub initial_lines : List Variable → List ℕ → List (List ℕ)
+initial_lines variables values = map (λ (var, value). fact_line (codes "initial") variables var value) (enumerate_from 0 values)
+
+-- `goal VAR VALUE NAME` for each fact of the goal
+abbrev pub goal_lines : List Variable → List Fact → List (List ℕ)
+goal_lines variables facts = map (λ (f : Fact). fact_line (codes "goal") variables f.var f.value) facts
+
+-- the lines of a task's summary, in order
+abbrev pub summary_lines : Parts → List (List ℕ)
+summary_lines p = count_lines p ++ initial_lines p.variables p.init ++ goal_lines p.variables p.goal
