@@ -63,41 +63,41 @@ rules (suc left) p h = absurd h
 
 -- ---- the judge
 
-ends_at : (place : Place) (j : TaskJudge) (s : SoFar) → IsDone (state_at place j s) → (place ≡ at.Rules) × (j.left ≡ 0)
-ends_at at.VersionBegin j s h = absurd h
-ends_at at.VersionNumber j s h = absurd h
-ends_at at.VersionEnd j s h = absurd h
-ends_at at.MetricBegin j s h = absurd h
-ends_at at.MetricNumber j s h = absurd h
-ends_at at.MetricEnd j s h = absurd h
-ends_at at.VariableCount j s h = absurd h
-ends_at at.Variables j s h = absurd (variables j.left s.parts h)
-ends_at at.VariableName j s h = absurd h
-ends_at at.VariableLayer j s h = absurd h
-ends_at at.VariableRange j s h = absurd h
-ends_at at.VariableValues j s h = absurd (values j.left s.parts s.name s.layer j.more s.values h)
-ends_at at.Groups j s h = absurd (groups j.left s.parts h)
-ends_at at.GroupSize j s h = absurd h
-ends_at at.GroupFacts j s h = absurd (facts j.left s.parts j.more s.facts h)
-ends_at at.StateValues j s h = absurd (state (drop (length s.parts.init) s.parts.variables) s.parts h)
-ends_at at.GoalBegin j s h = absurd h
-ends_at at.GoalSize j s h = absurd h
-ends_at at.GoalFacts j s h = absurd (goal j.more s.parts h)
-ends_at at.OperatorCount j s h = absurd h
-ends_at at.Operators j s h = absurd (operators j.left s.parts h)
-ends_at at.OperatorName j s h = absurd h
-ends_at at.PrevailCount j s h = absurd h
-ends_at at.Prevail j s h = absurd (prevail j.left s.parts s.name j.more s.facts h)
-ends_at at.Effects j s h = absurd (effects j.left s.parts s.name s.facts j.more s.effects h)
-ends_at at.OperatorEnd j s h = absurd h
-ends_at at.Rules j s h = (refl, rules j.left s.parts h)
-ends_at at.RuleSize j s h = absurd h
-ends_at at.RuleConditions j s h = absurd (conditions j.left s.parts j.more s.facts h)
-ends_at at.RuleEnd j s h = absurd h
+ends_at : (place : Place) (left more : ℕ) (s : SoFar) → IsDone (state_at place left more s) → (place ≡ at.Rules) × (left ≡ 0)
+ends_at at.VersionBegin left more s h = absurd h
+ends_at at.VersionNumber left more s h = absurd h
+ends_at at.VersionEnd left more s h = absurd h
+ends_at at.MetricBegin left more s h = absurd h
+ends_at at.MetricNumber left more s h = absurd h
+ends_at at.MetricEnd left more s h = absurd h
+ends_at at.VariableCount left more s h = absurd h
+ends_at at.Variables left more s h = absurd (variables left s.parts h)
+ends_at at.VariableName left more s h = absurd h
+ends_at at.VariableLayer left more s h = absurd h
+ends_at at.VariableRange left more s h = absurd h
+ends_at at.VariableValues left more s h = absurd (values left s.parts s.name s.layer more s.values h)
+ends_at at.Groups left more s h = absurd (groups left s.parts h)
+ends_at at.GroupSize left more s h = absurd h
+ends_at at.GroupFacts left more s h = absurd (facts left s.parts more s.facts h)
+ends_at at.StateValues left more s h = absurd (state (drop (length s.parts.init) s.parts.variables) s.parts h)
+ends_at at.GoalBegin left more s h = absurd h
+ends_at at.GoalSize left more s h = absurd h
+ends_at at.GoalFacts left more s h = absurd (goal more s.parts h)
+ends_at at.OperatorCount left more s h = absurd h
+ends_at at.Operators left more s h = absurd (operators left s.parts h)
+ends_at at.OperatorName left more s h = absurd h
+ends_at at.PrevailCount left more s h = absurd h
+ends_at at.Prevail left more s h = absurd (prevail left s.parts s.name more s.facts h)
+ends_at at.Effects left more s h = absurd (effects left s.parts s.name s.facts more s.effects h)
+ends_at at.OperatorEnd left more s h = absurd h
+ends_at at.Rules left more s h = (refl, rules left s.parts h)
+ends_at at.RuleSize left more s h = absurd h
+ends_at at.RuleConditions left more s h = absurd (conditions left s.parts more s.facts h)
+ends_at at.RuleEnd left more s h = absurd h
 
 pub ended_if_done : (j : TaskJudge) (s : SoFar) → IsDone (state_of j s) → HasEnded j
-ended_if_done j s h = ends_at j.place j s h
+ended_if_done j s h = ends_at j.place j.left j.more s h
 
 -- where it has ended, it is at the end with its parts
 pub ends_with : (j : TaskJudge) (s : SoFar) → HasEnded j → process_node (state_of j s) ≡ ended s.parts
-ends_with j s h = ap (λ (place : Place). process_node (state_at place j s)) h.0 ∙ ap (λ (left : ℕ). process_node (rule_begin left s.parts)) h.1
+ends_with j s h = ap (λ (place : Place). process_node (state_at place j.left j.more s)) h.0 ∙ ap (λ (left : ℕ). process_node (rule_begin left s.parts)) h.1

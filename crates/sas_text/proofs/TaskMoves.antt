@@ -13,6 +13,7 @@ use Rattle.sas_core.specs.declared.parts.Parts.{Parts}
 use Rattle.sas_core.specs.declared.parts.Variable.{Variable}
 use Rattle.sas_core.specs.Variables.{range_of}
 use Rattle.sas_text.specs.declared.task_events.Event.{Event}
+use Rattle.sas_text.specs.declared.task_events.Said.{Said}
 use Rattle.sas_text.specs.declared.task_parts.SoFar.{SoFar}
 use Rattle.sas_text.specs.declared.task_judge.Place.{Place}
 use Rattle.sas_text.specs.declared.task_judge.Place.TheVariants as at
@@ -68,13 +69,13 @@ over (suc n) (v ∷ vs) h = over n vs (omega arith)
 
 pub state_is_over : (j : TaskJudge) (s : SoFar) → j.place ≡ at.StateValues → length j.ranges ≤ j.valued → Fits s j → state_of j s ≡ a_word (codes "end_state") (λ _. goal_begin s.parts)
 state_is_over j s here l f =
-    ap (λ (place : Place). state_at place j s) here
+    ap (λ (place : Place). state_at place j.left j.more s) here
     ∙ ap (λ (vs : List Variable). state_values_of vs s.parts) (over (length s.parts.init) s.parts.variables (omega (arith, l, many_same s j f, f.valued)))
 
 -- else the value of the next variable is
 pub state_goes_on : (j : TaskJudge) (s : SoFar) → j.place ≡ at.StateValues → j.valued < length j.ranges → Fits s j
     → state_of j s ≡ a_number (λ n. nat_lt n (range_of s.parts.variables (length s.parts.init))) (λ n. state_values (record s.parts { init = s.parts.init ++ n ∷ [] }))
-state_goes_on j s here l f = ap (λ (place : Place). state_at place j s) here ∙ value_due s.parts (omega (arith, l, many_same s j f, f.valued))
+state_goes_on j s here l f = ap (λ (place : Place). state_at place j.left j.more s) here ∙ value_due s.parts (omega (arith, l, many_same s j f, f.valued))
 
 -- the kind, if there is one
 abbrev pub some_or : Kind → Option Kind → Kind
@@ -86,14 +87,14 @@ pub refused : (j : TaskJudge) (line : List ℕ) (r : Result Event Kind) (kind : 
 refused j line (Ok event) kind e h = absurd (none-some kind e)
 refused j line (Err other) kind e h = subst (λ (k : Kind). IsOfBytes k × (k ≢ kinds.Memory → RejectsLine j line k)) (sym (ap (some_or other) e)) h
 
--- a machine that a line moves on is led by it too
-pub led_on : {K : Type 0} (keeps : List (List ℕ) → SoFar → K → Type 0) (before : List (List ℕ)) (m n : TaskMachine K) (event : Event) (line : List ℕ) → LedBy keeps before m → Moves m.judge line n.judge (Ok event)
-    → ((lines : List (List ℕ)) (s : SoFar) → keeps lines s m.kept → keeps (lines ++ line ∷ []) (after s event line) n.kept) → LedBy keeps (before ++ line ∷ []) n
-led_on keeps before m n event line h moves keeps_on =
+-- a machine that a line moves on is led by it too, whatever becomes of what was said
+pub led_on : {K : Type 0} (keeps : List (List ℕ) → SoFar → K → Type 0) (before : List (List ℕ)) (m : TaskMachine K) (j : TaskJudge) (said : Said) (kept : K) (event : Event) (line : List ℕ) → LedBy keeps before m → Moves m.judge line j (Ok event)
+    → ((lines : List (List ℕ)) (s : SoFar) → keeps lines s m.kept → keeps (lines ++ line ∷ []) (after s event j.said line) kept) → LedBy keeps (before ++ line ∷ []) (record { judge = record j { said = said }; kept = kept })
+led_on keeps before m j said kept event line h moves keeps_on =
     let moved = moves h.so_far h.fits in
     record {
-      so_far = after h.so_far event line;
-      leads = line_led before (state_of m.judge h.so_far) (state_of n.judge (after h.so_far event line)) moved.1.0 line h.leads moved.1.1 moved.1.2;
-      fits = moved.0;
+      so_far = after h.so_far event j.said line;
+      leads = line_led before (state_of m.judge h.so_far) (state_of j (after h.so_far event j.said line)) moved.1.0 line h.leads moved.1.1 moved.1.2;
+      fits = record { ranges = moved.0.ranges; valued = moved.0.valued; range = moved.0.range };
       kept = keeps_on before h.so_far h.kept;
     }

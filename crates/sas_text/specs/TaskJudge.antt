@@ -18,42 +18,43 @@ use Rattle.sas_text.specs.TaskPlaces.{version_begin, version_number, version_end
 
 -- ---- what may still come
 
--- at a place, behind what has come
-abbrev pub state_at : Place → TaskJudge → SoFar → TaskProcess
-state_at at.VersionBegin j s = version_begin s.parts
-state_at at.VersionNumber j s = version_number s.parts
-state_at at.VersionEnd j s = version_end s.parts
-state_at at.MetricBegin j s = metric_begin s.parts
-state_at at.MetricNumber j s = metric_number s.parts
-state_at at.MetricEnd j s = metric_end s.parts
-state_at at.VariableCount j s = variable_count s.parts
-state_at at.Variables j s = variable_begin j.left s.parts
-state_at at.VariableName j s = variable_name j.left s.parts
-state_at at.VariableLayer j s = variable_layer j.left s.parts s.name
-state_at at.VariableRange j s = variable_range j.left s.parts s.name s.layer
-state_at at.VariableValues j s = variable_values j.left s.parts s.name s.layer j.more s.values
-state_at at.Groups j s = group_begin j.left s.parts
-state_at at.GroupSize j s = group_size j.left s.parts
-state_at at.GroupFacts j s = group_facts j.left s.parts j.more s.facts
-state_at at.StateValues j s = state_values s.parts
-state_at at.GoalBegin j s = goal_begin s.parts
-state_at at.GoalSize j s = goal_size s.parts
-state_at at.GoalFacts j s = goal_facts j.more s.parts
-state_at at.OperatorCount j s = operator_count s.parts
-state_at at.Operators j s = operator_begin j.left s.parts
-state_at at.OperatorName j s = operator_name j.left s.parts
-state_at at.PrevailCount j s = operator_prevail_count j.left s.parts s.name
-state_at at.Prevail j s = operator_prevail j.left s.parts s.name j.more s.facts
-state_at at.Effects j s = operator_effects j.left s.parts s.name s.facts j.more s.effects
+-- at a place, with so many variables, groups, operators or rules left, so many values, facts or effects left, and behind
+-- what has come
+abbrev pub state_at : Place → ℕ → ℕ → SoFar → TaskProcess
+state_at at.VersionBegin left more s = version_begin s.parts
+state_at at.VersionNumber left more s = version_number s.parts
+state_at at.VersionEnd left more s = version_end s.parts
+state_at at.MetricBegin left more s = metric_begin s.parts
+state_at at.MetricNumber left more s = metric_number s.parts
+state_at at.MetricEnd left more s = metric_end s.parts
+state_at at.VariableCount left more s = variable_count s.parts
+state_at at.Variables left more s = variable_begin left s.parts
+state_at at.VariableName left more s = variable_name left s.parts
+state_at at.VariableLayer left more s = variable_layer left s.parts s.name
+state_at at.VariableRange left more s = variable_range left s.parts s.name s.layer
+state_at at.VariableValues left more s = variable_values left s.parts s.name s.layer more s.values
+state_at at.Groups left more s = group_begin left s.parts
+state_at at.GroupSize left more s = group_size left s.parts
+state_at at.GroupFacts left more s = group_facts left s.parts more s.facts
+state_at at.StateValues left more s = state_values s.parts
+state_at at.GoalBegin left more s = goal_begin s.parts
+state_at at.GoalSize left more s = goal_size s.parts
+state_at at.GoalFacts left more s = goal_facts more s.parts
+state_at at.OperatorCount left more s = operator_count s.parts
+state_at at.Operators left more s = operator_begin left s.parts
+state_at at.OperatorName left more s = operator_name left s.parts
+state_at at.PrevailCount left more s = operator_prevail_count left s.parts s.name
+state_at at.Prevail left more s = operator_prevail left s.parts s.name more s.facts
+state_at at.Effects left more s = operator_effects left s.parts s.name s.facts more s.effects
 -- the operator and the rule of the last line are already among the parts
-state_at at.OperatorEnd j s = a_word (codes "end_operator") >> operator_begin j.left s.parts
-state_at at.Rules j s = rule_begin j.left s.parts
-state_at at.RuleSize j s = rule_size j.left s.parts
-state_at at.RuleConditions j s = rule_conditions j.left s.parts j.more s.facts
-state_at at.RuleEnd j s = a_word (codes "end_rule") >> rule_begin j.left s.parts
+state_at at.OperatorEnd left more s = a_word (codes "end_operator") >> operator_begin left s.parts
+state_at at.Rules left more s = rule_begin left s.parts
+state_at at.RuleSize left more s = rule_size left s.parts
+state_at at.RuleConditions left more s = rule_conditions left s.parts more s.facts
+state_at at.RuleEnd left more s = a_word (codes "end_rule") >> rule_begin left s.parts
 
 abbrev pub state_of : TaskJudge → SoFar → TaskProcess
-state_of j s = state_at j.place j s
+state_of j s = state_at j.place j.left j.more s
 
 -- all has come
 abbrev pub HasEnded : TaskJudge → Type 0
@@ -79,5 +80,5 @@ RejectsLine j line kind = (s : SoFar) → Fits s j → Rejects task_format (proc
 -- The line leads from what has come to that with what it adds; or, want of memory aside, it may not follow, and the kind
 -- is that of its fault.
 abbrev pub Moves : TaskJudge → List ℕ → TaskJudge → Result Event Kind → Type 0
-Moves j line k (Ok event) = (s : SoFar) → Fits s j → Fits (after s event line) k × LeadsOn (state_of j s) line (state_of k (after s event line))
+Moves j line k (Ok event) = (s : SoFar) → Fits s j → Fits (after s event k.said line) k × LeadsOn (state_of j s) line (state_of k (after s event k.said line))
 Moves j line k (Err kind) = IsOfBytes kind × (kind ≢ kinds.Memory → RejectsLine j line kind)

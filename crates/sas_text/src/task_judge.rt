@@ -7,7 +7,7 @@ ghost use Rattle.sas_text.specs.TaskRanges.{range_in};
 ghost use Rattle.sas_text.specs.TaskJudge.{state_of, Moves, Fits, HasEnded};
 
 use crate::fault::Kind;
-use crate::task_events::Event;
+use crate::task_events::{Event, Said};
 use crate::task_line::{
     effect_at, fact_at, head_at, name_at, number_at, number_below, positive_at, signed_at,
     version_at, word_at,
@@ -76,6 +76,8 @@ pub struct TaskJudge {
     ranges: Items<u32>,
     /// How many variables have their value in the state.
     valued: usize,
+    /// What the lines said last.
+    pub said: Said,
 }
 
 impl TaskJudge {
@@ -93,6 +95,7 @@ impl TaskJudge {
             range: 0,
             ranges: Items::new(alloc),
             valued: 0,
+            said: Said::new(alloc),
         }
     }
 
@@ -151,9 +154,9 @@ impl TaskJudge {
         requires place { self.old.place ≡ Place.MetricNumber }
         ensures { Moves self.old line.now self.new result }
     {
-        let metric = number_below(line, 2)?;
+        self.said.number = number_below(line, 2)?;
         self.place = Place::MetricEnd;
-        Ok(Event::Metric(metric == 1))
+        Ok(Event::Metric)
     }
 
     /// Takes the number of variables.
@@ -179,9 +182,9 @@ impl TaskJudge {
         requires place { self.old.place ≡ Place.VariableLayer }
         ensures { Moves self.old line.now self.new result }
     {
-        let layer = signed_at(line)?;
+        self.said.layer = signed_at(line)?;
         self.place = Place::VariableRange;
-        Ok(Event::Layer(layer))
+        Ok(Event::Layer)
     }
 
     /// Takes the number of a variable's values.
@@ -241,9 +244,9 @@ impl TaskJudge {
         requires due { (s : SoFar) → Fits s self.old → state_of self.old s ≡ a_fact s.parts.variables (λ f. state_of (record self.old { more = self.old.more - 1 }) (record s { facts = s.facts ++ f ∷ [] })) }
         ensures { Moves self.old line.now self.new result }
     {
-        let fact = fact_at(&self.ranges, line)?;
+        self.said.fact = fact_at(&self.ranges, line)?;
         self.more -= 1;
-        Ok(Event::Fact(fact))
+        Ok(Event::Fact)
     }
 
     /// Takes the last word of a group.
@@ -274,9 +277,9 @@ impl TaskJudge {
         requires few { length self.old.ranges < 2 ^ 64 }
         ensures { Moves self.old line.now self.new result }
     {
-        let value = number_below(line, self.next_range())?;
+        self.said.number = number_below(line, self.next_range())?;
         self.valued += 1;
-        Ok(Event::State(value))
+        Ok(Event::State)
     }
 
     /// Takes the number of goal facts.
@@ -294,9 +297,9 @@ impl TaskJudge {
         requires more { 0 < self.old.more }
         ensures { Moves self.old line.now self.new result }
     {
-        let fact = fact_at(&self.ranges, line)?;
+        self.said.fact = fact_at(&self.ranges, line)?;
         self.more -= 1;
-        Ok(Event::Goal(fact))
+        Ok(Event::Goal)
     }
 
     fn operator_name(&mut self, line: &[u8]) -> Result<Event, Kind>
@@ -324,9 +327,9 @@ impl TaskJudge {
         requires more { 0 < self.old.more }
         ensures { Moves self.old line.now self.new result }
     {
-        let effect = effect_at(self.alloc, &self.ranges, line)?;
+        self.said.effect = effect_at(self.alloc, &self.ranges, line)?;
         self.more -= 1;
-        Ok(Event::Effect(effect))
+        Ok(Event::Effect)
     }
 
     /// Takes the cost of an operator.
@@ -335,9 +338,9 @@ impl TaskJudge {
         requires all { self.old.more ≡ 0 }
         ensures { Moves self.old line.now self.new result }
     {
-        let cost = number_at(line)?;
+        self.said.number = number_at(line)?;
         self.place = Place::OperatorEnd;
-        Ok(Event::Operator(cost))
+        Ok(Event::Operator)
     }
 
     /// Takes the head of a rule.
@@ -346,9 +349,9 @@ impl TaskJudge {
         requires all { self.old.more ≡ 0 }
         ensures { Moves self.old line.now self.new result }
     {
-        let change = head_at(&self.ranges, line)?;
+        self.said.head = head_at(&self.ranges, line)?;
         self.place = Place::RuleEnd;
-        Ok(Event::Rule(change))
+        Ok(Event::Rule)
     }
 
     /// Takes the next line.

@@ -5,7 +5,7 @@ ghost use Rattle.sas_text.specs.TaskMachine.{LedBy};
 
 use crate::fault::Kind;
 use crate::reader::Machine;
-use crate::task_events::Event;
+use crate::task_events::{Event, Said};
 use crate::task_judge::TaskJudge;
 use std::alloc::Global;
 
@@ -17,9 +17,9 @@ pub trait Keeper: Drop {
     /// It keeps what it is asked to of these lines, with which so much of a task has come.
     ghost keeps: { List (List ℕ) → SoFar → Self → Type 0 };
 
-    /// Keeps what the next line says.
-    fn keep(&mut self, line: &[u8], event: Event) -> Result<(), Kind>
-        ensures kept { OnOk result ((lines : List (List ℕ)) (s : SoFar) → keeps lines s self.old → keeps (lines ++ line.now ∷ []) (after s event line.now) self.new) }
+    /// Keeps what the next line says. It may take what was said.
+    fn keep(&mut self, line: &[u8], event: Event, said: &mut Said) -> Result<(), Kind>
+        ensures kept { OnOk result ((lines : List (List ℕ)) (s : SoFar) → keeps lines s self.old → keeps (lines ++ line.now ∷ []) (after s event said.old line.now) self.new) }
         ensures err { IfErr result (λ k. k ≡ Kind.Memory) };
 }
 
@@ -70,6 +70,6 @@ impl<K: Keeper> Machine for TaskMachine<K> {
 
     fn accept(&mut self, line: &[u8]) -> Result<(), Kind> {
         let event = self.judge.take(line)?;
-        self.kept.keep(line, event)
+        self.kept.keep(line, event, &mut self.judge.said)
     }
 }

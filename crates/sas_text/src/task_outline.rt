@@ -5,7 +5,7 @@ ghost use Rattle.sas_text.specs.TaskOutline.{outline_in, seen};
 
 use crate::fault::Kind;
 use crate::outline::Outline;
-use crate::task_events::Event;
+use crate::task_events::{Event, Said};
 use crate::task_machine::Keeper;
 use crate::task_parts::SoFar;
 use std::alloc::Global;
@@ -61,16 +61,16 @@ impl Keeper for TaskOutline {
 
     ghost keeps = { λ _ s kept. kept ≡ seen s };
 
-    fn keep(&mut self, line: &[u8], event: Event) -> Result<(), Kind> {
+    fn keep(&mut self, line: &[u8], event: Event, said: &mut Said) -> Result<(), Kind> {
         match event {
             Event::Group => self.groups = self.groups.saturating_add(1),
-            Event::Operator(_) => {
+            Event::Operator => {
                 self.rest.name.clear();
                 self.operators = self.operators.saturating_add(1);
             }
-            Event::Rule(_) => self.rules = self.rules.saturating_add(1),
-            Event::Facts | Event::Fact(_) | Event::Effects | Event::Effect(_) => {}
-            other => return self.rest.add(line, other),
+            Event::Rule => self.rules = self.rules.saturating_add(1),
+            Event::Facts | Event::Fact | Event::Effects | Event::Effect => {}
+            other => return self.rest.add(line, other, said),
         }
         Ok(())
     }

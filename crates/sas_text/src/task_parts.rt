@@ -1,11 +1,11 @@
 // What keeps all that a task file says.
 ghost use Rattle.std.specs.Prelude.{◌≡◌, List, [], ◌∷◌, ◌++◌, IfErr, IfOk, OnOk};
 ghost use Rattle.sas_text.specs.declared.task_events.Event.TheVariants as event;
+ghost use Rattle.sas_text.specs.declared.task_events.Said.{Said};
 ghost use Rattle.sas_text.specs.TaskEvents.{nothing_yet, after};
 
 use crate::fault::Kind;
-use crate::task_events::Event;
-use crate::task_line::Change;
+use crate::task_events::{Event, Said};
 use crate::task_machine::Keeper;
 use sas_core::{Effect, Fact, Items, Operator, Parts, Rule, Variable};
 use std::alloc::Global;
@@ -79,7 +79,7 @@ impl SoFar {
     }
 
     fn name(&mut self, line: &[u8]) -> Result<(), Kind>
-        ensures ok { OnOk result (self.new ≡ after self.old event.Name line.now) }
+        ensures ok { (said : Said) → OnOk result (self.new ≡ after self.old event.Name said line.now) }
         ensures err { IfErr result (λ k. k ≡ Kind.Memory) }
     {
         // Most often it is an operator's, and its memory is there already.
@@ -91,7 +91,7 @@ impl SoFar {
     }
 
     fn value(&mut self, line: &[u8]) -> Result<(), Kind>
-        ensures ok { OnOk result (self.new ≡ after self.old event.Value line.now) }
+        ensures ok { (said : Said) → OnOk result (self.new ≡ after self.old event.Value said line.now) }
         ensures err { IfErr result (λ k. k ≡ Kind.Memory) }
     {
         let name = copy_of(self.alloc, line)?;
@@ -99,7 +99,7 @@ impl SoFar {
     }
 
     fn variable(&mut self) -> Result<(), Kind>
-        ensures ok { OnOk result (self.new ≡ after self.old event.Variable []) }
+        ensures ok { (said : Said) → OnOk result (self.new ≡ after self.old event.Variable said []) }
         ensures err { IfErr result (λ k. k ≡ Kind.Memory) }
     {
         let variable = Variable {
@@ -111,61 +111,75 @@ impl SoFar {
     }
 
     fn group(&mut self) -> Result<(), Kind>
-        ensures ok { OnOk result (self.new ≡ after self.old event.Group []) }
+        ensures ok { (said : Said) → OnOk result (self.new ≡ after self.old event.Group said []) }
         ensures err { IfErr result (λ k. k ≡ Kind.Memory) }
     {
         let facts = mem::replace(&mut self.facts, Items::new(self.alloc));
         push(&mut self.parts.groups, facts)
     }
 
-    fn operator(&mut self, cost: u32) -> Result<(), Kind>
-        ensures ok { OnOk result (self.new ≡ after self.old (event.Operator cost) []) }
+    fn effect(&mut self, said: &mut Said) -> Result<(), Kind>
+        ensures ok { OnOk result (self.new ≡ after self.old event.Effect said.old []) }
+        ensures err { IfErr result (λ k. k ≡ Kind.Memory) }
+    {
+        let Effect { var, old, new, .. } = said.effect;
+        let effect = Effect {
+            conditions: mem::replace(&mut said.effect.conditions, Items::new(self.alloc)),
+            var,
+            old,
+            new,
+        };
+        push(&mut self.effects, effect)
+    }
+
+    fn operator(&mut self, said: &Said) -> Result<(), Kind>
+        ensures ok { OnOk result (self.new ≡ after self.old event.Operator said.now []) }
         ensures err { IfErr result (λ k. k ≡ Kind.Memory) }
     {
         let operator = Operator {
             name: mem::replace(&mut self.name, Items::new(self.alloc)),
             prevail: mem::replace(&mut self.facts, Items::new(self.alloc)),
             effects: mem::replace(&mut self.effects, Items::new(self.alloc)),
-            cost,
+            cost: said.number,
         };
         push(&mut self.parts.operators, operator)
     }
 
-    fn rule(&mut self, change: Change) -> Result<(), Kind>
-        ensures ok { OnOk result (self.new ≡ after self.old (event.Rule change) []) }
+    fn rule(&mut self, said: &Said) -> Result<(), Kind>
+        ensures ok { OnOk result (self.new ≡ after self.old event.Rule said.now []) }
         ensures err { IfErr result (λ k. k ≡ Kind.Memory) }
     {
         let rule = Rule {
             conditions: mem::replace(&mut self.facts, Items::new(self.alloc)),
-            var: change.var,
-            old: change.old,
-            new: change.new,
+            var: said.head.var,
+            old: said.head.old,
+            new: said.head.new,
         };
         push(&mut self.parts.rules, rule)
     }
 
     /// Takes what the line says.
-    pub fn add(&mut self, line: &[u8], event: Event) -> Result<(), Kind>
-        ensures ok { OnOk result (self.new ≡ after self.old event line.now) }
+    pub fn add(&mut self, line: &[u8], event: Event, said: &mut Said) -> Result<(), Kind>
+        ensures ok { OnOk result (self.new ≡ after self.old event said.old line.now) }
         ensures err { IfErr result (λ k. k ≡ Kind.Memory) }
     {
         match event {
             Event::Nothing => return Ok(()),
-            Event::Metric(metric) => self.parts.metric = metric,
+            Event::Metric => self.parts.metric = said.number == 1,
             Event::Name => return self.name(line),
-            Event::Layer(layer) => self.layer = layer,
+            Event::Layer => self.layer = said.layer,
             Event::Values => self.values = Items::new(self.alloc),
             Event::Value => return self.value(line),
             Event::Variable => return self.variable(),
             Event::Facts => self.facts = Items::new(self.alloc),
-            Event::Fact(fact) => return push(&mut self.facts, fact),
+            Event::Fact => return push(&mut self.facts, said.fact),
             Event::Group => return self.group(),
-            Event::State(value) => return push(&mut self.parts.init, value),
-            Event::Goal(fact) => return push(&mut self.parts.goal, fact),
+            Event::State => return push(&mut self.parts.init, said.number),
+            Event::Goal => return push(&mut self.parts.goal, said.fact),
             Event::Effects => self.effects = Items::new(self.alloc),
-            Event::Effect(effect) => return push(&mut self.effects, effect),
-            Event::Operator(cost) => return self.operator(cost),
-            Event::Rule(change) => return self.rule(change),
+            Event::Effect => return self.effect(said),
+            Event::Operator => return self.operator(said),
+            Event::Rule => return self.rule(said),
         }
         Ok(())
     }
@@ -176,7 +190,7 @@ impl Keeper for SoFar {
 
     ghost keeps = { λ lines s kept. kept ≡ s };
 
-    fn keep(&mut self, line: &[u8], event: Event) -> Result<(), Kind> {
-        self.add(line, event)
+    fn keep(&mut self, line: &[u8], event: Event, said: &mut Said) -> Result<(), Kind> {
+        self.add(line, event, said)
     }
 }

@@ -2,7 +2,7 @@
 ghost use Rattle.std.specs.Prelude.{◌≡◌, [], IfErr, OnOk};
 
 use crate::fault::Kind;
-use crate::task_events::Event;
+use crate::task_events::{Event, Said};
 use crate::task_machine::Keeper;
 use sas_lines::push_line;
 use std::alloc::Global;
@@ -38,7 +38,7 @@ impl Keeper for TaskText {
 
     ghost keeps = { λ lines _ kept. kept.text.items ≡ text lines };
 
-    fn keep(&mut self, line: &[u8], _event: Event) -> Result<(), Kind> {
+    fn keep(&mut self, line: &[u8], _event: Event, _said: &mut Said) -> Result<(), Kind> {
         match push_line(&mut self.text, line) {
             Ok(()) => Ok(()),
             Err(_) => Err(Kind::Memory),

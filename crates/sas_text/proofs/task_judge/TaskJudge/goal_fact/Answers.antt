@@ -7,13 +7,13 @@ use Rattle.sas_text.proofs.TaskRanges.{takes_as, judged_as, fact_same}
 use Rattle.sas_text.specs.TaskPlaces.{goal_facts}
 use Rattle.sas_text.proofs.task_judge.TaskJudge.goal_fact.Goals as goal
 
-pub returns-in_err-fact : goal.returns-in_err-fact
-returns-in_err-fact c =
-    let same : result_err c.from_residual.result ≡ Some c.in_err-fact.field-0.0 = search rules in
-    refused c.args.self.now c.args.line.now _ _ same (c.in_err-fact.ensures.0, λ n s f. off _ _ _ _ _ _ ((ap (λ place. state_at place c.args.self.now s) c.requires.place) ∙ ap (λ more. goal_facts more s.parts) (next_of _ c.requires.more)) (judged_as _ _ _ (fact_same s c.args.self.now f) _ _ (c.in_err-fact.ensures.1 n)))
+pub returns-in_err-self : goal.returns-in_err-self
+returns-in_err-self c =
+    let same : result_err c.from_residual.result ≡ Some c.in_err-self.field-0.0 = search rules in
+    refused c.args.self.now c.args.line.now _ _ same (c.in_err-self.ensures.0, λ n s f. off _ _ _ _ _ _ ((ap (λ place. state_at place c.args.self.now.left c.args.self.now.more s) c.requires.place) ∙ ap (λ more. goal_facts more s.parts) (next_of _ c.requires.more)) (judged_as _ _ _ (fact_same s c.args.self.now f) _ _ (c.in_err-self.ensures.1 n)))
 
 pub returns : goal.returns
 returns c = λ s f. (
   record { ranges = f.ranges; valued = f.valued; range = λ h. absurd (let other = sym c.requires.place ∙ h in cc) },
-  on _ _ _ _ _ _ _ ((ap (λ place. state_at place c.args.self.now s) c.requires.place) ∙ ap (λ more. goal_facts more s.parts) (next_of _ c.requires.more)) (takes_as _ _ _ (fact_same s c.args.self.now f) _ c.in_ok-fact.ensures.0, c.in_ok-fact.ensures.1) (ap (λ place. state_at place (record c.args.self.now { more = c.args.self.now.more - 1 }) (record s { parts = record s.parts { goal = s.parts.goal ++ c.in_ok-fact.fact ∷ [] } })) (sym c.requires.place)),
+  on _ _ _ _ _ _ _ ((ap (λ place. state_at place c.args.self.now.left c.args.self.now.more s) c.requires.place) ∙ ap (λ more. goal_facts more s.parts) (next_of _ c.requires.more)) (takes_as _ _ _ (fact_same s c.args.self.now f) _ c.in_ok-self.ensures.0, c.in_ok-self.ensures.1) (ap (λ place. state_at place c.args.self.now.left (c.args.self.now.more - 1) (record s { parts = record s.parts { goal = s.parts.goal ++ c.in_ok-self.field-0 ∷ [] } })) (sym c.requires.place)),
 )

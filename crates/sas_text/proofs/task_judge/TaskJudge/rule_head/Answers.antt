@@ -8,5 +8,5 @@ use Rattle.sas_text.proofs.task_judge.TaskJudge.rule_head.Goals as goal
 pub returns : goal.returns
 returns c = λ s f. (
   record { ranges = f.ranges; valued = f.valued; range = λ h. absurd cc },
-  on _ _ _ _ _ _ _ ((ap (λ place. state_at place c.args.self.now s) c.requires.place) ∙ ap (λ more. rule_conditions c.args.self.now.left s.parts more s.facts) c.requires.all) (takes_as _ _ _ (head_same s c.args.self.now f) _ c.in_ok-change.ensures.0, c.in_ok-change.ensures.1) refl,
+  on _ _ _ _ _ _ _ ((ap (λ place. state_at place c.args.self.now.left c.args.self.now.more s) c.requires.place) ∙ ap (λ more. rule_conditions c.args.self.now.left s.parts more s.facts) c.requires.all) (takes_as _ _ _ (head_same s c.args.self.now f) _ c.in_ok-self.ensures.0, c.in_ok-self.ensures.1) refl,
 )

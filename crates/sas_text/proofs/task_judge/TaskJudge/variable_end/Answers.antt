@@ -13,5 +13,5 @@ returns-in-Ok c = λ s f. (
     valued = f.valued;
     range = λ h. absurd cc;
   },
-  on _ _ _ _ _ _ _ ((ap (λ place. state_at place c.args.self.now s) c.requires.place) ∙ ap (λ more. variable_values c.args.self.now.left s.parts s.name s.layer more s.values) c.requires.all) c.in_ok-word_at.ensures refl,
+  on _ _ _ _ _ _ _ ((ap (λ place. state_at place c.args.self.now.left c.args.self.now.more s) c.requires.place) ∙ ap (λ more. variable_values c.args.self.now.left s.parts s.name s.layer more s.values) c.requires.all) c.in_ok-word_at.ensures refl,
 )

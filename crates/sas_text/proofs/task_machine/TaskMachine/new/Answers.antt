@@ -9,7 +9,7 @@ returns g c =
     record {
       led = record {
         so_far = so_far;
-        leads = record { items = []; after = sym (ap (λ place. state_at place c.new.result so_far) c.new.ensures.place); spells = refl };
+        leads = record { items = []; after = sym (ap (λ place. state_at place c.new.result.left c.new.result.more so_far) c.new.ensures.place); spells = refl };
         fits = record { ranges = c.new.ensures.ranges; valued = c.new.ensures.valued; range = λ h. absurd (let other = sym c.new.ensures.place ∙ h in cc) };
         kept = c.requires.1;
       };

@@ -8,4 +8,4 @@ on_ok (Ok x) P Q h f = f h
 on_ok (Err e) P Q h f = tt
 
 pub returns-clause-led : goal.returns-clause-led
-returns-clause-led g c = on_ok c.keep.result _ _ c.keep.ensures.kept (λ keeps_on before h. led_on _ before c.args.self.now (record { judge = c.take.new.self; kept = c.keep.new.self }) c.in_ok-event.event c.args.line.now h c.in_ok-event.ensures keeps_on)
+returns-clause-led g c = on_ok c.keep.result _ _ c.keep.ensures.kept (λ keeps_on before h. led_on _ before c.args.self.now c.take.new.self _ c.keep.new.self c.in_ok-event.event c.args.line.now h c.in_ok-event.ensures keeps_on)
