@@ -83,9 +83,9 @@ some_or other None = other
 some_or other (Some kind) = kind
 
 -- a line that the judge refuses
-pub refused : (j : TaskJudge) (line : List ℕ) (r : Result Event Kind) (kind : Kind) → result_err r ≡ Some kind → IsOfBytes kind × (kind ≢ kinds.Memory → RejectsLine j line kind) → Moves j line j r
-refused j line (Ok event) kind e h = absurd (none-some kind e)
-refused j line (Err other) kind e h = subst (λ (k : Kind). IsOfBytes k × (k ≢ kinds.Memory → RejectsLine j line k)) (sym (ap (some_or other) e)) h
+pub refused : (j k : TaskJudge) (line : List ℕ) (r : Result Event Kind) (kind : Kind) → result_err r ≡ Some kind → IsOfBytes kind × (kind ≢ kinds.Memory → RejectsLine j line kind) → Moves j line k r
+refused j k line (Ok event) kind e h = absurd (none-some kind e)
+refused j k line (Err other) kind e h = subst (λ (x : Kind). IsOfBytes x × (x ≢ kinds.Memory → RejectsLine j line x)) (sym (ap (some_or other) e)) h
 
 -- a machine that a line moves on is led by it too, whatever becomes of what was said
 pub led_on : {K : Type 0} (keeps : List (List ℕ) → SoFar → K → Type 0) (before : List (List ℕ)) (m : TaskMachine K) (j : TaskJudge) (said : Said) (kept : K) (event : Event) (line : List ℕ) → LedBy keeps before m → Moves m.judge line j (Ok event)

@@ -64,7 +64,6 @@ pub enum Place {
 /// The place behind the lines so far, and what of them decides which lines may follow: it keeps nothing else of a task.
 #[derive(Drop)]
 pub struct TaskJudge {
-    alloc: Global,
     place: Place,
     /// How many variables, groups, operators or rules are left.
     left: u32,
@@ -88,7 +87,6 @@ impl TaskJudge {
         ensures valued { result.valued ≡ 0 }
     {
         TaskJudge {
-            alloc,
             place: Place::VersionBegin,
             left: 0,
             more: 0,
@@ -327,7 +325,7 @@ impl TaskJudge {
         requires more { 0 < self.old.more }
         ensures { Moves self.old line.now self.new result }
     {
-        self.said.effect = effect_at(self.alloc, &self.ranges, line)?;
+        effect_at(&mut self.said.effect, &self.ranges, line)?;
         self.more -= 1;
         Ok(Event::Effect)
     }

@@ -1,5 +1,5 @@
 // One line of a task file, by what is due there.
-ghost use Rattle.std.specs.Prelude.{◌≡◌, ◌↔◌, ℕ, List, [], Option, nat_lt, true, ◌==◌, IsTrue, IfOk, IfSome, IfNone};
+ghost use Rattle.std.specs.Prelude.{◌≡◌, ◌↔◌, ℕ, List, [], Option, nat_lt, true, false, ◌==◌, IsTrue, IfOk, IfSome, IfNone};
 ghost use Rattle.std.specs.List.{list_all};
 ghost use Rattle.sas_core.specs.Names.{is_name};
 ghost use Rattle.sas_text.specs.TaskFormat as format;
@@ -11,7 +11,7 @@ ghost use Rattle.sas_text.specs.TaskWords.{Spells, TakesNumber, TakesSigned, Tak
 use crate::fault::Kind;
 use sas_core::{Effect, Fact, Items, is_name};
 use sas_lines::{Numbers, number, signed};
-use std::alloc::{AllocError, Global};
+use std::alloc::AllocError;
 
 /// The version of the format.
 const VERSION: u32 = 3;
@@ -135,23 +135,24 @@ fn take_fact(parts: &mut Numbers<'_>) -> Option<Fact>
     Some(Fact { var, value })
 }
 
-/// The next parts, as so many facts. Nothing is reserved for them, since a line may say any count and hold few parts.
+/// Takes the next parts as so many facts: whether they are. Nothing is reserved for them, since a line may say any count
+/// and hold few parts.
 fn take_facts(
-    alloc: Global,
+    facts: &mut Items<Fact>,
     parts: &mut Numbers<'_>,
     count: u32,
-) -> Result<Option<Items<Fact>>, AllocError>
-    ensures found { IfOk result (λ found. IfSome found (λ facts. TakesFacts parts.old count facts parts.new)) }
-    ensures none { IfOk result (λ found. IfNone found ((facts : List Fact) (rest : List (List ℕ)) → TakesFacts parts.old count facts rest → ⊥)) }
+) -> Result<bool, AllocError>
+    ensures found { IfOk result (λ found. IsTrue found → TakesFacts parts.old count facts.new parts.new) }
+    ensures none { IfOk result (λ found. found ≡ false → (facts : List Fact) (rest : List (List ℕ)) → TakesFacts parts.old count facts rest → ⊥) }
 {
-    let mut facts = Items::new(alloc);
+    facts.clear();
     for _i in 0..count {
         let Some(fact) = take_fact(parts) else {
-            return Ok(None);
+            return Ok(false);
         };
         facts.push(fact)?;
     }
-    Ok(Some(facts))
+    Ok(true)
 }
 
 /// The next three parts, as a change.
@@ -194,30 +195,25 @@ fn fact_of(line: &[u8]) -> Option<Fact>
     }
 }
 
-/// The effect that the line spells, whether its facts exist or not.
-fn effect_of(alloc: Global, line: &[u8]) -> Result<Option<Effect>, AllocError>
-    ensures found { IfOk result (λ found. IfSome found (λ e. Spells (format.effect e) line.now)) }
-    ensures none { IfOk result (λ found. IfNone found ((e : Effect) → Spells (format.effect e) line.now → ⊥)) }
+/// Takes the effect that the line spells, whether its facts exist or not: whether it spells one.
+fn effect_of(effect: &mut Effect, line: &[u8]) -> Result<bool, AllocError>
+    ensures found { IfOk result (λ found. IsTrue found → Spells (format.effect effect.exit.now) line.now) }
+    ensures none { IfOk result (λ found. found ≡ false → (e : Effect) → Spells (format.effect e) line.now → ⊥) }
 {
     let mut parts = Numbers::new(line);
     let Some(count) = take_number(&mut parts) else {
-        return Ok(None);
+        return Ok(false);
     };
-    let Some(conditions) = take_facts(alloc, &mut parts, count)? else {
-        return Ok(None);
-    };
-    let Some(Change { var, old, new }) = take_change(&mut parts) else {
-        return Ok(None);
-    };
-    if !is_over(&mut parts) {
-        return Ok(None);
+    if !take_facts(&mut effect.conditions, &mut parts, count)? {
+        return Ok(false);
     }
-    Ok(Some(Effect {
-        conditions,
-        var,
-        old,
-        new,
-    }))
+    let Some(change) = take_change(&mut parts) else {
+        return Ok(false);
+    };
+    effect.var = change.var;
+    effect.old = change.old;
+    effect.new = change.new;
+    Ok(is_over(&mut parts))
 }
 
 /// The change that the line spells, whether its values exist or not.
@@ -285,18 +281,16 @@ pub fn fact_at(ranges: &Items<u32>, line: &[u8]) -> Result<Fact, Kind>
     }
 }
 
-/// An effect of which each fact exists.
-pub fn effect_at(alloc: Global, ranges: &Items<u32>, line: &[u8]) -> Result<Effect, Kind>
-    ensures { Says format.effect_slot (λ i. effect_in_ranges ranges.now (effect_in i)) format.effect line.now result }
+/// Takes an effect of which each fact exists. The memory of its conditions is that of the effect before.
+pub fn effect_at(effect: &mut Effect, ranges: &Items<u32>, line: &[u8]) -> Result<(), Kind>
+    ensures { Says format.effect_slot (λ i. effect_in_ranges ranges.now (effect_in i)) (λ _. format.effect effect.exit.now) line.now result }
 {
     // The whole line is read before a fact is looked up, since a wrong shape is told before a fact that doesn't exist.
-    let Ok(found) = effect_of(alloc, line) else {
-        return Err(Kind::Memory);
-    };
-    match found {
-        None => Err(Kind::Shape),
-        Some(effect) if effect_may_stand(ranges, &effect) => Ok(effect),
-        Some(_) => Err(Kind::Value),
+    match effect_of(effect, line) {
+        Err(_) => Err(Kind::Memory),
+        Ok(false) => Err(Kind::Shape),
+        Ok(true) if effect_may_stand(ranges, effect) => Ok(()),
+        Ok(true) => Err(Kind::Value),
     }
 }
 

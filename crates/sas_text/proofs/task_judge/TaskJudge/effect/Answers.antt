@@ -7,13 +7,13 @@ use Rattle.sas_text.proofs.TaskRanges.{takes_as, judged_as, effect_same}
 use Rattle.sas_text.specs.TaskPlaces.{operator_effects}
 use Rattle.sas_text.proofs.task_judge.TaskJudge.effect.Goals as goal
 
-pub returns-in_err-self : goal.returns-in_err-self
-returns-in_err-self c =
-    let same : result_err c.from_residual.result ≡ Some c.in_err-self.field-0.0 = search rules in
-    refused c.args.self.now c.args.line.now _ _ same (c.in_err-self.ensures.0, λ n s f. off _ _ _ _ _ _ ((ap (λ place. state_at place c.args.self.now.left c.args.self.now.more s) c.requires.place) ∙ ap (λ more. operator_effects c.args.self.now.left s.parts s.name s.facts more s.effects) (next_of _ c.requires.more)) (judged_as _ _ _ (effect_same s c.args.self.now f) _ _ (c.in_err-self.ensures.1 n)))
+pub returns-in_err-effect_at : goal.returns-in_err-effect_at
+returns-in_err-effect_at c =
+    let same : result_err c.from_residual.result ≡ Some c.in_err-effect_at.field-0.0 = search rules in
+    refused c.args.self.now _ c.args.line.now _ _ same (c.in_err-effect_at.ensures.0, λ n s f. off _ _ _ _ _ _ ((ap (λ place. state_at place c.args.self.now.left c.args.self.now.more s) c.requires.place) ∙ ap (λ more. operator_effects c.args.self.now.left s.parts s.name s.facts more s.effects) (next_of _ c.requires.more)) (judged_as _ _ _ (effect_same s c.args.self.now f) _ _ (c.in_err-effect_at.ensures.1 n)))
 
 pub returns : goal.returns
 returns c = λ s f. (
   record { ranges = f.ranges; valued = f.valued; range = λ h. absurd (let other = sym c.requires.place ∙ h in cc) },
-  on _ _ _ _ _ _ _ ((ap (λ place. state_at place c.args.self.now.left c.args.self.now.more s) c.requires.place) ∙ ap (λ more. operator_effects c.args.self.now.left s.parts s.name s.facts more s.effects) (next_of _ c.requires.more)) (takes_as _ _ _ (effect_same s c.args.self.now f) _ c.in_ok-self.ensures.0, c.in_ok-self.ensures.1) (ap (λ place. state_at place c.args.self.now.left (c.args.self.now.more - 1) (record s { effects = s.effects ++ c.in_ok-self.field-0 ∷ [] })) (sym c.requires.place)),
+  on _ _ _ _ _ _ _ ((ap (λ place. state_at place c.args.self.now.left c.args.self.now.more s) c.requires.place) ∙ ap (λ more. operator_effects c.args.self.now.left s.parts s.name s.facts more s.effects) (next_of _ c.requires.more)) (takes_as _ _ _ (effect_same s c.args.self.now f) _ c.in_ok-effect_at.ensures.0, c.in_ok-effect_at.ensures.1) (ap (λ place. state_at place c.args.self.now.left (c.args.self.now.more - 1) (record s { effects = s.effects ++ c.effect_at.new.effect ∷ [] })) (sym c.requires.place)),
 )

@@ -8,7 +8,7 @@ use Rattle.sas_text.proofs.task_judge.TaskJudge.fact.Goals as goal
 pub returns-in_err-self : goal.returns-in_err-self
 returns-in_err-self c =
     let same : result_err c.from_residual.result ≡ Some c.in_err-self.field-0.0 = search rules in
-    refused c.args.self.now c.args.line.now _ _ same (c.in_err-self.ensures.0, λ n s f. off _ _ _ _ _ _ (c.requires.due s f) (judged_as _ _ _ (fact_same s c.args.self.now f) _ _ (c.in_err-self.ensures.1 n)))
+    refused c.args.self.now _ c.args.line.now _ _ same (c.in_err-self.ensures.0, λ n s f. off _ _ _ _ _ _ (c.requires.due s f) (judged_as _ _ _ (fact_same s c.args.self.now f) _ _ (c.in_err-self.ensures.1 n)))
 
 pub returns : goal.returns
 returns c = λ s f. (

@@ -9,7 +9,7 @@ use Rattle.sas_text.proofs.task_judge.TaskJudge.variable_value.Goals as goal
 pub returns-in_err-name_at : goal.returns-in_err-name_at
 returns-in_err-name_at c =
     let same : result_err c.from_residual.result ≡ Some c.in_err-name_at.field-0.0 = search rules in
-    refused c.args.self.now c.args.line.now _ _ same (c.in_err-name_at.ensures.0, λ n s f. off _ _ _ _ _ _ ((ap (λ place. state_at place c.args.self.now.left c.args.self.now.more s) c.requires.place) ∙ ap (λ more. variable_values c.args.self.now.left s.parts s.name s.layer more s.values) (next_of _ c.requires.more)) (c.in_err-name_at.ensures.1 n))
+    refused c.args.self.now _ c.args.line.now _ _ same (c.in_err-name_at.ensures.0, λ n s f. off _ _ _ _ _ _ ((ap (λ place. state_at place c.args.self.now.left c.args.self.now.more s) c.requires.place) ∙ ap (λ more. variable_values c.args.self.now.left s.parts s.name s.layer more s.values) (next_of _ c.requires.more)) (c.in_err-name_at.ensures.1 n))
 
 pub returns : goal.returns
 returns c = λ s f. (
