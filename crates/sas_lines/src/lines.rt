@@ -1,6 +1,6 @@
 // The lines of a stream, however it is cut into pieces.
-ghost use Rattle.std.specs.Prelude.{◌≡◌, ◌≤◌, ◌<◌, [], ◌++◌, length, take, false, true, IfOk, OnErr, if◌then◌else◌};
-ghost use Rattle.sas_lines.specs.Lines.{lines, unfinished, without_return, TakesLine};
+ghost use Rattle.std.specs.Prelude.{◌≡◌, ◌≤◌, ◌<◌, [], ◌∷◌, ◌++◌, length, take, false, true, IfOk, OnErr, IfSome, IfNone, if◌then◌else◌};
+ghost use Rattle.sas_lines.specs.Lines.{lines, unfinished, without_return, NoEnd, TakesLine};
 ghost use Rattle.sas_lines.specs.Progress.{completed};
 
 use crate::separators::first_place;
@@ -12,6 +12,40 @@ use std::marker::Model;
 pub struct Fed {
     pub taken: usize,
     pub complete: bool,
+}
+
+/// The first line of some bytes, without its end, and how many of the bytes it takes with its end.
+#[derive(Clone, Copy, Debug, PartialEq, Eq)]
+pub struct FirstLine<'a> {
+    pub line: &'a [u8],
+    pub taken: usize,
+}
+
+/// The line without one CR at its end, if there is one: it belongs to the line's end.
+#[tactic(auto, using(crate::proofs::Found::return_at, crate::proofs::Found::no_return_at))]
+fn without_return(line: &[u8]) -> &[u8]
+    ensures { result.now ≡ without_return line.now }
+{
+    match line {
+        [front @ .., b'\r'] => front,
+        _ => line,
+    }
+}
+
+/// The first line of the bytes, where its LF has come.
+pub fn first_line(bytes: &[u8]) -> Option<FirstLine<'_>>
+    // Up to and with the first LF.
+    ensures taken { IfSome result (λ first. TakesLine bytes.now first.taken true) }
+    // These bytes are the line and its end.
+    ensures line { IfSome result (λ first. lines (take first.taken bytes.now) ≡ first.line.now ∷ []) }
+    ensures rest { IfSome result (λ first. unfinished (take first.taken bytes.now) ≡ []) }
+    ensures none { IfNone result (NoEnd bytes.now) }
+{
+    let end = first_place(b'\n', bytes)?;
+    Some(FirstLine {
+        line: without_return(&bytes[..end]),
+        taken: end + 1,
+    })
 }
 
 /// Lets the bytes go if they are a complete line. The next line reuses their memory.
