@@ -7,11 +7,11 @@ use Rattle.memchr.specs.Find.{Nowhere, NoneBefore, Passes, is_byte}
 use Rattle.sas_lines.specs.Lines.{without_return}
 use Rattle.sas_lines.specs.Parts.{Without, StandsFirst}
 
-Without-index : (separator : ℕ) (bytes : List ℕ) → ((k : ℕ) → k < length bytes → get_or bytes k 0 ≢ separator) → Without separator bytes
+pub Without-index : (separator : ℕ) (bytes : List ℕ) → ((k : ℕ) → k < length bytes → get_or bytes k 0 ≢ separator) → Without separator bytes
 Without-index separator [] h = tt
 Without-index separator (b ∷ bytes) h = (h 0 (omega arith), Without-index separator bytes (λ k l. h (suc k) (omega arith)))
 
-Without-take : (separator : ℕ) (bytes : List ℕ) (n : ℕ) → ((k : ℕ) → k < n → get_or bytes k 0 ≢ separator) → Without separator (take n bytes)
+pub Without-take : (separator : ℕ) (bytes : List ℕ) (n : ℕ) → ((k : ℕ) → k < n → get_or bytes k 0 ≢ separator) → Without separator (take n bytes)
 Without-take separator bytes n h = Without-index separator (take n bytes) (λ k l. let s : k < n = omega (arith, length-take n bytes) in rw (get_or-take n bytes k 0 s) (h k s))
 
 pub not_found : (separator : ℕ) (bytes : List ℕ) → Nowhere (Passes (is_byte separator) bytes) 0 (length bytes) → Without separator bytes
