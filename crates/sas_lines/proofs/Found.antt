@@ -46,6 +46,11 @@ no_return_at (b ∷ []) (suc n) l e = absurd (omega arith)
 no_return_at (b ∷ c ∷ bytes) zero l e = absurd (omega arith)
 no_return_at (b ∷ c ∷ bytes) (suc n) l e = ap (λ (r : List ℕ). b ∷ r) (no_return_at (c ∷ bytes) n (omega arith) e)
 
+pub front_without_return : (bytes : List ℕ) → take (length (without_return bytes)) bytes ≡ without_return bytes
+front_without_return [] = refl
+front_without_return (b ∷ []) = elim (eqb_tells b 13) [ inl y ↦ rw y.0 refl | inr n ↦ rw n.0 refl ]
+front_without_return (b ∷ c ∷ bytes) = ap (λ (r : List ℕ). b ∷ r) (front_without_return (c ∷ bytes))
+
 pub Without-return : (separator : ℕ) (bytes : List ℕ) → Without separator bytes → Without separator (without_return bytes)
 Without-return separator [] h = tt
 Without-return separator (b ∷ []) h = elim (eqb_tells b 13) [ inl y ↦ rw y.0 tt | inr n ↦ rw n.0 h ]

@@ -41,10 +41,10 @@ pub fn first_line(bytes: &[u8]) -> Option<FirstLine<'_>>
     ensures rest { IfSome result (λ first. unfinished (take first.taken bytes.now) ≡ []) }
     ensures none { IfNone result (NoEnd bytes.now) }
 {
-    let end = first_place(b'\n', bytes)?;
+    let place = first_place(b'\n', bytes)?;
     Some(FirstLine {
-        line: without_return(&bytes[..end]),
-        taken: end + 1,
+        line: without_return(&bytes[..place]),
+        taken: place + 1,
     })
 }
 
@@ -58,16 +58,12 @@ fn let_line_go(held: &mut Vec<u8>, complete: bool)
 }
 
 /// Takes one CR off the end, if there is one: it belongs to the line's end.
-#[tactic(auto, using(crate::proofs::Found::return_at, crate::proofs::Found::no_return_at))]
+#[tactic(auto, using(crate::proofs::Found::front_without_return))]
 fn drop_return(line: &mut Vec<u8>)
     ensures { line.new.items ≡ without_return line.old.items }
 {
-    let Some(last) = line.len().checked_sub(1) else {
-        return;
-    };
-    if line[last] == b'\r' {
-        line.truncate(last);
-    }
+    let kept = without_return(line.as_slice()).len();
+    line.truncate(kept);
 }
 
 /// Takes a text in pieces, cut anywhere, and gives it line by line.

@@ -10,15 +10,3 @@ pub(crate) fn first_place(separator: u8, bytes: &[u8]) -> Option<usize>
 {
     memchr(separator, bytes)
 }
-
-/// The same, byte by byte: faster where the separator is near.
-pub(crate) fn near_place(separator: u8, bytes: &[u8]) -> Option<usize>
-    ensures { MatchOption result (Without separator bytes.now) (λ place. StandsFirst separator bytes.now place) }
-{
-    for at in 0..bytes.len() {
-        if bytes[at] == separator {
-            return Some(at);
-        }
-    }
-    None
-}
