@@ -1,11 +1,11 @@
 -- What a feed makes of what was pending and of what it takes.
-use Rattle.std.proofs.Common.{◌≡◌, ℕ, ◌+◌, ◌≤◌, Bool, true, false, List, [], ◌∷◌, ◌++◌, length, take, sym, ap, subst, ◌∙◌, append_assoc, if◌then◌else◌}
-use Rattle.std.proofs.lemmas.List.{take_all}
+use Rattle.std.proofs.Common.{◌≡◌, ℕ, ◌+◌, ◌≤◌, Bool, true, false, List, [], ◌∷◌, ◌++◌, length, take, drop, sym, arith, ap, subst, ◌∙◌, append_assoc, if◌then◌else◌}
+use Rattle.std.proofs.lemmas.List.{take_all, length-take}
 use Rattle.sas_lines.specs.Parts.{StandsFirst}
-use Rattle.sas_lines.specs.Lines.{without_return, lines, unfinished, NoEnd}
+use Rattle.sas_lines.specs.Lines.{without_return, lines, unfinished, NoEnd, TakesLine}
 use Rattle.sas_lines.specs.Progress.{Progress}
 use Rattle.sas_lines.proofs.Separated.{Without-append}
-use Rattle.sas_lines.proofs.Found.{up_to, Without-return}
+use Rattle.sas_lines.proofs.Found.{up_to, in_two_at, Without-return}
 use Rattle.sas_lines.proofs.Splitting.{lines-without, unfinished-without, lines-one, unfinished-one}
 
 -- a line is begun with what was pending
@@ -16,6 +16,10 @@ pub record Begun (complete : Bool) (held : List ℕ) (seen : Progress) : Type 0 
 pub begun : (complete : Bool) (held : List ℕ) (seen : Progress) → NoEnd held → (let p : Progress = record { line = if complete then held else []; pending = if complete then [] else held } in p) ≡ seen → Begun complete held seen
 begun true held seen h e = let same = ap (λ (p : Progress). p.pending) e in record { same = same; plain = subst NoEnd same tt }
 begun false held seen h e = let same = ap (λ (p : Progress). p.pending) e in record { same = same; plain = subst NoEnd same h }
+
+-- up to and with the first LF
+pub takes_line : (piece : List ℕ) (place : ℕ) → StandsFirst 10 piece place → TakesLine piece (place + 1) true
+takes_line piece place f = (take place piece, drop (place + 1) piece, f.before, in_two_at 10 piece place f, let w = f.within in omega (arith, w, length-take place piece))
 
 pub lines_of_part : (pending piece : List ℕ) (n : ℕ) → NoEnd pending → NoEnd piece → length piece ≤ n → lines (pending ++ take n piece) ≡ []
 lines_of_part pending piece n h g all = rw (take_all n piece all) (lines-without (pending ++ piece) (Without-append 10 pending piece h g))

@@ -7,11 +7,11 @@ use Rattle.memchr.specs.Find.{Nowhere, NoneBefore, Passes, is_byte}
 use Rattle.sas_lines.specs.Lines.{without_return}
 use Rattle.sas_lines.specs.Parts.{Without, StandsFirst}
 
-Without-index : (separator : ℕ) (bytes : List ℕ) → ((k : ℕ) → k < length bytes → get_or bytes k 0 ≢ separator) → Without separator bytes
+pub Without-index : (separator : ℕ) (bytes : List ℕ) → ((k : ℕ) → k < length bytes → get_or bytes k 0 ≢ separator) → Without separator bytes
 Without-index separator [] h = tt
 Without-index separator (b ∷ bytes) h = (h 0 (omega arith), Without-index separator bytes (λ k l. h (suc k) (omega arith)))
 
-Without-take : (separator : ℕ) (bytes : List ℕ) (n : ℕ) → ((k : ℕ) → k < n → get_or bytes k 0 ≢ separator) → Without separator (take n bytes)
+pub Without-take : (separator : ℕ) (bytes : List ℕ) (n : ℕ) → ((k : ℕ) → k < n → get_or bytes k 0 ≢ separator) → Without separator (take n bytes)
 Without-take separator bytes n h = Without-index separator (take n bytes) (λ k l. let s : k < n = omega (arith, length-take n bytes) in rw (get_or-take n bytes k 0 s) (h k s))
 
 pub not_found : (separator : ℕ) (bytes : List ℕ) → Nowhere (Passes (is_byte separator) bytes) 0 (length bytes) → Without separator bytes
@@ -45,6 +45,11 @@ no_return_at (b ∷ []) zero l e = rw (ne_eqb b 13 e) refl
 no_return_at (b ∷ []) (suc n) l e = absurd (omega arith)
 no_return_at (b ∷ c ∷ bytes) zero l e = absurd (omega arith)
 no_return_at (b ∷ c ∷ bytes) (suc n) l e = ap (λ (r : List ℕ). b ∷ r) (no_return_at (c ∷ bytes) n (omega arith) e)
+
+pub front_without_return : (bytes : List ℕ) → take (length (without_return bytes)) bytes ≡ without_return bytes
+front_without_return [] = refl
+front_without_return (b ∷ []) = elim (eqb_tells b 13) [ inl y ↦ rw y.0 refl | inr n ↦ rw n.0 refl ]
+front_without_return (b ∷ c ∷ bytes) = ap (λ (r : List ℕ). b ∷ r) (front_without_return (c ∷ bytes))
 
 pub Without-return : (separator : ℕ) (bytes : List ℕ) → Without separator bytes → Without separator (without_return bytes)
 Without-return separator [] h = tt

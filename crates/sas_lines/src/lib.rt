@@ -10,7 +10,7 @@ pub mod trial;
 mod writing;
 
 pub use devices::{Failed, Short, Watched, write_out};
-pub use lines::{Fed, Lines};
+pub use lines::{Fed, FirstLine, Lines, first_line};
 pub use numbers::Numbers;
 pub use spelling::{cost, number, signed, spelling_is_decimal};
 pub use writing::{push_line, push_number};

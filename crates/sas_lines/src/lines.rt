@@ -1,6 +1,6 @@
 // The lines of a stream, however it is cut into pieces.
-ghost use Rattle.std.specs.Prelude.{◌≡◌, ◌≤◌, ◌<◌, [], ◌++◌, length, take, false, true, IfOk, OnErr, if◌then◌else◌};
-ghost use Rattle.sas_lines.specs.Lines.{lines, unfinished, without_return, TakesLine};
+ghost use Rattle.std.specs.Prelude.{◌≡◌, ◌≤◌, ◌<◌, [], ◌∷◌, ◌++◌, length, take, false, true, IfOk, OnErr, IfSome, IfNone, if◌then◌else◌};
+ghost use Rattle.sas_lines.specs.Lines.{lines, unfinished, without_return, NoEnd, TakesLine};
 ghost use Rattle.sas_lines.specs.Progress.{completed};
 
 use crate::separators::first_place;
@@ -14,6 +14,40 @@ pub struct Fed {
     pub complete: bool,
 }
 
+/// The first line of some bytes, without its end, and how many of the bytes it takes with its end.
+#[derive(Clone, Copy, Debug, PartialEq, Eq)]
+pub struct FirstLine<'a> {
+    pub line: &'a [u8],
+    pub taken: usize,
+}
+
+/// The line without one CR at its end, if there is one: it belongs to the line's end.
+#[tactic(auto, using(crate::proofs::Found::return_at, crate::proofs::Found::no_return_at))]
+fn without_return(line: &[u8]) -> &[u8]
+    ensures { result.now ≡ without_return line.now }
+{
+    match line {
+        [front @ .., b'\r'] => front,
+        _ => line,
+    }
+}
+
+/// The first line of the bytes, where its LF has come.
+pub fn first_line(bytes: &[u8]) -> Option<FirstLine<'_>>
+    // Up to and with the first LF.
+    ensures taken { IfSome result (λ first. TakesLine bytes.now first.taken true) }
+    // These bytes are the line and its end.
+    ensures line { IfSome result (λ first. lines (take first.taken bytes.now) ≡ first.line.now ∷ []) }
+    ensures rest { IfSome result (λ first. unfinished (take first.taken bytes.now) ≡ []) }
+    ensures none { IfNone result (NoEnd bytes.now) }
+{
+    let place = first_place(b'\n', bytes)?;
+    Some(FirstLine {
+        line: without_return(&bytes[..place]),
+        taken: place + 1,
+    })
+}
+
 /// Lets the bytes go if they are a complete line. The next line reuses their memory.
 fn let_line_go(held: &mut Vec<u8>, complete: bool)
     ensures { held.new.items ≡ (if complete then [] else held.old.items) }
@@ -24,16 +58,12 @@ fn let_line_go(held: &mut Vec<u8>, complete: bool)
 }
 
 /// Takes one CR off the end, if there is one: it belongs to the line's end.
-#[tactic(auto, using(crate::proofs::Found::return_at, crate::proofs::Found::no_return_at))]
+#[tactic(auto, using(crate::proofs::Found::front_without_return))]
 fn drop_return(line: &mut Vec<u8>)
     ensures { line.new.items ≡ without_return line.old.items }
 {
-    let Some(last) = line.len().checked_sub(1) else {
-        return;
-    };
-    if line[last] == b'\r' {
-        line.truncate(last);
-    }
+    let kept = without_return(line.as_slice()).len();
+    line.truncate(kept);
 }
 
 /// Takes a text in pieces, cut anywhere, and gives it line by line.

@@ -2,14 +2,14 @@
 ghost use Rattle.std.specs.Prelude.{◌≡◌, ◌∷◌};
 ghost use Rattle.sas_lines.specs.Parts.{parts, parts_within};
 
-use crate::separators::first_place;
 use std::marker::Model;
 
 /// What stands before the first space, and what stands behind it, if there is one.
 fn cut(line: &[u8]) -> (&[u8], Option<&[u8]>)
     ensures { parts 32 line.now ≡ result.0.now ∷ parts_within 32 result.1 }
 {
-    match first_place(b' ', line) {
+    // The next space is mostly a few bytes away, so that looking at each byte is faster than `memchr`.
+    match line.iter().position(|&byte| byte == b' ') {
         Some(at) => (&line[..at], Some(&line[at + 1..])),
         None => (line, None),
     }

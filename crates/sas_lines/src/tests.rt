@@ -1,7 +1,7 @@
 use crate::trial::{Breaks, Narrow};
 use crate::{
-    Failed, Fed, Lines, Numbers, Short, Watched, cost, number, push_line, push_number, signed,
-    spelling_is_decimal, write_out,
+    Failed, Fed, FirstLine, Lines, Numbers, Short, Watched, cost, first_line, number, push_line,
+    push_number, signed, spelling_is_decimal, write_out,
 };
 use std::test::Fail;
 
@@ -91,6 +91,28 @@ fn feeds_lines(rt: HostRuntime) -> Result<(), Fail> {
         assert_eq!(rt; lines.pending(), pending, "{piece:?}");
     }
     Ok(())
+}
+
+#[test]
+fn finds_the_first_line(rt: HostRuntime) {
+    for (bytes, line, taken) in [
+        (b"ab\ncd\n".as_slice(), b"ab".as_slice(), 3),
+        (b"ab\r\ncd\n", b"ab", 4),
+        (b"ab\r\r\n", b"ab\r", 5),
+        (b"a\rb\n", b"a\rb", 4),
+        (b"\rab\n", b"\rab", 4),
+        (b"\n\n", b"", 1),
+        (b"\r\n", b"", 2),
+    ] {
+        assert_eq!(rt;
+            first_line(bytes),
+            Some(FirstLine { line, taken }),
+            "{bytes:?}"
+        );
+    }
+    for bytes in [b"".as_slice(), b"ab", b"ab\r"] {
+        assert_eq!(rt; first_line(bytes), None, "{bytes:?}");
+    }
 }
 
 #[test]

@@ -1,6 +1,6 @@
 -- One line of a piece, or a part of one.
 use Rattle.std.proofs.Common.{◌≡◌, ℕ, suc, ◌+◌, ◌<◌, ◌≤◌, Bool, true, false, List, [], ◌∷◌, ◌++◌, length, take, drop, get_or, refl, sym, ap, subst, ◌∙◌, append_assoc, arith, length-append}
-use Rattle.std.proofs.lemmas.List.{append-nil, take-append-drop, take-append-le}
+use Rattle.std.proofs.lemmas.List.{append-nil, length-take, get_or-take, take-append-drop, take-append-le}
 use Rattle.std.proofs.Math.Seq.{split_at, take-append_seam, take-append-add, get_or-append_seam}
 use Rattle.sas_lines.specs.Lines.{without_return, lines, unfinished, NoEnd, TakesLine}
 use Rattle.sas_lines.specs.Progress.{completed}
@@ -18,10 +18,6 @@ takes_bound piece n false h = omega (arith, h.1)
 
 pub front_of : (m n : ℕ) (piece : List ℕ) → n ≤ length (take m piece) → take n (take m piece) ≡ take n piece
 front_of m n piece h = sym (take-append-le n (take m piece) (drop m piece) h) ∙ ap (take n) (take-append-drop m piece)
-
--- what a front takes as a whole line, the piece takes so
-pub takes_wider : (m n : ℕ) (piece : List ℕ) → TakesLine (take m piece) n true → TakesLine piece n true
-takes_wider m n piece h = (h.0, h.1 ++ drop m piece, h.2, sym (take-append-drop m piece) ∙ ap (λ (x : List ℕ). x ++ drop m piece) h.3 ∙ append_assoc h.0 (10 ∷ h.1) (drop m piece), h.4)
 
 -- ---- the lines, and what is pending, behind more bytes
 
@@ -94,6 +90,21 @@ module _ {M : Type 0} (led_by : List (List ℕ) → M → Type 0) (ended : M →
         reached = subst (λ (x : List ℕ). Reached led_by ended m (bytes ++ x)) (sym at_front) part;
         same_line = ap (λ (x : List ℕ). length (lines (bytes ++ x))) at_front ∙ ap length (lines-part bytes front t.2);
         stops = subst (λ (x : List ℕ). Stops led_by ended rejects limit m (bytes ++ x) (get_or piece (length front) 0) k) (sym at_front) (rejected (omega (arith, length-append bytes front, room, t.4)) going byte (subst (λ (x : List ℕ). rejects m x k) is r));
+      }
+
+  -- a byte that may not follow, in the front of a piece
+  pub stops_wider : (limit : ℕ) (bytes piece : List ℕ) (m : ℕ) (k : Kind) → StopsIn led_by ended rejects limit bytes (take m piece) k → StopsIn led_by ended rejects limit bytes piece k
+  stops_wider limit bytes piece m k s =
+      let before : take s.at (take m piece) ≡ take s.at piece = front_of m s.at piece (omega (arith, s.within)) in
+      let low : s.at < m = omega (arith, s.within, length-take m piece) in
+      let byte : get_or (take m piece) s.at 0 ≡ get_or piece s.at 0 = get_or-take m piece s.at 0 low in
+      record {
+        machine = s.machine;
+        at = s.at;
+        within = omega (arith, s.within, length-take m piece);
+        reached = subst (λ (x : List ℕ). Reached led_by ended s.machine (bytes ++ x)) before s.reached;
+        same_line = ap (λ (x : List ℕ). length (lines (bytes ++ x))) (sym before) ∙ s.same_line;
+        stops = subst (λ (x : ℕ). Stops led_by ended rejects limit s.machine (bytes ++ take s.at piece) x k) byte (subst (λ (x : List ℕ). Stops led_by ended rejects limit s.machine (bytes ++ x) (get_or (take m piece) s.at 0) k) before s.stops);
       }
 
 -- A byte that may not follow, in the rest of a piece, is the fault of the bytes and the piece.

@@ -5,7 +5,7 @@ ghost use Rattle.sas_lines.specs.Lines.{lines};
 ghost use Rattle.sas_text.specs.Faults.{IsOfBytes, answer};
 
 use crate::fault::{Fault, Kind};
-use sas_lines::{Lines, Watched};
+use sas_lines::{Lines, Watched, first_line};
 use std::alloc::Global;
 use std::io::Read;
 
@@ -69,6 +69,38 @@ impl<M: Machine> Reader<M> {
         }
     }
 
+    /// Takes the bytes up to and with the first LF, or all of them, behind what is pending.
+    fn go_on(&mut self, piece: &[u8]) -> Result<usize, Kind>
+        requires some { 0 < length piece.now }
+        requires room { self.old.taken + length piece.now ≤ self.old.limit }
+        requires going { M.ended self.old.machine → ⊥ }
+        ensures some { IfOk result (λ n. 0 < n) }
+        ensures within { IfOk result (λ n. n ≤ length piece.now) }
+        ensures takes { IfOk result (λ n. (bytes : List ℕ) → Accepted M.led_by M.ended self.old bytes → Accepted M.led_by M.ended self.new (bytes ++ take n piece.now)) }
+        ensures count { IfOk result (λ n. self.new.taken ≡ self.old.taken + n) }
+        ensures stops { IfErr result (λ k. k ≢ Kind.Memory → (bytes : List ℕ) → Accepted M.led_by M.ended self.old bytes → StopsIn M.led_by M.ended M.rejects self.old.limit bytes piece.now k) }
+        ensures kind { IfErr result IsOfBytes }
+        ensures lines { OnErr result (self.new.lines ≡ self.old.lines) }
+        ensures fault { self.new.fault ≡ self.old.fault }
+        ensures limit { self.new.limit ≡ self.old.limit }
+    {
+        match self.pending.feed(piece) {
+            Err(_) => Err(Kind::Memory),
+            Ok(fed) if !fed.complete => {
+                self.taken += fed.taken as u64;
+                Ok(fed.taken)
+            }
+            Ok(fed) => match self.machine.accept(self.pending.line()) {
+                Err(kind) => Err(kind),
+                Ok(()) => {
+                    self.lines += 1;
+                    self.taken += fed.taken as u64;
+                    Ok(fed.taken)
+                }
+            },
+        }
+    }
+
     /// Takes the bytes up to and with the first LF, or all of them, as far as the limit leaves room.
     fn advance(&mut self, piece: &[u8]) -> Result<usize, Kind>
         requires some { 0 < length piece.now }
@@ -90,20 +122,19 @@ impl<M: Machine> Reader<M> {
             return Err(Kind::Trailing);
         }
         let within = &piece[..piece.len().min(room as usize)];
-        match self.pending.feed(within) {
-            Err(_) => Err(Kind::Memory),
-            Ok(fed) if !fed.complete => {
-                self.taken += fed.taken as u64;
-                Ok(fed.taken)
+        if !self.pending.pending().is_empty() {
+            return self.go_on(within);
+        }
+        let Some(first) = first_line(within) else {
+            return self.go_on(within);
+        };
+        match self.machine.accept(first.line) {
+            Err(kind) => Err(kind),
+            Ok(()) => {
+                self.lines += 1;
+                self.taken += first.taken as u64;
+                Ok(first.taken)
             }
-            Ok(fed) => match self.machine.accept(self.pending.line()) {
-                Err(kind) => Err(kind),
-                Ok(()) => {
-                    self.lines += 1;
-                    self.taken += fed.taken as u64;
-                    Ok(fed.taken)
-                }
-            },
         }
     }
 
