@@ -1,5 +1,3 @@
-ghost use Rattle.std.specs.Prelude.{◌≤◌, ◌^◌, length};
-
 use super::{at, line_at_end};
 use crate::*;
 use sas_core::{CostKind, Items, Plan};
@@ -67,15 +65,6 @@ fn plan_of_bytes(alloc: Global, bytes: &[u8]) -> Result<Plan, Fault> {
     reader.finish()
 }
 
-/// Whether a text that is cut in two, with and without an empty piece between, has the plan that is written as these bytes.
-fn is_printed_from_pieces(alloc: Global, bytes: &[u8], cut: usize, want: &[u8]) -> bool
-    requires { cut ≤ length bytes.now }
-{
-    let (front, rest) = bytes.split_at(cut);
-    is_written(alloc, plan_of_pieces(alloc, &[front, rest]), want)
-        && is_written(alloc, plan_of_pieces(alloc, &[front, b"", rest]), want)
-}
-
 /// The fault of a text, if it has one.
 fn fault_of(alloc: Global, bytes: &[u8]) -> Option<Fault> {
     plan_of_pieces(alloc, &[bytes]).err()
@@ -99,17 +88,6 @@ fn text_fault_before_failure(
     (fault, reader.failed())
 }
 
-/// The fault of a text that comes in pieces, answered to each piece and at the end.
-fn answers(alloc: Global, pieces: &[&[u8]]) -> Result<Vec<Option<Fault>>, AllocError> {
-    let mut answers = Vec::new(alloc);
-    let mut reader = PlanReader::new(alloc);
-    for piece in pieces {
-        answers.push(reader.feed(piece).err())?;
-    }
-    answers.push(reader.finish().err())?;
-    Ok(answers)
-}
-
 #[test]
 fn a_plan_has_the_parts_of_its_text(rt: HostRuntime) -> Result<(), AllocError> {
     let found = plan_of_pieces(rt.alloc(), &[TWO_STEPS]).ok();
@@ -117,63 +95,92 @@ fn a_plan_has_the_parts_of_its_text(rt: HostRuntime) -> Result<(), AllocError> {
     Ok(())
 }
 
+/// Whether the plan of a text in these pieces is written as these bytes.
+fn is_printed_from_pieces(alloc: Global, pieces: &[&[u8]], want: &[u8]) -> bool {
+    is_written(alloc, plan_of_pieces(alloc, pieces), want)
+}
+
+/// The first cut of a text in two, with or without an empty piece between, whose plan isn't that of two steps.
+fn wrong_cut(alloc: Global, bytes: &[u8]) -> Option<usize> {
+    for cut in 0..bytes.len() + 1 {
+        let (front, rest) = bytes.split_at(cut);
+        let right = is_printed_from_pieces(alloc, &[front, rest], TWO_STEPS)
+            && is_printed_from_pieces(alloc, &[front, b"", rest], TWO_STEPS);
+        if !right {
+            return Some(cut);
+        }
+    }
+    None
+}
+
 #[test]
 fn a_plan_comes_in_any_pieces(rt: HostRuntime) {
     let alloc = rt.alloc();
     for bytes in [TWO_STEPS, TWO_STEPS_WITH_RETURNS] {
-        for cut in 0..bytes.len() + 1 {
-            assert!(rt;
-                is_printed_from_pieces(alloc, bytes, cut, TWO_STEPS),
-                "{cut}"
-            );
-        }
+        assert_eq!(rt; wrong_cut(alloc, bytes), None, "{bytes:?}");
         assert!(rt; is_written(alloc, plan_of_bytes(alloc, bytes), TWO_STEPS));
     }
+}
+
+/// The length of the first front of a text whose fault isn't that it ends early, on its last line.
+fn wrong_front(alloc: Global, bytes: &[u8]) -> Option<usize> {
+    for n in 0..bytes.len() {
+        let front = &bytes[..n];
+        if fault_of(alloc, front) != at(line_at_end(front), Kind::End) {
+            return Some(n);
+        }
+    }
+    None
 }
 
 #[test]
 fn each_front_ends_early(rt: HostRuntime) {
     for bytes in [TWO_STEPS, TWO_STEPS_WITH_RETURNS] {
-        for n in 0..bytes.len() {
-            let front = &bytes[..n];
-            let want = at(line_at_end(front), Kind::End);
-            assert_eq!(rt; fault_of(rt.alloc(), front), want, "{n}");
+        assert_eq!(rt; wrong_front(rt.alloc(), bytes), None, "{bytes:?}");
+    }
+}
+
+/// Texts that are no plan's, each with the line and the kind of its fault.
+const REFUSED: &[(&[u8], u64, Kind)] = &[
+    (b"", 1, Kind::End),
+    (b"(a)\n", 2, Kind::End),
+    (b"(a)", 1, Kind::End),
+    (b"()\n", 1, Kind::Name),
+    (b"(a) \n", 1, Kind::Name),
+    (b"(a\n", 1, Kind::Name),
+    (b"(a)\r\r\n", 1, Kind::Name),
+    (b"(a\rb)\n", 1, Kind::Name),
+    (b";cost = 0 (unit cost)\n", 1, Kind::Keyword),
+    (b"\n", 1, Kind::Keyword),
+    (b" (a)\n", 1, Kind::Keyword),
+    (b"; cost = 00 (unit cost)\n", 1, Kind::Shape),
+    (b"; cost = -1 (unit cost)\n", 1, Kind::Shape),
+    (b"; cost = 0\n", 1, Kind::Shape),
+    (b"; cost = 0 (unit cost) \n", 1, Kind::Shape),
+    (b"; cost = 0 (unit cost)\r\r\n", 1, Kind::Shape),
+    (
+        b"; cost = 18446744073709551616 (general cost)\n",
+        1,
+        Kind::Shape,
+    ),
+    (b"(a)\n; cost = 0 (unit cost)\n\n", 3, Kind::Trailing),
+    (b"; cost = 0 (unit cost)\n(", 2, Kind::Trailing),
+    (b"; cost = 0 (unit cost)\n\n", 2, Kind::Trailing),
+];
+
+/// The first of these texts, counted from 0, with another fault.
+fn wrong_refusal(alloc: Global) -> Option<usize> {
+    for (i, (bytes, line, kind)) in REFUSED.iter().enumerate() {
+        if fault_of(alloc, bytes) != at(*line, *kind) {
+            return Some(i);
         }
     }
+    None
 }
 
 #[test]
 fn wrong_lines_have_their_faults(rt: HostRuntime) {
-    for (bytes, want) in [
-        (NO_STEP, None),
-        (b"; cost = 0 (unit cost)\r\n", None),
-        (b"; cost = 18446744073709551615 (general cost)\n", None),
-        (b"", at(1, Kind::End)),
-        (b"(a)\n", at(2, Kind::End)),
-        (b"(a)", at(1, Kind::End)),
-        (b"()\n", at(1, Kind::Name)),
-        (b"(a) \n", at(1, Kind::Name)),
-        (b"(a\n", at(1, Kind::Name)),
-        (b"(a)\r\r\n", at(1, Kind::Name)),
-        (b"(a\rb)\n", at(1, Kind::Name)),
-        (b";cost = 0 (unit cost)\n", at(1, Kind::Keyword)),
-        (b"\n", at(1, Kind::Keyword)),
-        (b" (a)\n", at(1, Kind::Keyword)),
-        (b"; cost = 00 (unit cost)\n", at(1, Kind::Shape)),
-        (b"; cost = -1 (unit cost)\n", at(1, Kind::Shape)),
-        (b"; cost = 0\n", at(1, Kind::Shape)),
-        (b"; cost = 0 (unit cost) \n", at(1, Kind::Shape)),
-        (b"; cost = 0 (unit cost)\r\r\n", at(1, Kind::Shape)),
-        (
-            b"; cost = 18446744073709551616 (general cost)\n",
-            at(1, Kind::Shape),
-        ),
-        (b"(a)\n; cost = 0 (unit cost)\n\n", at(3, Kind::Trailing)),
-        (b"; cost = 0 (unit cost)\n(", at(2, Kind::Trailing)),
-        (b"; cost = 0 (unit cost)\n\n", at(2, Kind::Trailing)),
-    ] {
-        assert_eq!(rt; fault_of(rt.alloc(), bytes), want, "{bytes:?}");
-    }
+    assert_eq!(rt; wrong_refusal(rt.alloc()), None);
 }
 
 /// Something follows the line of `NO_STEP`.
@@ -182,29 +189,34 @@ const LONGER: Option<Fault> = Some(Fault {
     kind: Kind::Trailing,
 });
 
-/// Pieces that come one after the other, with the answer to each and, last, at the end.
-const CALLS: &[(&[&[u8]], &[Option<Fault>])] = &[
-    (
-        &[NO_STEP, b"", b"(", b"", NO_STEP],
-        &[None, None, LONGER, LONGER, LONGER, LONGER],
-    ),
-    (&[NO_STEP, b""], &[None, None, None]),
+/// Pieces that come one after the other, each with its answer.
+const CALLS: &[(&[u8], Option<Fault>)] = &[
+    (NO_STEP, None),
+    (b"", None),
+    (b"(", LONGER),
+    (b"", LONGER),
+    (NO_STEP, LONGER),
 ];
 
-#[test]
-fn a_fault_stays(rt: HostRuntime) -> Result<(), AllocError> {
-    for (pieces, want) in CALLS {
-        let found = answers(rt.alloc(), pieces)?;
-        assert_eq!(rt; found.as_slice(), *want);
+/// Whether a reader answers so to each piece, and at the end.
+fn answers_so(alloc: Global, pieces: &[(&[u8], Option<Fault>)], last: Option<Fault>) -> bool {
+    let mut reader = PlanReader::new(alloc);
+    for (piece, want) in pieces {
+        if reader.feed(piece).err() != *want {
+            return false;
+        }
     }
-    Ok(())
+    reader.finish().err() == last
+}
+
+#[test]
+fn a_fault_stays(rt: HostRuntime) {
+    assert!(rt; answers_so(rt.alloc(), CALLS, LONGER));
 }
 
 /// The first fault of a reader with this limit, which is fed the bytes so many times.
-fn fault_within(alloc: Global, limit: u64, bytes: &[u8], times: usize) -> Option<Fault>
-    requires { limit ≤ 2 ^ 32 }
-{
-    let mut reader = PlanReader::within(alloc, limit);
+fn fault_within(alloc: Global, limit: u32, bytes: &[u8], times: usize) -> Option<Fault> {
+    let mut reader = PlanReader::within(alloc, u64::from(limit));
     for _ in 0..times {
         if let Err(fault) = reader.feed(bytes) {
             return Some(fault);
@@ -213,42 +225,55 @@ fn fault_within(alloc: Global, limit: u64, bytes: &[u8], times: usize) -> Option
     reader.finish().err()
 }
 
+/// Limits, bytes, how often they come, and the line and kind of their fault.
+const LIMITS: &[(u32, &[u8], usize, u64, Kind)] = &[
+    (20, b"(", 100, 1, Kind::TooLong),
+    (20, b"(a)\n", 100, 6, Kind::TooLong),
+    (22, NO_STEP, 1, 1, Kind::TooLong),
+    (23, b"; cost = 0 (unit cost)\nx", 1, 2, Kind::TooLong),
+    (24, b"; cost = 0 (unit cost)\nx", 1, 2, Kind::Trailing),
+    (22, b"; cost = x (unit cost)\n", 1, 1, Kind::TooLong),
+    (20, b"x\n(a)\n(a)\n(a)\n(a)\n(a)\n", 1, 1, Kind::Keyword),
+    (0, b"", 1, 1, Kind::End),
+    (0, b"x", 1, 1, Kind::TooLong),
+];
+
+/// The first of these limits, counted from 0, with another fault.
+fn wrong_limit(alloc: Global) -> Option<usize> {
+    for (i, (limit, bytes, times, line, kind)) in LIMITS.iter().enumerate() {
+        if fault_within(alloc, *limit, bytes, *times) != at(*line, *kind) {
+            return Some(i);
+        }
+    }
+    None
+}
+
 #[test]
 fn no_byte_is_taken_past_the_limit(rt: HostRuntime) {
-    for (limit, bytes, times, want) in [
-        (20, b"(".as_slice(), 100, at(1, Kind::TooLong)),
-        (20, b"(a)\n", 100, at(6, Kind::TooLong)),
-        (23, NO_STEP, 1, None),
-        (22, NO_STEP, 1, at(1, Kind::TooLong)),
-        (23, b"; cost = 0 (unit cost)\nx", 1, at(2, Kind::TooLong)),
-        (24, b"; cost = 0 (unit cost)\nx", 1, at(2, Kind::Trailing)),
-        (22, b"; cost = x (unit cost)\n", 1, at(1, Kind::TooLong)),
-        (20, b"x\n(a)\n(a)\n(a)\n(a)\n(a)\n", 1, at(1, Kind::Keyword)),
-        (0, b"", 1, at(1, Kind::End)),
-        (0, b"x", 1, at(1, Kind::TooLong)),
-    ] {
-        assert_eq!(rt;
-            fault_within(rt.alloc(), limit, bytes, times),
-            want,
-            "{limit} {bytes:?}"
-        );
+    assert_eq!(rt; wrong_limit(rt.alloc()), None);
+    assert_eq!(rt; fault_within(rt.alloc(), 23, NO_STEP, 1), None);
+}
+
+/// The length of the first front of a text whose reader then fails, where the answer isn't a failed read on its last line.
+fn wrong_failure(alloc: Global, bytes: &[u8]) -> Option<usize> {
+    for n in 0..bytes.len() + 1 {
+        let front = &bytes[..n];
+        let want = (at(line_at_end(front), Kind::Read), true);
+        for interrupted in [false, true] {
+            let right = fault_before_failure(alloc, front, interrupted) == want
+                && text_fault_before_failure(alloc, front, interrupted) == want;
+            if !right {
+                return Some(n);
+            }
+        }
     }
+    None
 }
 
 #[test]
 fn a_read_that_fails_has_its_line(rt: HostRuntime) {
-    let alloc = rt.alloc();
-    for n in 0..TWO_STEPS.len() + 1 {
-        let front = &TWO_STEPS[..n];
-        let want = (at(line_at_end(front), Kind::Read), true);
-        for interrupted in [false, true] {
-            let found = fault_before_failure(alloc, front, interrupted);
-            assert_eq!(rt; found, want, "{n}");
-            let found = text_fault_before_failure(alloc, front, interrupted);
-            assert_eq!(rt; found, want, "{n}");
-        }
-    }
-    let found = fault_before_failure(alloc, b"()\n", false);
+    assert_eq!(rt; wrong_failure(rt.alloc(), TWO_STEPS), None);
+    let found = fault_before_failure(rt.alloc(), b"()\n", false);
     assert_eq!(rt; found, (at(1, Kind::Name), false));
 }
 

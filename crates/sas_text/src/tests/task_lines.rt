@@ -21,17 +21,6 @@ fn fault_with_line(
     Ok(fault_of(alloc, changed.as_slice()))
 }
 
-/// Whether a file with a line replaced is a task, and is written again as it stands.
-fn is_kept_with_line(
-    alloc: Global,
-    file: &[u8],
-    line: u64,
-    text: &[u8],
-) -> Result<bool, AllocError> {
-    let changed = with_line(alloc, file, line, text)?;
-    Ok(is_printed(alloc, changed.as_slice(), changed.as_slice()))
-}
-
 /// Lines of the file `EACH_PART`, each with a text that may stand there too.
 const MAY_STAND: &[(u64, &[u8])] = &[
     (5, b"0"),
@@ -56,39 +45,71 @@ const MAY_STAND: &[(u64, &[u8])] = &[
     (57, b"1 1 0"),
 ];
 
-/// The same of other files: another metric, a repeated fact, an effect without an old value, any bytes as a name.
-const MAY_STAND_ELSEWHERE: &[(&[u8], u64, &[u8])] = &[
-    (TWO_COSTS, 5, b"1"),
-    (KEPT_GROUP, 33, b"0 0"),
-    (TRAILING_SPACE, 28, b"0 0 -1 1"),
-    (MINIMAL, 9, b"\x00\xff "),
-];
+/// The same of other files: another metric.
+const MAY_STAND_IN_TWO_COSTS: &[(u64, &[u8])] = &[(5, b"1")];
+
+/// An effect without an old value.
+const MAY_STAND_IN_TRAILING_SPACE: &[(u64, &[u8])] = &[(28, b"0 0 -1 1")];
+
+/// A group that repeats a fact.
+const MAY_STAND_IN_KEPT_GROUP: &[(u64, &[u8])] = &[(33, b"0 0")];
+
+/// Any bytes as a name.
+const MAY_STAND_IN_MINIMAL: &[(u64, &[u8])] = &[(9, b"\x00\xff ")];
+
+/// Whether a file with a line replaced is a task, and is written again as it stands.
+fn is_kept_with_line(
+    alloc: Global,
+    file: &[u8],
+    line: u64,
+    text: &[u8],
+) -> Result<bool, AllocError> {
+    let changed = with_line(alloc, file, line, text)?;
+    Ok(is_printed(alloc, changed.as_slice(), changed.as_slice()))
+}
+
+/// The first of the changes of a file, counted from 0, that isn't kept.
+fn wrong_change(
+    alloc: Global,
+    file: &[u8],
+    changes: &[(u64, &[u8])],
+) -> Result<Option<usize>, AllocError> {
+    for (i, (line, text)) in changes.iter().enumerate() {
+        if !is_kept_with_line(alloc, file, *line, text)? {
+            return Ok(Some(i));
+        }
+    }
+    Ok(None)
+}
 
 #[test]
 fn a_line_may_say_something_else(rt: HostRuntime) -> Result<(), AllocError> {
-    let alloc = rt.alloc();
-    for (line, text) in MAY_STAND {
-        assert!(rt;
-            is_kept_with_line(alloc, EACH_PART, *line, text)?,
-            "{line} {text:?}"
-        );
-    }
-    for (file, line, text) in MAY_STAND_ELSEWHERE {
-        assert!(rt;
-            is_kept_with_line(alloc, file, *line, text)?,
-            "{line} {text:?}"
-        );
+    for (file, changes) in [
+        (EACH_PART, MAY_STAND),
+        (TWO_COSTS, MAY_STAND_IN_TWO_COSTS),
+        (TRAILING_SPACE, MAY_STAND_IN_TRAILING_SPACE),
+        (KEPT_GROUP, MAY_STAND_IN_KEPT_GROUP),
+        (MINIMAL, MAY_STAND_IN_MINIMAL),
+    ] {
+        assert_eq!(rt; wrong_change(rt.alloc(), file, changes)?, None, "{file:?}");
     }
     Ok(())
 }
 
-#[test]
-fn a_line_alone_may_end_with_a_return(rt: HostRuntime) -> Result<(), AllocError> {
-    let alloc = rt.alloc();
+/// The first line of `EACH_PART` that may not end with CR LF alone.
+fn wrong_return(alloc: Global) -> Result<Option<u64>, AllocError> {
     for line in 1..59u64 {
         let file = with_return(alloc, EACH_PART, line)?;
-        assert!(rt; is_printed(alloc, file.as_slice(), EACH_PART), "{line}");
+        if !is_printed(alloc, file.as_slice(), EACH_PART) {
+            return Ok(Some(line));
+        }
     }
+    Ok(None)
+}
+
+#[test]
+fn a_line_alone_may_end_with_a_return(rt: HostRuntime) -> Result<(), AllocError> {
+    assert_eq!(rt; wrong_return(rt.alloc())?, None);
     Ok(())
 }
 
@@ -199,20 +220,28 @@ const REFUSED_EACH_PART: &[(u64, &[u8], u64, Kind)] = &[
     (50, b"1", 52, Kind::Shape),
 ];
 
-/// The tables of the files.
-const REFUSED: &[(&[u8], &[(u64, &[u8], u64, Kind)])] = &[
-    (MINIMAL, REFUSED_MINIMAL),
-    (TRAILING_SPACE, REFUSED_TRAILING_SPACE),
-    (EACH_PART, REFUSED_EACH_PART),
-];
+/// The first of the changes of a file, counted from 0, with another fault.
+fn wrong_refusal(
+    alloc: Global,
+    file: &[u8],
+    changes: &[(u64, &[u8], u64, Kind)],
+) -> Result<Option<usize>, AllocError> {
+    for (i, (line, text, fault_line, kind)) in changes.iter().enumerate() {
+        if fault_with_line(alloc, file, *line, text)? != at(*fault_line, *kind) {
+            return Ok(Some(i));
+        }
+    }
+    Ok(None)
+}
 
 #[test]
 fn refused_lines_have_their_faults(rt: HostRuntime) -> Result<(), AllocError> {
-    for (file, table) in REFUSED {
-        for (line, text, fault_line, kind) in *table {
-            let found = fault_with_line(rt.alloc(), file, *line, text)?;
-            assert_eq!(rt; found, at(*fault_line, *kind), "{line} {text:?}");
-        }
+    for (file, changes) in [
+        (MINIMAL, REFUSED_MINIMAL),
+        (TRAILING_SPACE, REFUSED_TRAILING_SPACE),
+        (EACH_PART, REFUSED_EACH_PART),
+    ] {
+        assert_eq!(rt; wrong_refusal(rt.alloc(), file, changes)?, None, "{file:?}");
     }
     Ok(())
 }
@@ -254,22 +283,48 @@ const NO_FACTS: &[&[u8]] = &[
     b"0 2147483648",
 ];
 
-/// Lines of one shape, texts that don't have it, and their fault.
-const SHAPES: &[(&[u64], &[&[u8]], Kind)] = &[
-    (WORD_LINES, NO_WORDS, Kind::Keyword),
-    (NUMBER_LINES, NO_NUMBERS, Kind::Shape),
-    (FACT_LINES, NO_FACTS, Kind::Shape),
-];
+/// The first text, counted from 0, that hasn't this fault on a line of `EACH_PART`.
+fn wrong_text(
+    alloc: Global,
+    line: u64,
+    texts: &[&[u8]],
+    kind: Kind,
+) -> Result<Option<usize>, AllocError> {
+    for (i, text) in texts.iter().enumerate() {
+        if fault_with_line(alloc, EACH_PART, line, text)? != at(line, kind) {
+            return Ok(Some(i));
+        }
+    }
+    Ok(None)
+}
+
+/// The first of the lines, and the first such text there.
+fn wrong_shape(
+    alloc: Global,
+    lines: &[u64],
+    texts: &[&[u8]],
+    kind: Kind,
+) -> Result<Option<(u64, usize)>, AllocError> {
+    for line in lines {
+        if let Some(text) = wrong_text(alloc, *line, texts, kind)? {
+            return Ok(Some((*line, text)));
+        }
+    }
+    Ok(None)
+}
 
 #[test]
 fn each_line_has_one_shape(rt: HostRuntime) -> Result<(), AllocError> {
-    for (lines, texts, kind) in SHAPES {
-        for line in *lines {
-            for text in *texts {
-                let found = fault_with_line(rt.alloc(), EACH_PART, *line, text)?;
-                assert_eq!(rt; found, at(*line, *kind), "{line} {text:?}");
-            }
-        }
+    for (lines, texts, kind) in [
+        (WORD_LINES, NO_WORDS, Kind::Keyword),
+        (NUMBER_LINES, NO_NUMBERS, Kind::Shape),
+        (FACT_LINES, NO_FACTS, Kind::Shape),
+    ] {
+        assert_eq!(rt;
+            wrong_shape(rt.alloc(), lines, texts, kind)?,
+            None,
+            "{kind:?}"
+        );
     }
     Ok(())
 }
@@ -284,11 +339,15 @@ fn long_lines(rt: HostRuntime) -> Result<(), AllocError> {
     Ok(())
 }
 
-/// The last count is the largest, and nothing of what it counts comes.
+/// The fault where the last count is the largest, and nothing of what it counts comes.
+fn fault_of_count_alone(alloc: Global) -> Result<Option<Fault>, AllocError> {
+    let file = with_line(alloc, MINIMAL, 23, LARGEST)?;
+    let front = file.len().saturating_sub(2);
+    Ok(fault_of(alloc, &file[..front]))
+}
+
 #[test]
 fn a_count_alone(rt: HostRuntime) -> Result<(), AllocError> {
-    let file = with_line(rt.alloc(), MINIMAL, 23, LARGEST)?;
-    let front = file.len().saturating_sub(2);
-    assert_eq!(rt; fault_of(rt.alloc(), &file[..front]), at(24, Kind::End));
+    assert_eq!(rt; fault_of_count_alone(rt.alloc())?, at(24, Kind::End));
     Ok(())
 }

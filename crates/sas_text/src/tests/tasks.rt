@@ -1,5 +1,3 @@
-ghost use Rattle.std.specs.Prelude.{◌≤◌, ◌^◌};
-
 use super::small_files::*;
 use super::small_tasks::{TaskData, make_parts};
 use super::{at, line_at_end, small_tasks};
@@ -61,15 +59,10 @@ pub fn with_return(alloc: Global, bytes: &[u8], ended: u64) -> Result<Vec<u8>, A
 }
 
 /// The bytes and one more.
-pub fn followed_by(alloc: Global, bytes: &[u8], last: u8) -> Result<Vec<u8>, AllocError> {
+fn followed_by(alloc: Global, bytes: &[u8], last: u8) -> Result<Vec<u8>, AllocError> {
     let mut changed = Vec::from_slice(alloc, bytes)?;
     changed.push(last)?;
     Ok(changed)
-}
-
-/// The bytes without the last ones.
-fn without_last(bytes: &[u8], count: usize) -> &[u8] {
-    &bytes[..bytes.len().saturating_sub(count)]
 }
 
 /// Whether a task was read, and is written as these bytes.
@@ -106,17 +99,103 @@ fn task_of_bytes(alloc: Global, file: &[u8]) -> Result<Task, Fault> {
     reader.finish()
 }
 
-/// Whether a file in these pieces has the task that is written as these bytes.
+/// The fault of a file, if it has one.
+pub fn fault_of(alloc: Global, file: &[u8]) -> Option<Fault> {
+    read_task(alloc, &mut Watched::new(file)).err()
+}
+
+/// Whether the task of the bytes is written as the file: read at once, and byte by byte.
+fn has_the_task_of(alloc: Global, bytes: &[u8], file: &[u8]) -> bool {
+    is_printed(alloc, bytes, file) && is_written(alloc, task_of_bytes(alloc, bytes), file)
+}
+
+/// The first small file whose task isn't written as the file, with the line ends of the file or with CR LF.
+fn wrong_file(alloc: Global) -> Result<Option<usize>, AllocError> {
+    for (i, file) in FILES.iter().enumerate() {
+        let other = with_returns(alloc, file)?;
+        if !has_the_task_of(alloc, file, file) || !has_the_task_of(alloc, other.as_slice(), file) {
+            return Ok(Some(i));
+        }
+    }
+    Ok(None)
+}
+
+#[test]
+fn tasks_are_read_and_written(rt: HostRuntime) -> Result<(), AllocError> {
+    task_laws();
+    assert_eq!(rt; wrong_file(rt.alloc())?, None);
+    Ok(())
+}
+
+/// The task of these parts, if they are those of one.
+fn task_of(parts: Parts) -> Option<Task> {
+    Task::new(parts).ok()
+}
+
+/// Whether a file is read as these parts.
+fn says(alloc: Global, file: &[u8], parts: &Parts) -> bool {
+    match read_task(alloc, &mut Watched::new(file)) {
+        Ok(task) => task.parts() == parts,
+        Err(_) => false,
+    }
+}
+
+/// Whether a file is read as the parts of the data, and these are written as the file.
+fn agree(alloc: Global, file: &[u8], data: &TaskData) -> Result<bool, AllocError> {
+    let parts = make_parts(alloc, data)?;
+    if !says(alloc, file, &parts) {
+        return Ok(false);
+    }
+    match task_of(parts) {
+        Some(task) => Ok(is_written(alloc, Ok(task), file)),
+        None => Ok(false),
+    }
+}
+
+#[test]
+fn tasks_have_the_parts_of_their_files(rt: HostRuntime) -> Result<(), AllocError> {
+    for (file, data) in [
+        (MINIMAL, small_tasks::MINIMAL),
+        (TRAILING_SPACE, small_tasks::TRAILING_SPACE),
+        (TWO_COSTS, small_tasks::TWO_COSTS),
+        (DISAGREEING, small_tasks::DISAGREEING),
+        (SWAP, small_tasks::SWAP),
+        (UNFIRED_OLD, small_tasks::UNFIRED_OLD),
+        (DOOR, small_tasks::DOOR),
+        (TWO_MOVES, small_tasks::TWO_MOVES),
+    ] {
+        assert!(rt; agree(rt.alloc(), file, &data)?, "{file:?}");
+    }
+    Ok(())
+}
+
+#[test]
+fn rules_and_groups_have_the_parts_of_their_files(rt: HostRuntime) -> Result<(), AllocError> {
+    for (file, data) in [
+        (AXIOM_CHAIN, small_tasks::AXIOM_CHAIN),
+        (AXIOM_CYCLE, small_tasks::AXIOM_CYCLE),
+        (UNLAYERED, small_tasks::UNLAYERED),
+        (KEPT_GROUP, small_tasks::KEPT_GROUP),
+        (LEANING_GROUPS, small_tasks::LEANING_GROUPS),
+        (MUTUAL_GROUPS, small_tasks::MUTUAL_GROUPS),
+        (EACH_PART, small_tasks::EACH_PART),
+    ] {
+        assert!(rt; agree(rt.alloc(), file, &data)?, "{file:?}");
+    }
+    Ok(())
+}
+
+/// Whether the task of a file in these pieces is written as these bytes.
 fn is_printed_from_pieces(alloc: Global, pieces: &[&[u8]], want: &[u8]) -> bool {
     is_written(alloc, task_of_pieces(alloc, pieces), want)
 }
 
-/// The first cut of a file in two, with or without an empty piece between, whose task isn't written as these bytes.
-fn wrong_cut(alloc: Global, bytes: &[u8], want: &[u8]) -> Option<usize> {
+/// The first cut of the bytes in two, with or without an empty piece between, whose task isn't written as the file.
+fn wrong_cut(alloc: Global, bytes: &[u8], file: &[u8]) -> Option<usize> {
     for cut in 0..bytes.len() + 1 {
         let (front, rest) = bytes.split_at(cut);
-        let right = is_printed_from_pieces(alloc, &[front, rest], want)
-            && is_printed_from_pieces(alloc, &[front, b"", rest], want);
+        let right = is_printed_from_pieces(alloc, &[front, rest], file)
+            && is_printed_from_pieces(alloc, &[front, b"", rest], file);
         if !right {
             return Some(cut);
         }
@@ -124,12 +203,25 @@ fn wrong_cut(alloc: Global, bytes: &[u8], want: &[u8]) -> Option<usize> {
     None
 }
 
-/// The fault of a file, if it has one.
-pub fn fault_of(alloc: Global, file: &[u8]) -> Option<Fault> {
-    read_task(alloc, &mut Watched::new(file)).err()
+/// The first small file that isn't read in any two pieces, and its first wrong cut.
+fn wrong_cut_of_files(alloc: Global) -> Result<Option<(usize, usize)>, AllocError> {
+    for (i, file) in FILES.iter().enumerate() {
+        let other = with_returns(alloc, file)?;
+        let wrong = wrong_cut(alloc, file, file).or(wrong_cut(alloc, other.as_slice(), file));
+        if let Some(cut) = wrong {
+            return Ok(Some((i, cut)));
+        }
+    }
+    Ok(None)
 }
 
-/// The first front of a file whose fault isn't that it ends early, on its last line.
+#[test]
+fn a_task_comes_in_any_pieces(rt: HostRuntime) -> Result<(), AllocError> {
+    assert_eq!(rt; wrong_cut_of_files(rt.alloc())?, None);
+    Ok(())
+}
+
+/// The length of the first front of the bytes whose fault isn't that it ends early, on its last line.
 fn wrong_front(alloc: Global, bytes: &[u8]) -> Option<usize> {
     for n in 0..bytes.len() {
         let front = &bytes[..n];
@@ -140,6 +232,24 @@ fn wrong_front(alloc: Global, bytes: &[u8]) -> Option<usize> {
     None
 }
 
+/// The first small file with a wrong front, and the length of that.
+fn wrong_front_of_files(alloc: Global) -> Result<Option<(usize, usize)>, AllocError> {
+    for (i, file) in FILES.iter().enumerate() {
+        let other = with_returns(alloc, file)?;
+        let wrong = wrong_front(alloc, file).or(wrong_front(alloc, other.as_slice()));
+        if let Some(n) = wrong {
+            return Ok(Some((i, n)));
+        }
+    }
+    Ok(None)
+}
+
+#[test]
+fn each_front_of_a_task_ends_early(rt: HostRuntime) -> Result<(), AllocError> {
+    assert_eq!(rt; wrong_front_of_files(rt.alloc())?, None);
+    Ok(())
+}
+
 /// The fault that is found where a reader gives these bytes and then fails, and whether that read was tried.
 fn fault_before_failure(alloc: Global, bytes: &[u8], interrupted: bool) -> (Option<Fault>, bool) {
     let mut reader = Watched::new(Breaks::new(bytes, interrupted));
@@ -147,147 +257,38 @@ fn fault_before_failure(alloc: Global, bytes: &[u8], interrupted: bool) -> (Opti
     (fault, reader.failed())
 }
 
-/// The fault of a file that comes in pieces, answered to each piece and at the end.
-fn answers(alloc: Global, pieces: &[&[u8]]) -> Result<Vec<Option<Fault>>, AllocError> {
-    let mut answers = Vec::new(alloc);
-    let mut reader = TaskReader::new(alloc);
-    for piece in pieces {
-        answers.push(reader.feed(piece).err())?;
+/// The length of the first front of a file whose reader then fails, where the answer isn't a failed read on its last line.
+fn wrong_failure(alloc: Global, file: &[u8]) -> Option<usize> {
+    for n in 0..file.len() + 1 {
+        let front = &file[..n];
+        let want = (at(line_at_end(front), Kind::Read), true);
+        for interrupted in [false, true] {
+            if fault_before_failure(alloc, front, interrupted) != want {
+                return Some(n);
+            }
+        }
     }
-    answers.push(reader.finish().err())?;
-    Ok(answers)
-}
-
-/// The first fault of a reader with this limit.
-fn fault_within(alloc: Global, limit: u64, bytes: &[u8]) -> Option<Fault>
-    requires { limit ≤ 2 ^ 32 }
-{
-    let mut reader = TaskReader::within(alloc, limit);
-    match reader.feed(bytes) {
-        Err(fault) => Some(fault),
-        Ok(()) => reader.finish().err(),
-    }
-}
-
-/// Whether a file is read as the parts of the data.
-fn says(alloc: Global, file: &[u8], data: &TaskData) -> Result<bool, AllocError> {
-    let parts = make_parts(alloc, data)?;
-    Ok(match read_task(alloc, &mut Watched::new(file)) {
-        Ok(task) => *task.parts() == parts,
-        Err(_) => false,
-    })
-}
-
-/// The task of these parts, if they are those of one.
-fn task_of(parts: Parts) -> Option<Task> {
-    Task::new(parts).ok()
-}
-
-/// Whether the parts of the data are written as this file.
-fn is_file_of(alloc: Global, file: &[u8], data: &TaskData) -> Result<bool, AllocError> {
-    let Some(task) = task_of(make_parts(alloc, data)?) else {
-        return Ok(false);
-    };
-    Ok(encode_task(alloc, &task)?.as_slice() == file)
+    None
 }
 
 #[test]
-fn tasks_have_the_parts_of_their_files(rt: HostRuntime) -> Result<(), AllocError> {
-    let alloc = rt.alloc();
-    task_laws();
-    for (file, data) in [
-        (MINIMAL, small_tasks::MINIMAL),
-        (TRAILING_SPACE, small_tasks::TRAILING_SPACE),
-        (TWO_COSTS, small_tasks::TWO_COSTS),
-        (DISAGREEING, small_tasks::DISAGREEING),
-        (EACH_PART, small_tasks::EACH_PART),
-    ] {
-        assert!(rt; says(alloc, file, &data)?, "{file:?}");
-        assert!(rt; is_file_of(alloc, file, &data)?, "{file:?}");
-    }
-    Ok(())
+fn a_read_of_a_task_that_fails_has_its_line(rt: HostRuntime) {
+    assert_eq!(rt; wrong_failure(rt.alloc(), MINIMAL), None);
+    let found = fault_before_failure(rt.alloc(), b"begin_version\n4\n", false);
+    assert_eq!(rt; found, (at(2, Kind::Value), false));
 }
 
-#[test]
-fn tasks_of_two_variables_have_the_parts_of_their_files(rt: HostRuntime) -> Result<(), AllocError> {
-    let alloc = rt.alloc();
-    for (file, data) in [
-        (SWAP, small_tasks::SWAP),
-        (UNFIRED_OLD, small_tasks::UNFIRED_OLD),
-        (DOOR, small_tasks::DOOR),
-        (TWO_MOVES, small_tasks::TWO_MOVES),
-    ] {
-        assert!(rt; says(alloc, file, &data)?, "{file:?}");
-        assert!(rt; is_file_of(alloc, file, &data)?, "{file:?}");
+/// The first byte that isn't refused behind a file, on this line, before the next read is tried.
+fn wrong_byte_behind(alloc: Global, file: &[u8], line: u64) -> Result<Option<u8>, AllocError> {
+    let want = at(line, Kind::Trailing);
+    for last in 0..=u8::MAX {
+        let longer = followed_by(alloc, file, last)?;
+        let found = fault_before_failure(alloc, longer.as_slice(), false);
+        if fault_of(alloc, longer.as_slice()) != want || found != (want, false) {
+            return Ok(Some(last));
+        }
     }
-    Ok(())
-}
-
-#[test]
-fn tasks_with_rules_have_the_parts_of_their_files(rt: HostRuntime) -> Result<(), AllocError> {
-    let alloc = rt.alloc();
-    for (file, data) in [
-        (AXIOM_CHAIN, small_tasks::AXIOM_CHAIN),
-        (AXIOM_CYCLE, small_tasks::AXIOM_CYCLE),
-        (UNLAYERED, small_tasks::UNLAYERED),
-    ] {
-        assert!(rt; says(alloc, file, &data)?, "{file:?}");
-        assert!(rt; is_file_of(alloc, file, &data)?, "{file:?}");
-    }
-    Ok(())
-}
-
-#[test]
-fn tasks_with_groups_have_the_parts_of_their_files(rt: HostRuntime) -> Result<(), AllocError> {
-    let alloc = rt.alloc();
-    for (file, data) in [
-        (KEPT_GROUP, small_tasks::KEPT_GROUP),
-        (LEANING_GROUPS, small_tasks::LEANING_GROUPS),
-        (MUTUAL_GROUPS, small_tasks::MUTUAL_GROUPS),
-    ] {
-        assert!(rt; says(alloc, file, &data)?, "{file:?}");
-        assert!(rt; is_file_of(alloc, file, &data)?, "{file:?}");
-    }
-    Ok(())
-}
-
-#[test]
-fn tasks_are_read_and_written(rt: HostRuntime) -> Result<(), AllocError> {
-    let alloc = rt.alloc();
-    for file in FILES {
-        assert!(rt; is_printed(alloc, file, file), "{file:?}");
-        assert!(rt;
-            is_written(alloc, task_of_bytes(alloc, file), file),
-            "{file:?}"
-        );
-        let other = with_returns(alloc, file)?;
-        assert!(rt; is_printed(alloc, other.as_slice(), file), "{file:?}");
-        let read = task_of_bytes(alloc, other.as_slice());
-        assert!(rt; is_written(alloc, read, file), "{file:?}");
-    }
-    Ok(())
-}
-
-#[test]
-fn a_task_comes_in_any_pieces(rt: HostRuntime) -> Result<(), AllocError> {
-    let alloc = rt.alloc();
-    for file in FILES {
-        assert_eq!(rt; wrong_cut(alloc, file, file), None, "{file:?}");
-        let other = with_returns(alloc, file)?;
-        assert_eq!(rt; wrong_cut(alloc, other.as_slice(), file), None, "{file:?}");
-    }
-    Ok(())
-}
-
-#[test]
-fn each_front_of_a_task_ends_early(rt: HostRuntime) -> Result<(), AllocError> {
-    let alloc = rt.alloc();
-    for file in FILES {
-        assert_eq!(rt; wrong_front(alloc, file), None, "{file:?}");
-        let other = with_returns(alloc, file)?;
-        assert_eq!(rt; wrong_front(alloc, other.as_slice()), None, "{file:?}");
-    }
-    Ok(())
+    Ok(None)
 }
 
 /// Small files, each with the line behind its last one.
@@ -295,16 +296,8 @@ const LINES_BEHIND: &[(&[u8], u64)] = &[(MINIMAL, 25), (AXIOM_CHAIN, 70), (EACH_
 
 #[test]
 fn nothing_follows_a_task(rt: HostRuntime) -> Result<(), AllocError> {
-    let alloc = rt.alloc();
     for (file, line) in LINES_BEHIND {
-        for last in [b'x', b'\n', b'\r', b' '] {
-            let longer = followed_by(alloc, file, last)?;
-            let want = at(*line, Kind::Trailing);
-            assert_eq!(rt; fault_of(alloc, longer.as_slice()), want, "{last}");
-            // What would come next is never read.
-            let found = fault_before_failure(alloc, longer.as_slice(), false);
-            assert_eq!(rt; found, (want, false), "{last}");
-        }
+        assert_eq!(rt; wrong_byte_behind(rt.alloc(), file, *line)?, None, "{line}");
     }
     Ok(())
 }
@@ -333,76 +326,102 @@ const EMPTY: Option<Fault> = Some(Fault {
     kind: Kind::End,
 });
 
-/// Pieces that come one after the other, with the answer to each and, last, at the end.
-const CALLS: &[(&[&[u8]], &[Option<Fault>])] = &[
+/// The first three lines.
+const VERSION: &[u8] = b"begin_version\n3\nend_version\n";
+
+/// Pieces that come one after the other, each with its answer, and the answer at the end.
+const CALLS: &[(&[(&[u8], Option<Fault>)], Option<Fault>)] = &[
+    (&[(VERSION, None), (b"zzz", None)], UNFINISHED),
     (
-        &[b"begin_version\n3\nend_version\n", b"zzz"],
-        &[None, None, UNFINISHED],
+        &[
+            (VERSION, None),
+            (b"zzz", None),
+            (b"\n", OTHER_WORD),
+            (b"", OTHER_WORD),
+            (b"begin_metric\n", OTHER_WORD),
+        ],
+        OTHER_WORD,
     ),
     (
         &[
-            b"begin_version\n3\nend_version\n",
-            b"zzz",
-            b"\n",
-            b"",
-            b"begin_metric\n",
+            (MINIMAL, None),
+            (b"", None),
+            (b"\r", LONGER),
+            (b"", LONGER),
+            (MINIMAL, LONGER),
         ],
-        &[None, None, OTHER_WORD, OTHER_WORD, OTHER_WORD, OTHER_WORD],
+        LONGER,
     ),
-    (
-        &[MINIMAL, b"", b"\r", b"", MINIMAL],
-        &[None, None, LONGER, LONGER, LONGER, LONGER],
-    ),
-    (&[MINIMAL, b""], &[None, None, None]),
-    (&[b"", b""], &[None, None, EMPTY]),
-    (&[], &[EMPTY]),
+    (&[(MINIMAL, None), (b"", None)], None),
+    (&[(b"", None), (b"", None)], EMPTY),
+    (&[], EMPTY),
 ];
 
-#[test]
-fn a_fault_of_a_task_stays(rt: HostRuntime) -> Result<(), AllocError> {
-    for (pieces, want) in CALLS {
-        let found = answers(rt.alloc(), pieces)?;
-        assert_eq!(rt; found.as_slice(), *want);
+/// Whether a reader answers so to each piece, and at the end.
+fn answers_so(alloc: Global, pieces: &[(&[u8], Option<Fault>)], last: Option<Fault>) -> bool {
+    let mut reader = TaskReader::new(alloc);
+    for (piece, want) in pieces {
+        if reader.feed(piece).err() != *want {
+            return false;
+        }
     }
-    Ok(())
+    reader.finish().err() == last
+}
+
+#[test]
+fn a_fault_of_a_task_stays(rt: HostRuntime) {
+    for (pieces, last) in CALLS {
+        assert!(rt; answers_so(rt.alloc(), pieces, *last), "{pieces:?}");
+    }
+}
+
+/// The fault of a reader with this limit.
+fn fault_within(alloc: Global, limit: u32, bytes: &[u8]) -> Option<Fault> {
+    let mut reader = TaskReader::within(alloc, u64::from(limit));
+    match reader.feed(bytes) {
+        Err(fault) => Some(fault),
+        Ok(()) => reader.finish().err(),
+    }
+}
+
+/// Limits, bytes, and the line and kind of their fault.
+const LIMITS: &[(u32, &[u8], u64, Kind)] = &[
+    (183, MINIMAL, 24, Kind::TooLong),
+    (182, MINIMAL, 24, Kind::TooLong),
+    (181, MINIMAL, 23, Kind::TooLong),
+    (422, EACH_PART, 58, Kind::TooLong),
+    (14, b"begin_version\n4\n", 2, Kind::TooLong),
+    (15, b"begin_version\n4\n", 2, Kind::TooLong),
+    (16, b"begin_version\n4\n", 2, Kind::Value),
+    (16, b"begin_version\n4\n3", 2, Kind::Value),
+    (0, b"", 1, Kind::End),
+    (0, b"x", 1, Kind::TooLong),
+];
+
+/// The first of these limits with another fault.
+fn wrong_limit(alloc: Global) -> Option<u32> {
+    for (limit, bytes, line, kind) in LIMITS {
+        if fault_within(alloc, *limit, bytes) != at(*line, *kind) {
+            return Some(*limit);
+        }
+    }
+    None
 }
 
 #[test]
 fn no_byte_of_a_task_is_taken_past_the_limit(rt: HostRuntime) -> Result<(), AllocError> {
     let alloc = rt.alloc();
+    assert_eq!(rt; wrong_limit(alloc), None);
     let longer = followed_by(alloc, MINIMAL, b'x')?;
-    for (limit, bytes, want) in [
-        (184, MINIMAL, None),
-        (183, MINIMAL, at(24, Kind::TooLong)),
-        (182, MINIMAL, at(24, Kind::TooLong)),
-        (181, MINIMAL, at(23, Kind::TooLong)),
-        (184, longer.as_slice(), at(25, Kind::TooLong)),
-        (185, longer.as_slice(), at(25, Kind::Trailing)),
-        (423, EACH_PART, None),
-        (422, EACH_PART, at(58, Kind::TooLong)),
-        (14, b"begin_version\n4\n", at(2, Kind::TooLong)),
-        (15, b"begin_version\n4\n", at(2, Kind::TooLong)),
-        (16, b"begin_version\n4\n", at(2, Kind::Value)),
-        (16, b"begin_version\n4\n3", at(2, Kind::Value)),
-        (0, b"", at(1, Kind::End)),
-        (0, b"x", at(1, Kind::TooLong)),
-    ] {
-        assert_eq!(rt; fault_within(alloc, limit, bytes), want, "{limit}");
-    }
+    let found = [
+        fault_within(alloc, 184, MINIMAL),
+        fault_within(alloc, 184, longer.as_slice()),
+        fault_within(alloc, 185, longer.as_slice()),
+        fault_within(alloc, 423, EACH_PART),
+    ];
+    assert_eq!(rt;
+        found,
+        [None, at(25, Kind::TooLong), at(25, Kind::Trailing), None]
+    );
     Ok(())
-}
-
-#[test]
-fn a_read_of_a_task_that_fails_has_its_line(rt: HostRuntime) {
-    let alloc = rt.alloc();
-    for n in 0..MINIMAL.len() + 1 {
-        let front = &MINIMAL[..n];
-        let want = at(line_at_end(front), Kind::Read);
-        for interrupted in [false, true] {
-            let found = fault_before_failure(alloc, front, interrupted);
-            assert_eq!(rt; found, (want, true), "{n}");
-        }
-    }
-    let found = fault_before_failure(alloc, b"begin_version\n4\n", false);
-    assert_eq!(rt; found, (at(2, Kind::Value), false));
 }
