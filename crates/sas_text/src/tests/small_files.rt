@@ -751,3 +751,22 @@ begin_rule
 1 -1 1
 end_rule
 ";
+
+/// All small files.
+pub const FILES: &[&[u8]] = &[
+    MINIMAL,
+    TRAILING_SPACE,
+    TWO_COSTS,
+    DISAGREEING,
+    SWAP,
+    UNFIRED_OLD,
+    DOOR,
+    TWO_MOVES,
+    AXIOM_CHAIN,
+    AXIOM_CYCLE,
+    UNLAYERED,
+    KEPT_GROUP,
+    LEANING_GROUPS,
+    MUTUAL_GROUPS,
+    EACH_PART,
+];
