@@ -122,6 +122,7 @@ impl<M: Machine> Reader<M> {
             return Err(Kind::Trailing);
         }
         let within = &piece[..piece.len().min(room as usize)];
+        // A line that stands whole in the piece is judged there. Only one that is cut is copied.
         if !self.pending.pending().is_empty() {
             return self.go_on(within);
         }

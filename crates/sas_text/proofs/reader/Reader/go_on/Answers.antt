@@ -1,4 +1,4 @@
-use Rattle.std.proofs.Common.{refl, ap, sym}
+use Rattle.std.proofs.Common.{refl}
 use Rattle.sas_text.proofs.Advancing.{accepted_part, accepted_line, stops_rejected}
 use Rattle.sas_text.proofs.reader.Reader.go_on.Goals as goal
 
