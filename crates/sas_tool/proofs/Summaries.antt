@@ -15,7 +15,7 @@ text_of_both : (a b : List (List ℕ)) → text (a ++ b) ≡ text a ++ text b
 text_of_both a b = flat_map-append (λ (line : List ℕ). line ++ 10 ∷ []) a b
 
 -- lines appended behind lines
-pub lines_behind : (before middle after : List ℕ) (first others : List (List ℕ)) → middle ≡ before ++ text first → after ≡ middle ++ text others → after ≡ before ++ text (first ++ others)
+lines_behind : (before middle after : List ℕ) (first others : List (List ℕ)) → middle ≡ before ++ text first → after ≡ middle ++ text others → after ≡ before ++ text (first ++ others)
 lines_behind before middle after first others e f = f ∙ ap (λ (x : List ℕ). x ++ text others) e ∙ append_assoc before (text first) (text others) ∙ ap (λ (x : List ℕ). before ++ x) (sym (text_of_both first others))
 
 -- one item more has the next index
