@@ -28,6 +28,7 @@ CALLS = {
     "encode-plan": 30,
     "feed-task": 80,
     "read-task": 80,
+    "read-task-text": 60,
     "read-outline": 80,
     "encode-task": 80,
     "run-steps": 30,

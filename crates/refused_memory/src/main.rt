@@ -10,7 +10,7 @@ use sas_lines::trial::Narrow;
 use sas_lines::{Lines, Watched, push_line, push_number};
 use sas_text::{
     Fault, Kind, Outline, PlanReader, TaskReader, encode_plan, encode_task, read_outline,
-    read_plan, read_plan_text, read_task,
+    read_plan, read_plan_text, read_task, read_task_text,
 };
 use sas_tool::{Request, Status, ToolFault, run};
 use std::alloc::{AllocError, Global};
@@ -237,6 +237,15 @@ fn is_outline(outline: &Outline) -> bool {
         && outline.rules == 1
 }
 
+/// `read_task_text`.
+fn task_text(alloc: Global, count: usize) -> Result<Outcome, AllocError> {
+    spend(alloc, count)?;
+    Ok(match read_task_text(alloc, &mut Watched::new(TASK)) {
+        Ok(text) => Outcome::of_answer(text.as_slice() == TASK),
+        Err(fault) => Outcome::of_fault(fault),
+    })
+}
+
 /// `read_outline`.
 fn outline(alloc: Global, count: usize) -> Result<Outcome, AllocError> {
     spend(alloc, count)?;
@@ -288,6 +297,7 @@ fn outcome_of(alloc: Global, call: &str, count: usize) -> Result<Outcome, AllocE
         "encode-plan" => encoded(alloc, count),
         "feed-task" => task_feed(alloc, count),
         "read-task" => task(alloc, count),
+        "read-task-text" => task_text(alloc, count),
         "read-outline" => outline(alloc, count),
         "encode-task" => task_encoded(alloc, count),
         "run-steps" => request(alloc, count, Request::Steps, PLAN, Status::Yes, WRITTEN),
