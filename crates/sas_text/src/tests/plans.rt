@@ -204,8 +204,8 @@ const CALLS: &[(&[u8], Option<Fault>)] = &[
 ];
 
 /// Whether a reader answers so to each piece, and at the end.
-fn answers_so(alloc: Global, pieces: &[(&[u8], Option<Fault>)], last: Option<Fault>) -> bool {
-    let mut reader = PlanReader::new(alloc);
+fn answers_so(reader: PlanReader, pieces: &[(&[u8], Option<Fault>)], last: Option<Fault>) -> bool {
+    let mut reader = reader;
     for (piece, want) in pieces {
         if feed(&mut reader, piece).err() != *want {
             return false;
@@ -216,7 +216,28 @@ fn answers_so(alloc: Global, pieces: &[(&[u8], Option<Fault>)], last: Option<Fau
 
 #[test]
 fn a_fault_stays(rt: HostRuntime) {
-    assert!(rt; answers_so(rt.alloc(), CALLS, LONGER));
+    assert!(rt; answers_so(PlanReader::new(rt.alloc()), CALLS, LONGER));
+}
+
+/// A byte follows the 23 that are taken, which are one line.
+const TOO_LONG: Option<Fault> = Some(Fault {
+    line: 2,
+    kind: Kind::TooLong,
+});
+
+/// Pieces for a reader that takes 23 bytes, each with its answer.
+const CALLS_PAST_THE_LIMIT: &[(&[u8], Option<Fault>)] = &[
+    (NO_STEP, None),
+    (b"", None),
+    (b"(", TOO_LONG),
+    (b"", TOO_LONG),
+    (NO_STEP, TOO_LONG),
+];
+
+#[test]
+fn a_plan_too_long_stays_so(rt: HostRuntime) {
+    let reader = PlanReader::within(rt.alloc(), 23);
+    assert!(rt; answers_so(reader, CALLS_PAST_THE_LIMIT, TOO_LONG));
 }
 
 /// The first fault of a reader with this limit, which is fed the bytes so many times.

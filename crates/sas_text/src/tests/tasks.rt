@@ -91,26 +91,36 @@ fn finish(reader: TaskReader) -> Result<Task, Fault> {
     reader.finish()
 }
 
-/// Whether the task of a file in these pieces is written as these bytes.
-fn is_printed_from_pieces(alloc: Global, pieces: &[&[u8]], want: &[u8]) -> bool {
-    let mut reader = TaskReader::new(alloc);
+/// Gives a reader these pieces: whether it takes each.
+fn takes_pieces(reader: &mut TaskReader, pieces: &[&[u8]]) -> bool {
     for piece in pieces {
-        if feed(&mut reader, piece).is_err() {
+        if feed(reader, piece).is_err() {
             return false;
         }
     }
-    is_written(alloc, finish(reader).ok(), want)
+    true
+}
+
+/// The same byte by byte.
+fn takes_bytes(reader: &mut TaskReader, bytes: &[u8]) -> bool {
+    for byte in bytes {
+        if feed(reader, &[*byte]).is_err() {
+            return false;
+        }
+    }
+    true
+}
+
+/// Whether the task of a file in these pieces is written as these bytes.
+fn is_printed_from_pieces(alloc: Global, pieces: &[&[u8]], want: &[u8]) -> bool {
+    let mut reader = TaskReader::new(alloc);
+    takes_pieces(&mut reader, pieces) && is_written(alloc, finish(reader).ok(), want)
 }
 
 /// The same of a file that comes byte by byte.
 fn is_printed_from_bytes(alloc: Global, file: &[u8], want: &[u8]) -> bool {
     let mut reader = TaskReader::new(alloc);
-    for byte in file {
-        if feed(&mut reader, &[*byte]).is_err() {
-            return false;
-        }
-    }
-    is_written(alloc, finish(reader).ok(), want)
+    takes_bytes(&mut reader, file) && is_written(alloc, finish(reader).ok(), want)
 }
 
 /// The fault of a file, if it has one.
@@ -375,22 +385,49 @@ const CALLS: &[(&[(&[u8], Option<Fault>)], Option<Fault>)] = &[
     (&[], EMPTY),
 ];
 
-/// Whether a reader answers so to each piece, and at the end.
-fn answers_so(alloc: Global, pieces: &[(&[u8], Option<Fault>)], last: Option<Fault>) -> bool {
-    let mut reader = TaskReader::new(alloc);
+/// Whether a reader answers so to each piece.
+fn answers_pieces_so(reader: &mut TaskReader, pieces: &[(&[u8], Option<Fault>)]) -> bool {
     for (piece, want) in pieces {
-        if feed(&mut reader, piece).err() != *want {
+        if feed(reader, piece).err() != *want {
             return false;
         }
     }
-    finish(reader).err() == last
+    true
+}
+
+/// Whether it does, and answers so at the end.
+fn answers_so(reader: TaskReader, pieces: &[(&[u8], Option<Fault>)], last: Option<Fault>) -> bool {
+    let mut reader = reader;
+    answers_pieces_so(&mut reader, pieces) && finish(reader).err() == last
 }
 
 #[test]
 fn a_fault_of_a_task_stays(rt: HostRuntime) {
     for (pieces, last) in CALLS {
-        assert!(rt; answers_so(rt.alloc(), pieces, *last), "{pieces:?}");
+        let reader = TaskReader::new(rt.alloc());
+        assert!(rt; answers_so(reader, pieces, *last), "{pieces:?}");
     }
+}
+
+/// A byte follows the 28 that are taken, which are three lines.
+const TOO_LONG: Option<Fault> = Some(Fault {
+    line: 4,
+    kind: Kind::TooLong,
+});
+
+/// Pieces for a reader that takes 28 bytes, each with its answer.
+const CALLS_PAST_THE_LIMIT: &[(&[u8], Option<Fault>)] = &[
+    (VERSION, None),
+    (b"", None),
+    (b"b", TOO_LONG),
+    (b"", TOO_LONG),
+    (b"\n", TOO_LONG),
+];
+
+#[test]
+fn a_task_too_long_stays_so(rt: HostRuntime) {
+    let reader = TaskReader::within(rt.alloc(), 28);
+    assert!(rt; answers_so(reader, CALLS_PAST_THE_LIMIT, TOO_LONG));
 }
 
 /// The fault of a reader with this limit.
