@@ -47,11 +47,16 @@ fn is_kept(alloc: Global, bytes: &[u8], want: &[u8]) -> bool {
     }
 }
 
+/// Gives a reader the next piece. What is proved of that stays behind this call: a test looks at the answer alone.
+fn feed(reader: &mut PlanReader, piece: &[u8]) -> Result<(), Fault> {
+    reader.feed(piece)
+}
+
 /// The plan of a text that comes in pieces.
 fn plan_of_pieces(alloc: Global, pieces: &[&[u8]]) -> Result<Plan, Fault> {
     let mut reader = PlanReader::new(alloc);
     for piece in pieces {
-        reader.feed(piece)?;
+        feed(&mut reader, piece)?;
     }
     reader.finish()
 }
@@ -60,7 +65,7 @@ fn plan_of_pieces(alloc: Global, pieces: &[&[u8]]) -> Result<Plan, Fault> {
 fn plan_of_bytes(alloc: Global, bytes: &[u8]) -> Result<Plan, Fault> {
     let mut reader = PlanReader::new(alloc);
     for byte in bytes {
-        reader.feed(&[*byte])?;
+        feed(&mut reader, &[*byte])?;
     }
     reader.finish()
 }
@@ -199,10 +204,10 @@ const CALLS: &[(&[u8], Option<Fault>)] = &[
 ];
 
 /// Whether a reader answers so to each piece, and at the end.
-fn answers_so(alloc: Global, pieces: &[(&[u8], Option<Fault>)], last: Option<Fault>) -> bool {
-    let mut reader = PlanReader::new(alloc);
+fn answers_so(reader: PlanReader, pieces: &[(&[u8], Option<Fault>)], last: Option<Fault>) -> bool {
+    let mut reader = reader;
     for (piece, want) in pieces {
-        if reader.feed(piece).err() != *want {
+        if feed(&mut reader, piece).err() != *want {
             return false;
         }
     }
@@ -211,14 +216,35 @@ fn answers_so(alloc: Global, pieces: &[(&[u8], Option<Fault>)], last: Option<Fau
 
 #[test]
 fn a_fault_stays(rt: HostRuntime) {
-    assert!(rt; answers_so(rt.alloc(), CALLS, LONGER));
+    assert!(rt; answers_so(PlanReader::new(rt.alloc()), CALLS, LONGER));
+}
+
+/// A byte follows the 23 that are taken, which are one line.
+const TOO_LONG: Option<Fault> = Some(Fault {
+    line: 2,
+    kind: Kind::TooLong,
+});
+
+/// Pieces for a reader that takes 23 bytes, each with its answer.
+const CALLS_PAST_THE_LIMIT: &[(&[u8], Option<Fault>)] = &[
+    (NO_STEP, None),
+    (b"", None),
+    (b"(", TOO_LONG),
+    (b"", TOO_LONG),
+    (NO_STEP, TOO_LONG),
+];
+
+#[test]
+fn a_plan_too_long_stays_so(rt: HostRuntime) {
+    let reader = PlanReader::within(rt.alloc(), 23);
+    assert!(rt; answers_so(reader, CALLS_PAST_THE_LIMIT, TOO_LONG));
 }
 
 /// The first fault of a reader with this limit, which is fed the bytes so many times.
 fn fault_within(alloc: Global, limit: u32, bytes: &[u8], times: usize) -> Option<Fault> {
     let mut reader = PlanReader::within(alloc, u64::from(limit));
     for _ in 0..times {
-        if let Err(fault) = reader.feed(bytes) {
+        if let Err(fault) = feed(&mut reader, bytes) {
             return Some(fault);
         }
     }

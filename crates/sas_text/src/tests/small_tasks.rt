@@ -27,7 +27,7 @@ pub struct TaskData<'a> {
 }
 
 /// One variable, no operator and no rule.
-pub const MINIMAL: TaskData = TaskData {
+pub static MINIMAL: TaskData = TaskData {
     metric: false,
     variables: &[(b"var0", None, &[b"Atom dummy(val1)", b"Atom dummy(val2)"])],
     groups: &[],
@@ -38,7 +38,7 @@ pub const MINIMAL: TaskData = TaskData {
 };
 
 /// An operator whose name ends in a space.
-pub const TRAILING_SPACE: TaskData = TaskData {
+pub static TRAILING_SPACE: TaskData = TaskData {
     metric: false,
     variables: &[(b"var0", None, &[b"Atom at(home)", b"Atom at(work)"])],
     groups: &[],
@@ -49,7 +49,7 @@ pub const TRAILING_SPACE: TaskData = TaskData {
 };
 
 /// Two operators with cost lines 0 and 5.
-pub const TWO_COSTS: TaskData = TaskData {
+pub static TWO_COSTS: TaskData = TaskData {
     metric: false,
     variables: &[(
         b"var0",
@@ -67,7 +67,7 @@ pub const TWO_COSTS: TaskData = TaskData {
 };
 
 /// Two effects that disagree.
-pub const DISAGREEING: TaskData = TaskData {
+pub static DISAGREEING: TaskData = TaskData {
     metric: false,
     variables: &[(b"var0", None, &[b"Atom p()", b"Atom q()"])],
     groups: &[],
@@ -78,7 +78,7 @@ pub const DISAGREEING: TaskData = TaskData {
 };
 
 /// Two variables exchanged by conditional effects.
-pub const SWAP: TaskData = TaskData {
+pub static SWAP: TaskData = TaskData {
     metric: false,
     variables: &[
         (b"var0", None, &[b"Atom x(0)", b"Atom x(1)"]),
@@ -102,7 +102,7 @@ pub const SWAP: TaskData = TaskData {
 };
 
 /// An effect that doesn't fire, and whose old value fails.
-pub const UNFIRED_OLD: TaskData = TaskData {
+pub static UNFIRED_OLD: TaskData = TaskData {
     metric: false,
     variables: &[
         (b"var0", None, &[b"Atom x(0)", b"Atom x(1)"]),
@@ -121,7 +121,7 @@ pub const UNFIRED_OLD: TaskData = TaskData {
 };
 
 /// Two operators of one name, only the second applicable.
-pub const DOOR: TaskData = TaskData {
+pub static DOOR: TaskData = TaskData {
     metric: true,
     variables: &[
         (b"var0", None, &[b"Atom side(left)", b"Atom side(right)"]),
@@ -138,7 +138,7 @@ pub const DOOR: TaskData = TaskData {
 };
 
 /// Two operators of one name, both applicable.
-pub const TWO_MOVES: TaskData = TaskData {
+pub static TWO_MOVES: TaskData = TaskData {
     metric: false,
     variables: &[(
         b"var0",
@@ -156,7 +156,7 @@ pub const TWO_MOVES: TaskData = TaskData {
 };
 
 /// A chain of rules listed backwards, a rule above it that asks for a default, and a rule to a default.
-pub const AXIOM_CHAIN: TaskData = TaskData {
+pub static AXIOM_CHAIN: TaskData = TaskData {
     metric: false,
     variables: &[
         (b"var0", None, &[b"Atom a()", b"NegatedAtom a()"]),
@@ -177,7 +177,7 @@ pub const AXIOM_CHAIN: TaskData = TaskData {
 };
 
 /// A cycle of rules with nothing under it, and a rule to a default.
-pub const AXIOM_CYCLE: TaskData = TaskData {
+pub static AXIOM_CYCLE: TaskData = TaskData {
     metric: false,
     variables: &[
         (b"var0", None, &[b"Atom a()", b"NegatedAtom a()"]),
@@ -196,7 +196,7 @@ pub const AXIOM_CYCLE: TaskData = TaskData {
 };
 
 /// A rule that asks for a default on its own layer.
-pub const UNLAYERED: TaskData = TaskData {
+pub static UNLAYERED: TaskData = TaskData {
     metric: false,
     variables: &[
         (b"var0", None, &[b"Atom a()", b"NegatedAtom a()"]),
@@ -215,7 +215,7 @@ pub const UNLAYERED: TaskData = TaskData {
 };
 
 /// A group kept by an effect that removes a fact.
-pub const KEPT_GROUP: TaskData = TaskData {
+pub static KEPT_GROUP: TaskData = TaskData {
     metric: false,
     variables: &[
         (b"var0", None, &[b"Atom x(0)", b"Atom x(1)"]),
@@ -230,7 +230,7 @@ pub const KEPT_GROUP: TaskData = TaskData {
 };
 
 /// Two groups, one of which needs the other.
-pub const LEANING_GROUPS: TaskData = TaskData {
+pub static LEANING_GROUPS: TaskData = TaskData {
     metric: false,
     variables: &[
         (b"var0", None, &[b"Atom a()", b"NegatedAtom a()"]),
@@ -245,7 +245,7 @@ pub const LEANING_GROUPS: TaskData = TaskData {
 };
 
 /// Two groups that rest on each other.
-pub const MUTUAL_GROUPS: TaskData = TaskData {
+pub static MUTUAL_GROUPS: TaskData = TaskData {
     metric: false,
     variables: &[
         (b"var0", None, &[b"Atom a()", b"NegatedAtom a()"]),
@@ -264,7 +264,7 @@ pub const MUTUAL_GROUPS: TaskData = TaskData {
 };
 
 /// Something of each kind.
-pub const EACH_PART: TaskData = TaskData {
+pub static EACH_PART: TaskData = TaskData {
     metric: true,
     variables: &[
         (b"var0", None, &[b"Atom a()", b"Atom b()", b"Atom c()"]),

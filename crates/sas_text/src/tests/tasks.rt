@@ -66,8 +66,8 @@ fn followed_by(alloc: Global, bytes: &[u8], last: u8) -> Result<Vec<u8>, AllocEr
 }
 
 /// Whether a task was read, and is written as these bytes.
-fn is_written(alloc: Global, read: Result<Task, Fault>, want: &[u8]) -> bool {
-    let Ok(task) = read else {
+fn is_written(alloc: Global, read: Option<Task>, want: &[u8]) -> bool {
+    let Some(task) = read else {
         return false;
     };
     match encode_task(alloc, &task) {
@@ -78,25 +78,49 @@ fn is_written(alloc: Global, read: Result<Task, Fault>, want: &[u8]) -> bool {
 
 /// Whether a file is read, and its task is written as these bytes.
 pub fn is_printed(alloc: Global, file: &[u8], want: &[u8]) -> bool {
-    is_written(alloc, read_task(alloc, &mut Watched::new(file)), want)
+    is_written(alloc, read_task(alloc, &mut Watched::new(file)).ok(), want)
 }
 
-/// The task of a file that comes in pieces.
-fn task_of_pieces(alloc: Global, pieces: &[&[u8]]) -> Result<Task, Fault> {
-    let mut reader = TaskReader::new(alloc);
+/// Gives a reader the next piece. What is proved of that stays behind this call: a test looks at the answer alone.
+fn feed(reader: &mut TaskReader, piece: &[u8]) -> Result<(), Fault> {
+    reader.feed(piece)
+}
+
+/// The same at the end.
+fn finish(reader: TaskReader) -> Result<Task, Fault> {
+    reader.finish()
+}
+
+/// Gives a reader these pieces: whether it takes each.
+fn takes_pieces(reader: &mut TaskReader, pieces: &[&[u8]]) -> bool {
     for piece in pieces {
-        reader.feed(piece)?;
+        if feed(reader, piece).is_err() {
+            return false;
+        }
     }
-    reader.finish()
+    true
 }
 
-/// The task of a file that comes byte by byte.
-fn task_of_bytes(alloc: Global, file: &[u8]) -> Result<Task, Fault> {
-    let mut reader = TaskReader::new(alloc);
-    for byte in file {
-        reader.feed(&[*byte])?;
+/// The same byte by byte.
+fn takes_bytes(reader: &mut TaskReader, bytes: &[u8]) -> bool {
+    for byte in bytes {
+        if feed(reader, &[*byte]).is_err() {
+            return false;
+        }
     }
-    reader.finish()
+    true
+}
+
+/// Whether the task of a file in these pieces is written as these bytes.
+fn is_printed_from_pieces(alloc: Global, pieces: &[&[u8]], want: &[u8]) -> bool {
+    let mut reader = TaskReader::new(alloc);
+    takes_pieces(&mut reader, pieces) && is_written(alloc, finish(reader).ok(), want)
+}
+
+/// The same of a file that comes byte by byte.
+fn is_printed_from_bytes(alloc: Global, file: &[u8], want: &[u8]) -> bool {
+    let mut reader = TaskReader::new(alloc);
+    takes_bytes(&mut reader, file) && is_written(alloc, finish(reader).ok(), want)
 }
 
 /// The fault of a file, if it has one.
@@ -104,16 +128,58 @@ pub fn fault_of(alloc: Global, file: &[u8]) -> Option<Fault> {
     read_task(alloc, &mut Watched::new(file)).err()
 }
 
-/// Whether the task of the bytes is written as the file: read at once, and byte by byte.
-fn has_the_task_of(alloc: Global, bytes: &[u8], file: &[u8]) -> bool {
-    is_printed(alloc, bytes, file) && is_written(alloc, task_of_bytes(alloc, bytes), file)
+/// The first cut of the bytes in two, with or without an empty piece between, whose task isn't written as the file.
+fn wrong_cut(alloc: Global, bytes: &[u8], file: &[u8]) -> Option<usize> {
+    for cut in 0..bytes.len() + 1 {
+        let (front, rest) = bytes.split_at(cut);
+        let right = is_printed_from_pieces(alloc, &[front, rest], file)
+            && is_printed_from_pieces(alloc, &[front, b"", rest], file);
+        if !right {
+            return Some(cut);
+        }
+    }
+    None
 }
 
-/// The first small file whose task isn't written as the file, with the line ends of the file or with CR LF.
-fn wrong_file(alloc: Global) -> Result<Option<usize>, AllocError> {
+/// The length of the first front of the bytes whose fault isn't that it ends early, on its last line.
+fn wrong_front(alloc: Global, bytes: &[u8]) -> Option<usize> {
+    for n in 0..bytes.len() {
+        let front = &bytes[..n];
+        if fault_of(alloc, front) != at(line_at_end(front), Kind::End) {
+            return Some(n);
+        }
+    }
+    None
+}
+
+/// What is done with a small file.
+#[derive(Clone, Copy)]
+enum Way {
+    /// Its task is read at once, and is written as the file.
+    AtOnce,
+    /// The same byte by byte.
+    ByteByByte,
+    /// The same in any two pieces.
+    InTwo,
+    /// It is cut off at any place, and ends early.
+    CutOff,
+}
+
+/// Whether that goes as it should with these bytes, which say what the file says.
+fn goes_well(alloc: Global, way: Way, bytes: &[u8], file: &[u8]) -> bool {
+    match way {
+        Way::AtOnce => is_printed(alloc, bytes, file),
+        Way::ByteByByte => is_printed_from_bytes(alloc, bytes, file),
+        Way::InTwo => wrong_cut(alloc, bytes, file).is_none(),
+        Way::CutOff => wrong_front(alloc, bytes).is_none(),
+    }
+}
+
+/// The first small file, counted from 0, with which it doesn't go well, as it stands or with CR LF at each line's end.
+fn wrong_file(alloc: Global, way: Way) -> Result<Option<usize>, AllocError> {
     for (i, file) in FILES.iter().enumerate() {
         let other = with_returns(alloc, file)?;
-        if !has_the_task_of(alloc, file, file) || !has_the_task_of(alloc, other.as_slice(), file) {
+        if !goes_well(alloc, way, file, file) || !goes_well(alloc, way, other.as_slice(), file) {
             return Ok(Some(i));
         }
     }
@@ -123,7 +189,20 @@ fn wrong_file(alloc: Global) -> Result<Option<usize>, AllocError> {
 #[test]
 fn tasks_are_read_and_written(rt: HostRuntime) -> Result<(), AllocError> {
     task_laws();
-    assert_eq!(rt; wrong_file(rt.alloc())?, None);
+    assert_eq!(rt; wrong_file(rt.alloc(), Way::AtOnce)?, None);
+    assert_eq!(rt; wrong_file(rt.alloc(), Way::ByteByByte)?, None);
+    Ok(())
+}
+
+#[test]
+fn a_task_comes_in_any_pieces(rt: HostRuntime) -> Result<(), AllocError> {
+    assert_eq!(rt; wrong_file(rt.alloc(), Way::InTwo)?, None);
+    Ok(())
+}
+
+#[test]
+fn each_front_of_a_task_ends_early(rt: HostRuntime) -> Result<(), AllocError> {
+    assert_eq!(rt; wrong_file(rt.alloc(), Way::CutOff)?, None);
     Ok(())
 }
 
@@ -141,113 +220,42 @@ fn says(alloc: Global, file: &[u8], parts: &Parts) -> bool {
 }
 
 /// Whether a file is read as the parts of the data, and these are written as the file.
-fn agree(alloc: Global, file: &[u8], data: &TaskData) -> Result<bool, AllocError> {
-    let parts = make_parts(alloc, data)?;
-    if !says(alloc, file, &parts) {
-        return Ok(false);
-    }
-    match task_of(parts) {
-        Some(task) => Ok(is_written(alloc, Ok(task), file)),
-        None => Ok(false),
+fn agree(alloc: Global, file: &[u8], data: &TaskData) -> bool {
+    match make_parts(alloc, data) {
+        Ok(parts) => says(alloc, file, &parts) && is_written(alloc, task_of(parts), file),
+        Err(_) => false,
     }
 }
 
 #[test]
-fn tasks_have_the_parts_of_their_files(rt: HostRuntime) -> Result<(), AllocError> {
-    for (file, data) in [
-        (MINIMAL, small_tasks::MINIMAL),
-        (TRAILING_SPACE, small_tasks::TRAILING_SPACE),
-        (TWO_COSTS, small_tasks::TWO_COSTS),
-        (DISAGREEING, small_tasks::DISAGREEING),
-        (SWAP, small_tasks::SWAP),
-        (UNFIRED_OLD, small_tasks::UNFIRED_OLD),
-        (DOOR, small_tasks::DOOR),
-        (TWO_MOVES, small_tasks::TWO_MOVES),
-    ] {
-        assert!(rt; agree(rt.alloc(), file, &data)?, "{file:?}");
-    }
-    Ok(())
+fn tasks_have_the_parts_of_their_files(rt: HostRuntime) {
+    let alloc = rt.alloc();
+    let found = [
+        agree(alloc, MINIMAL, &small_tasks::MINIMAL),
+        agree(alloc, TRAILING_SPACE, &small_tasks::TRAILING_SPACE),
+        agree(alloc, TWO_COSTS, &small_tasks::TWO_COSTS),
+        agree(alloc, DISAGREEING, &small_tasks::DISAGREEING),
+        agree(alloc, SWAP, &small_tasks::SWAP),
+        agree(alloc, UNFIRED_OLD, &small_tasks::UNFIRED_OLD),
+        agree(alloc, DOOR, &small_tasks::DOOR),
+        agree(alloc, TWO_MOVES, &small_tasks::TWO_MOVES),
+    ];
+    assert_eq!(rt; found, [true; 8]);
 }
 
 #[test]
-fn rules_and_groups_have_the_parts_of_their_files(rt: HostRuntime) -> Result<(), AllocError> {
-    for (file, data) in [
-        (AXIOM_CHAIN, small_tasks::AXIOM_CHAIN),
-        (AXIOM_CYCLE, small_tasks::AXIOM_CYCLE),
-        (UNLAYERED, small_tasks::UNLAYERED),
-        (KEPT_GROUP, small_tasks::KEPT_GROUP),
-        (LEANING_GROUPS, small_tasks::LEANING_GROUPS),
-        (MUTUAL_GROUPS, small_tasks::MUTUAL_GROUPS),
-        (EACH_PART, small_tasks::EACH_PART),
-    ] {
-        assert!(rt; agree(rt.alloc(), file, &data)?, "{file:?}");
-    }
-    Ok(())
-}
-
-/// Whether the task of a file in these pieces is written as these bytes.
-fn is_printed_from_pieces(alloc: Global, pieces: &[&[u8]], want: &[u8]) -> bool {
-    is_written(alloc, task_of_pieces(alloc, pieces), want)
-}
-
-/// The first cut of the bytes in two, with or without an empty piece between, whose task isn't written as the file.
-fn wrong_cut(alloc: Global, bytes: &[u8], file: &[u8]) -> Option<usize> {
-    for cut in 0..bytes.len() + 1 {
-        let (front, rest) = bytes.split_at(cut);
-        let right = is_printed_from_pieces(alloc, &[front, rest], file)
-            && is_printed_from_pieces(alloc, &[front, b"", rest], file);
-        if !right {
-            return Some(cut);
-        }
-    }
-    None
-}
-
-/// The first small file that isn't read in any two pieces, and its first wrong cut.
-fn wrong_cut_of_files(alloc: Global) -> Result<Option<(usize, usize)>, AllocError> {
-    for (i, file) in FILES.iter().enumerate() {
-        let other = with_returns(alloc, file)?;
-        let wrong = wrong_cut(alloc, file, file).or(wrong_cut(alloc, other.as_slice(), file));
-        if let Some(cut) = wrong {
-            return Ok(Some((i, cut)));
-        }
-    }
-    Ok(None)
-}
-
-#[test]
-fn a_task_comes_in_any_pieces(rt: HostRuntime) -> Result<(), AllocError> {
-    assert_eq!(rt; wrong_cut_of_files(rt.alloc())?, None);
-    Ok(())
-}
-
-/// The length of the first front of the bytes whose fault isn't that it ends early, on its last line.
-fn wrong_front(alloc: Global, bytes: &[u8]) -> Option<usize> {
-    for n in 0..bytes.len() {
-        let front = &bytes[..n];
-        if fault_of(alloc, front) != at(line_at_end(front), Kind::End) {
-            return Some(n);
-        }
-    }
-    None
-}
-
-/// The first small file with a wrong front, and the length of that.
-fn wrong_front_of_files(alloc: Global) -> Result<Option<(usize, usize)>, AllocError> {
-    for (i, file) in FILES.iter().enumerate() {
-        let other = with_returns(alloc, file)?;
-        let wrong = wrong_front(alloc, file).or(wrong_front(alloc, other.as_slice()));
-        if let Some(n) = wrong {
-            return Ok(Some((i, n)));
-        }
-    }
-    Ok(None)
-}
-
-#[test]
-fn each_front_of_a_task_ends_early(rt: HostRuntime) -> Result<(), AllocError> {
-    assert_eq!(rt; wrong_front_of_files(rt.alloc())?, None);
-    Ok(())
+fn rules_and_groups_have_the_parts_of_their_files(rt: HostRuntime) {
+    let alloc = rt.alloc();
+    let found = [
+        agree(alloc, AXIOM_CHAIN, &small_tasks::AXIOM_CHAIN),
+        agree(alloc, AXIOM_CYCLE, &small_tasks::AXIOM_CYCLE),
+        agree(alloc, UNLAYERED, &small_tasks::UNLAYERED),
+        agree(alloc, KEPT_GROUP, &small_tasks::KEPT_GROUP),
+        agree(alloc, LEANING_GROUPS, &small_tasks::LEANING_GROUPS),
+        agree(alloc, MUTUAL_GROUPS, &small_tasks::MUTUAL_GROUPS),
+        agree(alloc, EACH_PART, &small_tasks::EACH_PART),
+    ];
+    assert_eq!(rt; found, [true; 7]);
 }
 
 /// The fault that is found where a reader gives these bytes and then fails, and whether that read was tried.
@@ -357,30 +365,57 @@ const CALLS: &[(&[(&[u8], Option<Fault>)], Option<Fault>)] = &[
     (&[], EMPTY),
 ];
 
-/// Whether a reader answers so to each piece, and at the end.
-fn answers_so(alloc: Global, pieces: &[(&[u8], Option<Fault>)], last: Option<Fault>) -> bool {
-    let mut reader = TaskReader::new(alloc);
+/// Whether a reader answers so to each piece.
+fn answers_pieces_so(reader: &mut TaskReader, pieces: &[(&[u8], Option<Fault>)]) -> bool {
     for (piece, want) in pieces {
-        if reader.feed(piece).err() != *want {
+        if feed(reader, piece).err() != *want {
             return false;
         }
     }
-    reader.finish().err() == last
+    true
+}
+
+/// Whether it does, and answers so at the end.
+fn answers_so(reader: TaskReader, pieces: &[(&[u8], Option<Fault>)], last: Option<Fault>) -> bool {
+    let mut reader = reader;
+    answers_pieces_so(&mut reader, pieces) && finish(reader).err() == last
 }
 
 #[test]
 fn a_fault_of_a_task_stays(rt: HostRuntime) {
     for (pieces, last) in CALLS {
-        assert!(rt; answers_so(rt.alloc(), pieces, *last), "{pieces:?}");
+        let reader = TaskReader::new(rt.alloc());
+        assert!(rt; answers_so(reader, pieces, *last), "{pieces:?}");
     }
+}
+
+/// A byte follows the 28 that are taken, which are three lines.
+const TOO_LONG: Option<Fault> = Some(Fault {
+    line: 4,
+    kind: Kind::TooLong,
+});
+
+/// Pieces for a reader that takes 28 bytes, each with its answer.
+const CALLS_PAST_THE_LIMIT: &[(&[u8], Option<Fault>)] = &[
+    (VERSION, None),
+    (b"", None),
+    (b"b", TOO_LONG),
+    (b"", TOO_LONG),
+    (b"\n", TOO_LONG),
+];
+
+#[test]
+fn a_task_too_long_stays_so(rt: HostRuntime) {
+    let reader = TaskReader::within(rt.alloc(), 28);
+    assert!(rt; answers_so(reader, CALLS_PAST_THE_LIMIT, TOO_LONG));
 }
 
 /// The fault of a reader with this limit.
 fn fault_within(alloc: Global, limit: u32, bytes: &[u8]) -> Option<Fault> {
     let mut reader = TaskReader::within(alloc, u64::from(limit));
-    match reader.feed(bytes) {
+    match feed(&mut reader, bytes) {
         Err(fault) => Some(fault),
-        Ok(()) => reader.finish().err(),
+        Ok(()) => finish(reader).err(),
     }
 }
 
