@@ -10,6 +10,7 @@ use Rattle.sas_text.specs.declared.reader.Reader.{Reader}
 use Rattle.sas_text.specs.declared.task_parts.SoFar.{SoFar}
 use Rattle.sas_text.specs.declared.task_machine.TaskMachine.{TaskMachine}
 use Rattle.sas_text.specs.declared.task_reader.TaskReader.{TaskReader}
+use Rattle.sas_text.specs.Devices.{Refuses}
 use Rattle.sas_text.specs.Format.{Live, FaultOf, Reads, ReadsAs}
 use Rattle.sas_text.specs.Process.{process_node}
 use Rattle.sas_text.specs.Reader as reading
@@ -19,7 +20,7 @@ use Rattle.sas_text.specs.TaskMachine.{LedBy}
 use Rattle.sas_text.specs.TaskProcess.{task_start}
 use Rattle.sas_text.specs.TaskReader.{Stands}
 use Rattle.sas_text.specs.TaskMachine.{LedTo, EndedAt, RejectsAt}
-use Rattle.sas_text.proofs.Conversion.{Follows, fault_of_format, live_of_format, reads_of_format, refusal}
+use Rattle.sas_text.proofs.Conversion.{Follows, fault_of_format, live_of_format, reads_of_format, refusal, device_refusal}
 use Rattle.sas_text.proofs.Standing as standing
 use Rattle.sas_text.proofs.TaskEnds.{ended_if_done, ends_with}
 use Rattle.sas_text.proofs.TaskGrammar.{task_grammar}
@@ -40,6 +41,10 @@ module _ {K : Type 0} (keeps : List (List ℕ) → SoFar → K → Type 0) where
   pub reads_so_far : (m : TaskMachine K) (bytes : List ℕ) (h : reading.Reached (LedBy keeps) (λ (n : TaskMachine K). HasEnded n.judge) m bytes) → HasEnded m.judge → Reads task_format bytes h.led.so_far.parts
   unfolding machine_follows
   reads_so_far m bytes h d = reads_of_format task_format process_node task_start task_grammar (LedBy keeps) _ _ machine_follows m h.led.so_far.parts bytes h (ends_with m.judge h.led.so_far d)
+
+  -- the fault of a device's bytes
+  pub task_refusal : (limit : ℕ) (bytes : List ℕ) (At_end : Type 0) (f : Fault) → reading.ReadFails (LedBy keeps) (λ (n : TaskMachine K). HasEnded n.judge) (λ (n : TaskMachine K) line kind. RejectsLine n.judge line kind) limit bytes At_end f → Refuses task_format limit bytes At_end f
+  task_refusal limit bytes At_end f h = device_refusal task_format process_node task_start task_grammar (LedBy keeps) _ _ machine_follows limit bytes At_end f h
 
 -- the reader keeps all
 pub reader_follows : Follows task_format process_node task_start LedTo EndedAt RejectsAt

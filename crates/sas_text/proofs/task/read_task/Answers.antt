@@ -1,16 +1,12 @@
-use Rattle.std.proofs.Common.{List, ℕ, sym, ap, subst, ◌∙◌, Ok}
+use Rattle.std.proofs.Common.{◌≡◌, List, ℕ, sym, ap, subst, ◌∙◌, Ok}
 use Rattle.sas_core.specs.declared.parts.Parts.{Parts}
 use Rattle.sas_core.specs.WellRanged.{WellRanged}
 use Rattle.sas_text.specs.declared.task_parts.SoFar.{SoFar}
 use Rattle.sas_text.specs.declared.plan_reader.TheConstants.{LIMIT}
 use Rattle.sas_text.specs.Format.{ReadsAs}
-use Rattle.sas_text.specs.Process.{process_node}
 use Rattle.sas_text.specs.TaskFormat.{task_format}
-use Rattle.sas_text.specs.TaskMachine.{LedTo, EndedAt, RejectsAt}
-use Rattle.sas_text.specs.TaskProcess.{task_start}
-use Rattle.sas_text.proofs.Conversion.{all_read, device_refusal, known_refusal}
-use Rattle.sas_text.proofs.TaskGrammar.{task_grammar}
-use Rattle.sas_text.proofs.TaskStanding.{reader_follows, read_task_parts, well_ranged}
+use Rattle.sas_text.proofs.Conversion.{all_read, known_refusal}
+use Rattle.sas_text.proofs.TaskStanding.{read_task_parts, task_refusal, well_ranged}
 use Rattle.sas_text.proofs.task.read_task.Goals as goal
 
 pub of_parts-requires : goal.of_parts-requires
@@ -32,9 +28,9 @@ returns-in-Ok-clause-known g c = λ b known.
 pub returns-in-Err-clause-fault : goal.returns-in-Err-clause-fault
 returns-in-Err-clause-fault g c = λ ne.
     let r = c.in-Err.ensures.fault ne in
-    (r.0, r.1, device_refusal task_format process_node task_start task_grammar LedTo EndedAt RejectsAt reader_follows _ r.0 _ c.in-Err.fault r.2)
+    (r.0, r.1, task_refusal (λ lines s kept. kept ≡ s) _ r.0 _ c.in-Err.fault r.2)
 
 pub returns-in-Err-clause-known_fault : goal.returns-in-Err-clause-known_fault
 returns-in-Err-clause-known_fault g c = λ b known memory read.
     let r = c.in-Err.ensures.fault memory in
-    known_refusal task_format _ _ _ b r.0 c.in-Err.fault known r.1 (device_refusal task_format process_node task_start task_grammar LedTo EndedAt RejectsAt reader_follows _ r.0 _ c.in-Err.fault r.2) read
+    known_refusal task_format _ _ _ b r.0 c.in-Err.fault known r.1 (task_refusal (λ lines s kept. kept ≡ s) _ r.0 _ c.in-Err.fault r.2) read

@@ -5,15 +5,12 @@ use Rattle.sas_text.specs.declared.task_parts.SoFar.{SoFar}
 use Rattle.sas_text.specs.declared.task_machine.TaskMachine.{TaskMachine}
 use Rattle.sas_text.specs.declared.task_text.TaskText.{TaskText}
 use Rattle.sas_text.specs.Devices.{TextOf}
-use Rattle.sas_text.specs.Process.{process_node}
 use Rattle.sas_text.specs.Reader.{Reached}
 use Rattle.sas_text.specs.TaskFormat.{task_format}
 use Rattle.sas_text.specs.TaskJudge.{HasEnded}
 use Rattle.sas_text.specs.TaskMachine.{LedBy}
-use Rattle.sas_text.specs.TaskProcess.{task_start}
-use Rattle.sas_text.proofs.Conversion.{all_read, device_refusal, known_refusal}
-use Rattle.sas_text.proofs.TaskGrammar.{task_grammar}
-use Rattle.sas_text.proofs.TaskStanding.{machine_follows, reads_so_far}
+use Rattle.sas_text.proofs.Conversion.{all_read, known_refusal}
+use Rattle.sas_text.proofs.TaskStanding.{reads_so_far, task_refusal}
 use Rattle.sas_text.proofs.task.read_task_text.Goals as goal
 
 -- what the machine keeps
@@ -45,9 +42,9 @@ returns-in-Ok-clause-known g c = λ b known.
 pub returns-in-Err-clause-fault : goal.returns-in-Err-clause-fault
 returns-in-Err-clause-fault g c = λ ne.
     let r = c.in-Err.ensures.fault ne in
-    (r.0, r.1, device_refusal task_format process_node task_start task_grammar (LedBy Keeps) Ended _ (machine_follows Keeps) _ r.0 _ c.in-Err.fault r.2)
+    (r.0, r.1, task_refusal Keeps _ r.0 _ c.in-Err.fault r.2)
 
 pub returns-in-Err-clause-known_fault : goal.returns-in-Err-clause-known_fault
 returns-in-Err-clause-known_fault g c = λ b known memory read.
     let r = c.in-Err.ensures.fault memory in
-    known_refusal task_format _ _ _ b r.0 c.in-Err.fault known r.1 (device_refusal task_format process_node task_start task_grammar (LedBy Keeps) Ended _ (machine_follows Keeps) _ r.0 _ c.in-Err.fault r.2) read
+    known_refusal task_format _ _ _ b r.0 c.in-Err.fault known r.1 (task_refusal Keeps _ r.0 _ c.in-Err.fault r.2) read
