@@ -3,6 +3,7 @@ mod plans;
 mod small_files;
 mod small_tasks;
 mod task_lines;
+mod task_texts;
 mod tasks;
 
 use super::*;
