@@ -15,9 +15,9 @@ standard error. program.json: words and devices, by these names.
     status       the exit status
     error        standard error, exactly; null: some text
 
-A text is a string, of which each character is a byte, or a list of strings, each with the number of times that it
-comes. The cases run at the top of the repository. Each case that fails has a line, and the last line is
-'N passed, M failed'. The exit status is 0 where none failed.
+A text is a string, of which each character is a byte; or a list of strings, each with the number of times that it comes;
+or {"file": NAME}, for what the file of that name holds. The cases run at the top of the repository. Each case that fails
+has a line, and the last line is 'N passed, M failed'. The exit status is 0 where none failed.
 """
 import json
 import os
@@ -32,6 +32,9 @@ SECONDS = 60
 
 def as_bytes(text):
     """The bytes of a text of a case."""
+    if isinstance(text, dict):
+        with open(os.path.join(os.path.dirname(CASES), text["file"]), "rb") as file:
+            return file.read()
     parts = [[text, 1]] if isinstance(text, str) else text
     return b"".join(part.encode("latin-1") * times for part, times in parts)
 
