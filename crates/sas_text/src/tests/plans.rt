@@ -146,7 +146,7 @@ fn each_front_ends_early(rt: HostRuntime) {
 }
 
 /// Texts that are no plan's, each with the line and the kind of its fault.
-const REFUSED: &[(&[u8], u64, Kind)] = &[
+static REFUSED: &[(&[u8], u64, Kind)] = &[
     (b"", 1, Kind::End),
     (b"(a)\n", 2, Kind::End),
     (b"(a)", 1, Kind::End),
@@ -195,7 +195,7 @@ const LONGER: Option<Fault> = Some(Fault {
 });
 
 /// Pieces that come one after the other, each with its answer.
-const CALLS: &[(&[u8], Option<Fault>)] = &[
+static CALLS: &[(&[u8], Option<Fault>)] = &[
     (NO_STEP, None),
     (b"", None),
     (b"(", LONGER),
@@ -226,7 +226,7 @@ const TOO_LONG: Option<Fault> = Some(Fault {
 });
 
 /// Pieces for a reader that takes 23 bytes, each with its answer.
-const CALLS_PAST_THE_LIMIT: &[(&[u8], Option<Fault>)] = &[
+static CALLS_PAST_THE_LIMIT: &[(&[u8], Option<Fault>)] = &[
     (NO_STEP, None),
     (b"", None),
     (b"(", TOO_LONG),
@@ -252,7 +252,7 @@ fn fault_within(alloc: Global, limit: u32, bytes: &[u8], times: usize) -> Option
 }
 
 /// Limits, bytes, how often they come, and the line and kind of their fault.
-const LIMITS: &[(u32, &[u8], usize, u64, Kind)] = &[
+static LIMITS: &[(u32, &[u8], usize, u64, Kind)] = &[
     (20, b"(", 100, 1, Kind::TooLong),
     (20, b"(a)\n", 100, 6, Kind::TooLong),
     (22, NO_STEP, 1, 1, Kind::TooLong),
@@ -304,7 +304,7 @@ fn a_read_that_fails_has_its_line(rt: HostRuntime) {
 }
 
 /// Texts of plans, each with how its plan is written.
-const PLANS: &[(&[u8], &[u8])] = &[
+static PLANS: &[(&[u8], &[u8])] = &[
     (TWO_STEPS, TWO_STEPS),
     (NO_STEP, NO_STEP),
     (

@@ -753,7 +753,7 @@ end_rule
 ";
 
 /// All small files.
-pub const FILES: &[&[u8]] = &[
+pub static FILES: &[&[u8]] = &[
     MINIMAL,
     TRAILING_SPACE,
     TWO_COSTS,

@@ -22,7 +22,7 @@ fn fault_with_line(
 }
 
 /// Lines of the file `EACH_PART`, each with a text that may stand there too.
-const MAY_STAND: &[(u64, &[u8])] = &[
+static MAY_STAND: &[(u64, &[u8])] = &[
     (5, b"0"),
     (9, b"\x00\xff "),
     (9, b"begin_variable"),
@@ -46,16 +46,16 @@ const MAY_STAND: &[(u64, &[u8])] = &[
 ];
 
 /// The same of other files: another metric.
-const MAY_STAND_IN_TWO_COSTS: &[(u64, &[u8])] = &[(5, b"1")];
+static MAY_STAND_IN_TWO_COSTS: &[(u64, &[u8])] = &[(5, b"1")];
 
 /// An effect without an old value.
-const MAY_STAND_IN_TRAILING_SPACE: &[(u64, &[u8])] = &[(28, b"0 0 -1 1")];
+static MAY_STAND_IN_TRAILING_SPACE: &[(u64, &[u8])] = &[(28, b"0 0 -1 1")];
 
 /// A group that repeats a fact.
-const MAY_STAND_IN_KEPT_GROUP: &[(u64, &[u8])] = &[(33, b"0 0")];
+static MAY_STAND_IN_KEPT_GROUP: &[(u64, &[u8])] = &[(33, b"0 0")];
 
 /// Any bytes as a name.
-const MAY_STAND_IN_MINIMAL: &[(u64, &[u8])] = &[(9, b"\x00\xff ")];
+static MAY_STAND_IN_MINIMAL: &[(u64, &[u8])] = &[(9, b"\x00\xff ")];
 
 /// Whether a file with a line replaced is a task, and is written again as it stands.
 fn is_kept_with_line(
@@ -84,15 +84,15 @@ fn wrong_change(
 
 #[test]
 fn a_line_may_say_something_else(rt: HostRuntime) -> Result<(), AllocError> {
-    for (file, changes) in [
-        (EACH_PART, MAY_STAND),
-        (TWO_COSTS, MAY_STAND_IN_TWO_COSTS),
-        (TRAILING_SPACE, MAY_STAND_IN_TRAILING_SPACE),
-        (KEPT_GROUP, MAY_STAND_IN_KEPT_GROUP),
-        (MINIMAL, MAY_STAND_IN_MINIMAL),
-    ] {
-        assert_eq!(rt; wrong_change(rt.alloc(), file, changes)?, None, "{file:?}");
-    }
+    let alloc = rt.alloc();
+    let found = [
+        wrong_change(alloc, EACH_PART, MAY_STAND)?,
+        wrong_change(alloc, TWO_COSTS, MAY_STAND_IN_TWO_COSTS)?,
+        wrong_change(alloc, TRAILING_SPACE, MAY_STAND_IN_TRAILING_SPACE)?,
+        wrong_change(alloc, KEPT_GROUP, MAY_STAND_IN_KEPT_GROUP)?,
+        wrong_change(alloc, MINIMAL, MAY_STAND_IN_MINIMAL)?,
+    ];
+    assert_eq!(rt; found, [None; 5]);
     Ok(())
 }
 
@@ -114,7 +114,7 @@ fn a_line_alone_may_end_with_a_return(rt: HostRuntime) -> Result<(), AllocError>
 }
 
 /// A line of the file `MINIMAL`, a text in its place, and the fault.
-const REFUSED_MINIMAL: &[(u64, &[u8], u64, Kind)] = &[
+static REFUSED_MINIMAL: &[(u64, &[u8], u64, Kind)] = &[
     (1, b"", 1, Kind::Keyword),
     (1, b"begin_version ", 1, Kind::Keyword),
     (1, b"begin_version\r\r", 1, Kind::Keyword),
@@ -144,7 +144,7 @@ const REFUSED_MINIMAL: &[(u64, &[u8], u64, Kind)] = &[
 ];
 
 /// The same of the file `TRAILING_SPACE`.
-const REFUSED_TRAILING_SPACE: &[(u64, &[u8], u64, Kind)] = &[
+static REFUSED_TRAILING_SPACE: &[(u64, &[u8], u64, Kind)] = &[
     (25, b"", 25, Kind::Name),
     (28, b"0  0 0 1", 28, Kind::Shape),
     (28, b"00 0 0 1", 28, Kind::Shape),
@@ -156,7 +156,7 @@ const REFUSED_TRAILING_SPACE: &[(u64, &[u8], u64, Kind)] = &[
 ];
 
 /// The same of the file `EACH_PART`.
-const REFUSED_EACH_PART: &[(u64, &[u8], u64, Kind)] = &[
+static REFUSED_EACH_PART: &[(u64, &[u8], u64, Kind)] = &[
     // Each number that isn't allowed where it stands.
     (2, b"2", 2, Kind::Value),
     (5, b"2", 5, Kind::Value),
@@ -236,39 +236,39 @@ fn wrong_refusal(
 
 #[test]
 fn refused_lines_have_their_faults(rt: HostRuntime) -> Result<(), AllocError> {
-    for (file, changes) in [
-        (MINIMAL, REFUSED_MINIMAL),
-        (TRAILING_SPACE, REFUSED_TRAILING_SPACE),
-        (EACH_PART, REFUSED_EACH_PART),
-    ] {
-        assert_eq!(rt; wrong_refusal(rt.alloc(), file, changes)?, None, "{file:?}");
-    }
+    let alloc = rt.alloc();
+    let found = [
+        wrong_refusal(alloc, MINIMAL, REFUSED_MINIMAL)?,
+        wrong_refusal(alloc, TRAILING_SPACE, REFUSED_TRAILING_SPACE)?,
+        wrong_refusal(alloc, EACH_PART, REFUSED_EACH_PART)?,
+    ];
+    assert_eq!(rt; found, [None; 3]);
     Ok(())
 }
 
 /// The lines of `EACH_PART` that are fixed words.
-const WORD_LINES: &[u64] = &[
+static WORD_LINES: &[u64] = &[
     1, 3, 4, 6, 8, 15, 16, 22, 24, 28, 29, 32, 33, 37, 39, 47, 49, 54, 55, 58,
 ];
 
 /// Those that are a number.
-const NUMBER_LINES: &[u64] = &[
+static NUMBER_LINES: &[u64] = &[
     2, 5, 7, 11, 19, 23, 25, 30, 31, 34, 38, 41, 43, 46, 48, 50, 56,
 ];
 
 /// Those that are a fact.
-const FACT_LINES: &[u64] = &[26, 27, 35, 36, 42, 51, 52];
+static FACT_LINES: &[u64] = &[26, 27, 35, 36, 42, 51, 52];
 
 /// Texts that are no fixed word.
-const NO_WORDS: &[&[u8]] = &[b"", b"x", b"0", b"begin_", b"end_rule ", b"Begin_version"];
+static NO_WORDS: &[&[u8]] = &[b"", b"x", b"0", b"begin_", b"end_rule ", b"Begin_version"];
 
 /// Texts that are no number.
-const NO_NUMBERS: &[&[u8]] = &[
+static NO_NUMBERS: &[&[u8]] = &[
     b"", b"x", b"-1", b"00", b"+1", b" 1", b"1 ", b"1 1", TOO_LARGE,
 ];
 
 /// Texts that are no fact.
-const NO_FACTS: &[&[u8]] = &[
+static NO_FACTS: &[&[u8]] = &[
     b"",
     b"0",
     b"0 ",
@@ -315,17 +315,13 @@ fn wrong_shape(
 
 #[test]
 fn each_line_has_one_shape(rt: HostRuntime) -> Result<(), AllocError> {
-    for (lines, texts, kind) in [
-        (WORD_LINES, NO_WORDS, Kind::Keyword),
-        (NUMBER_LINES, NO_NUMBERS, Kind::Shape),
-        (FACT_LINES, NO_FACTS, Kind::Shape),
-    ] {
-        assert_eq!(rt;
-            wrong_shape(rt.alloc(), lines, texts, kind)?,
-            None,
-            "{kind:?}"
-        );
-    }
+    let alloc = rt.alloc();
+    let found = [
+        wrong_shape(alloc, WORD_LINES, NO_WORDS, Kind::Keyword)?,
+        wrong_shape(alloc, NUMBER_LINES, NO_NUMBERS, Kind::Shape)?,
+        wrong_shape(alloc, FACT_LINES, NO_FACTS, Kind::Shape)?,
+    ];
+    assert_eq!(rt; found, [None; 3]);
     Ok(())
 }
 
