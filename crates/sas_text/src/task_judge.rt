@@ -280,6 +280,17 @@ impl TaskJudge {
         Ok(Event::State)
     }
 
+    /// Takes the last word of the initial state.
+    fn state_end(&mut self, line: &[u8]) -> Result<Event, Kind>
+        requires place { self.old.place ≡ Place.StateValues }
+        requires all { length self.old.ranges ≤ self.old.valued }
+        ensures { Moves self.old line.now self.new result }
+    {
+        word_at(line, b"end_state")?;
+        self.place = Place::GoalBegin;
+        Ok(Event::Nothing)
+    }
+
     /// Takes the number of goal facts.
     fn goal_size(&mut self, line: &[u8]) -> Result<Event, Kind>
         requires place { self.old.place ≡ Place.GoalSize }
@@ -298,6 +309,17 @@ impl TaskJudge {
         self.said.fact = fact_at(&self.ranges, line)?;
         self.more -= 1;
         Ok(Event::Goal)
+    }
+
+    /// Takes the last word of the goal.
+    fn goal_end(&mut self, line: &[u8]) -> Result<Event, Kind>
+        requires place { self.old.place ≡ Place.GoalFacts }
+        requires all { self.old.more ≡ 0 }
+        ensures { Moves self.old line.now self.new result }
+    {
+        word_at(line, b"end_goal")?;
+        self.place = Place::OperatorCount;
+        Ok(Event::Nothing)
     }
 
     fn operator_name(&mut self, line: &[u8]) -> Result<Event, Kind>
@@ -353,7 +375,6 @@ impl TaskJudge {
     }
 
     /// Takes the next line.
-    #[tactic(auto, using(crate::proofs::TaskMoves::state_is_over))]
     pub fn take(&mut self, line: &[u8]) -> Result<Event, Kind>
         requires { HasEnded self.old → ⊥ }
         ensures { Moves self.old line.now self.new result }
@@ -378,19 +399,11 @@ impl TaskJudge {
             Place::GroupSize => self.fact_count(line, Place::GroupFacts),
             Place::GroupFacts if self.more == 0 => self.group_end(line),
             Place::GroupFacts => self.fact(line),
-            Place::StateValues if self.has_state() => self.word(
-                line,
-                b"end_state",
-                Place::GoalBegin,
-            ),
+            Place::StateValues if self.has_state() => self.state_end(line),
             Place::StateValues => self.state_value(line),
             Place::GoalBegin => self.word(line, b"begin_goal", Place::GoalSize),
             Place::GoalSize => self.goal_size(line),
-            Place::GoalFacts if self.more == 0 => self.word(
-                line,
-                b"end_goal",
-                Place::OperatorCount,
-            ),
+            Place::GoalFacts if self.more == 0 => self.goal_end(line),
             Place::GoalFacts => self.goal_fact(line),
             Place::OperatorCount => self.count(line, Place::Operators),
             Place::Operators if self.left == 0 => self.count(line, Place::Rules),
