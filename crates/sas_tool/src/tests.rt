@@ -144,33 +144,48 @@ fn a_fault_comes_before_a_failed_read(rt: HostRuntime) {
     );
 }
 
-/// Writes the plan to a writer that takes so much at a time and in all, and then fails or takes none.
+/// Writes the answer about the task or the plan to a writer that takes so much at a time and in all, and then fails or takes
+/// none.
 fn write(
     alloc: Global,
+    request: Request,
     piece: usize,
     room: usize,
     fails: bool,
 ) -> Result<(Result<Status, ToolFault>, Narrow), AllocError> {
-    let mut task = Watched::new(io::empty());
+    let mut task = Watched::new(TASK);
     let mut plan = Watched::new(PLAN);
     let mut out = Watched::new(Narrow::new(alloc, piece, room, fails)?);
-    let result = run(alloc, Request::Steps, &mut task, &mut plan, &mut out);
+    let result = run(alloc, request, &mut task, &mut plan, &mut out);
     Ok((result, out.into_device()))
+}
+
+/// The least room for which a writer doesn't get as much of the text as there is room, or the answer isn't that.
+fn wrong_room(alloc: Global, request: Request, text: &[u8]) -> Result<Option<usize>, AllocError> {
+    for room in 0..text.len() + 1 {
+        let want = if room == text.len() {
+            Ok(Status::Yes)
+        } else {
+            Err(ToolFault::Write { written: room })
+        };
+        for (piece, fails) in [(1, false), (1, true), (1000, false), (1000, true)] {
+            let (result, out) = write(alloc, request, piece, room, fails)?;
+            if result != want || out.kept() != &text[..room] {
+                return Ok(Some(room));
+            }
+        }
+    }
+    Ok(None)
 }
 
 #[test]
 fn a_writer_stops(rt: HostRuntime) -> Result<(), AllocError> {
-    for room in 0..PLAN.len() + 1 {
-        for (piece, fails) in [(1, false), (1, true), (100, false), (100, true)] {
-            let (result, out) = write(rt.alloc(), piece, room, fails)?;
-            let want = if room == PLAN.len() {
-                Ok(Status::Yes)
-            } else {
-                Err(ToolFault::Write { written: room })
-            };
-            assert_eq!(rt; result, want, "{room}");
-            assert_eq!(rt; out.kept(), &PLAN[..room], "{room}");
-        }
+    for (request, text) in [
+        (Request::Show, summaries::TASK_SUMMARY),
+        (Request::Print, TASK),
+        (Request::Steps, PLAN),
+    ] {
+        assert_eq!(rt; wrong_room(rt.alloc(), request, text)?, None, "{request:?}");
     }
     Ok(())
 }

@@ -31,7 +31,7 @@ pub fn with_line(
 }
 
 /// The file with each line ended by CR LF.
-fn with_returns(alloc: Global, bytes: &[u8]) -> Result<Vec<u8>, AllocError> {
+pub fn with_returns(alloc: Global, bytes: &[u8]) -> Result<Vec<u8>, AllocError> {
     let mut changed = Vec::new(alloc);
     for b in bytes {
         if *b == b'\n' {

@@ -1,7 +1,7 @@
 use super::*;
 
 /// The summary of the task of one variable.
-const TASK_SUMMARY: &[u8] = b"metric 0
+pub const TASK_SUMMARY: &[u8] = b"metric 0
 variables 1
 derived 0
 groups 0
