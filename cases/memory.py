@@ -31,12 +31,19 @@ CALLS = {
     "read-task-text": 60,
     "read-outline": 80,
     "encode-task": 80,
-    "run-steps": 30,
-    "run-steps-refusal": 30,
     "run-show": 90,
+    "run-show-chain": 90,
+    "run-show-group": 90,
+    "run-show-door": 90,
     "run-show-refusal": 30,
     "run-print": 90,
+    "run-print-chain": 90,
+    "run-print-group": 90,
+    "run-print-door": 90,
     "run-print-refusal": 30,
+    "run-steps": 30,
+    "run-steps-door": 30,
+    "run-steps-refusal": 30,
 }
 REFUSED = 100
 

@@ -5,6 +5,9 @@
 //! the call that is.
 #![tactic(auto)]
 
+mod files;
+
+use files::{AXIOM_CHAIN, AXIOM_CHAIN_SUMMARY, DOOR, DOOR_SUMMARY, KEPT_GROUP, KEPT_GROUP_SUMMARY};
 use sas_core::{CostKind, Fact, Items, Plan, Task};
 use sas_lines::trial::Narrow;
 use sas_lines::{Lines, Watched, push_line, push_number};
@@ -37,6 +40,14 @@ const TASK: &[u8] =
 /// Its summary.
 const SUMMARY: &[u8] =
     b"metric 1\nvariables 2\nderived 1\ngroups 1\noperators 1\nrules 1\ninitial 0 0 off\ninitial 1 0 no\ngoal 1 1 yes\n";
+
+/// The plan of the door.
+const DOOR_PLAN: &[u8] = b"(open door)\n; cost = 4 (general cost)\n";
+
+/// A task file that is refused, and its refusal.
+const WRONG_TASK: &[u8] = b"begin_version\n4\n";
+
+const WRONG_TASK_REFUSED: &[u8] = b"task refused: line 2: value\n";
 
 /// What came of a call.
 #[derive(Clone, Copy, Debug, PartialEq, Eq)]
@@ -273,7 +284,7 @@ fn request(
     status: Status,
     text: &[u8],
 ) -> Result<Outcome, AllocError> {
-    let mut out = Watched::new(Narrow::new(alloc, 8, 500, true)?);
+    let mut out = Watched::new(Narrow::new(alloc, 8, 1000, true)?);
     spend(alloc, count)?;
     let mut task = Watched::new(file);
     let mut plan = Watched::new(file);
@@ -283,6 +294,32 @@ fn request(
         Ok(answer) => Outcome::of_answer(answer == status && written.kept() == text),
         Err(fault) => Outcome::of_want(fault == ToolFault::Memory && written.kept().is_empty()),
     })
+}
+
+/// What came of a run over a file, where it is answered and where it is refused.
+fn outcome_of_run(alloc: Global, call: &str, count: usize) -> Result<Outcome, AllocError> {
+    let (asked, file, status, text) = match call {
+        "run-show" => (Request::Show, TASK, Status::Yes, SUMMARY),
+        "run-show-chain" => (Request::Show, AXIOM_CHAIN, Status::Yes, AXIOM_CHAIN_SUMMARY),
+        "run-show-group" => (Request::Show, KEPT_GROUP, Status::Yes, KEPT_GROUP_SUMMARY),
+        "run-show-door" => (Request::Show, DOOR, Status::Yes, DOOR_SUMMARY),
+        "run-show-refusal" => (Request::Show, WRONG_TASK, Status::No, WRONG_TASK_REFUSED),
+        "run-print" => (Request::Print, TASK, Status::Yes, TASK),
+        "run-print-chain" => (Request::Print, AXIOM_CHAIN, Status::Yes, AXIOM_CHAIN),
+        "run-print-group" => (Request::Print, KEPT_GROUP, Status::Yes, KEPT_GROUP),
+        "run-print-door" => (Request::Print, DOOR, Status::Yes, DOOR),
+        "run-print-refusal" => (Request::Print, WRONG_TASK, Status::No, WRONG_TASK_REFUSED),
+        "run-steps" => (Request::Steps, PLAN, Status::Yes, WRITTEN),
+        "run-steps-door" => (Request::Steps, DOOR_PLAN, Status::Yes, DOOR_PLAN),
+        "run-steps-refusal" => (
+            Request::Steps,
+            b"(go )\n".as_slice(),
+            Status::No,
+            b"plan refused: line 2: end\n".as_slice(),
+        ),
+        _ => return Ok(Outcome::Wrong),
+    };
+    request(alloc, count, asked, file, status, text)
 }
 
 /// What comes of the call of this name.
@@ -300,34 +337,7 @@ fn outcome_of(alloc: Global, call: &str, count: usize) -> Result<Outcome, AllocE
         "read-task-text" => task_text(alloc, count),
         "read-outline" => outline(alloc, count),
         "encode-task" => task_encoded(alloc, count),
-        "run-steps" => request(alloc, count, Request::Steps, PLAN, Status::Yes, WRITTEN),
-        "run-steps-refusal" => request(
-            alloc,
-            count,
-            Request::Steps,
-            b"(go )\n",
-            Status::No,
-            b"plan refused: line 2: end\n",
-        ),
-        "run-show" => request(alloc, count, Request::Show, TASK, Status::Yes, SUMMARY),
-        "run-show-refusal" => request(
-            alloc,
-            count,
-            Request::Show,
-            b"begin_version\n4\n",
-            Status::No,
-            b"task refused: line 2: value\n",
-        ),
-        "run-print" => request(alloc, count, Request::Print, TASK, Status::Yes, TASK),
-        "run-print-refusal" => request(
-            alloc,
-            count,
-            Request::Print,
-            b"begin_version\n4\n",
-            Status::No,
-            b"task refused: line 2: value\n",
-        ),
-        _ => Ok(Outcome::Wrong),
+        _ => outcome_of_run(alloc, call, count),
     }
 }
 

@@ -1,5 +1,5 @@
 // Tasks: parts that follow all the rules of a task file.
-ghost use Rattle.std.specs.Prelude.{◌≡◌, ◌<◌, ◌↔◌, length, Some, None, IsTrue, IsOk, IfOk, IfErr, option_map};
+ghost use Rattle.std.specs.Prelude.{◌≡◌, ◌<◌, ◌↔◌, length, IsTrue, IsOk, IfOk, IfErr, option_map};
 ghost use Rattle.std.specs.Result.{result_err};
 ghost use Rattle.sas_core.specs.Checks.{first_fault, checks, ChecksAreTheRules};
 ghost use Rattle.sas_core.specs.Tasks.{cost_of};

@@ -1,5 +1,5 @@
 // The lines of a stream, however it is cut into pieces.
-ghost use Rattle.std.specs.Prelude.{◌≡◌, ◌≤◌, ◌<◌, [], ◌∷◌, ◌++◌, length, take, false, true, IfOk, OnErr, IfSome, IfNone, if◌then◌else◌};
+ghost use Rattle.std.specs.Prelude.{◌≡◌, ◌<◌, [], ◌∷◌, ◌++◌, take, false, true, IfOk, OnErr, IfSome, IfNone, if◌then◌else◌};
 ghost use Rattle.sas_lines.specs.Lines.{lines, unfinished, without_return, NoEnd, TakesLine};
 ghost use Rattle.sas_lines.specs.Progress.{completed};
 

@@ -15,7 +15,8 @@ pub record Format (V I S : Type 0) : Type 1 where
   pub spelled : I → List ℕ
   -- where such a line belongs
   pub slot_of : I → S
-  -- each number on the line is one that the format can say
+  -- Each number on the line is one that the format can say. What is a text and what is a fault doesn't rest on this; the
+  -- grammar of a format does.
   pub Fits : I → Type 0
   -- the kind of fault of a line that may not stand at a slot
   pub KindOf : S → List ℕ → Kind → Type 0

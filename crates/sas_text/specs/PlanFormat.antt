@@ -37,6 +37,7 @@ abbrev pub PlanLineFits : PlanLine → Type 0
 PlanLineFits (step name) = Unit {0}
 PlanLineFits (cost n kind) = IsPlanCost n
 
+-- the line begins with these bytes
 abbrev pub BeginsWith : List ℕ → List ℕ → Type 0
 BeginsWith front line = take (length front) line ≡ front
 

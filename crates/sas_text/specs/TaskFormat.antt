@@ -175,6 +175,8 @@ task_layout p =
     ++ counted operator_lines p.operators
     ++ counted rule_lines p.rules
 
+-- ---- what is wrong with a line
+
 -- the bytes are those of some line that belongs at the slot, with each number at most 2,147,483,647
 abbrev pub HasShape : TaskSlot → List ℕ → Type 0
 HasShape slot bytes = (i : TaskLine) × (task_slot i ≡ slot) × TaskLineFits i × (task_line_bytes i ≡ bytes)
@@ -190,6 +192,8 @@ abbrev pub TaskKind : TaskSlot → List ℕ → Kind → Type 0
 TaskKind (word_slot w) bytes kind = kind ≡ Keyword
 TaskKind name_slot bytes kind = kind ≡ Name
 TaskKind slot bytes kind = NumbersKind slot bytes kind
+
+-- ---- the format
 
 -- task files: each says a well ranged task
 abbrev pub task_format : Format Parts TaskLine TaskSlot

@@ -10,7 +10,7 @@ pub enum Kind {
     /// The line isn't made of the numbers due, in their count and spelling; in a plan, the line begins like the cost line
     /// and isn't one.
     Shape,
-    /// The line has its shape, and a number in it isn't allowed there.
+    /// In a task: the line has its shape, and a number in it isn't allowed there.
     Value,
     /// The input ends before the last line is complete.
     End,

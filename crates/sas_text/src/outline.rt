@@ -7,7 +7,7 @@ ghost use Rattle.sas_text.specs.Outline.{OutlineOf};
 
 use crate::devices::read_all;
 use crate::fault::{Fault, Kind};
-use crate::plan_reader::LIMIT;
+use crate::reader::LIMIT;
 use crate::task_machine::TaskMachine;
 use crate::task_outline::TaskOutline;
 use sas_core::{Fact, Items, Variable};
@@ -18,16 +18,22 @@ use std::io::Read;
 /// What a summary shows of a task: all but its groups, operators and rules, and how many of these there are.
 #[derive(Debug, PartialEq, Eq, Drop)]
 pub struct Outline {
+    /// Whether cost lines count (metric 1).
     pub metric: bool,
     pub variables: Items<Variable>,
+    /// How many mutex groups there are.
     pub groups: u32,
+    /// The state section: a value for each variable.
     pub init: Items<u32>,
     pub goal: Items<Fact>,
+    /// How many operators there are.
     pub operators: u32,
+    /// How many axiom rules there are.
     pub rules: u32,
 }
 
-/// Reads a task from a device as `read_task` does, and gives its outline.
+/// Reads a task from a device as `read_task` does, and gives its outline. It keeps no group, operator or rule.
+/// The faults are those of `read_task`.
 pub fn read_outline<R: Read>(alloc: Global, reader: &mut Watched<R>) -> Result<Outline, Fault>
     requires { reader.old.failed ≡ false }
     // What was read is all, and a text of a task with this outline.

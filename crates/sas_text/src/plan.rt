@@ -1,7 +1,6 @@
 // Plan files: read from a device, and written.
 ghost use Rattle.std.specs.Prelude.{◌≡◌, ◌≢◌, ◌↔◌, ℕ, List, [], ◌∷◌, ◌++◌, false, Some, Ok, Err, IfOk, IfErr, OnOk, IsErrAnd, IsTrue};
 ghost use Rattle.std.specs.Io.KnownBytes.{Consumes, IsAtEnd};
-ghost use Rattle.sas_core.specs.PlanParts.{PlanParts};
 ghost use Rattle.sas_lines.specs.Lines.{text};
 ghost use Rattle.sas_text.specs.Format.{ReadsAs, lines_of};
 ghost use Rattle.sas_text.specs.PlanFormat.{plan_format, plan_line_bytes, cost_words, step, cost};
@@ -10,14 +9,15 @@ ghost use Rattle.sas_text.specs.Devices.{Refuses, IsFaultOf, TextOf};
 use crate::devices::read_all;
 use crate::fault::{Fault, Kind};
 use crate::plan_machine::PlanMachine;
-use crate::plan_reader::LIMIT;
 use crate::plan_text::PlanText;
+use crate::reader::LIMIT;
 use sas_core::{CostKind, Plan};
 use sas_lines::{Watched, push_line, push_number};
 use std::alloc::{AllocError, Global};
 use std::io::Read;
 
 /// Reads a plan from a device: in pieces of at most 4,096 bytes, to its end or to the first fault.
+/// Not to be called with a device that has failed. A failed read is told as `Kind::Read`, want of memory as `Kind::Memory`.
 pub fn read_plan<R: Read>(alloc: Global, reader: &mut Watched<R>) -> Result<Plan, Fault>
     requires { reader.old.failed ≡ false }
     // What was read is all, and a text of the plan.
@@ -36,6 +36,7 @@ pub fn read_plan<R: Read>(alloc: Global, reader: &mut Watched<R>) -> Result<Plan
 }
 
 /// Reads a plan from a device as `read_plan` does, and gives its text: its lines, each ended by LF. It keeps no plan.
+/// The faults are those of `read_plan`.
 pub fn read_plan_text<R: Read>(alloc: Global, reader: &mut Watched<R>) -> Result<Vec<u8>, Fault>
     requires { reader.old.failed ≡ false }
     ensures read { IfOk result (λ t. (b : List ℕ) × Consumes (R.remaining reader.old.device) (R.remaining reader.new.device) b × IsAtEnd (R.remaining reader.new.device) × TextOf plan_format LIMIT b t.items) }
@@ -78,7 +79,7 @@ fn push_cost(out: &mut Vec<u8>, n: u64, kind: CostKind) -> Result<(), AllocError
     push_line(out, words_of(kind))
 }
 
-/// The text of a plan: its lines, each ended by LF.
+/// The text of a plan: its lines, each ended by LF. An `Err` comes only for want of memory.
 pub fn encode_plan(alloc: Global, plan: &Plan) -> Result<Vec<u8>, AllocError>
     ensures { IfOk result (λ t. t.items ≡ text (lines_of plan_format plan.now)) }
 {

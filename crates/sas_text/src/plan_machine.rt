@@ -1,5 +1,5 @@
 // What takes the lines of a plan file, one after another.
-ghost use Rattle.std.specs.Prelude.{◌≡◌, IsTrue, ◌↔◌, OnOk, IfErr};
+ghost use Rattle.std.specs.Prelude.{◌≡◌, OnOk, IfErr};
 
 use crate::fault::Kind;
 use crate::plan_line::{PlanLine, plan_line};

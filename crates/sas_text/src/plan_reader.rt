@@ -6,12 +6,9 @@ ghost use Rattle.sas_text.specs.Faults.{IsOfBytes, answer};
 
 use crate::fault::{Fault, Kind};
 use crate::plan_machine::PlanMachine;
-use crate::reader::Reader;
+use crate::reader::{LIMIT, Reader};
 use sas_core::Plan;
 use std::alloc::Global;
-
-/// The most bytes that are read of an input.
-pub const LIMIT: u64 = 4_294_967_296;
 
 /// Reads a plan file that comes in pieces, cut anywhere.
 #[derive(Drop)]

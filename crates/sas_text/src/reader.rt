@@ -1,13 +1,14 @@
 // Reads a text that comes in pieces, whichever its format: a machine judges one line after another.
-ghost use Rattle.std.specs.Prelude.{◌≡◌, ◌≢◌, ◌⊎◌, ◌≤◌, ◌<◌, ◌+◌, ◌^◌, ◌↔◌, ℕ, List, [], ◌∷◌, ◌++◌, length, take, Some, None, Ok, Err, false, IfOk, IfErr, IfSome, IfNone, OnOk, OnErr, IsErrAnd, IsTrue};
-ghost use Rattle.std.specs.Io.KnownBytes.{Consumes, IsAtEnd};
+ghost use Rattle.std.specs.Prelude.{◌≡◌, ◌≢◌, ◌⊎◌, ◌≤◌, ◌<◌, ◌+◌, ◌^◌, ◌↔◌, ℕ, List, [], ◌∷◌, ◌++◌, length, take, Some, None, Ok, Err, IfOk, IfErr, IfSome, IfNone, OnOk, OnErr, IsTrue};
 ghost use Rattle.sas_lines.specs.Lines.{lines};
 ghost use Rattle.sas_text.specs.Faults.{IsOfBytes, answer};
 
 use crate::fault::{Fault, Kind};
-use sas_lines::{Lines, Watched, first_line};
+use sas_lines::{Lines, first_line};
 use std::alloc::Global;
-use std::io::Read;
+
+/// The most bytes that are read of an input, a task or a plan: 4 GiB.
+pub const LIMIT: u64 = 4_294_967_296;
 
 /// What judges the lines of a text, one after another.
 pub trait Machine: Drop {

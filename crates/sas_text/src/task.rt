@@ -7,7 +7,7 @@ ghost use Rattle.sas_text.specs.Devices.{Refuses, IsFaultOf, TextOf};
 
 use crate::devices::read_all;
 use crate::fault::{Fault, Kind};
-use crate::plan_reader::LIMIT;
+use crate::reader::LIMIT;
 use crate::task_machine::TaskMachine;
 use crate::task_parts::SoFar;
 use crate::task_text::TaskText;
@@ -17,6 +17,7 @@ use std::alloc::Global;
 use std::io::Read;
 
 /// Reads a task from a device: in pieces of at most 4,096 bytes, to its end or to the first fault.
+/// Not to be called with a device that has failed. A failed read is told as `Kind::Read`, want of memory as `Kind::Memory`.
 pub fn read_task<R: Read>(alloc: Global, reader: &mut Watched<R>) -> Result<Task, Fault>
     requires { reader.old.failed ≡ false }
     // What was read is all, and a text of the task.
@@ -40,6 +41,7 @@ pub fn read_task<R: Read>(alloc: Global, reader: &mut Watched<R>) -> Result<Task
 }
 
 /// Reads a task from a device as `read_task` does, and gives its text: its lines, each ended by LF. It keeps no task.
+/// The faults are those of `read_task`.
 pub fn read_task_text<R: Read>(alloc: Global, reader: &mut Watched<R>) -> Result<Vec<u8>, Fault>
     requires { reader.old.failed ≡ false }
     ensures read { IfOk result (λ t. (b : List ℕ) × Consumes (R.remaining reader.old.device) (R.remaining reader.new.device) b × IsAtEnd (R.remaining reader.new.device) × TextOf task_format LIMIT b t.items) }

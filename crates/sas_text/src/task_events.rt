@@ -40,7 +40,7 @@ pub enum Event {
     Rule,
 }
 
-/// What the line says that was last to say so.
+/// What the lines said last. A field keeps its value until the next line of its sort.
 #[derive(Drop)]
 pub struct Said {
     /// The metric, a value in the initial state, or a cost.

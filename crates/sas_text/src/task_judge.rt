@@ -1,8 +1,7 @@
 // What judges the lines of a task file, one after another: whether each may stand where it stands, and what it adds.
-ghost use Rattle.std.specs.Prelude.{◌≡◌, ◌≢◌, ◌<◌, ◌≤◌, ◌-◌, ◌^◌, ◌↔◌, length, IsTrue, nat_lt, IfErr, OnOk, [], ◌∷◌, ◌++◌, codes};
-ghost use Rattle.sas_core.specs.Variables.{range_of};
+ghost use Rattle.std.specs.Prelude.{◌≡◌, ◌≢◌, ◌<◌, ◌≤◌, ◌-◌, ◌^◌, ◌↔◌, length, IsTrue, [], ◌∷◌, ◌++◌};
 ghost use Rattle.sas_text.specs.declared.task_parts.SoFar.{SoFar};
-ghost use Rattle.sas_text.specs.TaskProcess.{a_word, a_name, a_number, a_fact, an_effect, any};
+ghost use Rattle.sas_text.specs.TaskProcess.{a_word, a_number, a_fact, any};
 ghost use Rattle.sas_text.specs.TaskRanges.{range_in};
 ghost use Rattle.sas_text.specs.TaskJudge.{state_of, Moves, Fits, HasEnded};
 

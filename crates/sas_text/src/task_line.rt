@@ -16,7 +16,8 @@ use std::alloc::AllocError;
 /// The version of the format.
 const VERSION: u32 = 3;
 
-/// What the head of a rule says: its variable, the old value that it asks for, if any, and its new one.
+/// What the head of a rule says, or the end of an effect: its variable, the old value that it asks for, if any, and its
+/// new one.
 #[derive(Clone, Copy, Debug, PartialEq, Eq)]
 pub struct Change {
     pub var: u32,
@@ -281,7 +282,7 @@ pub fn fact_at(ranges: &Items<u32>, line: &[u8]) -> Result<Fact, Kind>
     }
 }
 
-/// Takes an effect of which each fact exists. The memory of its conditions is that of the effect before.
+/// Takes an effect of which each fact exists. Its conditions use the memory of those before, where no one took it.
 pub fn effect_at(effect: &mut Effect, ranges: &Items<u32>, line: &[u8]) -> Result<(), Kind>
     ensures { Says format.effect_slot (λ i. effect_in_ranges ranges.now (effect_in i)) (λ _. format.effect effect.exit.now) line.now result }
 {

@@ -1,5 +1,5 @@
 // What keeps all that a task file says.
-ghost use Rattle.std.specs.Prelude.{◌≡◌, List, [], ◌∷◌, ◌++◌, IfErr, IfOk, OnOk};
+ghost use Rattle.std.specs.Prelude.{◌≡◌, [], ◌∷◌, ◌++◌, IfErr, IfOk, OnOk};
 ghost use Rattle.sas_text.specs.declared.task_events.Event.TheVariants as event;
 ghost use Rattle.sas_text.specs.declared.task_events.Said.{Said};
 ghost use Rattle.sas_text.specs.TaskEvents.{nothing_yet, after};
@@ -82,7 +82,7 @@ impl SoFar {
         ensures ok { (said : Said) → OnOk result (self.new ≡ after self.old event.Name said line.now) }
         ensures err { IfErr result (λ k. k ≡ Kind.Memory) }
     {
-        // Most often it is an operator's, and its memory is there already.
+        // An outline gives no operator's name away, so its memory serves the next one.
         self.name.clear();
         match self.name.extend_from_slice(line) {
             Ok(()) => Ok(()),
@@ -158,7 +158,7 @@ impl SoFar {
         push(&mut self.parts.rules, rule)
     }
 
-    /// Takes what the line says.
+    /// Takes what the line says. A list that begins is empty already, which is said again here, so that it need not be known.
     pub fn add(&mut self, line: &[u8], event: Event, said: &mut Said) -> Result<(), Kind>
         ensures ok { OnOk result (self.new ≡ after self.old event said.old line.now) }
         ensures err { IfErr result (λ k. k ≡ Kind.Memory) }

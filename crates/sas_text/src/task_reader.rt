@@ -7,8 +7,7 @@ ghost use Rattle.sas_text.specs.TaskMachine.{LedTo, EndedAt, RejectsAt};
 ghost use Rattle.sas_text.specs.Faults.{IsOfBytes, answer};
 
 use crate::fault::{Fault, Kind};
-use crate::plan_reader::LIMIT;
-use crate::reader::Reader;
+use crate::reader::{LIMIT, Reader};
 use crate::task_machine::TaskMachine;
 use crate::task_parts::SoFar;
 use sas_core::Task;

@@ -1,5 +1,5 @@
 // What keeps the text of a task file, and nothing of the task.
-ghost use Rattle.std.specs.Prelude.{◌≡◌, [], IfErr, OnOk};
+ghost use Rattle.std.specs.Prelude.{◌≡◌, []};
 
 use crate::fault::Kind;
 use crate::task_events::{Event, Said};

@@ -6,7 +6,7 @@ use Rattle.std.proofs.lemmas.Option.{none-some}
 use Rattle.sas_text.specs.declared.fault.Fault.{Fault}
 use Rattle.sas_text.specs.declared.fault.Kind.{Kind}
 use Rattle.sas_text.specs.declared.fault.Kind.TheVariants.{TooLong, Read, Memory}
-use Rattle.sas_text.specs.declared.plan_reader.TheConstants.{LIMIT}
+use Rattle.sas_text.specs.declared.reader.TheConstants.{LIMIT}
 use Rattle.sas_text.specs.Format.{Format, FaultOf, KindAt, too_long, trailing, wrong, ReadsAs}
 use Rattle.sas_text.specs.Laws.{Laws}
 use Rattle.sas_text.specs.PlanFormat.{PlanKind, like_step, like_cost, like_none}

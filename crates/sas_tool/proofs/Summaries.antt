@@ -8,7 +8,7 @@ use Rattle.sas_core.specs.declared.parts.Variable.{Variable}
 use Rattle.sas_lines.specs.Lines.{text}
 use Rattle.sas_text.specs.declared.outline.Outline.{Outline}
 use Rattle.sas_text.specs.Outline.{outline_of}
-use Rattle.sas_tool.specs.Summary.{count_lines, fact_line, initial_lines, goal_lines, summary_lines}
+use Rattle.sas_tool.specs.Summary.{number_lines, fact_line, initial_lines, goal_lines, summary_lines}
 
 -- lines in a row
 text_of_both : (a b : List (List ℕ)) → text (a ++ b) ≡ text a ++ text b
@@ -44,11 +44,11 @@ module _ (variables : List Variable) where
       ∙ ap (λ (lines : List (List ℕ)). before ++ text lines) (sym (initial_next values var h))
 
 -- the summary, appended part by part as the outline of a task tells it
-pub summary_is : (o : Outline) (p : Parts) (empty counts state all : List ℕ) → o ≡ outline_of p → empty ≡ [] → counts ≡ empty ++ text (count_lines p) → state ≡ counts ++ text (initial_lines o.variables o.init) → all ≡ state ++ text (goal_lines o.variables o.goal) → all ≡ text (summary_lines p)
+pub summary_is : (o : Outline) (p : Parts) (empty counts state all : List ℕ) → o ≡ outline_of p → empty ≡ [] → counts ≡ empty ++ text (number_lines p) → state ≡ counts ++ text (initial_lines o.variables o.init) → all ≡ state ++ text (goal_lines o.variables o.goal) → all ≡ text (summary_lines p)
 summary_is o p empty counts state all is e f g h =
     let initial = initial_lines o.variables o.init in
-    let to_state = lines_behind empty counts state (count_lines p) initial f g in
-    let to_goal = lines_behind empty state all (count_lines p ++ initial) (goal_lines o.variables o.goal) to_state h in
+    let to_state = lines_behind empty counts state (number_lines p) initial f g in
+    let to_goal = lines_behind empty state all (number_lines p ++ initial) (goal_lines o.variables o.goal) to_state h in
     to_goal
-    ∙ ap (λ (x : List ℕ). x ++ text (count_lines p ++ initial ++ goal_lines o.variables o.goal)) e
-    ∙ ap (λ (q : Outline). text (count_lines p ++ initial_lines q.variables q.init ++ goal_lines q.variables q.goal)) is
+    ∙ ap (λ (x : List ℕ). x ++ text (number_lines p ++ initial ++ goal_lines o.variables o.goal)) e
+    ∙ ap (λ (q : Outline). text (number_lines p ++ initial_lines q.variables q.init ++ goal_lines q.variables q.goal)) is

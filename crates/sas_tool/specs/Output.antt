@@ -5,7 +5,7 @@ use Rattle.sas_lines.specs.Lines.{text}
 use Rattle.sas_text.specs.declared.fault.Fault.{Fault}
 use Rattle.sas_text.specs.declared.fault.Kind.{Kind}
 use Rattle.sas_text.specs.declared.fault.Kind.TheVariants.{Keyword, Name, Shape, Value, End, Trailing, TooLong, Read, Memory}
-use Rattle.sas_text.specs.declared.plan_reader.TheConstants.{LIMIT}
+use Rattle.sas_text.specs.declared.reader.TheConstants.{LIMIT}
 use Rattle.sas_text.specs.Format.{Format, ReadsAs, lines_of}
 use Rattle.sas_text.specs.PlanFormat.{plan_format}
 use Rattle.sas_text.specs.TaskFormat.{task_format}

@@ -6,26 +6,26 @@ use Rattle.sas_core.specs.declared.parts.Variable.{Variable}
 use Rattle.sas_core.specs.declared.parts.Parts.{Parts}
 
 -- `WORD N`
-abbrev pub count_line : List ℕ → ℕ → List ℕ
-count_line word n = word ++ codes " " ++ decimal n
+abbrev pub number_line : List ℕ → ℕ → List ℕ
+number_line word n = word ++ codes " " ++ decimal n
 
 -- `metric M`, where M is 1 where cost lines count, else 0
 abbrev pub metric_line : Bool → List ℕ
-metric_line metric = count_line (codes "metric") (if metric then 1 else 0)
+metric_line metric = number_line (codes "metric") (if metric then 1 else 0)
 
 -- how many variables have a layer
 abbrev pub derived_count : List Variable → ℕ
 derived_count variables = count_by (λ (v : Variable). is_some v.layer) variables
 
 -- the lines of the task's numbers: `metric M`, `variables N`, `derived D`, `groups G`, `operators O`, `rules R`
-abbrev pub count_lines : Parts → List (List ℕ)
-count_lines p =
+abbrev pub number_lines : Parts → List (List ℕ)
+number_lines p =
     metric_line p.metric
-    ∷ count_line (codes "variables") (length p.variables)
-    ∷ count_line (codes "derived") (derived_count p.variables)
-    ∷ count_line (codes "groups") (length p.groups)
-    ∷ count_line (codes "operators") (length p.operators)
-    ∷ count_line (codes "rules") (length p.rules)
+    ∷ number_line (codes "variables") (length p.variables)
+    ∷ number_line (codes "derived") (derived_count p.variables)
+    ∷ number_line (codes "groups") (length p.groups)
+    ∷ number_line (codes "operators") (length p.operators)
+    ∷ number_line (codes "rules") (length p.rules)
     ∷ []
 
 -- the name of a variable's value; where there is no such value, no byte
@@ -46,4 +46,4 @@ goal_lines variables facts = map (λ (f : Fact). fact_line (codes "goal") variab
 
 -- the lines of a task's summary, in order
 abbrev pub summary_lines : Parts → List (List ℕ)
-summary_lines p = count_lines p ++ initial_lines p.variables p.init ++ goal_lines p.variables p.goal
+summary_lines p = number_lines p ++ initial_lines p.variables p.init ++ goal_lines p.variables p.goal

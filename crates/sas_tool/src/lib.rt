@@ -34,7 +34,9 @@ pub enum Request {
 /// The answer in one word.
 #[derive(Clone, Copy, Debug, PartialEq, Eq)]
 pub enum Status {
+    /// The file is a text of its format, and its answer was written.
     Yes,
+    /// The file is refused, and that was written.
     No,
 }
 

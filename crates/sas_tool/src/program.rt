@@ -26,7 +26,8 @@ const OUT_OF_MEMORY: &str = "sas: out of memory";
 const WRITE_FAILED: &str = "sas: write failed";
 
 /// Runs the program. In this order: its words, opening its inputs, the run, and flushing standard output. The first of
-/// these that fails is told by a line on standard error; a failure to write that line is ignored.
+/// these that fails is told by a line on standard error; a failure to write that line is ignored. The exit
+/// status is 0 for yes, 1 for no, 2 for words that aren't understood, and 3 otherwise.
 pub fn start<R: AllocGlobal + Env + Files + Input + Print + Eprint>(rt: &R) -> ExitCode {
     let job = match job_of_words(rt) {
         Ok(job) => job,

@@ -16,22 +16,22 @@ pub fn summary_text(alloc: Global, outline: &Outline) -> Result<Vec<u8>, AllocEr
     ensures { IfOk result (λ t. (p : Parts) → outline.now ≡ outline_of p → t.items ≡ text (summary_lines p)) }
 {
     let mut out = Vec::new(alloc);
-    push_counts(&mut out, outline)?;
+    push_numbers(&mut out, outline)?;
     push_state(&mut out, &outline.variables, &outline.init)?;
     push_goal(&mut out, &outline.variables, &outline.goal)?;
     Ok(out)
 }
 
 /// Appends the lines of the task's numbers.
-fn push_counts(out: &mut Vec<u8>, outline: &Outline) -> Result<(), AllocError>
-    ensures { OnOk result ((p : Parts) → outline.now ≡ outline_of p → out.new.items ≡ out.old.items ++ text (spec.count_lines p)) }
+fn push_numbers(out: &mut Vec<u8>, outline: &Outline) -> Result<(), AllocError>
+    ensures { OnOk result ((p : Parts) → outline.now ≡ outline_of p → out.new.items ≡ out.old.items ++ text (spec.number_lines p)) }
 {
-    push_count(out, b"metric", u128::from(outline.metric))?;
-    push_count(out, b"variables", outline.variables.len() as u128)?;
-    push_count(out, b"derived", derived_count(&outline.variables) as u128)?;
-    push_count(out, b"groups", u128::from(outline.groups))?;
-    push_count(out, b"operators", u128::from(outline.operators))?;
-    push_count(out, b"rules", u128::from(outline.rules))
+    push_number_line(out, b"metric", u128::from(outline.metric))?;
+    push_number_line(out, b"variables", outline.variables.len() as u128)?;
+    push_number_line(out, b"derived", derived_count(&outline.variables) as u128)?;
+    push_number_line(out, b"groups", u128::from(outline.groups))?;
+    push_number_line(out, b"operators", u128::from(outline.operators))?;
+    push_number_line(out, b"rules", u128::from(outline.rules))
 }
 
 /// How many of the variables are derived.
@@ -74,8 +74,8 @@ fn push_goal(
 }
 
 /// Appends the line of a word and a number.
-fn push_count(out: &mut Vec<u8>, word: &[u8], n: u128) -> Result<(), AllocError>
-    ensures { OnOk result (out.new.items ≡ out.old.items ++ (spec.count_line word.now n ++ 10 ∷ [])) }
+fn push_number_line(out: &mut Vec<u8>, word: &[u8], n: u128) -> Result<(), AllocError>
+    ensures { OnOk result (out.new.items ≡ out.old.items ++ (spec.number_line word.now n ++ 10 ∷ [])) }
 {
     out.extend_from_slice(word)?;
     out.push(b' ')?;

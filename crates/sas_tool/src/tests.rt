@@ -232,9 +232,16 @@ fn with_each(alloc: Global, bytes: &[u8], old: u8, new: &[u8]) -> Result<Vec<u8>
 #[test]
 fn prints_tasks(rt: HostRuntime) -> Result<(), AllocError> {
     let alloc = rt.alloc();
-    let (result, written) = print(alloc, TASK);
-    assert_eq!(rt; result, Ok(Status::Yes));
-    assert_eq!(rt; written.as_slice(), TASK);
+    for task in [
+        TASK,
+        summaries::AXIOM_CHAIN,
+        summaries::DOOR,
+        summaries::EACH_PART,
+    ] {
+        let (result, written) = print(alloc, task);
+        assert_eq!(rt; result, Ok(Status::Yes));
+        assert_eq!(rt; written.as_slice(), task);
+    }
     let returns = with_each(alloc, TASK, b'\n', b"\r\n")?;
     assert_eq!(rt; returns.len(), 208);
     let (result, written) = print(alloc, returns.as_slice());

@@ -12,7 +12,7 @@ goal 0 0 Atom dummy(val1)
 ";
 
 /// A chain of rules listed backwards, a rule above it that asks for a default, and a rule to a default.
-const AXIOM_CHAIN: &[u8] = b"begin_version
+pub const AXIOM_CHAIN: &[u8] = b"begin_version
 3
 end_version
 begin_metric
@@ -99,7 +99,7 @@ goal 3 1 NegatedAtom d()
 ";
 
 /// Two operators of one name, only the second applicable. Its costs count, and its goal isn't its initial state.
-const DOOR: &[u8] = b"begin_version
+pub const DOOR: &[u8] = b"begin_version
 3
 end_version
 begin_metric
@@ -161,7 +161,7 @@ goal 1 1 Atom opened()
 ";
 
 /// A task with something of each kind, and one fact of its goal twice.
-const EACH_PART: &[u8] = b"begin_version
+pub const EACH_PART: &[u8] = b"begin_version
 3
 end_version
 begin_metric
@@ -280,7 +280,7 @@ fn summary_with_value(alloc: Global, name: &[u8]) -> Result<Vec<u8>, AllocError>
 }
 
 #[test]
-fn shows_any_names(rt: HostRuntime) -> Result<(), AllocError> {
+fn shows_and_prints_any_names(rt: HostRuntime) -> Result<(), AllocError> {
     let alloc = rt.alloc();
     let mut long = Vec::new(alloc);
     long.resize(1_000_000, b'a')?;
@@ -290,40 +290,13 @@ fn shows_any_names(rt: HostRuntime) -> Result<(), AllocError> {
         &[0, 255, 32],
         long.as_slice(),
     ] {
-        let (result, written) = show(alloc, with_value(alloc, name)?.as_slice());
+        let file = with_value(alloc, name)?;
+        let (result, written) = show(alloc, file.as_slice());
         assert_eq!(rt; result, Ok(Status::Yes));
         assert_eq!(rt; written, summary_with_value(alloc, name)?);
-    }
-    Ok(())
-}
-
-/// Writes the summary to a writer that takes so much at a time and in all, and then fails or takes none.
-fn write_summary(
-    alloc: Global,
-    piece: usize,
-    room: usize,
-    fails: bool,
-) -> Result<(Result<Status, ToolFault>, Narrow), AllocError> {
-    let mut task = Watched::new(TASK);
-    let mut plan = Watched::new(io::empty());
-    let mut out = Watched::new(Narrow::new(alloc, piece, room, fails)?);
-    let result = run(alloc, Request::Show, &mut task, &mut plan, &mut out);
-    Ok((result, out.into_device()))
-}
-
-#[test]
-fn a_writer_of_a_summary_stops(rt: HostRuntime) -> Result<(), AllocError> {
-    for room in 0..TASK_SUMMARY.len() + 1 {
-        for (piece, fails) in [(1, false), (1, true), (100, false), (100, true)] {
-            let (result, out) = write_summary(rt.alloc(), piece, room, fails)?;
-            let want = if room == TASK_SUMMARY.len() {
-                Ok(Status::Yes)
-            } else {
-                Err(ToolFault::Write { written: room })
-            };
-            assert_eq!(rt; result, want, "{room}");
-            assert_eq!(rt; out.kept(), &TASK_SUMMARY[..room], "{room}");
-        }
+        let (result, written) = print(alloc, file.as_slice());
+        assert_eq!(rt; result, Ok(Status::Yes));
+        assert_eq!(rt; written, file);
     }
     Ok(())
 }

@@ -3,7 +3,7 @@ use Rattle.std.specs.Prelude.{min}
 use Rattle.sas_core.specs.Numbers.{IsNumber}
 use Rattle.sas_core.specs.WellRanged.{WellRanged}
 use Rattle.sas_text.specs.declared.outline.Outline.{Outline}
-use Rattle.sas_text.specs.declared.plan_reader.TheConstants.{LIMIT}
+use Rattle.sas_text.specs.declared.reader.TheConstants.{LIMIT}
 use Rattle.sas_text.specs.declared.task_parts.SoFar.{SoFar}
 use Rattle.sas_text.specs.declared.task_machine.TaskMachine.{TaskMachine}
 use Rattle.sas_text.specs.declared.task_outline.TaskOutline.{TaskOutline}

@@ -1,5 +1,5 @@
 use Rattle.std.proofs.Common.{List, ℕ, subst, Ok}
-use Rattle.sas_text.specs.declared.plan_reader.TheConstants.{LIMIT}
+use Rattle.sas_text.specs.declared.reader.TheConstants.{LIMIT}
 use Rattle.sas_text.specs.Format.{ReadsAs}
 use Rattle.sas_text.specs.PlanFormat.{plan_format}
 use Rattle.sas_text.specs.PlanMachine.{plan_node, plan_start, IsClosed}

@@ -2,7 +2,7 @@ use Rattle.std.proofs.Common.{◌≡◌, List, ℕ, sym, ap, subst, ◌∙◌, O
 use Rattle.sas_core.specs.declared.parts.Parts.{Parts}
 use Rattle.sas_core.specs.WellRanged.{WellRanged}
 use Rattle.sas_text.specs.declared.task_parts.SoFar.{SoFar}
-use Rattle.sas_text.specs.declared.plan_reader.TheConstants.{LIMIT}
+use Rattle.sas_text.specs.declared.reader.TheConstants.{LIMIT}
 use Rattle.sas_text.specs.Format.{ReadsAs}
 use Rattle.sas_text.specs.TaskFormat.{task_format}
 use Rattle.sas_text.proofs.Conversion.{all_read, known_refusal}

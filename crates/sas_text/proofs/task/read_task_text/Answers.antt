@@ -1,6 +1,6 @@
 use Rattle.std.proofs.Common.{◌≡◌, ◌≤◌, List, ℕ, length, ap, subst, ◌∙◌}
 use Rattle.sas_lines.specs.Lines.{text}
-use Rattle.sas_text.specs.declared.plan_reader.TheConstants.{LIMIT}
+use Rattle.sas_text.specs.declared.reader.TheConstants.{LIMIT}
 use Rattle.sas_text.specs.declared.task_parts.SoFar.{SoFar}
 use Rattle.sas_text.specs.declared.task_machine.TaskMachine.{TaskMachine}
 use Rattle.sas_text.specs.declared.task_text.TaskText.{TaskText}
