@@ -65,6 +65,7 @@ impl Keeper for TaskOutline {
         match event {
             Event::Group => self.groups = self.groups.saturating_add(1),
             Event::Operator => {
+                // The name was the operator's, and goes with it.
                 self.rest.name.clear();
                 self.operators = self.operators.saturating_add(1);
             }
