@@ -9,17 +9,19 @@ import os
 import re
 import subprocess
 import sys
+import time
 
 TOP = os.path.dirname(os.path.dirname(os.path.abspath(__file__)))
 
 
 def counts(command):
-    """Runs a command, shows what it prints, and gives how many checks of it passed and failed."""
-    last = ""
+    """Runs a command, shows what it prints and how long it took, and gives how many checks of it passed and failed."""
+    last, began = "", time.monotonic()
     with subprocess.Popen(command, stdout=subprocess.PIPE, encoding="utf-8", errors="replace", cwd=TOP) as process:
         for line in process.stdout:
             print(line, end="", flush=True)
             last = line.strip() or last
+    print(f"{' '.join(command)}: {time.monotonic() - began:.0f} s", flush=True)
     told = re.fullmatch(r"(\d+) passed, (\d+) failed", last)
     passed, failed = (int(told[1]), int(told[2])) if told else (0, 0)
     agrees = told and (failed == 0) == (process.returncode == 0)
