@@ -1,17 +1,24 @@
 #!/usr/bin/env python3
-"""Runs every check of the repository: the gate of the toolchain, each allocation refused in turn, the build, and the
-command-line cases over ./sas.
+"""Runs every check of the repository: the gate of the toolchain, each allocation refused in turn, the calls of the
+libraries, and the command-line cases over ./sas.
 
-The last line is 'N passed, M failed' of all together, and the exit status is 0 exactly if M is 0. A command that doesn't
-end as its own last line says counts as one failure.
+The gate builds the programs, and what it built is what the cases run. The last line is 'N passed, M failed' of all
+together, and the exit status is 0 exactly if M is 0. A command that doesn't end as its own last line says counts as one
+failure.
 """
 import os
 import re
+import shutil
 import subprocess
 import sys
 import time
 
 TOP = os.path.dirname(os.path.dirname(os.path.abspath(__file__)))
+PARTS = [
+    ["cases/memory.py"],
+    ["cases/calls.py", "crates/call_tests/out/call_tests"],
+    ["cases/run.py", "sas"],
+]
 
 
 def counts(command):
@@ -28,21 +35,13 @@ def counts(command):
     return passed, failed if agrees else failed + 1
 
 
-def built():
-    """Builds ./sas anew: whether that succeeded."""
-    return subprocess.run(["make", "--no-print-directory", "program"], stdout=subprocess.DEVNULL, cwd=TOP).returncode == 0
-
-
 def main():
-    passed, failed = counts(["rt", "ci"])
-    more = [counts([sys.executable, "cases/memory.py"])]
-    if built():
-        more.append(counts([sys.executable, "cases/run.py", "./sas"]))
-    else:
-        more.append((0, 1))
-        print("FAILED to build ./sas")
-    for more_passed, more_failed in more:
-        passed, failed = passed + more_passed, failed + more_failed
+    os.chdir(TOP)
+    parts = [counts(["rt", "ci"])]
+    if os.path.isfile("crates/sas/out/sas"):
+        shutil.copy("crates/sas/out/sas", "sas")
+    parts += [counts([sys.executable, *command]) for command in PARTS]
+    passed, failed = map(sum, zip(*parts))
     print(f"{passed} passed, {failed} failed")
     sys.exit(1 if failed else 0)
 

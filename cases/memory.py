@@ -3,10 +3,11 @@
 
     python3 cases/memory.py
 
-The program in crates/refused_memory makes a number of allocations, then a call, and says what came of it: `before` where
-an allocation before the call was refused, `wanting` where the call wants memory and leaves what it has to leave, `whole`
-where it answers as with ample memory, and `WRONG` else. It runs with one allocation of the process refused, the same one
-each time, so each number makes that another one of the call: from one before it, over each of it, to one behind it.
+The calls are those of calls.json that say how many runs are `refused`, over the program of crates/call_tests. It makes a
+number of allocations, then the call. It runs with one allocation of the process refused, the same one each time, so each
+number makes that another one of the call: from one before it, over each of it, to one behind it. So the answers are
+`before`, then `wanting`, where the call wants memory and all stands that has to stand then, and then the answer of the
+call. A reader that wants memory answers that to each piece behind it, too.
 
 Each call that fails has a line, and the last line is 'N passed, M failed'. The exit status is 0 where none failed.
 """
@@ -16,60 +17,58 @@ import subprocess
 import sys
 import tempfile
 
-TOP = os.path.dirname(os.path.dirname(os.path.abspath(__file__)))
-# each call, and how many runs are enough for it: the numbers that stand before its own allocations, and these
-CALLS = {
-    "feed-lines": 20,
-    "push-number": 20,
-    "push-line": 20,
-    "feed-plan": 30,
-    "read-plan": 30,
-    "read-plan-text": 30,
-    "encode-plan": 30,
-    "feed-task": 80,
-    "read-task": 80,
-    "read-task-text": 60,
-    "read-outline": 80,
-    "encode-task": 80,
-    "run-show": 90,
-    "run-show-chain": 90,
-    "run-show-group": 90,
-    "run-show-door": 90,
-    "run-show-refusal": 30,
-    "run-print": 90,
-    "run-print-chain": 90,
-    "run-print-group": 90,
-    "run-print-door": 90,
-    "run-print-refusal": 30,
-    "run-steps": 30,
-    "run-steps-door": 30,
-    "run-steps-refusal": 30,
-}
+from texts import TOP, as_bytes, table
+
 REFUSED = 100
+WANTING = re.compile(rb"(taken\n)*(wanting\n)+")
 
 
-def outcomes():
-    """What came of each call, where the allocation refused is its first, its second and so on; some come before it."""
+def refused_calls():
+    """Each call that is to be refused memory, with how many runs are enough."""
+    for group in table("calls.json"):
+        for given, answer in group["rows"] if "refused" in group else ():
+            yield {
+                "name": f"{group['call']} {as_bytes(given)[:40]!r}",
+                "call": group["call"].encode(),
+                "given": as_bytes(given),
+                "answer": as_bytes(answer),
+                "runs": group["refused"],
+            }
+
+
+def answers(calls):
+    """What the program says of each call and each run, where the allocation refused is its first, its second and so on."""
     with tempfile.TemporaryDirectory() as folder:
-        for call, runs in CALLS.items():
-            for spent in range(REFUSED - runs, REFUSED):
-                with open(os.path.join(folder, f"{call} {spent}"), "w", encoding="ascii") as file:
-                    file.write(f"{call} {spent}\n")
-        command = ["rt", "try", "--fail-alloc", str(REFUSED), "--cases", folder]
+        for number, call in enumerate(calls):
+            for run in range(call["runs"]):
+                with open(os.path.join(folder, f"{number} {run}"), "wb") as file:
+                    file.write(b"%s %d\n%s" % (call["call"], REFUSED - 1 - run, call["given"]))
+        command = ["rt", "try", "--steps", "1", "--fail-alloc", str(REFUSED), "--cases", folder]
         ran = subprocess.run(
-            command, cwd=f"{TOP}/crates/refused_memory", stdin=subprocess.DEVNULL, capture_output=True, text=True, check=False
+            command, cwd=f"{TOP}/crates/call_tests", stdin=subprocess.DEVNULL, capture_output=True, check=False
         )
-    said = dict(re.findall(r"^== (\S+ \d+)\n(.*)$", ran.stdout, re.M))
-    return {call: [said.get(f"{call} {REFUSED - 1 - run}") for run in range(runs)] for call, runs in CALLS.items()}
+    parts = re.split(rb"^== (\d+ \d+)\n", ran.stdout, flags=re.M)
+    return dict(zip((name.decode() for name in parts[1::2]), parts[2::2]))
+
+
+def outcome(said, answer):
+    """What came of a run, in a letter: before, wanting, the answer itself, or something else."""
+    if said == b"before\n":
+        return "b"
+    if said == answer:
+        return "a"
+    return "w" if said and WANTING.fullmatch(said) else "?"
 
 
 def main():
-    failed = 0
-    for call, came in outcomes().items():
-        if not re.fullmatch("(before )*(wanting )+(whole )+", "".join(f"{outcome} " for outcome in came)):
+    failed, calls = 0, list(refused_calls())
+    said = answers(calls)
+    for number, call in enumerate(calls):
+        came = "".join(outcome(said.get(f"{number} {run}"), call["answer"]) for run in range(call["runs"]))
+        if not re.fullmatch("b*w+a+", came):
             failed += 1
-            print(f"FAILED {call}: {' '.join(map(str, came))}")
-    print(f"{len(CALLS) - failed} passed, {failed} failed")
+            print(f"FAILED {call['name']}: {came}")
+    print(f"{len(calls) - failed} passed, {failed} failed")
     sys.exit(1 if failed else 0)
 
 

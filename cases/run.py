@@ -3,56 +3,98 @@
 
     python3 cases/run.py ./sas
 
-plans.json: plan files. Each is given to `steps` twice, as a file and as standard input, and nothing may come on
-standard error. program.json: words and devices, by these names.
+tasks.json: task files, and what is said of each. `print` gives each back: as it stands; with CR LF at the end of each
+line, and of one line alone, as it stands; and cut off after any byte it ends early, on its last line.
 
-    words        the words behind the program's name; FOLDER in one stands for an empty folder
+    file         the file, a path from the top of the repository
+    show         the lines of its summary
+
+lines.json: lines of these files, and texts in their place. Rows are [LINE, TEXT, ANSWER]; or each of `texts` stands in
+each of `lines` with the same answer. It is `kept`, where the file is printed as changed; a word, where `print` and `show`
+refuse it on that line; or the line with the word, as `line 15: keyword`. `memory` is as below.
+
+plans.json: plan files. Each is given to `steps` twice, as a file and as standard input, and nothing may come on
+standard error. One with `cut_off` ends early wherever it is cut off.
+
+program.json: words and devices, by these names.
+
+    words        the words behind the program's name, each character a byte; FOLDER in one stands for an empty folder
+    files        files by their names: the program runs in a folder that has these alone
     input        standard input, empty where it is left out
     input_ends   false: standard input stays open until the program has ended
     memory       how many bytes of memory the program may have; left out: as many as there are
     output_to    where standard output goes: "full device", "closed pipe"; left out: to be compared with `output`
     output       standard output, exactly
     status       the exit status
-    error        standard error, exactly; null: some text
+    error        standard error, exactly; null: some text; left out: nothing
 
-A text is a string, of which each character is a byte; or a list of strings, each with the number of times that it comes;
-or {"file": NAME}, for what the file of that name holds. The cases run at the top of the repository. Each case that fails
-has a line, and the last line is 'N passed, M failed'. The exit status is 0 where none failed.
+texts.py says what a text is. A case without `files` runs at the top of the repository. Each case that fails has a line,
+and the last line is 'N passed, M failed'. The exit status is 0 where none failed.
 """
-import json
 import os
-import resource
 import subprocess
 import sys
 import tempfile
+from concurrent.futures import ThreadPoolExecutor
 
-CASES = os.path.dirname(os.path.abspath(__file__))
+from texts import TOP, as_bytes, changed_lines, early_end, table
+
 SECONDS = 60
 
 
-def as_bytes(text):
-    """The bytes of a text of a case."""
-    if isinstance(text, dict):
-        with open(os.path.join(os.path.dirname(CASES), text["file"]), "rb") as file:
-            return file.read()
-    parts = [[text, 1]] if isinstance(text, str) else text
-    return b"".join(part.encode("latin-1") * times for part, times in parts)
+def over_task(name, request, task, output, status, **more):
+    """A case of a request over a task alone, which is standard input."""
+    return {"name": name, "words": [request, "-"], "input": task, "output": output, "status": status, **more}
 
 
-def table(name):
-    with open(os.path.join(CASES, name), encoding="utf-8") as file:
-        return json.load(file)
+def refused(what, fault):
+    """The refusal of a file, and its status."""
+    return {"output": f"{what} refused: {fault}\n", "status": 1}
+
+
+def task_cases():
+    """Each task file: as it stands, with other ends of lines, and cut off."""
+    for task in table("tasks.json"):
+        name, held = task["file"], as_bytes({"file": task["file"]})
+        returns = held.replace(b"\n", b"\r\n")
+        shown = "".join(f"{line}\n" for line in task["show"]).encode("latin-1")
+        for ends, given in (("LF", held), ("CR LF", returns)):
+            yield over_task(f"{name}, printed, with {ends}", "print", given, held, 0)
+            yield over_task(f"{name}, shown, with {ends}", "show", given, shown, 0)
+        lines = held.splitlines(keepends=True)
+        for number, line in enumerate(lines):
+            given = b"".join([*lines[:number], line[:-1] + b"\r\n", *lines[number + 1 :]])
+            yield over_task(f"{name}, CR LF on line {number + 1}", "print", given, held, 0)
+        for length in range(len(held)):
+            front = held[:length]
+            yield over_task(f"{name}, {length} bytes", "print", front, **refused("task", early_end(front)))
+
+
+def line_cases():
+    """Each changed line of a task file."""
+    for case in changed_lines():
+        name, task = case["name"], case["task"]
+        more = {"memory": case["memory"]} if case["memory"] else {}
+        if case["fault"] is None:
+            yield over_task(name, "print", task, task, 0, **more)
+            continue
+        for request in ("print", "show"):
+            yield over_task(f"{name}, {request}", request, task, **refused("task", case["fault"]), **more)
 
 
 def plan_cases(folder):
-    """Each plan file as a case of the program, through a file and through standard input."""
+    """Each plan file, through a file and through standard input, and cut off."""
     for number, plan in enumerate(table("plans.json")):
-        path = os.path.join(folder, f"{number}.plan")
+        path, held = os.path.join(folder, f"{number}.plan"), as_bytes(plan["plan"])
         with open(path, "wb") as file:
-            file.write(as_bytes(plan["plan"]))
-        answer = {"output": plan["output"], "status": plan["status"], "error": ""}
+            file.write(held)
+        answer = {"output": plan["output"], "status": plan["status"]}
         yield {"name": plan["name"] + ", from a file", "words": ["steps", path], **answer}
-        yield {"name": plan["name"] + ", from standard input", "words": ["steps", "-"], "input": plan["plan"], **answer}
+        yield {"name": plan["name"] + ", from standard input", "words": ["steps", "-"], "input": held, **answer}
+        for length in range(len(held)) if plan.get("cut_off") else ():
+            front = held[:length]
+            answer = refused("plan", early_end(front))
+            yield {"name": f"{plan['name']}, {length} bytes", "words": ["steps", "-"], "input": front, **answer}
 
 
 def output_device(case):
@@ -66,11 +108,12 @@ def output_device(case):
     return writing
 
 
-def memory_limit(case):
-    """What sets the limit in the program's process, where there is one."""
+def command_of(program, case, folder):
+    """The program with its words, and what sets its limit of memory before it, where there is one."""
+    words = [program, *(as_bytes(word.replace("FOLDER", folder)) for word in case["words"])]
     if "memory" not in case:
-        return None
-    return lambda: resource.setrlimit(resource.RLIMIT_AS, (case["memory"], case["memory"]))
+        return words
+    return ["sh", "-c", f'ulimit -v {case["memory"] // 1024}; exec "$@"', "", *words]
 
 
 def leave_open(process, given):
@@ -83,20 +126,13 @@ def leave_open(process, given):
     process.wait(SECONDS)
 
 
-def answer_of(program, case, folder):
+def answer_of(program, case, folder, place):
     """Runs the program on a case: its exit status, standard output and standard error."""
-    words = [word.replace("FOLDER", folder) for word in case["words"]]
     given = as_bytes(case.get("input", ""))
     output = output_device(case)
     pipe = subprocess.PIPE
-    process = subprocess.Popen(
-        [program, *words],
-        stdin=pipe,
-        stdout=output,
-        stderr=pipe,
-        cwd=os.path.dirname(CASES),
-        preexec_fn=memory_limit(case),
-    )
+    command = command_of(program, case, folder)
+    process = subprocess.Popen(command, stdin=pipe, stdout=output, stderr=pipe, cwd=place)
     try:
         if not case.get("input_ends", True):
             leave_open(process, given)
@@ -105,7 +141,7 @@ def answer_of(program, case, folder):
     finally:
         process.kill()
         process.wait()
-        if output != subprocess.PIPE:
+        if output != pipe:
             os.close(output)
     return process.returncode, written, said
 
@@ -113,19 +149,32 @@ def answer_of(program, case, folder):
 def differences(case, answer):
     """What is wrong with an answer."""
     status, written, said = answer
+    error = case.get("error", "")
     if status != case["status"]:
         yield f"status {status}, not {case['status']}"
     if written is not None and written != as_bytes(case["output"]):
         yield f"output {written[:200]!r}, not {as_bytes(case['output'])[:200]!r}"
-    if case["error"] is None and not said:
+    if error is None and not said:
         yield "nothing on standard error"
-    if case["error"] is not None and said != as_bytes(case["error"]):
-        yield f"standard error {said[:200]!r}, not {case['error']!r}"
+    if error is not None and said != as_bytes(error):
+        yield f"standard error {said[:200]!r}, not {error!r}"
+
+
+def answer_among(program, case, folder):
+    """The same, in a folder that has the files of the case alone, where it has some."""
+    if "files" not in case:
+        return answer_of(program, case, folder, TOP)
+    with tempfile.TemporaryDirectory() as place:
+        for name, text in case["files"].items():
+            with open(os.path.join(place, name), "wb") as file:
+                file.write(as_bytes(text))
+        return answer_of(program, case, folder, place)
 
 
 def faults(program, case, folder):
+    """What is wrong with the program's answer to a case."""
     try:
-        return list(differences(case, answer_of(program, case, folder)))
+        return list(differences(case, answer_among(program, case, folder)))
     except subprocess.TimeoutExpired:
         return [f"no end within {SECONDS} seconds"]
 
@@ -134,16 +183,15 @@ def main():
     if len(sys.argv) != 2:
         sys.exit(__doc__)
     program = os.path.abspath(sys.argv[1])
-    passed = failed = 0
     with tempfile.TemporaryDirectory() as plans, tempfile.TemporaryDirectory() as folder:
-        for case in [*plan_cases(plans), *table("program.json")]:
-            wrong = faults(program, case, folder)
-            if wrong:
-                failed += 1
-                print(f"FAILED {case['name']}: {'; '.join(wrong)}")
-            else:
-                passed += 1
-    print(f"{passed} passed, {failed} failed")
+        cases = [*task_cases(), *line_cases(), *plan_cases(plans), *table("program.json")]
+        with ThreadPoolExecutor(os.cpu_count()) as pool:
+            wrong = list(pool.map(lambda case: faults(program, case, folder), cases))
+    for case, found in zip(cases, wrong):
+        if found:
+            print(f"FAILED {case['name']}: {'; '.join(found)}")
+    failed = sum(map(bool, wrong))
+    print(f"{len(cases) - failed} passed, {failed} failed")
     sys.exit(1 if failed else 0)
 
 

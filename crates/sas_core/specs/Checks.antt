@@ -53,7 +53,8 @@ fact_checks variables fact = check (fact_exists variables fact) BadFact
 -- what an effect or a rule changes: the old value of its variable, if one is asked for, and the new one
 abbrev pub change_checks : List Variable → ℕ → Option ℕ → ℕ → List Check
 change_checks variables var None new = check (has_value variables var new) BadFact
-change_checks variables var (Some old) new = check (has_value variables var old) BadFact ++ check (has_value variables var new) BadFact
+change_checks variables var (Some old) new =
+    check (has_value variables var old) BadFact ++ check (has_value variables var new) BadFact
 
 abbrev pub effect_checks : List Variable → Effect → List Check
 effect_checks variables e = listed (fact_checks variables) e.conditions ++ change_checks variables e.var e.old e.new

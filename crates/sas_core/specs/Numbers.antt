@@ -12,3 +12,7 @@ is_number n = nat_lt n (2 ^ 31)
 abbrev pub IsSigned : Option ℕ → Type 0
 IsSigned None = Unit {0}
 IsSigned (Some n) = IsNumber n
+
+-- a plan's cost is at most 18,446,744,073,709,551,615
+abbrev pub IsPlanCost : ℕ → Type 0
+IsPlanCost n = n < 2 ^ 64

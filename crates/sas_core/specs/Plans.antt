@@ -1,12 +1,9 @@
 -- Which plans there are.
-use Rattle.std.specs.Prelude.{◌≡◌, ℕ, ◌+◌, ◌^◌, ◌<◌, List, ◌∷◌, ◌++◌, length}
+use Rattle.std.specs.Prelude.{◌≡◌, ℕ, ◌+◌, List, ◌∷◌, ◌++◌, length}
 use Rattle.std.specs.List.{AllByRecursion}
 use Rattle.sas_core.specs.Names.{IsName}
+use Rattle.sas_core.specs.Numbers.{IsPlanCost}
 use Rattle.sas_core.specs.PlanParts.{PlanParts}
-
--- a plan's cost is at most 18,446,744,073,709,551,615
-abbrev pub IsPlanCost : ℕ → Type 0
-IsPlanCost n = n < 2 ^ 64
 
 -- each step is a name, and the cost is one that a plan file can say
 pub record WellNamed (p : PlanParts) : Type 0 where

@@ -1,12 +1,8 @@
 -- What a task's numbers mean.
-use Rattle.std.specs.Prelude.{ℕ, if◌then◌else◌, slice_get, slice_index}
+use Rattle.std.specs.Prelude.{ℕ, if◌then◌else◌, slice_get}
 use Rattle.std.specs.Option.{option_map_or}
 use Rattle.sas_core.specs.declared.parts.Operator.{Operator}
 use Rattle.sas_core.specs.declared.parts.Parts.{Parts}
-
--- a derived variable's default is its value in the state section
-abbrev pub default_of : Parts → ℕ → ℕ
-default_of p var = slice_index p.init var
 
 -- under metric 1 an operator costs what its cost line says, under metric 0 it costs 1
 abbrev pub cost_of : Parts → ℕ → ℕ

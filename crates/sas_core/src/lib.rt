@@ -14,6 +14,3 @@ pub use names::is_name;
 pub use parts::{Effect, Fact, Operator, Parts, Rule, Variable};
 pub use plan::{BadName, CostKind, Plan};
 pub use task::{Task, task_laws};
-
-#[cfg(test)]
-mod tests;

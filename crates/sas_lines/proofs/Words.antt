@@ -8,7 +8,8 @@ use Rattle.std.proofs.lemmas.Fmt.{digits_decimal, decimal_injective}
 use Rattle.std.proofs.lemmas.Str.Parse.{digit_from_value}
 use Rattle.sas_lines.specs.Parts.{Without, onto_first, parts}
 use Rattle.sas_lines.specs.Lines.{NoEnd}
-use Rattle.sas_lines.specs.Spelling.{IsNumber, IsSigned, signed_decimal, joined}
+use Rattle.sas_core.specs.Numbers.{IsNumber, IsSigned}
+use Rattle.sas_lines.specs.Spelling.{signed_decimal, joined}
 use Rattle.sas_lines.proofs.Separated.{parts-first, parts-only, parts-some}
 use Rattle.sas_lines.proofs.Splitting.{Plain, without_return-none}
 use Rattle.sas_lines.proofs.Digits.{own}

@@ -22,7 +22,8 @@ onto_first byte (part ∷ parts) = (byte ∷ part) ∷ parts
 -- perhaps empty
 unfoldable pub parts : ℕ → List ℕ → List (List ℕ)
 parts separator [] = [] ∷ []
-parts separator (byte ∷ bytes) = if byte == separator then [] ∷ parts separator bytes else onto_first byte (parts separator bytes)
+parts separator (byte ∷ bytes) =
+    if byte == separator then [] ∷ parts separator bytes else onto_first byte (parts separator bytes)
 
 -- the parts of the bytes that may be there
 abbrev pub parts_within : ℕ → Option (Bor (List ℕ)) → List (List ℕ)

@@ -3,19 +3,6 @@
 use Rattle.std.specs.Prelude.{◌≡◌, ℕ, ◌+◌, ◌/◌, ◌%◌, ◌^◌, ◌<◌, ◌≤◌, List, [], ◌∷◌, ◌++◌, Option, Some, None, codes}
 use Rattle.std.specs.Fmt.{decimal}
 
--- a number of a task file is at most 2,147,483,647
-abbrev pub IsNumber : ℕ → Type 0
-IsNumber n = n < 2 ^ 31
-
--- a signed number is a number, or none
-abbrev pub IsSigned : Option ℕ → Type 0
-IsSigned None = Unit {0}
-IsSigned (Some n) = IsNumber n
-
--- a plan's cost is at most 18,446,744,073,709,551,615
-abbrev pub IsCost : ℕ → Type 0
-IsCost n = n < 2 ^ 64
-
 -- a signed number in its bytes, where `-1` says that there is none
 abbrev pub signed_decimal : Option ℕ → List ℕ
 signed_decimal None = codes "-1"
@@ -30,4 +17,6 @@ joined (word ∷ next ∷ words) = word ++ 32 ∷ joined (next ∷ words)
 -- `decimal` in plain recursion, at every number of 128 bits: one digit below 10, else the decimal of a tenth and one
 -- digit more
 abbrev pub SpellingIsDecimal : Type 0
-SpellingIsDecimal = ((n : ℕ) → n < 10 → decimal n ≡ (48 + n) ∷ []) × ((n : ℕ) → 10 ≤ n → n < 10 ^ 39 → decimal n ≡ decimal (n / 10) ++ (48 + n % 10) ∷ [])
+SpellingIsDecimal =
+    ((n : ℕ) → n < 10 → decimal n ≡ (48 + n) ∷ [])
+    × ((n : ℕ) → 10 ≤ n → n < 10 ^ 39 → decimal n ≡ decimal (n / 10) ++ (48 + n % 10) ∷ [])

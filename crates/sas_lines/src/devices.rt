@@ -104,7 +104,8 @@ impl<W: Write> Watched<W> {
 pub fn write_out<W: Write>(out: &mut Watched<W>, bytes: &[u8]) -> Result<(), Short>
     requires { out.old.failed ≡ false }
     ensures ok { OnOk result (Appends (W.contents out.old.device) (W.contents out.new.device) bytes.now) }
-    ensures short { IfErr result (λ e. (e.written < length bytes.now) × Appends (W.contents out.old.device) (W.contents out.new.device) (take e.written bytes.now)) }
+    ensures short { IfErr result (λ e. (e.written < length bytes.now)
+        × Appends (W.contents out.old.device) (W.contents out.new.device) (take e.written bytes.now)) }
     ensures note { IsErr result ↔ IsTrue out.new.failed }
     ensures none { bytes.now ≡ [] → out.new ≡ out.old }
 {

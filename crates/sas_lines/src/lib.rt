@@ -14,6 +14,3 @@ pub use lines::{Fed, FirstLine, Lines, first_line};
 pub use numbers::Numbers;
 pub use spelling::{cost, number, signed, spelling_is_decimal};
 pub use writing::{push_line, push_number};
-
-#[cfg(test)]
-mod tests;

@@ -1,6 +1,7 @@
 // Numbers from their spelling.
 ghost use Rattle.std.specs.Prelude.{◌≡◌, ◌<◌, ◌≤◌, ◌^◌, ◌↔◌, ℕ, Option, Some, None, IfSome, IfNone, IsTrue, length, slice_index, decimal};
-ghost use Rattle.sas_lines.specs.Spelling.{IsNumber, IsSigned, IsCost, SpellingIsDecimal, signed_decimal};
+ghost use Rattle.sas_core.specs.Numbers.{IsNumber, IsSigned, IsPlanCost};
+ghost use Rattle.sas_lines.specs.Spelling.{SpellingIsDecimal, signed_decimal};
 
 /// No number of a task file is as large.
 const NUMBER_LIMIT: u64 = 1 << 31;
@@ -60,8 +61,8 @@ pub fn signed(line: &[u8]) -> Option<Option<u32>>
 
 /// The plan cost that the line spells: decimal digits without sign or leading zero, at most 18,446,744,073,709,551,615.
 pub fn cost(line: &[u8]) -> Option<u64>
-    ensures found { IfSome result (λ n. IsCost n × (line.now ≡ decimal n)) }
-    ensures none { IfNone result ((n : ℕ) → IsCost n → line.now ≡ decimal n → ⊥) }
+    ensures found { IfSome result (λ n. IsPlanCost n × (line.now ≡ decimal n)) }
+    ensures none { IfNone result ((n : ℕ) → IsPlanCost n → line.now ≡ decimal n → ⊥) }
 {
     if line.len() < 20 {
         return short_number(line);

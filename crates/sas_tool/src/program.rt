@@ -130,6 +130,3 @@ fn open_source<R: Files + Input>(
     };
     Ok(Watched::new(device))
 }
-
-#[cfg(test)]
-mod tests;

@@ -4,6 +4,9 @@ use clap::error::ErrorKind;
 use clap::{Arg, ArgMatches, Command, Error};
 use std::alloc::{AllocError, Global};
 
+/// The program's version.
+const VERSION: &str = "0.1.0";
+
 /// Where an input comes from.
 #[derive(Debug, PartialEq, Eq, Drop)]
 pub enum Source {
@@ -46,21 +49,43 @@ pub fn command(alloc: Global, words: Vec<String>) -> Result<Job, WordsFault> {
 
 /// The words that are understood.
 fn grammar<'a>(alloc: Global) -> Result<Command<'a>, AllocError> {
-    let plan = Arg::new(alloc, "PLAN")
-        .required(true)
-        .help("the plan file, or - for standard input");
+    let show = over_task(
+        alloc,
+        "show",
+        "Shows what a task is about: its numbers, initial state and goal",
+    )?;
+    let print = over_task(
+        alloc,
+        "print",
+        "Prints a task file again, in its one canonical form",
+    )?;
+    let steps = over_plan(
+        alloc,
+        "steps",
+        "Prints a plan file again; with no words, that on standard input",
+    )?;
     Command::new(alloc, "sas")
-        .subcommand(over_task(alloc, "show")?)?
-        .subcommand(over_task(alloc, "print")?)?
-        .subcommand(Command::new(alloc, "steps").arg(plan)?)
+        .about("Reads, checks and prints task files and plan files of Fast Downward")
+        .version(VERSION)
+        .subcommand(show)?
+        .subcommand(print)?
+        .subcommand(steps)
 }
 
 /// The words of a request over a task alone.
-fn over_task<'a>(alloc: Global, name: &'a str) -> Result<Command<'a>, AllocError> {
+fn over_task<'a>(alloc: Global, name: &'a str, about: &'a str) -> Result<Command<'a>, AllocError> {
     let task = Arg::new(alloc, "TASK")
         .required(true)
-        .help("the task file, or - for standard input");
-    Command::new(alloc, name).arg(task)
+        .help("The task file, or - for standard input");
+    Command::new(alloc, name).about(about).arg(task)
+}
+
+/// The words of a request over a plan alone.
+fn over_plan<'a>(alloc: Global, name: &'a str, about: &'a str) -> Result<Command<'a>, AllocError> {
+    let plan = Arg::new(alloc, "PLAN")
+        .required(true)
+        .help("The plan file, or - for standard input");
+    Command::new(alloc, name).about(about).arg(plan)
 }
 
 /// The job of words that were understood: without a request, the steps of the plan on standard input.
@@ -109,6 +134,3 @@ fn refused(error: Error) -> WordsFault {
         _ => WordsFault::Refused(error),
     }
 }
-
-#[cfg(test)]
-mod tests;

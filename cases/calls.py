@@ -1,0 +1,134 @@
+#!/usr/bin/env python3
+"""Runs calls of the libraries over the program crates/call_tests.
+
+    python3 cases/calls.py crates/call_tests/out/call_tests
+
+calls.json: what a call says, in groups of the same call.
+
+    call         its name, and for some calls a word that says of which kind
+    about        what is shown
+    refused      left out, or so many runs are enough to refuse each allocation of the call in turn, in memory.py
+    rows         [INPUT, ANSWER]: the bytes that the call is about, and what the program prints
+
+The calls over the files of tasks.json, lines.json and plans.json are made here. texts.py says what a text is. Each case
+that fails has a line, and the last line is 'N passed, M failed'. The exit status is 0 where none failed.
+"""
+import os
+import subprocess
+import sys
+from concurrent.futures import ThreadPoolExecutor
+
+from texts import as_bytes, changed_lines, table
+
+SECONDS = 60
+# the program reads no more than 8,192 bytes
+LONGEST = 8000
+RIGHT = "right\n"
+
+
+def case(call, given, answer, about=""):
+    """A call that is made at once, without an allocation before it."""
+    return {"name": f"{call}, {about}", "input": b"%s 0\n%s" % (call.encode(), as_bytes(given)), "answer": as_bytes(answer)}
+
+
+def written_cases():
+    """The calls of calls.json."""
+    for group in table("calls.json"):
+        for given, answer in group["rows"]:
+            yield case(group["call"], given, answer, f"{group.get('about', '')} {as_bytes(given)[:60]!r}")
+
+
+def task_cases():
+    """Each task file, as it stands and with CR LF: read in any way, in any pieces, cut off, and from a device that fails."""
+    for task in table("tasks.json"):
+        name, held = task["file"], as_bytes({"file": task["file"]})
+        whole = ["whole\n", {"file": name}, "\n"]
+        yield case("new-task", ["|", {"file": name}], ["kept\n", whole], name)
+        yield case("same-parts", ["|", {"file": name}], "equal\nequal tasks\n", name)
+        for ends in ("\n", "\r\n"):
+            given, about = {"file": name, "ends": ends}, f"{name} {ends!r}"
+            for way in ("task", "task-text"):
+                yield case(f"read {way}", given, whole, about)
+            yield case("cut-task", given, RIGHT, about)
+            for way in ("task", "task-text", "outline"):
+                yield case(f"read-fronts {way}", given, RIGHT, about)
+        if len(held) < 600:
+            yield from device_cases("task", ("task", "task-text", "outline"), ("print", "show"), name, held)
+
+
+def device_cases(reader, ways, requests, name, held):
+    """A file that something follows, and devices that fail behind each front of it, or before all is written."""
+    yield case(f"behind-{reader}", held, RIGHT, name)
+    for way in ways:
+        yield case(f"read-broken-fronts {way}", held, RIGHT, name)
+    for request in requests:
+        yield case(f"run-broken-fronts {request}", held, RIGHT, name)
+        yield case(f"run-narrow {request}", held, RIGHT, name)
+
+
+def line_cases():
+    """Each changed line of a task file that isn't too long."""
+    for changed in changed_lines():
+        if len(as_bytes(changed["task"])) > LONGEST:
+            continue
+        whole = ["whole\n", changed["task"], "\n"]
+        answer = whole if changed["fault"] is None else f"{changed['fault']}\n"
+        for way in ("task", "outline")[: 1 if changed["fault"] is None else 2]:
+            yield case(f"read {way}", changed["task"], answer, changed["name"])
+
+
+def plan_cases():
+    """Each plan file that isn't too long: read in any way, and in pieces."""
+    for plan in table("plans.json"):
+        held, output = as_bytes(plan["plan"]), as_bytes(plan["output"])
+        if len(held) > LONGEST:
+            continue
+        if plan["status"]:
+            answer = output.removeprefix(b"plan refused: ")
+        else:
+            answer = b"whole\n" + output + b"\n"
+        for way in ("plan", "plan-text"):
+            yield case(f"read {way}", held, answer, plan["name"])
+        if plan["status"] == 0:
+            yield case("cut-plan", held, RIGHT, plan["name"])
+        if plan.get("cut_off"):
+            for way in ("plan", "plan-text"):
+                yield case(f"read-fronts {way}", held, RIGHT, plan["name"])
+            yield from device_cases("plan", ("plan", "plan-text"), ("steps",), plan["name"], held)
+
+
+def cases():
+    """All calls."""
+    return [*written_cases(), *task_cases(), *line_cases(), *plan_cases()]
+
+
+def faults(program, call):
+    """What is wrong with the program's answer to a call."""
+    try:
+        ran = subprocess.run([program], input=call["input"], capture_output=True, timeout=SECONDS, check=False)
+    except subprocess.TimeoutExpired:
+        return [f"no end within {SECONDS} seconds"]
+    found = []
+    if ran.returncode or ran.stderr:
+        found.append(f"status {ran.returncode}, and on standard error {ran.stderr[:200]!r}")
+    if ran.stdout != call["answer"]:
+        found.append(f"{ran.stdout[:300]!r}, not {call['answer'][:300]!r}")
+    return found
+
+
+def main():
+    if len(sys.argv) != 2:
+        sys.exit(__doc__)
+    program, calls = os.path.abspath(sys.argv[1]), cases()
+    with ThreadPoolExecutor(os.cpu_count()) as pool:
+        wrong = list(pool.map(lambda call: faults(program, call), calls))
+    for call, found in zip(calls, wrong):
+        if found:
+            print(f"FAILED {call['name']}: {'; '.join(found)}")
+    failed = sum(map(bool, wrong))
+    print(f"{len(calls) - failed} passed, {failed} failed")
+    sys.exit(1 if failed else 0)
+
+
+if __name__ == "__main__":
+    main()

@@ -1,0 +1,88 @@
+"""What the scripts of this folder share: the texts of the cases, and their tables.
+
+A text of a case is one of
+
+    a string     of which each character is a byte
+    a list       of texts, and of pairs [TEXT, TIMES]
+    {"file": NAME, ..}   what the file of that name holds, a path from the top of the repository, with changes:
+
+        "line 7": TEXT   in place of what that line says, its end apart; null: the line is left out
+        "ends": TEXT     in place of LF at each line's end
+        "from": 20       without so many bytes at the front
+        "first": 20      without what stands behind so many bytes
+        "then": TEXT     what follows
+"""
+import functools
+import json
+import os
+
+CASES = os.path.dirname(os.path.abspath(__file__))
+TOP = os.path.dirname(CASES)
+
+
+def table(name):
+    """The cases of a table of this folder."""
+    with open(os.path.join(CASES, name), encoding="utf-8") as file:
+        return json.load(file)
+
+
+@functools.lru_cache(None)
+def bytes_of_file(name):
+    with open(os.path.join(TOP, name), "rb") as file:
+        return file.read()
+
+
+def as_bytes(text):
+    """The bytes of a text, or of bytes."""
+    if isinstance(text, bytes):
+        return text
+    if isinstance(text, str):
+        return text.encode("latin-1")
+    if isinstance(text, dict):
+        return changed(text)
+    return b"".join(as_bytes(part[0]) * part[1] if is_repeated(part) else as_bytes(part) for part in text)
+
+
+def is_repeated(part):
+    return isinstance(part, list) and len(part) == 2 and isinstance(part[1], int)
+
+
+def changed(text):
+    """The bytes of a file with changes."""
+    held = bytes_of_file(text["file"])
+    lines = held.split(b"\n")
+    for key, line in text.items():
+        if key.startswith("line "):
+            lines[int(key[5:]) - 1] = None if line is None else as_bytes(line)
+    held = as_bytes(text.get("ends", "\n")).join(line for line in lines if line is not None)
+    return held[text.get("from", 0) : text.get("first")] + as_bytes(text.get("then", ""))
+
+
+def with_line(name, line, text):
+    """A file with one line replaced."""
+    return {"file": name, f"line {line}": text}
+
+
+def fault(line, answer):
+    """The fault that the answer of a changed line tells: its word alone where it is on that line."""
+    return answer if answer.startswith("line ") else f"line {line}: {answer}"
+
+
+def changed_lines():
+    """Each row of lines.json: the file with its line replaced, and its fault, or None where the text may stand there."""
+    for group in table("lines.json"):
+        rows = group.get("changes") or [
+            (line, text, group["answer"]) for line in group["lines"] for text in group["texts"]
+        ]
+        for line, text, answer in rows:
+            yield {
+                "name": f"{group['file']}, line {line}: {group['about']}",
+                "task": with_line(group["file"], line, text),
+                "fault": None if answer == "kept" else fault(line, answer),
+                "memory": group.get("memory"),
+            }
+
+
+def early_end(front):
+    """The fault of a front of a file: it ends on its last line."""
+    return "line %d: end" % (1 + front.count(b"\n"))

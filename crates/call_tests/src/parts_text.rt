@@ -1,0 +1,126 @@
+// What tasks and outlines say, line by line: a word, and what it says.
+use sas_core::{Effect, Fact, Items, Operator, Parts, Rule, Variable};
+use sas_lines::{push_line, push_number};
+use sas_text::Outline;
+use std::alloc::{AllocError, Global};
+
+/// Adds a line: a word, and a name behind it.
+fn push_name(text: &mut Vec<u8>, word: &[u8], name: &[u8]) -> Result<(), AllocError> {
+    text.extend_from_slice(word)?;
+    text.push(b' ')?;
+    push_line(text, name)
+}
+
+/// Adds a line: a word, and numbers behind it.
+fn push_numbers(
+    text: &mut Vec<u8>,
+    word: &[u8],
+    numbers: &[Option<u32>],
+) -> Result<(), AllocError> {
+    text.extend_from_slice(word)?;
+    for number in numbers {
+        match number {
+            Some(number) => {
+                text.push(b' ')?;
+                push_number(text, u128::from(*number))?;
+            }
+            None => text.extend_from_slice(b" none")?,
+        }
+    }
+    push_line(text, b"")
+}
+
+/// Adds the variables: the name, the layer and the values of each.
+fn push_variables(text: &mut Vec<u8>, variables: &Items<Variable>) -> Result<(), AllocError> {
+    for variable in variables.as_slice() {
+        push_name(text, b"variable", variable.name.as_slice())?;
+        push_numbers(text, b"layer", &[variable.layer])?;
+        for value in variable.values.as_slice() {
+            push_name(text, b"value", value.as_slice())?;
+        }
+    }
+    Ok(())
+}
+
+/// Adds facts, each behind the word.
+fn push_facts(text: &mut Vec<u8>, word: &[u8], facts: &Items<Fact>) -> Result<(), AllocError> {
+    for fact in facts.as_slice() {
+        push_numbers(text, word, &[Some(fact.var), Some(fact.value)])?;
+    }
+    Ok(())
+}
+
+/// Adds the values of a state.
+fn push_state(text: &mut Vec<u8>, values: &Items<u32>) -> Result<(), AllocError> {
+    for value in values.as_slice() {
+        push_numbers(text, b"initial", &[Some(*value)])?;
+    }
+    Ok(())
+}
+
+/// Adds an effect: its conditions, then its variable with its old and its new value.
+fn push_effect(text: &mut Vec<u8>, effect: &Effect) -> Result<(), AllocError> {
+    push_line(text, b"effect")?;
+    push_facts(text, b"condition", &effect.conditions)?;
+    push_numbers(
+        text,
+        b"sets",
+        &[Some(effect.var), effect.old, Some(effect.new)],
+    )
+}
+
+/// Adds an operator: its name, its prevail conditions, its effects and its cost.
+fn push_operator(text: &mut Vec<u8>, operator: &Operator) -> Result<(), AllocError> {
+    push_name(text, b"operator", operator.name.as_slice())?;
+    push_facts(text, b"prevail", &operator.prevail)?;
+    for effect in operator.effects.as_slice() {
+        push_effect(text, effect)?;
+    }
+    push_numbers(text, b"cost", &[Some(operator.cost)])
+}
+
+/// Adds a rule: its conditions, then its variable with its old and its new value.
+fn push_rule(text: &mut Vec<u8>, rule: &Rule) -> Result<(), AllocError> {
+    push_line(text, b"rule")?;
+    push_facts(text, b"condition", &rule.conditions)?;
+    push_numbers(text, b"sets", &[Some(rule.var), rule.old, Some(rule.new)])
+}
+
+/// Adds the groups: the facts of each.
+fn push_groups(text: &mut Vec<u8>, groups: &Items<Items<Fact>>) -> Result<(), AllocError> {
+    for group in groups.as_slice() {
+        push_line(text, b"group")?;
+        push_facts(text, b"member", group)?;
+    }
+    Ok(())
+}
+
+/// What the parts say, in the order of the file.
+pub fn text_of_parts(alloc: Global, parts: &Parts) -> Result<Vec<u8>, AllocError> {
+    let mut text = Vec::new(alloc);
+    push_numbers(&mut text, b"metric", &[Some(u32::from(parts.metric))])?;
+    push_variables(&mut text, &parts.variables)?;
+    push_groups(&mut text, &parts.groups)?;
+    push_state(&mut text, &parts.init)?;
+    push_facts(&mut text, b"goal", &parts.goal)?;
+    for operator in parts.operators.as_slice() {
+        push_operator(&mut text, operator)?;
+    }
+    for rule in parts.rules.as_slice() {
+        push_rule(&mut text, rule)?;
+    }
+    Ok(text)
+}
+
+/// What an outline says, in the order of the file.
+pub fn text_of_outline(alloc: Global, outline: &Outline) -> Result<Vec<u8>, AllocError> {
+    let mut text = Vec::new(alloc);
+    push_numbers(&mut text, b"metric", &[Some(u32::from(outline.metric))])?;
+    push_variables(&mut text, &outline.variables)?;
+    push_numbers(&mut text, b"groups", &[Some(outline.groups)])?;
+    push_state(&mut text, &outline.init)?;
+    push_facts(&mut text, b"goal", &outline.goal)?;
+    push_numbers(&mut text, b"operators", &[Some(outline.operators)])?;
+    push_numbers(&mut text, b"rules", &[Some(outline.rules)])?;
+    Ok(text)
+}

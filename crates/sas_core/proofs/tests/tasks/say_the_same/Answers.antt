@@ -1,9 +1,0 @@
--- Tasks are equal where their parts are.
-use Rattle.std.proofs.Common.{sym, ◌∙◌}
-use Rattle.sas_core.proofs.SameParts.{parts}
-use Rattle.sas_core.proofs.tests.tasks.say_the_same.Goals as goal
-
-pub returns : goal.returns
-returns c =
-    let d = parts c.args.a.now c.args.b.now in
-    (λ t. d.0 (sym c.eq.ensures ∙ t), λ e. c.eq.ensures ∙ d.1 e)

@@ -1,0 +1,47 @@
+-- Lines that begin a plan can be completed by the cost 0.
+use Rattle.std.proofs.Common.{◌≡◌, ℕ, List, [], ◌∷◌, ◌++◌, map, refl, sym, ap, ◌∙◌, arith, ◌⊎◌, inl, inr}
+use Rattle.std.specs.List.{AllByRecursion}
+use Rattle.std.proofs.lemmas.List.{append-nil}
+use Rattle.sas_core.specs.declared.plan.CostKind.{CostKind}
+use Rattle.sas_core.specs.declared.plan.CostKind.TheVariants as costs
+use Rattle.sas_core.specs.Names.{IsName}
+use Rattle.sas_core.specs.PlanParts.{PlanParts}
+use Rattle.sas_core.specs.Plans.{WellNamed}
+use Rattle.sas_reader.specs.Format.{lines_of}
+use Rattle.sas_plan_file.specs.PlanFormat.{step, cost, plan_line_bytes, plan_format}
+use Rattle.sas_plan_file.specs.PlanLaws.{PlanIsFilled, filling}
+
+abbrev step_lines : List (List ℕ) → List (List ℕ)
+step_lines steps = map plan_line_bytes (map step steps)
+
+-- lines in front of some steps and a last line are these all, or the lines of the first of these steps
+record Front (steps begun : List (List ℕ)) : Type 0 where
+  names : List (List ℕ)
+  good : AllByRecursion IsName names
+  are : step_lines names ≡ begun
+
+steps_line : (steps : List (List ℕ)) (n : ℕ) (k : CostKind) → map plan_line_bytes (map step steps ++ cost n k ∷ []) ≡ step_lines steps ++ plan_line_bytes (cost n k) ∷ []
+steps_line [] n k = refl
+steps_line (b ∷ steps) n k = ap (λ (l : List (List ℕ)). plan_line_bytes (step b) ∷ l) (steps_line steps n k)
+
+none : (a b : List (List ℕ)) → a ++ b ≡ [] → b ≡ []
+none [] b e = e
+none (x ∷ a) b e = absurd cc
+
+front : (steps begun : List (List ℕ)) (last line : List ℕ) (more : List (List ℕ)) → AllByRecursion IsName steps → step_lines steps ++ last ∷ [] ≡ begun ++ line ∷ more → Front steps begun
+front steps [] last line more g e = record { names = []; good = tt; are = refl }
+front [] (x ∷ begun) last line more g e = let t : begun ++ line ∷ more ≡ [] = cc in absurd (let z : line ∷ more ≡ [] = none begun (line ∷ more) t in cc)
+front (b ∷ steps) (x ∷ begun) last line more g e =
+    let one : plan_line_bytes (step b) ≡ x = cc in
+    let others : step_lines steps ++ last ∷ [] ≡ begun ++ line ∷ more = cc in
+    let f = front steps begun last line more g.1 others in
+    record { names = b ∷ f.names; good = (g.0, f.good); are = ap (λ (l : List (List ℕ)). plan_line_bytes (step b) ∷ l) f.are ∙ ap (λ (y : List ℕ). y ∷ begun) one }
+
+filled_by : (p : PlanParts) (begun more : List (List ℕ)) → WellNamed p → lines_of plan_format p ≡ begun ++ more → (q : PlanParts) × WellNamed q × ((lines_of plan_format q ≡ begun) ⊎ (lines_of plan_format q ≡ begun ++ filling ∷ []))
+filled_by p begun [] g e = (p, g, inl (e ∙ append-nil begun))
+filled_by p begun (line ∷ more) g e =
+    let f = front p.steps begun (plan_line_bytes (cost p.cost p.kind)) line more g.steps (sym (steps_line p.steps p.cost p.kind) ∙ e) in
+    (record { steps = f.names; cost = 0; kind = costs.Unit }, record { steps = f.good; cost = omega arith }, inr (steps_line f.names 0 costs.Unit ∙ ap (λ (l : List (List ℕ)). l ++ filling ∷ []) f.are))
+
+pub plan_is_filled : PlanIsFilled
+plan_is_filled begun b = filled_by b.0 begun b.1 b.2 b.3

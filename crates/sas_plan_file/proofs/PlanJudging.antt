@@ -1,0 +1,42 @@
+-- Why a line may not stand in a plan.
+use Rattle.std.proofs.Common.{◌≡◌, ℕ, List, ◌++◌, length, take, get_or, sym, ap, ◌∙◌, arith, IsTrue}
+use Rattle.std.specs.Prelude.{codes}
+use Rattle.std.specs.Fmt.{decimal}
+use Rattle.std.proofs.lemmas.List.{append_cancel_left}
+use Rattle.std.proofs.Math.Seq.{take-append_seam}
+use Rattle.sas_core.specs.declared.plan.CostKind.{CostKind}
+use Rattle.sas_reader.specs.declared.fault.Kind.TheVariants.{Keyword, Name, Shape}
+use Rattle.sas_plan_file.specs.PlanFormat.{PlanLine, step, cost, plan_line_bytes, PlanLineFits, like_step, like_cost, like_none, cost_front, cost_words, BeginsWith, plan_format}
+use Rattle.sas_plan_file.specs.PlanLine.{Names, Costs}
+use Rattle.sas_plan_file.specs.PlanMachine.{plan_line_ok}
+use Rattle.sas_reader.specs.System.{Judged}
+
+begins_with : (front rest line : List ℕ) → line ≡ front ++ rest → BeginsWith front line
+begins_with front rest line e = ap (take (length front)) e ∙ take-append_seam front rest
+
+abbrev first_of : List ℕ → ℕ
+first_of l = get_or l 0 0
+
+apart : (a b : List ℕ) → codes "(" ++ a ≡ cost_front ++ b → ⊥
+apart a b e = let h = ap first_of e in omega (arith, h)
+
+no_step : (line rest : List ℕ) → line ≡ codes "(" ++ rest → ((name : List ℕ) → Names rest name → ⊥) → (i : PlanLine) → PlanLineFits i → IsTrue (plan_line_ok i) → plan_line_bytes i ≡ line → ⊥
+no_step line rest e none (step name) fits ok b = none name (ok, append_cancel_left (codes "(") rest (name ++ codes ")") (sym e ∙ sym b))
+no_step line rest e none (cost n kind) fits ok b = apart rest (decimal n ++ cost_words kind) (sym e ∙ sym b)
+
+no_cost : (line rest : List ℕ) → line ≡ cost_front ++ rest → ((n : ℕ) (kind : CostKind) → Costs rest n kind → ⊥) → (i : PlanLine) → PlanLineFits i → IsTrue (plan_line_ok i) → plan_line_bytes i ≡ line → ⊥
+no_cost line rest e none (step name) fits ok b = apart (name ++ codes ")") rest (b ∙ e)
+no_cost line rest e none (cost n kind) fits ok b = none n kind (fits, append_cancel_left cost_front rest (decimal n ++ cost_words kind) (sym e ∙ sym b))
+
+no_line : (line : List ℕ) → (BeginsWith (codes "(") line → ⊥) → (BeginsWith cost_front line → ⊥) → (i : PlanLine) → plan_line_bytes i ≡ line → ⊥
+no_line line a b (step name) e = a (begins_with (codes "(") (name ++ codes ")") line (sym e))
+no_line line a b (cost n kind) e = b (begins_with cost_front (decimal n ++ cost_words kind) line (sym e))
+
+pub judged_name : (line rest : List ℕ) → line ≡ codes "(" ++ rest → ((name : List ℕ) → Names rest name → ⊥) → Judged plan_format PlanLineFits tt plan_line_ok line Name
+judged_name line rest e none = record { none = λ i t b. no_step line rest e none i t.fits t.good b; kind = like_step (begins_with (codes "(") rest line e) }
+
+pub judged_shape : (line rest : List ℕ) → line ≡ cost_front ++ rest → ((n : ℕ) (kind : CostKind) → Costs rest n kind → ⊥) → Judged plan_format PlanLineFits tt plan_line_ok line Shape
+judged_shape line rest e none = record { none = λ i t b. no_cost line rest e none i t.fits t.good b; kind = like_cost (begins_with cost_front rest line e) }
+
+pub judged_keyword : (line : List ℕ) → (BeginsWith (codes "(") line → ⊥) → (BeginsWith cost_front line → ⊥) → Judged plan_format PlanLineFits tt plan_line_ok line Keyword
+judged_keyword line a b = record { none = λ i t e. no_line line a b i e; kind = like_none a b }

@@ -1,0 +1,77 @@
+-- A plan's text that is kept line by line.
+use Rattle.std.proofs.Common.{◌≡◌, ℕ, true, List, [], ◌∷◌, ◌++◌, refl, sym, ap, ◌∙◌, IsTrue}
+use Rattle.std.specs.Prelude.{◌↔◌}
+use Rattle.std.proofs.lemmas.Grind.{flat_map-append}
+use Rattle.std.proofs.lemmas.List.{append-nil}
+use Rattle.sas_core.specs.declared.plan.CostKind.{CostKind}
+use Rattle.sas_core.specs.PlanParts.{PlanParts}
+use Rattle.sas_lines.specs.Lines.{text, lines}
+use Rattle.sas_reader.specs.declared.fault.Kind.{Kind}
+use Rattle.sas_plan_file.specs.declared.plan_text.PlanText.{PlanText}
+use Rattle.sas_reader.specs.Format.{lines_of, Reads}
+use Rattle.sas_plan_file.specs.PlanFormat.{step, cost, plan_line_bytes, plan_format, PlanLineFits}
+use Rattle.sas_plan_file.specs.PlanMachine.{PlanState, going, closed, plan_node, plan_next, plan_start, plan_line_ok, IsClosed}
+use Rattle.sas_plan_file.specs.PlanText.{KeepsLines}
+use Rattle.sas_reader.specs.System.{Takes, Judged, Leads, Rejects}
+use Rattle.sas_reader.proofs.Conversion.{Follows}
+use Rattle.sas_plan_file.proofs.PlanStanding.{closed_value, closed_is}
+use Rattle.sas_plan_file.proofs.PlanSteps.{led_on}
+
+text-push : (ls : List (List ℕ)) (line : List ℕ) → text (ls ++ line ∷ []) ≡ text ls ++ (line ++ 10 ∷ [])
+text-push ls line = flat_map-append (λ (l : List ℕ). l ++ 10 ∷ []) ls (line ∷ []) ∙ ap (λ (x : List ℕ). text ls ++ x) (append-nil (line ++ 10 ∷ []))
+
+kept_text : (ls : List (List ℕ)) (line old new : List ℕ) → old ≡ text ls → new ≡ old ++ (line ++ 10 ∷ []) → new ≡ text (ls ++ line ∷ [])
+kept_text ls line old new o n = n ∙ ap (λ (x : List ℕ). x ++ (line ++ 10 ∷ [])) o ∙ sym (text-push ls line)
+
+-- ---- one line more
+
+step_kept : (ls : List (List ℕ)) (p : PlanState) (m n : PlanText) (name line : List ℕ) → Leads plan_format PlanLineFits plan_node plan_start ls p → m.text.items ≡ text ls → (IsTrue m.closed ↔ IsClosed p) → (IsTrue m.closed → ⊥) → Takes plan_format PlanLineFits tt plan_line_ok (step name) → plan_line_bytes (step name) ≡ line
+    → n.text.items ≡ m.text.items ++ (line ++ 10 ∷ []) → n.closed ≡ m.closed → KeepsLines (ls ++ line ∷ []) n
+step_kept ls (going steps) m n name line h k c going_on t e same_text same_closed = record {
+  state = going (steps ++ name ∷ []);
+  leads = led_on ls steps (going (steps ++ name ∷ [])) (step name) line h t e refl;
+  kept = kept_text ls line m.text.items n.text.items k same_text;
+  closed = (λ d. going_on (sym same_closed ∙ d), λ d. absurd d);
+}
+step_kept ls (closed p) m n name line h k c going_on t e same_text same_closed = absurd (going_on (c.1 tt))
+
+cost_kept : (ls : List (List ℕ)) (p : PlanState) (m n : PlanText) (amount : ℕ) (kind : CostKind) (line : List ℕ) → Leads plan_format PlanLineFits plan_node plan_start ls p → m.text.items ≡ text ls → (IsTrue m.closed ↔ IsClosed p) → (IsTrue m.closed → ⊥) → Takes plan_format PlanLineFits tt plan_line_ok (cost amount kind) → plan_line_bytes (cost amount kind) ≡ line
+    → n.text.items ≡ m.text.items ++ (line ++ 10 ∷ []) → n.closed ≡ true → KeepsLines (ls ++ line ∷ []) n
+cost_kept ls (going steps) m n amount kind line h k c going_on t e same_text now_closed = record {
+  state = plan_next steps (cost amount kind);
+  leads = led_on ls steps (plan_next steps (cost amount kind)) (cost amount kind) line h t e refl;
+  kept = kept_text ls line m.text.items n.text.items k same_text;
+  closed = (λ d. tt, λ d. now_closed);
+}
+cost_kept ls (closed p) m n amount kind line h k c going_on t e same_text now_closed = absurd (going_on (c.1 tt))
+
+pub keeps_step : (ls : List (List ℕ)) (m n : PlanText) (name line : List ℕ) → KeepsLines ls m → (IsTrue m.closed → ⊥) → Takes plan_format PlanLineFits tt plan_line_ok (step name) → plan_line_bytes (step name) ≡ line → n.text.items ≡ m.text.items ++ (line ++ 10 ∷ []) → n.closed ≡ m.closed → KeepsLines (ls ++ line ∷ []) n
+keeps_step ls m n name line h going_on t e same_text same_closed = step_kept ls h.state m n name line h.leads h.kept h.closed going_on t e same_text same_closed
+
+pub keeps_cost : (ls : List (List ℕ)) (m n : PlanText) (amount : ℕ) (kind : CostKind) (line : List ℕ) → KeepsLines ls m → (IsTrue m.closed → ⊥) → Takes plan_format PlanLineFits tt plan_line_ok (cost amount kind) → plan_line_bytes (cost amount kind) ≡ line → n.text.items ≡ m.text.items ++ (line ++ 10 ∷ []) → n.closed ≡ true → KeepsLines (ls ++ line ∷ []) n
+keeps_cost ls m n amount kind line h going_on t e same_text now_closed = cost_kept ls h.state m n amount kind line h.leads h.kept h.closed going_on t e same_text now_closed
+
+-- ---- it follows the grammar
+
+abbrev pub text_ended : PlanText → Type 0
+text_ended m = IsTrue m.closed
+
+abbrev pub text_rejects : PlanText → List ℕ → Kind → Type 0
+text_rejects m line k = Judged plan_format PlanLineFits tt plan_line_ok line k
+
+refused : (p : PlanState) (line : List ℕ) (k : Kind) → (IsClosed p → ⊥) → Judged plan_format PlanLineFits tt plan_line_ok line k → Rejects plan_format PlanLineFits (plan_node p) line k
+refused (going steps) line k going_on j = j
+refused (closed p) line k going_on j = absurd (going_on tt)
+
+pub text_follows : Follows plan_format PlanLineFits plan_node plan_start KeepsLines text_ended text_rejects
+text_follows ls m h = record {
+  state = h.state;
+  leads = h.leads;
+  value = λ d. closed_value h.state (h.closed.0 d);
+  is_ended = λ v e. h.closed.1 (closed_is h.state v e);
+  refuses = λ line k going_on j. refused h.state line k (λ d. going_on (h.closed.1 d)) j;
+}
+
+-- the text of what was read, where all is read as a plan
+pub text_is : (m : PlanText) (bytes : List ℕ) (p : PlanParts) → KeepsLines (lines bytes) m → Reads plan_format bytes p → m.text.items ≡ text (lines_of plan_format p)
+text_is m bytes p h r = h.kept ∙ ap text r.lines

@@ -1,0 +1,6 @@
+pub mod PlanFormat
+pub mod PlanLaws
+pub mod PlanMachine
+pub mod PlanLine
+pub mod PlanReader
+pub mod PlanText

@@ -1,0 +1,17 @@
+-- A law of plan files beside those of every format.
+use Rattle.std.specs.Prelude.{◌≡◌, ℕ, ◌⊎◌, List, [], ◌∷◌, ◌++◌}
+use Rattle.sas_core.specs.declared.plan.CostKind.TheVariants as costs
+use Rattle.sas_core.specs.PlanParts.{PlanParts}
+use Rattle.sas_core.specs.Plans.{WellNamed}
+use Rattle.sas_reader.specs.Format.{IsBegun, lines_of}
+use Rattle.sas_plan_file.specs.PlanFormat.{cost, plan_line_bytes, plan_format}
+
+-- the line `; cost = 0 (unit cost)`
+abbrev pub filling : List ℕ
+filling = plan_line_bytes (cost 0 costs.Unit)
+
+-- lines that begin a plan are all lines of one, or are with the filling behind them
+abbrev pub PlanIsFilled : Type 0
+PlanIsFilled = (begun : List (List ℕ)) → IsBegun plan_format begun → (p : PlanParts)
+    × WellNamed p
+    × ((lines_of plan_format p ≡ begun) ⊎ (lines_of plan_format p ≡ begun ++ filling ∷ []))

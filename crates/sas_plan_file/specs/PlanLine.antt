@@ -1,0 +1,31 @@
+-- What the code reads off a line of a plan file.
+use Rattle.std.specs.Prelude.{◌≡◌, ℕ, List, ◌++◌, codes, Result, Ok, Err}
+use Rattle.std.specs.Fmt.{decimal}
+use Rattle.sas_core.specs.declared.plan.CostKind.{CostKind}
+use Rattle.sas_core.specs.Names.{IsName}
+use Rattle.sas_core.specs.Numbers.{IsPlanCost}
+use Rattle.sas_reader.specs.declared.fault.Kind.{Kind}
+use Rattle.sas_plan_file.specs.declared.plan_line.PlanLine as code
+use Rattle.sas_plan_file.specs.declared.plan_line.PlanLine.TheVariants as variants
+use Rattle.sas_plan_file.specs.PlanFormat.{PlanLine, step, cost, plan_line_bytes, plan_format, cost_words, PlanLineFits}
+use Rattle.sas_plan_file.specs.PlanMachine.{plan_line_ok}
+use Rattle.sas_reader.specs.System.{Takes, Judged}
+
+-- behind its opening parenthesis a step is its name and the closing one
+abbrev pub Names : List ℕ → List ℕ → Type 0
+Names rest name = IsName name × (rest ≡ name ++ codes ")")
+
+-- behind its first words the cost is its digits and its last words
+abbrev pub Costs : List ℕ → ℕ → CostKind → Type 0
+Costs rest n kind = IsPlanCost n × (rest ≡ decimal n ++ cost_words kind)
+
+-- the line that the code found
+abbrev pub line_said : code.PlanLine → PlanLine
+line_said (variants.Step name) = step name.now
+line_said (variants.Cost n kind) = cost n kind
+
+-- the line says what was found; or it may not stand in a plan, and the kind is that of its fault
+abbrev pub JudgesPlanLine : List ℕ → Result code.PlanLine Kind → Type 0
+JudgesPlanLine line (Ok said) =
+    Takes plan_format PlanLineFits tt plan_line_ok (line_said said) × (plan_line_bytes (line_said said) ≡ line)
+JudgesPlanLine line (Err kind) = Judged plan_format PlanLineFits tt plan_line_ok line kind

@@ -1,0 +1,43 @@
+-- What may still come in a plan file, by what came.
+use Rattle.std.specs.Prelude.{◌≡◌, ℕ, Bool, true, List, [], ◌∷◌, ◌++◌, Option, Some, None}
+use Rattle.sas_core.specs.declared.plan.CostKind.{CostKind}
+use Rattle.sas_core.specs.Names.{is_name}
+use Rattle.sas_core.specs.PlanParts.{PlanParts}
+use Rattle.sas_plan_file.specs.PlanFormat.{PlanLine, step, cost}
+use Rattle.sas_reader.specs.System.{Node, ended, before}
+
+-- these steps came; or the cost came too, and with it the end
+pub data PlanState : Type 0 where
+  going : List (List ℕ) → PlanState
+  closed : PlanParts → PlanState
+
+abbrev pub plan_line_ok : PlanLine → Bool
+plan_line_ok (step name) = is_name name
+plan_line_ok (cost n kind) = true
+
+abbrev pub plan_next : List (List ℕ) → PlanLine → PlanState
+plan_next steps (step name) = going (steps ++ name ∷ [])
+plan_next steps (cost n kind) = closed (record { steps = steps; cost = n; kind = kind })
+
+-- as long as no cost came, a step or the cost may come
+abbrev pub plan_node : PlanState → Node PlanState PlanParts PlanLine (Unit {0})
+plan_node (going steps) = before tt plan_line_ok (plan_next steps)
+plan_node (closed p) = ended p
+
+abbrev pub plan_start : PlanState
+plan_start = going []
+
+-- by the steps so far, and the cost where it came
+abbrev pub plan_state : List (List ℕ) → Option (ℕ × CostKind) → PlanState
+plan_state steps None = going steps
+plan_state steps (Some c) = closed (record { steps = steps; cost = c.0; kind = c.1 })
+
+-- the cost came
+abbrev pub IsClosed : PlanState → Type 0
+IsClosed (going steps) = ⊥
+IsClosed (closed p) = Unit {0}
+
+-- the name is one step more
+abbrev pub StepsOn : PlanState → List ℕ → PlanState → Type 0
+StepsOn (going steps) name new = new ≡ going (steps ++ name ∷ [])
+StepsOn (closed p) name new = ⊥

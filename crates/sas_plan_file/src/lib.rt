@@ -1,0 +1,16 @@
+//! The plan file: read in pieces with each fault at its exact place, and written.
+#![tactic(auto)]
+
+mod laws;
+mod plan;
+mod plan_line;
+mod plan_machine;
+mod plan_reader;
+mod plan_text;
+mod plan_writer;
+
+pub use laws::plan_laws;
+pub use plan::{read_plan, read_plan_text};
+pub use plan_machine::PlanMachine;
+pub use plan_reader::PlanReader;
+pub use plan_writer::encode_plan;

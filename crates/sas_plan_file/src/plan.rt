@@ -1,0 +1,39 @@
+// Plan files: read from a device.
+ghost use Rattle.std.specs.Prelude.{◌≡◌, false};
+ghost use Rattle.sas_reader.specs.Devices.{ReadsAll, ValueOf, TextOf};
+ghost use Rattle.sas_plan_file.specs.PlanFormat.{plan_format};
+
+use crate::plan_machine::PlanMachine;
+use crate::plan_text::PlanText;
+use sas_core::Plan;
+use sas_lines::Watched;
+use sas_reader::{Fault, LIMIT, read_all};
+use std::alloc::Global;
+use std::io::Read;
+
+/// Reads a plan from a device: in pieces of at most 4,096 bytes, to its end or to the first fault. A failed read is told as
+/// `Kind::Read`, want of memory as `Kind::Memory`. Not to be called with a device that has failed.
+///
+/// What is said of the bytes is said of those that the device tells (`remaining`). A reader over memory tells them. A file
+/// or standard input tells none, and then nothing more is said than that there are such bytes.
+pub fn read_plan<R: Read>(alloc: Global, reader: &mut Watched<R>) -> Result<Plan, Fault>
+    requires { reader.old.failed ≡ false }
+    ensures { ReadsAll R.remaining plan_format (ValueOf plan_format) reader.old reader.new result }
+{
+    match read_all(alloc, PlanMachine::new(alloc), LIMIT, reader) {
+        Ok(machine) => Ok(machine.into_plan()),
+        Err(fault) => Err(fault),
+    }
+}
+
+/// Reads a plan from a device as `read_plan` does, and gives its text: its lines, each ended by LF. It keeps no plan.
+/// The faults are those of `read_plan`.
+pub fn read_plan_text<R: Read>(alloc: Global, reader: &mut Watched<R>) -> Result<Vec<u8>, Fault>
+    requires { reader.old.failed ≡ false }
+    ensures { ReadsAll R.remaining plan_format (λ b t. TextOf plan_format b t.items) reader.old reader.new result }
+{
+    match read_all(alloc, PlanText::new(alloc), LIMIT, reader) {
+        Ok(machine) => Ok(machine.into_text()),
+        Err(fault) => Err(fault),
+    }
+}

@@ -1,0 +1,87 @@
+// One line of a plan file.
+ghost use Rattle.std.specs.Prelude.{◌≡◌, ◌++◌, ℕ, List, MatchOption, IfSome, IfNone};
+ghost use Rattle.std.specs.Fmt.{decimal};
+ghost use Rattle.sas_core.specs.Numbers.{IsPlanCost};
+ghost use Rattle.sas_plan_file.specs.PlanFormat.{BeginsWith};
+ghost use Rattle.sas_plan_file.specs.PlanLine.{Names, Costs, JudgesPlanLine};
+
+use sas_core::{CostKind, is_name};
+use sas_lines::cost;
+use sas_reader::Kind;
+
+/// What a line of a plan file says.
+#[derive(Clone, Copy, Debug, PartialEq, Eq)]
+pub enum PlanLine<'a> {
+    Step(&'a [u8]),
+    Cost(u64, CostKind),
+}
+
+/// What stands behind the front, where the line begins with it.
+fn behind<'a>(line: &'a [u8], front: &[u8]) -> Option<&'a [u8]>
+    ensures { MatchOption result (BeginsWith front.now line.now → ⊥) (λ rest. line.now ≡ front.now ++ rest.now) }
+{
+    line.strip_prefix(front)
+}
+
+/// What stands before the back, where the line ends with it.
+fn before<'a>(line: &'a [u8], back: &[u8]) -> Option<&'a [u8]>
+    ensures { MatchOption result
+        ((rest : List ℕ) → line.now ≡ rest ++ back.now → ⊥) (λ rest. line.now ≡ rest.now ++ back.now) }
+{
+    line.strip_suffix(back)
+}
+
+/// The name that stands before the closing parenthesis.
+fn step_name(rest: &[u8]) -> Option<&[u8]>
+    ensures found { IfSome result (λ name. Names rest.now name.now) }
+    ensures none { IfNone result ((name : List ℕ) → Names rest.now name → ⊥) }
+{
+    match before(rest, b")") {
+        Some(name) if is_name(name) => Some(name),
+        _ => None,
+    }
+}
+
+/// The cost that stands before the words.
+fn cost_before(rest: &[u8], words: &[u8]) -> Option<u64>
+    ensures found { IfSome result (λ n. IsPlanCost n × (rest.now ≡ decimal n ++ words.now)) }
+    ensures none { IfNone result ((n : ℕ) → IsPlanCost n → rest.now ≡ decimal n ++ words.now → ⊥) }
+{
+    match before(rest, words) {
+        Some(digits) => cost(digits),
+        None => None,
+    }
+}
+
+/// The cost and its words.
+fn cost_of(rest: &[u8]) -> Option<(u64, CostKind)>
+    ensures found { IfSome result (λ c. Costs rest.now c.0 c.1) }
+    ensures none { IfNone result ((n : ℕ) (kind : CostKind) → Costs rest.now n kind → ⊥) }
+{
+    if let Some(n) = cost_before(rest, b" (unit cost)") {
+        return Some((n, CostKind::Unit));
+    }
+    match cost_before(rest, b" (general cost)") {
+        Some(n) => Some((n, CostKind::General)),
+        None => None,
+    }
+}
+
+/// What the line says: a step or the cost, or else the kind of its fault.
+pub fn plan_line(line: &[u8]) -> Result<PlanLine<'_>, Kind>
+    ensures { JudgesPlanLine line.now result }
+{
+    if let Some(rest) = behind(line, b"(") {
+        return match step_name(rest) {
+            Some(name) => Ok(PlanLine::Step(name)),
+            None => Err(Kind::Name),
+        };
+    }
+    match behind(line, b"; cost = ") {
+        None => Err(Kind::Keyword),
+        Some(rest) => match cost_of(rest) {
+            Some((n, kind)) => Ok(PlanLine::Cost(n, kind)),
+            None => Err(Kind::Shape),
+        },
+    }
+}

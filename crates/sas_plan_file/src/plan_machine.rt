@@ -1,0 +1,100 @@
+// What takes the lines of a plan file, one after another.
+ghost use Rattle.std.specs.Prelude.{◌≡◌, OnOk, IfErr};
+
+use crate::plan_line::{PlanLine, plan_line};
+use sas_core::{CostKind, Items, Plan};
+use sas_reader::{Kind, Machine};
+use std::alloc::Global;
+use std::marker::Model;
+
+/// The steps so far, and the cost once it has come.
+#[derive(Drop)]
+pub struct PlanMachine {
+    alloc: Global,
+    steps: Items<Items<u8>>,
+    cost: Option<(u64, CostKind)>,
+}
+
+impl Model for PlanMachine {
+    ghost use Rattle.std.specs.List.{AllByRecursion};
+    ghost use Rattle.sas_core.specs.Names.{IsName};
+    ghost use Rattle.sas_plan_file.specs.PlanMachine.{PlanState, plan_state};
+
+    ghost Value = { PlanState };
+
+    ghost view = { λ m. plan_state m.steps m.cost };
+
+    ghost invariant = { λ m. AllByRecursion IsName m.steps };
+}
+
+impl PlanMachine {
+    ghost use Rattle.sas_core.specs.Names.{IsName};
+    ghost use Rattle.sas_plan_file.specs.PlanMachine.{closed, plan_start, IsClosed, StepsOn};
+
+    /// Nothing has come.
+    pub fn new(alloc: Global) -> Self
+        ensures { result ≡ plan_start }
+    {
+        PlanMachine {
+            alloc,
+            steps: Items::new(alloc),
+            cost: None,
+        }
+    }
+
+    /// One step more.
+    fn add_step(&mut self, name: &[u8]) -> Result<(), Kind>
+        requires open_still { IsClosed self.old → ⊥ }
+        requires name { IsName name.now }
+        ensures ok { OnOk result (StepsOn self.old name.now self.new) }
+        ensures err { IfErr result (λ k. k ≡ Kind.Memory) }
+    {
+        let name = match Vec::from_slice(self.alloc, name) {
+            Ok(name) => Items::from_vec(name),
+            Err(_) => return Err(Kind::Memory),
+        };
+        match self.steps.push(name) {
+            Ok(()) => Ok(()),
+            Err(_) => Err(Kind::Memory),
+        }
+    }
+
+    /// The plan whose lines have all come.
+    pub fn into_plan(self) -> Plan
+        requires { IsClosed self }
+        ensures { self ≡ closed result }
+    {
+        let PlanMachine { steps, cost, .. } = self;
+        match cost {
+            Some((cost, kind)) => Plan::of_names(steps, cost, kind),
+            None => unreachable!(),
+        }
+    }
+}
+
+impl Machine for PlanMachine {
+    ghost use Rattle.sas_plan_file.specs.PlanFormat.{plan_format, PlanLineFits};
+    ghost use Rattle.sas_plan_file.specs.PlanMachine.{plan_node, plan_start, IsClosed};
+    ghost use Rattle.sas_reader.specs.System.{Leads, Rejects};
+
+    ghost led_by = { λ lines m. Leads plan_format PlanLineFits plan_node plan_start lines m };
+
+    ghost ended = { IsClosed };
+
+    ghost rejects = { λ m line k. Rejects plan_format PlanLineFits (plan_node m) line k };
+
+    fn has_ended(&self) -> bool {
+        self.cost.is_some()
+    }
+
+    fn accept(&mut self, line: &[u8]) -> Result<(), Kind> {
+        match plan_line(line) {
+            Err(kind) => Err(kind),
+            Ok(PlanLine::Cost(cost, kind)) => {
+                self.cost = Some((cost, kind));
+                Ok(())
+            }
+            Ok(PlanLine::Step(name)) => self.add_step(name),
+        }
+    }
+}

@@ -1,0 +1,54 @@
+// Reads a plan that comes in pieces.
+ghost use Rattle.std.specs.Prelude.{◌≤◌};
+ghost use Rattle.sas_reader.specs.Limit.{most_bytes};
+ghost use Rattle.sas_reader.specs.Reading.{Starts, Feeds, Finishes};
+
+use crate::plan_machine::PlanMachine;
+use sas_core::Plan;
+use sas_reader::{Fault, LIMIT, Reader};
+use std::alloc::Global;
+
+/// Reads a plan file that comes in pieces, cut anywhere.
+#[derive(Drop)]
+pub struct PlanReader {
+    reader: Reader<PlanMachine>,
+}
+
+impl PlanReader {
+    ghost use Rattle.sas_plan_file.specs.PlanReader.{plan_view};
+
+    /// Nothing has come, and 4 GiB may. It takes no memory.
+    pub fn new(alloc: Global) -> Self
+        ensures { Starts plan_view most_bytes result }
+    {
+        PlanReader::within(alloc, LIMIT)
+    }
+
+    /// The same, for at most `limit` bytes.
+    pub(crate) fn within(alloc: Global, limit: u64) -> Self
+        requires { limit ≤ most_bytes }
+        ensures { Starts plan_view limit result }
+    {
+        PlanReader {
+            reader: Reader::new(alloc, PlanMachine::new(alloc), limit),
+        }
+    }
+
+    /// Takes the next piece. The first fault is answered from then on, and no byte behind it is looked at.
+    pub fn feed(&mut self, piece: &[u8]) -> Result<(), Fault>
+        ensures { Feeds plan_view self.old piece.now self.new result }
+    {
+        self.reader.feed(piece)
+    }
+
+    /// The plan, once all has come. It takes no memory: want of memory is answered only where `feed` answered it.
+    pub fn finish(self) -> Result<Plan, Fault>
+        ensures { Finishes plan_view self result }
+    {
+        let PlanReader { reader } = self;
+        match reader.finish() {
+            Ok(machine) => Ok(machine.into_plan()),
+            Err(fault) => Err(fault),
+        }
+    }
+}

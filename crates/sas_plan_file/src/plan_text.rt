@@ -1,0 +1,80 @@
+// What takes the lines of a plan file and keeps them as a text, without a plan.
+ghost use Rattle.std.specs.Prelude.{◌≡◌, [], ◌∷◌, ◌++◌, IsTrue, OnOk, IfErr, false};
+
+use crate::plan_line::{PlanLine, plan_line};
+use sas_lines::push_line;
+use sas_reader::{Kind, Machine};
+use std::alloc::Global;
+
+/// The lines so far, each ended by LF, and whether the cost has come.
+#[derive(Drop)]
+pub struct PlanText {
+    text: Vec<u8>,
+    closed: bool,
+}
+
+impl PlanText {
+    ghost use Rattle.sas_plan_file.specs.PlanText.{KeepsLines};
+
+    /// Nothing has come.
+    pub fn new(alloc: Global) -> Self
+        ensures { KeepsLines [] result }
+    {
+        PlanText {
+            text: Vec::new(alloc),
+            closed: false,
+        }
+    }
+
+    /// The text so far.
+    pub fn into_text(self) -> Vec<u8>
+        ensures { result.items ≡ self.text.items }
+    {
+        let PlanText { text, .. } = self;
+        text
+    }
+
+    /// Keeps one line more.
+    fn keep(&mut self, line: &[u8]) -> Result<(), Kind>
+        ensures ok { OnOk result (self.new.text.items ≡ self.old.text.items ++ (line.now ++ 10 ∷ [])) }
+        ensures closed { self.new.closed ≡ self.old.closed }
+        ensures err { IfErr result (λ k. k ≡ Kind.Memory) }
+    {
+        match push_line(&mut self.text, line) {
+            Ok(()) => Ok(()),
+            Err(_) => Err(Kind::Memory),
+        }
+    }
+}
+
+impl Machine for PlanText {
+    ghost use Rattle.std.specs.Prelude.{IsTrue};
+    ghost use Rattle.sas_plan_file.specs.PlanFormat.{plan_format, PlanLineFits};
+    ghost use Rattle.sas_plan_file.specs.PlanMachine.{plan_line_ok};
+    ghost use Rattle.sas_plan_file.specs.PlanText.{KeepsLines};
+    ghost use Rattle.sas_reader.specs.System.{Judged};
+
+    ghost led_by = { KeepsLines };
+
+    ghost ended = { λ m. IsTrue m.closed };
+
+    ghost rejects = { λ m line k. Judged plan_format PlanLineFits tt plan_line_ok line k };
+
+    fn has_ended(&self) -> bool {
+        self.closed
+    }
+
+    fn accept(&mut self, line: &[u8]) -> Result<(), Kind> {
+        match plan_line(line) {
+            Err(kind) => Err(kind),
+            Ok(PlanLine::Step(_)) => self.keep(line),
+            Ok(PlanLine::Cost(..)) => match self.keep(line) {
+                Err(kind) => Err(kind),
+                Ok(()) => {
+                    self.closed = true;
+                    Ok(())
+                }
+            },
+        }
+    }
+}

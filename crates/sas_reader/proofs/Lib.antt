@@ -1,0 +1,13 @@
+pub mod Plain
+pub mod Paths
+pub mod Live
+pub mod Whole
+pub mod Texts
+pub mod Faults
+pub mod Every
+pub mod Standing
+pub mod Pieces
+pub mod Advancing
+pub mod Conversion
+pub mod Reading
+pub mod Known

@@ -1,0 +1,53 @@
+-- Bytes that hold neither LF nor CR.
+use Rattle.std.proofs.Common.{◌≡◌, ◌≢◌, ℕ, ◌<◌, ◌^◌, Bool, true, false, List, [], ◌∷◌, ◌++◌, refl, arith, IsTrue, not}
+use Rattle.std.specs.Prelude.{◌==◌, ◌&&◌, length}
+use Rattle.std.specs.List.{list_all}
+use Rattle.std.specs.Fmt.{decimal}
+use Rattle.std.specs.Str.Parse.{AllDigits, digits_value}
+use Rattle.std.proofs.lemmas.Bool.{eq-eqb}
+use Rattle.std.proofs.lemmas.Fmt.{digits_decimal}
+use Rattle.std.proofs.lemmas.Str.Parse.{IsNumeralModel, numerals_by_value, tells_digits, digit_from_value}
+use Rattle.sas_core.specs.Names.{is_plain, IsName}
+use Rattle.sas_reader.specs.System.{IsPlain}
+
+-- ---- the digits of a number
+
+own : IsNumeralModel (AllDigits 10) (digits_value 10)
+own = numerals_by_value (AllDigits 10) tells_digits
+
+plain_digits : (ds : List ℕ) → AllDigits 10 ds → IsPlain ds
+plain_digits [] h = tt
+plain_digits (d ∷ ds) h =
+    let r = digit_from_value d h.0 in
+    let a : d ≢ 10 = omega (arith, r.0) in
+    let b : d ≢ 13 = omega (arith, r.0) in
+    ((a, b), plain_digits ds h.1)
+
+pub plain-decimal : (n : ℕ) → n < 2 ^ 64 → IsPlain (decimal n)
+plain-decimal n h = plain_digits (decimal n) (digits_decimal own n (omega arith))
+
+-- ---- names, and other bytes
+
+and_parts : (a b : Bool) → IsTrue (a && b) → IsTrue a × IsTrue b
+and_parts true b h = (refl, h)
+and_parts false b h = absurd cc
+
+is_not : (a : Bool) → IsTrue (not a) → a ≡ true → ⊥
+is_not true h e = absurd cc
+is_not false h e = absurd cc
+
+plain_byte : (b : ℕ) → IsTrue (is_plain b) → (b ≢ 10) × (b ≢ 13)
+plain_byte b h =
+    let p = and_parts (not (b == 10)) (not (b == 13)) h in
+    (λ e. is_not (b == 10) p.0 (eq-eqb b 10 e), λ e. is_not (b == 13) p.1 (eq-eqb b 13 e))
+
+pub plain_bytes : (bytes : List ℕ) → IsTrue (list_all is_plain bytes) → IsPlain bytes
+plain_bytes [] h = tt
+plain_bytes (b ∷ bytes) h = let p = and_parts (is_plain b) (list_all is_plain bytes) h in (plain_byte b p.0, plain_bytes bytes p.1)
+
+pub plain-name : (bytes : List ℕ) → IsName bytes → IsPlain bytes
+plain-name bytes h = plain_bytes bytes ((and_parts (not (length bytes == 0)) (list_all is_plain bytes) h).1)
+
+pub plain-append : (a b : List ℕ) → IsPlain a → IsPlain b → IsPlain (a ++ b)
+plain-append [] b h g = g
+plain-append (x ∷ a) b h g = (h.0, plain-append a b h.1 g)

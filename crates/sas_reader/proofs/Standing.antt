@@ -1,0 +1,31 @@
+-- What a reader stands for, by its fault.
+use Rattle.std.proofs.Common.{◌≡◌, ◌≢◌, ℕ, List, ◌∷◌, ◌++◌, sym, ap, subst, ◌∙◌, append_assoc, Some, None}
+use Rattle.sas_reader.specs.declared.fault.Fault.{Fault}
+use Rattle.sas_reader.specs.declared.fault.Kind.{Kind}
+use Rattle.sas_reader.specs.declared.fault.Kind.TheVariants as kinds
+use Rattle.sas_reader.specs.declared.reader.Reader.{Reader}
+use Rattle.sas_reader.specs.Reader.{Accepted, FaultIn, Stands, StandsAt}
+
+module _ {M : Type 0} (led_by : List (List ℕ) → M → Type 0) (ended : M → Type 0) (rejects : M → List ℕ → Kind → Type 0) where
+  pub accepted_of : (r : Reader M) (bytes : List ℕ) → r.fault ≡ None → Stands led_by ended rejects r bytes → Accepted led_by ended r bytes
+  unfolding Stands
+  accepted_of r bytes e s = subst (λ x. StandsAt led_by ended rejects x r bytes) e s
+
+  pub stands_accepted : (r : Reader M) (bytes : List ℕ) → r.fault ≡ None → Accepted led_by ended r bytes → Stands led_by ended rejects r bytes
+  unfolding Stands
+  stands_accepted r bytes e s = subst (λ x. StandsAt led_by ended rejects x r bytes) (sym e) s
+
+  pub fault_of : (r : Reader M) (f : Fault) (bytes : List ℕ) → r.fault ≡ Some f → Stands led_by ended rejects r bytes → f.kind ≢ kinds.Memory → FaultIn led_by ended rejects r.limit bytes f
+  unfolding Stands
+  fault_of r f bytes e s = subst (λ x. StandsAt led_by ended rejects x r bytes) e s
+
+  pub stands_fault : (r : Reader M) (f : Fault) (bytes : List ℕ) → r.fault ≡ Some f → (f.kind ≢ kinds.Memory → FaultIn led_by ended rejects r.limit bytes f) → Stands led_by ended rejects r bytes
+  unfolding Stands
+  stands_fault r f bytes e s = subst (λ x. StandsAt led_by ended rejects x r bytes) (sym e) s
+
+  -- a fault stays the fault
+  pub FaultIn-more : (limit : ℕ) (bytes more : List ℕ) (f : Fault) → FaultIn led_by ended rejects limit bytes f → FaultIn led_by ended rejects limit (bytes ++ more) f
+  FaultIn-more limit bytes more f h = record { machine = h.machine; before = h.before; byte = h.byte; after = h.after ++ more; whole = ap (λ (b : List ℕ). b ++ more) h.whole ∙ append_assoc h.before (h.byte ∷ h.after) more; reached = h.reached; line = h.line; stops = h.stops }
+
+  pub stands_more : (r : Reader M) (f : Fault) (bytes more : List ℕ) → r.fault ≡ Some f → Stands led_by ended rejects r bytes → Stands led_by ended rejects r (bytes ++ more)
+  stands_more r f bytes more e s = stands_fault r f (bytes ++ more) e (λ ne. FaultIn-more r.limit bytes more f (fault_of r f bytes e s ne))

@@ -1,0 +1,49 @@
+-- What is read of a device: an answer for its bytes, or why there is none.
+use Rattle.std.specs.Prelude.{◌≡◌, ◌≢◌, ◌↔◌, ℕ, ◌+◌, List, ◌++◌, length, Option, Result, Ok, IfOk, IfErr, IsErrAnd, IsTrue}
+use Rattle.std.specs.Io.KnownBytes.{Consumes, IsAtEnd}
+use Rattle.sas_lines.specs.Device.{Device}
+use Rattle.sas_lines.specs.Lines.{lines, text}
+use Rattle.sas_reader.specs.declared.fault.Fault.{Fault}
+use Rattle.sas_reader.specs.declared.fault.Kind.TheVariants as kinds
+use Rattle.sas_reader.specs.Format.{Format, Live, FaultOf, EndOf, MoreIsDue, ReadsAs, lines_of}
+use Rattle.sas_reader.specs.Limit.{most_bytes}
+
+module _ {V I S : Type 0} (F : Format V I S) where
+  -- the input is a text of the value
+  abbrev pub ValueOf : List ℕ → V → Type 0
+  ValueOf input v = ReadsAs F most_bytes input (Ok v)
+
+  -- the bytes are the text, each line ended by LF, of the value that the input is a text of
+  abbrev pub TextOf : List ℕ → List ℕ → Type 0
+  TextOf input bytes = (v : V) × ValueOf input v × (bytes ≡ text (lines_of F v))
+
+  -- Why an input is refused, by the bytes of it that were read: a read failed behind live bytes, on the line after their
+  -- complete ones; or the bytes are all, and more was due; or they have a fault.
+  pub data Refuses (bytes : List ℕ) (At_end : Type 0) (f : Fault) : Type 0 where
+    unread_at : Live F most_bytes bytes → f.line ≡ length (lines bytes) + 1 → f.kind ≡ kinds.Read → Refuses bytes At_end f
+    ended_at : At_end → EndOf F most_bytes bytes f → Refuses bytes At_end f
+    faulty_at : FaultOf F most_bytes bytes f → f.kind ≢ kinds.Read → Refuses bytes At_end f
+
+-- `left` tells the bytes that a device has left, if it tells them.
+module _ {D : Type 0} (left : D → Option (List ℕ)) where
+  -- these bytes were read of the device
+  abbrev pub WasRead : Device D → Device D → List ℕ → Type 0
+  WasRead old new bytes = Consumes (left old.device) (left new.device) bytes
+
+  -- and these are all that it had
+  abbrev pub WasReadWhole : Device D → Device D → List ℕ → Type 0
+  WasReadWhole old new bytes = WasRead old new bytes × IsAtEnd (left new.device)
+
+  -- What a call says that reads a device to its end or to the first fault. `Gives` says which answer is right for which
+  -- bytes.
+  pub record ReadsAll {V I S A : Type 0} (F : Format V I S) (Gives : List ℕ → A → Type 0) (old new : Device D) (result : Result A Fault) : Type 0 where
+    -- what was read is all, and the answer is right for it
+    pub read : IfOk result (λ a. (bytes : List ℕ) × WasReadWhole old new bytes × Gives bytes a)
+    -- or what was read shows the fault, unless memory was refused
+    pub fault : IfErr result (λ f. f.kind ≢ kinds.Memory
+        → (bytes : List ℕ) × WasRead old new bytes × Refuses F bytes (IsAtEnd (left new.device)) f)
+    -- memory is wanted only where more is due behind live bytes
+    pub memory : IfErr result (λ f. f.kind ≡ kinds.Memory
+        → (bytes piece : List ℕ) × WasRead old new (bytes ++ piece) × MoreIsDue F most_bytes bytes piece)
+    -- a failed read is told exactly where the device has failed
+    pub note : IsErrAnd result (λ f. f.kind ≡ kinds.Read) ↔ IsTrue new.failed

@@ -1,0 +1,14 @@
+-- What holds of the faults that a machine finds.
+use Rattle.std.specs.Prelude.{◌≢◌, Option, Some, None, Result, Ok, Err}
+use Rattle.sas_reader.specs.declared.fault.Fault.{Fault}
+use Rattle.sas_reader.specs.declared.fault.Kind.{Kind}
+use Rattle.sas_reader.specs.declared.fault.Kind.TheVariants as kinds
+
+-- a fault that bytes show as they come: not their end, and not a read that failed
+abbrev pub IsOfBytes : Kind → Type 0
+IsOfBytes k = (k ≢ kinds.End) × (k ≢ kinds.Read)
+
+-- the answer of a reader with this fault
+abbrev pub answer : Option Fault → Result (Unit {0}) Fault
+answer None = Ok tt
+answer (Some f) = Err f

@@ -1,0 +1,66 @@
+-- What may still come: states, each at the end with a value, or before a line.
+use Rattle.std.specs.Prelude.{◌≡◌, ◌≢◌, ℕ, Bool, List, [], ◌∷◌, IsTrue, map}
+use Rattle.std.specs.List.{AllByRecursion}
+use Rattle.sas_reader.specs.declared.fault.Kind.{Kind}
+use Rattle.sas_reader.specs.Format.{Format, lines_of}
+
+-- a state of T is at the end with a value, or before a line at a slot that passes a test and leads on
+pub data Node (T V I S : Type 0) : Type 0 where
+  ended : V → Node T V I S
+  before : S → (I → Bool) → (I → T) → Node T V I S
+
+-- no LF and no CR
+abbrev pub IsPlain : List ℕ → Type 0
+IsPlain line = AllByRecursion (λ b. (b ≢ 10) × (b ≢ 13)) line
+
+-- `Fits` says of a line that each number on it is one that the format can say.
+module _ {V I S : Type 0} (F : Format V I S) (Fits : I → Type 0) where
+  -- the line may stand at a slot under a test
+  pub record Takes (s : S) (ok : I → Bool) (i : I) : Type 0 where
+    pub slot : F.slot_of i ≡ s
+    pub fits : Fits i
+    pub good : IsTrue (ok i)
+
+  -- no such line may stand here, and the kind of its fault
+  pub record Judged (s : S) (ok : I → Bool) (line : List ℕ) (k : Kind) : Type 0 where
+    pub none : (i : I) → Takes s ok i → F.spelled i ≡ line → ⊥
+    pub kind : F.KindOf s line k
+
+module _ {T V I S : Type 0} (F : Format V I S) (Fits : I → Type 0) where
+  -- the node takes the line, and this holds of the next state
+  abbrev pub OneLine : Node T V I S → I → (T → Type 0) → Type 0
+  OneLine (ended v) i Then = ⊥
+  OneLine (before s ok next) i Then = Takes F Fits s ok i × Then (next i)
+
+  -- the node takes no such line, and the kind of its fault
+  abbrev pub Rejects : Node T V I S → List ℕ → Kind → Type 0
+  Rejects (ended v) line k = ⊥
+  Rejects (before s ok next) line k = Judged F Fits s ok line k
+
+  -- these lines lead from one state to the other
+  abbrev pub After : (T → Node T V I S) → T → List I → T → Type 0
+  After node p [] q = p ≡ q
+  After node p (i ∷ is) q = OneLine (node p) i (λ r. After node r is q)
+
+  -- these lines lead to the end with this value
+  abbrev pub LeadsToEnd : (T → Node T V I S) → T → List I → V → Type 0
+  LeadsToEnd node p [] v = node p ≡ ended v
+  LeadsToEnd node p (i ∷ is) v = OneLine (node p) i (λ r. LeadsToEnd node r is v)
+
+  -- the lines lead from the start to the state
+  pub record Leads (node : T → Node T V I S) (start : T) (ls : List (List ℕ)) (p : T) : Type 0 where
+    pub items : List I
+    pub after : After node start items p
+    pub spells : map F.spelled items ≡ ls
+
+  -- What ties states to a format: what leads from the start to the end is the lines of a good value, the lines of each
+  -- good value lead there, whatever came can be completed, no line of a good value holds LF or CR, and at a slot a line
+  -- has one meaning and its fault one kind.
+  pub record Grammar (node : T → Node T V I S) (start : T) : Type 0 where
+    pub sound : (is : List I) (v : V) → LeadsToEnd node start is v → F.Good v × (is ≡ F.layout v)
+    pub complete : (v : V) → F.Good v → LeadsToEnd node start (F.layout v) v
+    pub fillable : (is : List I) (p : T) → After node start is p → (more : List I) × (v : V) × LeadsToEnd node p more v
+    pub plain : (v : V) → F.Good v → AllByRecursion IsPlain (lines_of F v)
+    pub one_item : (i j : I) → F.slot_of i ≡ F.slot_of j → Fits i → Fits j → F.spelled i ≡ F.spelled j → i ≡ j
+    pub one_kind : (s : S) (line : List ℕ) (j k : Kind) → F.KindOf s line j → F.KindOf s line k → j ≡ k
+    pub some_kind : (s : S) (line : List ℕ) → ((k : Kind) → F.KindOf s line k → ⊥) → ⊥

@@ -1,0 +1,10 @@
+//! Reads a text that comes in pieces, line by line, whichever its format: each fault at its exact place.
+#![tactic(auto)]
+
+mod devices;
+mod fault;
+mod reader;
+
+pub use devices::read_all;
+pub use fault::{Fault, Kind};
+pub use reader::{LIMIT, Machine, Reader, limit_law};

@@ -1,0 +1,187 @@
+// Reads a text that comes in pieces, whichever its format: a machine judges one line after another.
+ghost use Rattle.std.specs.Prelude.{◌≡◌, ◌≢◌, ◌≤◌, ◌<◌, ◌+◌, ◌^◌, ◌↔◌, ℕ, List, [], ◌∷◌, ◌++◌, length, Some, None, Err, IfErr, IfSome, IfNone, OnOk, IsTrue};
+ghost use Rattle.sas_reader.specs.Faults.{IsOfBytes};
+ghost use Rattle.sas_reader.specs.Limit.{most_bytes};
+
+use crate::fault::{Fault, Kind};
+use sas_lines::{Lines, first_line};
+use std::alloc::Global;
+
+/// The most bytes that are read of an input, a task or a plan: 4 GiB.
+pub const LIMIT: u64 = 4_294_967_296;
+
+/// What judges the lines of a text, one after another.
+pub trait Machine: Drop {
+    ghost use Rattle.sas_reader.specs.declared.fault.Kind.{Kind};
+
+    /// The lines that lead from the start to here.
+    ghost led_by: { List (List ℕ) → Self → Type 0 };
+
+    /// No line may follow.
+    ghost ended: { Self → Type 0 };
+
+    /// The line may not follow, and the kind of its fault.
+    ghost rejects: { Self → List ℕ → Kind → Type 0 };
+
+    /// Whether the last line has come.
+    fn has_ended(&self) -> bool
+        ensures { IsTrue result ↔ ended self.now };
+
+    /// Takes the next line, unless it may not stand here, or memory is refused.
+    fn accept(&mut self, line: &[u8]) -> Result<(), Kind>
+        requires { ended self.old → ⊥ }
+        ensures led { OnOk result
+            ((before : List (List ℕ)) → led_by before self.old → led_by (before ++ line.now ∷ []) self.new) }
+        ensures rejects { IfErr result (λ k. k ≢ Kind.Memory → rejects self.old line.now k) }
+        ensures kind { IfErr result IsOfBytes };
+}
+
+/// A text that comes in pieces: where its lines have led, the line that has begun, and the first fault.
+#[derive(Drop)]
+pub struct Reader<M> {
+    pub machine: M,
+    pub pending: Lines,
+    pub lines: u64,
+    pub taken: u64,
+    pub limit: u64,
+    pub fault: Option<Fault>,
+    ghost within: { taken ≤ limit },
+    ghost small: { limit ≤ most_bytes },
+    ghost few: { lines ≤ taken },
+}
+
+impl<M: Machine> Reader<M> {
+    ghost use Rattle.sas_reader.specs.Reader.{Stands, Advances, TakesPiece, FaultAtEnd, ReachesEnd};
+
+    /// Nothing has come yet.
+    pub fn new(alloc: Global, machine: M, limit: u64) -> Self
+        requires small { limit ≤ most_bytes }
+        requires start { M.led_by [] machine }
+        ensures stands { Stands M.led_by M.ended M.rejects result [] }
+        ensures limit { result.limit ≡ limit }
+        ensures fault { result.fault ≡ None }
+    {
+        Reader {
+            machine,
+            pending: Lines::new(alloc),
+            lines: 0,
+            taken: 0,
+            limit,
+            fault: None,
+        }
+    }
+
+    /// Takes the bytes up to and with the first LF, or all of them, behind what is pending.
+    fn go_on(&mut self, piece: &[u8]) -> Result<usize, Kind>
+        requires some { 0 < length piece.now }
+        requires room { self.old.taken + length piece.now ≤ self.old.limit }
+        requires going { M.ended self.old.machine → ⊥ }
+        ensures { Advances M.led_by M.ended M.rejects self.old piece.now self.new result }
+    {
+        match self.pending.feed(piece) {
+            Err(_) => Err(Kind::Memory),
+            Ok(fed) if !fed.complete => {
+                self.taken += fed.taken as u64;
+                Ok(fed.taken)
+            }
+            Ok(fed) => match self.machine.accept(self.pending.line()) {
+                Err(kind) => Err(kind),
+                Ok(()) => {
+                    self.lines += 1;
+                    self.taken += fed.taken as u64;
+                    Ok(fed.taken)
+                }
+            },
+        }
+    }
+
+    /// Takes the bytes up to and with the first LF, or all of them, as far as the limit leaves room.
+    fn advance(&mut self, piece: &[u8]) -> Result<usize, Kind>
+        requires some { 0 < length piece.now }
+        ensures { Advances M.led_by M.ended M.rejects self.old piece.now self.new result }
+    {
+        let room = self.limit - self.taken;
+        if room == 0 {
+            return Err(Kind::TooLong);
+        }
+        if self.machine.has_ended() {
+            return Err(Kind::Trailing);
+        }
+        let within = &piece[..piece.len().min(room as usize)];
+        // A line that stands whole in the piece is judged there. Only one that is cut is copied.
+        if !self.pending.pending().is_empty() {
+            return self.go_on(within);
+        }
+        let Some(first) = first_line(within) else {
+            return self.go_on(within);
+        };
+        match self.machine.accept(first.line) {
+            Err(kind) => Err(kind),
+            Ok(()) => {
+                self.lines += 1;
+                self.taken += first.taken as u64;
+                Ok(first.taken)
+            }
+        }
+    }
+
+    /// Takes the next piece. The first fault is answered from then on.
+    pub fn feed(&mut self, piece: &[u8]) -> Result<(), Fault>
+        ensures { TakesPiece M.led_by M.ended M.rejects self.old piece.now self.new result }
+    {
+        if let Some(fault) = self.fault {
+            return Err(fault);
+        }
+        let mut at = 0;
+        while at < piece.len() {
+            match self.advance(&piece[at..]) {
+                Ok(taken) => at += taken,
+                Err(kind) => {
+                    let fault = Fault {
+                        line: self.lines + 1,
+                        kind,
+                    };
+                    self.fault = Some(fault);
+                    return Err(fault);
+                }
+            }
+        }
+        Ok(())
+    }
+
+    /// What is wrong if nothing more comes.
+    fn end_fault(&self) -> Option<Fault>
+        ensures none { IfNone result (M.ended self.now.machine × (self.now.fault ≡ None)) }
+        ensures fault { IfSome result (λ f. FaultAtEnd M.led_by M.ended M.rejects self.now f) }
+        ensures kept { (f : Fault) → self.now.fault ≡ Some f → result ≡ Some f }
+    {
+        if let Some(fault) = self.fault {
+            return Some(fault);
+        }
+        if self.machine.has_ended() {
+            return None;
+        }
+        Some(Fault {
+            line: self.lines + 1,
+            kind: Kind::End,
+        })
+    }
+
+    /// Where the lines led, once all have come.
+    pub fn finish(self) -> Result<M, Fault>
+        ensures { ReachesEnd M.led_by M.ended M.rejects self result }
+    {
+        match self.end_fault() {
+            Some(fault) => Err(fault),
+            None => {
+                let Reader { machine, .. } = self;
+                Ok(machine)
+            }
+        }
+    }
+}
+
+/// A law: the most bytes that are read are those that the definitions speak of.
+pub fn limit_law()
+    ensures { LIMIT ≡ most_bytes }
+{}

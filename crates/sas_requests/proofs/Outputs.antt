@@ -1,0 +1,151 @@
+-- Outputs about one file.
+use Rattle.std.proofs.Common.{◌≡◌, ◌≢◌, ℕ, ◌+◌, ◌<◌, List, [], ◌∷◌, length, length-append, arith, refl, sym, ap, subst, ◌∙◌, inl, inr, Option, Some, None, Result, Ok, Err}
+use Rattle.std.specs.Prelude.{option_map, IfOk, IfErr, IsErrOf, ◌↔◌}
+use Rattle.std.specs.Io.KnownBytes.{Consumes, IsAtEnd}
+use Rattle.std.proofs.lemmas.Option.{none-some}
+use Rattle.sas_reader.specs.declared.fault.Fault.{Fault}
+use Rattle.sas_reader.specs.declared.fault.Kind.{Kind}
+use Rattle.sas_reader.specs.declared.fault.Kind.TheVariants.{TooLong, Read, Memory}
+use Rattle.sas_reader.specs.Limit.{most_bytes}
+use Rattle.sas_reader.specs.Format.{Format, FaultOf, KindAt, too_long, trailing, wrong, ReadsAs}
+use Rattle.sas_reader.specs.Laws.{Laws}
+use Rattle.sas_plan_file.specs.PlanFormat.{PlanKind, like_step, like_cost, like_none}
+use Rattle.sas_task_format.specs.TaskFormat.{TaskSlot, word_slot, name_slot, number_slot, signed_slot, fact_slot, effect_slot, head_slot, NumbersKind, no_shape, no_value, TaskKind}
+use Rattle.sas_lines.specs.Device.{Device}
+use Rattle.sas_reader.specs.Devices.{Refuses, unread_at, ended_at, faulty_at, ReadsAll}
+use Rattle.sas_reader.proofs.Known.{known_answer, known_fault}
+use Rattle.sas_requests.specs.declared.answers.Answer.{Answer}
+use Rattle.sas_requests.specs.declared.ToolFault.{ToolFault}
+use Rattle.sas_requests.specs.declared.ToolFault.TheVariants as tool_fault
+use Rattle.sas_requests.specs.Answering.{Answers, AnswersFile, output_of}
+use Rattle.sas_requests.specs.Ending.{IsDecided, IsWrite}
+use Rattle.sas_requests.specs.Output.{Output, word_of, refusal, answer_or_refusal, FileOut}
+
+-- no word, no refusal
+no_word : (word : Option (List ℕ)) (said : List ℕ → Output) → None ≡ option_map said word → word ≡ None
+no_word None said e = refl
+no_word (Some word) said e = absurd (none-some (said word) e)
+
+-- a kind that is refused has a word
+refused_kind : (k : Kind) (other : Kind) (said : List ℕ → Output) (o : Output) → word_of other ≡ None → option_map said (word_of k) ≡ Some o → k ≢ other
+refused_kind k other said o none e same =
+    none-some o (subst (λ (word : Option (List ℕ)). option_map said word ≡ Some o) (ap word_of same ∙ none) e)
+
+too_long_else : (k : Kind) (other : Kind) → k ≡ TooLong → (TooLong ≡ other → ⊥) → k ≢ other
+too_long_else k other e apart same = apart (sym e ∙ same)
+
+-- the fault of bytes that a device gave
+reading_of_refusal : {V I S : Type 0} (F : Format V I S) (bytes : List ℕ) (At_end : Type 0) (f : Fault) → Refuses F bytes At_end f → f.kind ≢ Read → ReadsAs F most_bytes bytes (Err f)
+reading_of_refusal F bytes At_end f (unread_at live line kind) other = absurd (other kind)
+reading_of_refusal F bytes At_end f (ended_at at_end early) other = inr early
+reading_of_refusal F bytes At_end f (faulty_at fault other_kind) other = inl fault
+
+-- nothing is taken of a device that stays as it is
+pub takes_nothing : (remaining : Option (List ℕ)) → Consumes remaining remaining []
+takes_nothing None = tt
+takes_nothing (Some bytes) = refl
+
+-- the fault is that of the input, unless memory was refused or a read failed
+abbrev IsFaultOf : {V I S : Type 0} → Format V I S → List ℕ → Fault → Type 0
+IsFaultOf F input f = f.kind ≢ Memory → f.kind ≢ Read → ReadsAs F most_bytes input (Err f)
+
+-- every kind of a wrong line has a word
+abbrev pub Worded : {V I S : Type 0} → Format V I S → Type 0
+Worded F = (s : _) (line : List ℕ) (k : Kind) → F.KindOf s line k → word_of k ≡ None → ⊥
+
+pub plan_worded : (line : List ℕ) (k : Kind) → PlanKind line k → word_of k ≡ None → ⊥
+plan_worded line k (like_step b) none = none-some _ (sym none)
+plan_worded line k (like_cost b) none = none-some _ (sym none)
+plan_worded line k (like_none a b) none = none-some _ (sym none)
+
+numbers_worded : (s : TaskSlot) (line : List ℕ) (k : Kind) → NumbersKind s line k → word_of k ≡ None → ⊥
+numbers_worded s line k (no_shape other) none = none-some _ (sym none)
+numbers_worded s line k (no_value shape) none = none-some _ (sym none)
+
+pub task_worded : (s : TaskSlot) (line : List ℕ) (k : Kind) → TaskKind s line k → word_of k ≡ None → ⊥
+task_worded (word_slot w) line k e none = none-some _ (sym none ∙ ap word_of e)
+task_worded name_slot line k e none = none-some _ (sym none ∙ ap word_of e)
+task_worded number_slot line k why none = numbers_worded number_slot line k why none
+task_worded signed_slot line k why none = numbers_worded signed_slot line k why none
+task_worded fact_slot line k why none = numbers_worded fact_slot line k why none
+task_worded effect_slot line k why none = numbers_worded effect_slot line k why none
+task_worded head_slot line k why none = numbers_worded head_slot line k why none
+
+module _ {V I S : Type 0} (F : Format V I S) (name : List ℕ) (answer : V → Output) (bytes : List ℕ) where
+  file_refused : (f : Fault) (o : Output) → refusal name f ≡ Some o → IsFaultOf F bytes f → FileOut F name answer bytes (Some o)
+  file_refused f o e fault = (Err f, fault (refused_kind f.kind Memory _ o refl e) (refused_kind f.kind Read _ o refl e), sym e)
+
+  file_too_long : (f : Fault) → f.kind ≡ TooLong → IsFaultOf F bytes f → FileOut F name answer bytes None
+  file_too_long f e fault = (Err f, fault (too_long_else f.kind Memory e (λ h. absurd cc)) (too_long_else f.kind Read e (λ h. absurd cc)), rw e refl)
+
+  -- the refusal, or why the run ends
+  pub file_refusal : (f : Fault) (r : Result Answer ToolFault) → IfOk r (λ a. refusal name f ≡ Some (output_of a)) → (IsErrOf r tool_fault.TooLong → f.kind ≡ TooLong) → IsFaultOf F bytes f → Answers (FileOut F name answer bytes) r
+  file_refusal f (Ok a) ok long fault = file_refused f (output_of a) ok fault
+  file_refusal f (Err e) ok long fault = λ is. file_too_long f (long (ap Err is)) fault
+
+  -- such a fault is that of the bytes
+  decided_kind : (f : Fault) (r : Result Answer ToolFault) → IsDecided r → IfOk r (λ a. refusal name f ≡ Some (output_of a)) → (IsErrOf r tool_fault.TooLong → f.kind ≡ TooLong) → IfErr r (λ e. IsWrite e → ⊥) → (f.kind ≢ Memory) × (f.kind ≢ Read)
+  decided_kind f (Ok a) decided ok long writes = (refused_kind f.kind Memory _ (output_of a) refl ok, refused_kind f.kind Read _ (output_of a) refl ok)
+  decided_kind f (Err tool_fault.TooLong) decided ok long writes = (too_long_else f.kind Memory (long refl) (λ h. absurd cc), too_long_else f.kind Read (long refl) (λ h. absurd cc))
+  decided_kind f (Err tool_fault.Memory) decided ok long writes = absurd decided
+  decided_kind f (Err tool_fault.Read) decided ok long writes = absurd decided
+  decided_kind f (Err (tool_fault.Write n)) decided ok long writes = absurd (writes tt)
+
+  pub one_file_output : Laws F → (o p : Option Output) → FileOut F name answer bytes o → FileOut F name answer bytes p → o ≡ p
+  one_file_output laws o p a b = a.2 ∙ ap (answer_or_refusal name answer) (laws.one_reading most_bytes bytes a.0 b.0 a.1 b.1) ∙ sym b.2
+
+  pub some_file_output : Laws F → ((o : Option Output) → FileOut F name answer bytes o → ⊥) → ⊥
+  some_file_output laws none = laws.some_reading most_bytes bytes (λ r reads. none (answer_or_refusal name answer r) (r, reads, refl))
+
+  too_long_at : Worded F → (before : List ℕ) (byte : ℕ) (k : Kind) → KindAt F most_bytes before byte k → word_of k ≡ None → most_bytes < length before + 1
+  too_long_at worded before byte k (too_long long e) none = long
+  too_long_at worded before byte k (trailing short v reads e) none = absurd (none-some _ (sym none ∙ ap word_of e))
+  too_long_at worded before byte k (wrong short line is s next kind) none = absurd (worded s line k kind none)
+
+  too_long_fault : Worded F → (f : Fault) → FaultOf F most_bytes bytes f → word_of f.kind ≡ None → most_bytes < length bytes
+  too_long_fault worded f fault none =
+      let long = too_long_at worded fault.before fault.byte f.kind fault.kind none in
+      rw fault.whole (omega (arith, length-append fault.before (fault.byte ∷ fault.after)))
+
+  no_output_reading : Worded F → (r : Result V Fault) → ReadsAs F most_bytes bytes r → None ≡ answer_or_refusal name answer r → most_bytes < length bytes
+  no_output_reading worded (Ok v) reads e = absurd (none-some _ e)
+  no_output_reading worded (Err f) (inl fault) e = too_long_fault worded f fault (no_word (word_of f.kind) _ e)
+  no_output_reading worded (Err f) (inr early) e = absurd (none-some _ (sym (no_word (word_of f.kind) _ e) ∙ ap word_of early.kind))
+
+  pub no_file_output : Worded F → FileOut F name answer bytes None → most_bytes < length bytes
+  no_file_output worded out = no_output_reading worded out.0 out.1 out.2
+
+-- what a device gave is refused as the bytes that it gave
+module _ {V I S : Type 0} (F : Format V I S) (name : List ℕ) (answer : V → Output) where
+  pub taken_refusal : (old new : Option (List ℕ)) (f : Fault) (r : Result Answer ToolFault)
+      → (f.kind ≢ Memory → (bytes : List ℕ) × Consumes old new bytes × Refuses F bytes (IsAtEnd new) f)
+      → IfOk r (λ a. refusal name f ≡ Some (output_of a)) → (IsErrOf r tool_fault.TooLong → f.kind ≡ TooLong) → IfErr r (λ e. IsWrite e → ⊥) → IsDecided r
+      → (bytes : List ℕ) × Consumes old new bytes × Answers (FileOut F name answer bytes) r
+  taken_refusal old new f r taken ok long writes decided =
+      let (memory, read) = decided_kind F name answer [] f r decided ok long writes in
+      let (bytes, consumed, why) = taken memory in
+      (bytes, consumed, file_refusal F name answer bytes f r ok long (λ m n. reading_of_refusal F bytes (IsAtEnd new) f why read))
+
+-- ---- the answer to a request over one file
+
+module _ {D V I S A : Type 0} (left : D → Option (List ℕ)) (F : Format V I S) (Gives : List ℕ → A → Type 0) (name : List ℕ) (answer : V → Output) where
+  -- what was read is answered
+  pub answers_value : (old new : Device D) (a : A) (r : Answer) → ReadsAll left F Gives old new (Ok a) → ((b : List ℕ) → Gives b a → FileOut F name answer b (Some (output_of r)))
+      → AnswersFile left (FileOut F name answer) old new (Ok r)
+  answers_value old new a r h gives = record {
+    output = λ b known. gives b (known_answer left F Gives old new a b h known);
+    taken = λ decided. let read = h.read in (read.0, read.1.0, gives read.0 read.2);
+    reads = (λ e. absurd cc, λ t. absurd (h.note.1 t));
+    writes = tt;
+  }
+
+  -- a fault is refused, or the run ends at it
+  pub answers_refusal : (old new : Device D) (f : Fault) (r : Result Answer ToolFault) → ReadsAll left F Gives old new (Err f)
+      → IfOk r (λ a. refusal name f ≡ Some (output_of a)) → (IsErrOf r tool_fault.TooLong → f.kind ≡ TooLong) → IsErrOf r tool_fault.Read ↔ (f.kind ≡ Read) → IfErr r (λ e. IsWrite e → ⊥)
+      → AnswersFile left (FileOut F name answer) old new r
+  answers_refusal old new f r h ok long read writes = record {
+    output = λ b known. file_refusal F name answer b f r ok long (known_fault left F Gives old new f b h known);
+    taken = taken_refusal F name answer (left old.device) (left new.device) f r h.fault ok long writes;
+    reads = (λ e. h.note.0 (read.0 e), λ t. read.1 (h.note.1 t));
+    writes = writes;
+  }

@@ -1,0 +1,18 @@
+use Rattle.std.proofs.Common.{[]}
+use Rattle.sas_requests.proofs.Outputs.{takes_nothing}
+use Rattle.sas_requests.proofs.answers.answer_to.Goals as goal
+
+pub returns-in-Show-clause-taken : goal.returns-in-Show-clause-taken
+returns-in-Show-clause-taken g c = λ decided.
+    let (bytes, consumed, is) = c.show.ensures.taken decided in
+    (bytes, [], consumed, takes_nothing _, rw c.in-Show.is is)
+
+pub returns-in-Print-clause-taken : goal.returns-in-Print-clause-taken
+returns-in-Print-clause-taken g c = λ decided.
+    let (bytes, consumed, is) = c.print.ensures.taken decided in
+    (bytes, [], consumed, takes_nothing _, rw c.in-Print.is is)
+
+pub returns-in-Steps-clause-taken : goal.returns-in-Steps-clause-taken
+returns-in-Steps-clause-taken g c = λ decided.
+    let (bytes, consumed, is) = c.steps.ensures.taken decided in
+    ([], bytes, takes_nothing _, consumed, rw c.in-Steps.is is)

@@ -1,0 +1,13 @@
+use Rattle.std.proofs.Common.{refl}
+use Rattle.sas_requests.specs.Answering.{output_of}
+use Rattle.sas_requests.proofs.run.Goals as goal
+
+pub returns-in-Ok-clause-output : goal.returns-in-Ok-clause-output
+returns-in-Ok-clause-output g c = λ b c' inputs.
+    let sent = rw c.as_slice.ensures.value at c.in-Ok.ensures.ok in
+    (output_of c.in_ok-answer.answer, c.in_ok-answer.ensures.output b c' inputs, refl, sent)
+
+pub returns-clause-output : goal.returns-clause-output
+returns-clause-output g c = λ b c' inputs.
+    let (written, sent) = rw c.as_slice.ensures.value at c.in-Err.ensures.short in
+    (output_of c.in_ok-answer.answer, c.in_ok-answer.ensures.output b c' inputs, written, sent)

@@ -1,0 +1,30 @@
+-- What the private steps of a run say.
+use Rattle.std.specs.Prelude.{◌≡◌, ◌↔◌, ℕ, List, Option, Some, None, Result, Ok, Err, IfErr, IsErrOf, IsTrue}
+use Rattle.std.specs.Io.KnownBytes.{Consumes}
+use Rattle.sas_lines.specs.Device.{Device}
+use Rattle.sas_requests.specs.declared.answers.Answer.{Answer}
+use Rattle.sas_requests.specs.declared.ToolFault.{ToolFault}
+use Rattle.sas_requests.specs.declared.ToolFault.TheVariants as fault
+use Rattle.sas_requests.specs.Ending.{IsDecided, IsWrite}
+use Rattle.sas_requests.specs.Output.{Output}
+
+abbrev pub output_of : Answer → Output
+output_of answer = record { text = answer.text.items; status = answer.status }
+
+-- an answer is the output, and past the limit there is none
+abbrev pub Answers : (Option Output → Type 0) → Result Answer ToolFault → Type 0
+Answers Out (Ok answer) = Out (Some (output_of answer))
+Answers Out (Err why) = why ≡ fault.TooLong → Out None
+
+-- What the answer to a request over one file says, before anything of it is written. `left` tells the bytes that a device
+-- has left, if it tells them, and `FileOutput` the output about the bytes of a file.
+module _ {D : Type 0} (left : D → Option (List ℕ)) (FileOutput : List ℕ → Option Output → Type 0) where
+  pub record AnswersFile (old new : Device D) (result : Result Answer ToolFault) : Type 0 where
+    -- of an input whose bytes are known, the answer is its output
+    pub output : (bytes : List ℕ) → left old.device ≡ Some bytes → Answers (FileOutput bytes) result
+    -- and of any input, the output for the bytes that were read of it
+    pub taken : IsDecided result → (bytes : List ℕ)
+        × Consumes (left old.device) (left new.device) bytes
+        × Answers (FileOutput bytes) result
+    pub reads : IsErrOf result fault.Read ↔ IsTrue new.failed
+    pub writes : IfErr result (λ e. IsWrite e → ⊥)

@@ -1,0 +1,4 @@
+pub mod Summary
+pub mod Output
+pub mod Ending
+pub mod Answering

@@ -1,0 +1,106 @@
+-- What the program prints: one output for each request and its inputs.
+use Rattle.std.specs.Prelude.{◌≡◌, ℕ, ◌<◌, List, ◌++◌, length, codes, decimal, Option, Some, None, option_map, Result, Ok, Err}
+use Rattle.sas_core.specs.declared.parts.Parts.{Parts}
+use Rattle.sas_lines.specs.Lines.{text}
+use Rattle.sas_reader.specs.declared.fault.Fault.{Fault}
+use Rattle.sas_reader.specs.declared.fault.Kind.{Kind}
+use Rattle.sas_reader.specs.declared.fault.Kind.TheVariants.{Keyword, Name, Shape, Value, End, Trailing, TooLong, Read, Memory}
+use Rattle.sas_reader.specs.Format.{Format, ReadsAs, lines_of}
+use Rattle.sas_reader.specs.Limit.{most_bytes}
+use Rattle.sas_plan_file.specs.PlanFormat.{plan_format}
+use Rattle.sas_task_format.specs.TaskFormat.{task_format}
+use Rattle.sas_requests.specs.declared.Request.{Request}
+use Rattle.sas_requests.specs.declared.Request.TheVariants.{Show, Print, Steps}
+use Rattle.sas_requests.specs.declared.Status.{Status}
+use Rattle.sas_requests.specs.declared.Status.TheVariants.{Yes, No}
+use Rattle.sas_requests.specs.Summary.{summary_lines}
+
+-- what is printed, and the status
+pub record Output : Type 0 where
+  pub text : List ℕ
+  pub status : Status
+
+-- the word for what is wrong with a file; the other kinds say that it was not read as a whole
+abbrev pub word_of : Kind → Option (List ℕ)
+word_of Keyword = Some (codes "keyword")
+word_of Name = Some (codes "name")
+word_of Shape = Some (codes "shape")
+word_of Value = Some (codes "value")
+word_of End = Some (codes "end")
+word_of Trailing = Some (codes "trailing")
+word_of TooLong = None
+word_of Read = None
+word_of Memory = None
+
+-- the line that refuses the file of this name
+abbrev pub refusal_line : List ℕ → ℕ → List ℕ → List ℕ
+refusal_line name line word = name ++ codes " refused: line " ++ decimal line ++ codes ": " ++ word ++ codes "\n"
+
+-- the refusal of a file for its fault; a file that is too long has none
+abbrev pub refusal : List ℕ → Fault → Option Output
+refusal name fault =
+    option_map (λ word. record { text = refusal_line name fault.line word; status = No }) (word_of fault.kind)
+
+-- the answer to what a file is read as: to its value, or the refusal
+abbrev pub answer_or_refusal : {V : Type 0} → List ℕ → (V → Output) → Result V Fault → Option Output
+answer_or_refusal name answer (Ok value) = Some (answer value)
+answer_or_refusal name answer (Err fault) = refusal name fault
+
+-- a task is shown by the lines of its summary, each ended by LF
+abbrev pub shown : Parts → Output
+shown p = record { text = text (summary_lines p); status = Yes }
+
+module _ {V I S : Type 0} (F : Format V I S) where
+  -- a value is printed as its lines, each ended by LF
+  abbrev pub printed : V → Output
+  printed value = record { text = text (lines_of F value); status = Yes }
+
+  -- the output about the bytes of a file
+  abbrev pub FileOut : List ℕ → (V → Output) → List ℕ → Option Output → Type 0
+  FileOut name answer bytes output = (read : Result V Fault)
+      × ReadsAs F most_bytes bytes read
+      × (output ≡ answer_or_refusal name answer read)
+
+-- the output of `show`, `print` and `steps` about the bytes of their file
+abbrev pub ShowOut : List ℕ → Option Output → Type 0
+ShowOut = FileOut task_format (codes "task") shown
+
+abbrev pub PrintOut : List ℕ → Option Output → Type 0
+PrintOut = FileOut task_format (codes "task") (printed task_format)
+
+abbrev pub StepsOut : List ℕ → Option Output → Type 0
+StepsOut = FileOut plan_format (codes "plan") (printed plan_format)
+
+-- the output for the bytes b of the task and c of the plan, where a file that decides it isn't too long; else none
+abbrev pub Out : Request → List ℕ → List ℕ → Option Output → Type 0
+Out Show b c output = ShowOut b output
+Out Print b c output = PrintOut b output
+Out Steps b c output = StepsOut c output
+
+-- ---- the inputs that a request reads
+
+-- they have these bytes: b the task, c the plan
+abbrev pub AreInputs : Request → Option (List ℕ) → Option (List ℕ) → List ℕ → List ℕ → Type 0
+AreInputs Show task plan b c = task ≡ Some b
+AreInputs Print task plan b c = task ≡ Some b
+AreInputs Steps task plan b c = plan ≡ Some c
+
+-- one of them passes the limit
+abbrev pub IsLong : Request → List ℕ → List ℕ → Type 0
+IsLong Show b c = most_bytes < length b
+IsLong Print b c = most_bytes < length b
+IsLong Steps b c = most_bytes < length c
+
+-- ---- laws
+
+-- a request has one output over the same inputs
+abbrev pub OneOutput : Type 0
+OneOutput = (request : Request) (b c : List ℕ) (o p : Option Output) → Out request b c o → Out request b c p → o ≡ p
+
+-- and it can't have nothing
+abbrev pub SomeOutput : Type 0
+SomeOutput = (request : Request) (b c : List ℕ) → ((o : Option Output) → Out request b c o → ⊥) → ⊥
+
+-- there is none only where an input that the request reads passes the limit
+abbrev pub NoneIsLong : Type 0
+NoneIsLong = (request : Request) (b c : List ℕ) → Out request b c None → IsLong request b c

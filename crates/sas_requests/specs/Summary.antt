@@ -1,0 +1,56 @@
+-- The summary of a task: a line for each of its numbers, for each variable's initial value and for each fact of its goal.
+use Rattle.std.specs.Prelude.{ℕ, Bool, if◌then◌else◌, List, [], ◌∷◌, ◌++◌, length, flat_map, count_by, is_some, Option, option_and_then, slice_get, codes, decimal}
+use Rattle.std.specs.Option.{option_map_or}
+use Rattle.std.specs.List.{enumerate_from}
+use Rattle.sas_core.specs.declared.parts.Fact.{Fact}
+use Rattle.sas_core.specs.declared.parts.Variable.{Variable}
+use Rattle.sas_core.specs.declared.parts.Parts.{Parts}
+
+-- `WORD N`
+abbrev pub number_line : List ℕ → ℕ → List ℕ
+number_line word n = word ++ codes " " ++ decimal n
+
+-- `metric M`, where M is 1 where cost lines count, else 0
+abbrev pub metric_line : Bool → List ℕ
+metric_line metric = number_line (codes "metric") (if metric then 1 else 0)
+
+-- how many variables have a layer
+abbrev pub derived_count : List Variable → ℕ
+derived_count variables = count_by (λ (v : Variable). is_some v.layer) variables
+
+-- the lines of the task's numbers: `metric M`, `variables N`, `derived D`, `groups G`, `operators O`, `rules R`
+abbrev pub number_lines : Parts → List (List ℕ)
+number_lines p =
+    metric_line p.metric
+    ∷ number_line (codes "variables") (length p.variables)
+    ∷ number_line (codes "derived") (derived_count p.variables)
+    ∷ number_line (codes "groups") (length p.groups)
+    ∷ number_line (codes "operators") (length p.operators)
+    ∷ number_line (codes "rules") (length p.rules)
+    ∷ []
+
+-- the name of a variable's value, if it has this value
+abbrev pub value_name : List Variable → ℕ → ℕ → Option (List ℕ)
+value_name variables var value = option_and_then (λ (v : Variable). slice_get v.values value) (slice_get variables var)
+
+-- `WORD VAR VALUE NAME`, where NAME is the value's name
+abbrev pub fact_line : List ℕ → ℕ → ℕ → List ℕ → List ℕ
+fact_line word var value name = word ++ codes " " ++ decimal var ++ codes " " ++ decimal value ++ codes " " ++ name
+
+-- the line of a fact, which there is for each fact that exists
+abbrev pub fact_lines : List ℕ → List Variable → ℕ → ℕ → List (List ℕ)
+fact_lines word variables var value =
+    option_map_or (λ (name : List ℕ). fact_line word var value name ∷ []) (value_name variables var value) []
+
+-- `initial VAR VALUE NAME` for each variable, with its value in the initial state
+abbrev pub initial_lines : List Variable → List ℕ → List (List ℕ)
+initial_lines variables values =
+    flat_map (λ (var, value). fact_lines (codes "initial") variables var value) (enumerate_from 0 values)
+
+-- `goal VAR VALUE NAME` for each fact of the goal
+abbrev pub goal_lines : List Variable → List Fact → List (List ℕ)
+goal_lines variables facts = flat_map (λ (f : Fact). fact_lines (codes "goal") variables f.var f.value) facts
+
+-- the lines of a task's summary, in order
+abbrev pub summary_lines : Parts → List (List ℕ)
+summary_lines p = number_lines p ++ initial_lines p.variables p.init ++ goal_lines p.variables p.goal

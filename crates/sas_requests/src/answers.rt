@@ -1,0 +1,139 @@
+// The answer to each request, before anything of it is written.
+ghost use Rattle.std.specs.Prelude.{◌≡◌, ◌≢◌, ◌↔◌, ◌||◌, List, ℕ, false, Some, IfOk, IfErr, IsErrOf, IsTrue};
+ghost use Rattle.std.specs.Io.KnownBytes.{Consumes};
+ghost use Rattle.sas_requests.specs.Answering.{Answers, AnswersFile, output_of};
+ghost use Rattle.sas_requests.specs.Ending.{IsDecided, IsWrite};
+ghost use Rattle.sas_requests.specs.Output.{Out, ShowOut, PrintOut, StepsOut, AreInputs, refusal, refusal_line, word_of};
+
+use crate::summary::summary_text;
+use crate::{Request, Status, ToolFault};
+use sas_lines::{Watched, push_line, push_number};
+use sas_text::{Fault, Kind, read_outline, read_plan_text, read_task_text};
+use std::alloc::{AllocError, Global};
+use std::io::Read;
+
+/// A text to write, and its status.
+#[derive(Drop)]
+pub struct Answer {
+    pub text: Vec<u8>,
+    pub status: Status,
+}
+
+/// The answer about the inputs.
+pub fn answer_to<T: Read, P: Read>(
+    alloc: Global,
+    request: Request,
+    task: &mut Watched<T>,
+    plan: &mut Watched<P>,
+) -> Result<Answer, ToolFault>
+    requires task { task.old.failed ≡ false }
+    requires plan { plan.old.failed ≡ false }
+    ensures output { (b c : List ℕ) → AreInputs request (T.remaining task.old.device) (P.remaining plan.old.device) b c
+        → Answers (Out request b c) result }
+    ensures taken { IsDecided result → (b c : List ℕ)
+        × Consumes (T.remaining task.old.device) (T.remaining task.new.device) b
+        × Consumes (P.remaining plan.old.device) (P.remaining plan.new.device) c
+        × Answers (Out request b c) result }
+    ensures task_spared { request ≡ Request.Steps → task.new ≡ task.old }
+    ensures plan_spared { request ≢ Request.Steps → plan.new ≡ plan.old }
+    ensures reads { IsErrOf result ToolFault.Read ↔ IsTrue (task.new.failed || plan.new.failed) }
+    ensures writes { IfErr result (λ e. IsWrite e → ⊥) }
+{
+    match request {
+        Request::Show => show(alloc, task),
+        Request::Print => print(alloc, task),
+        Request::Steps => steps(alloc, plan),
+    }
+}
+
+/// The summary of a task.
+fn show<R: Read>(alloc: Global, reader: &mut Watched<R>) -> Result<Answer, ToolFault>
+    requires { reader.old.failed ≡ false }
+    ensures { AnswersFile R.remaining ShowOut reader.old reader.new result }
+{
+    let outline = match read_outline(alloc, reader) {
+        Ok(outline) => outline,
+        Err(fault) => return refuse(alloc, "task", fault),
+    };
+    Ok(Answer {
+        text: summary_text(alloc, &outline)?,
+        status: Status::Yes,
+    })
+}
+
+/// The lines of a task.
+fn print<R: Read>(alloc: Global, reader: &mut Watched<R>) -> Result<Answer, ToolFault>
+    requires { reader.old.failed ≡ false }
+    ensures { AnswersFile R.remaining PrintOut reader.old reader.new result }
+{
+    match read_task_text(alloc, reader) {
+        Ok(text) => Ok(Answer {
+            text,
+            status: Status::Yes,
+        }),
+        Err(fault) => refuse(alloc, "task", fault),
+    }
+}
+
+/// The steps of a plan and its cost.
+fn steps<R: Read>(alloc: Global, plan: &mut Watched<R>) -> Result<Answer, ToolFault>
+    requires { plan.old.failed ≡ false }
+    ensures { AnswersFile R.remaining StepsOut plan.old plan.new result }
+{
+    match read_plan_text(alloc, plan) {
+        Ok(text) => Ok(Answer {
+            text,
+            status: Status::Yes,
+        }),
+        Err(fault) => refuse(alloc, "plan", fault),
+    }
+}
+
+/// The word for what is wrong with a file, or why the run ends at this kind.
+fn word(kind: Kind) -> Result<&'static str, ToolFault>
+    ensures ok { IfOk result (λ w. word_of kind ≡ Some w.now) }
+    ensures memory { IsErrOf result ToolFault.Memory ↔ (kind ≡ Kind.Memory) }
+    ensures long { IsErrOf result ToolFault.TooLong ↔ (kind ≡ Kind.TooLong) }
+    ensures read { IsErrOf result ToolFault.Read ↔ (kind ≡ Kind.Read) }
+    ensures writes { IfErr result (λ e. IsWrite e → ⊥) }
+{
+    match kind {
+        Kind::Keyword => Ok("keyword"),
+        Kind::Name => Ok("name"),
+        Kind::Shape => Ok("shape"),
+        Kind::Value => Ok("value"),
+        Kind::End => Ok("end"),
+        Kind::Trailing => Ok("trailing"),
+        Kind::TooLong => Err(ToolFault::TooLong),
+        Kind::Read => Err(ToolFault::Read),
+        Kind::Memory => Err(ToolFault::Memory),
+    }
+}
+
+/// The refusal of a file for its fault, or why the run ends at it.
+fn refuse(alloc: Global, name: &str, fault: Fault) -> Result<Answer, ToolFault>
+    ensures ok { IfOk result (λ a. refusal name.now fault ≡ Some (output_of a)) }
+    ensures long { IsErrOf result ToolFault.TooLong ↔ (fault.kind ≡ Kind.TooLong) }
+    ensures read { IsErrOf result ToolFault.Read ↔ (fault.kind ≡ Kind.Read) }
+    ensures writes { IfErr result (λ e. IsWrite e → ⊥) }
+{
+    match word(fault.kind) {
+        Ok(word) => Ok(Answer {
+            text: refusal_text(alloc, name, fault.line, word)?,
+            status: Status::No,
+        }),
+        Err(end) => Err(end),
+    }
+}
+
+/// The line that refuses the file of this name.
+fn refusal_text(alloc: Global, name: &str, line: u64, word: &str) -> Result<Vec<u8>, AllocError>
+    ensures { IfOk result (λ t. t.items ≡ refusal_line name.now line word.now) }
+{
+    let mut text = Vec::from_slice(alloc, name.as_bytes())?;
+    text.extend_from_slice(b" refused: line ")?;
+    push_number(&mut text, u128::from(line))?;
+    text.extend_from_slice(b": ")?;
+    push_line(&mut text, word.as_bytes())?;
+    Ok(text)
+}

@@ -1,0 +1,107 @@
+//! The requests: what each answers about its inputs, and how it is written.
+#![tactic(auto)]
+
+mod answers;
+mod laws;
+mod summary;
+
+ghost use Rattle.std.specs.Prelude.{◌≡◌, ◌≢◌, ◌⊎◌, ◌↔◌, ◌||◌, false, List, ℕ, IfErr, IsErrAnd, IsErrOf, IsTrue};
+ghost use Rattle.std.specs.Io.KnownBytes.{Appends, Consumes};
+ghost use Rattle.sas_requests.specs.Output.{Out, AreInputs};
+ghost use Rattle.sas_requests.specs.Ending.{Ends, IsDecided, IsWrite};
+
+use answers::answer_to;
+pub use laws::run_laws;
+use sas_lines::{Watched, write_out};
+use std::alloc::{AllocError, Global};
+use std::io::{Read, Write};
+use thiserror::Error;
+
+/// What is asked.
+#[derive(Clone, Copy, Debug, PartialEq, Eq)]
+pub enum Request {
+    /// The summary of a task.
+    Show,
+    /// A task, printed again.
+    Print,
+    /// The steps of a plan and its cost, printed again.
+    Steps,
+}
+
+/// The answer in one word.
+#[derive(Clone, Copy, Debug, PartialEq, Eq)]
+pub enum Status {
+    /// The file is a text of its format, and its answer was written.
+    Yes,
+    /// The file is refused, and that was written.
+    No,
+}
+
+/// Why there is no answer, or not all of it was written.
+#[derive(Clone, Copy, Debug, PartialEq, Eq, Error)]
+pub enum ToolFault {
+    /// Memory was refused.
+    #[error("out of memory")]
+    Memory,
+    /// A read failed.
+    #[error("read failed")]
+    Read,
+    /// An input goes past the most bytes that are read.
+    #[error("input too long")]
+    TooLong,
+    /// A write failed, and the first `written` bytes of the answer had gone out.
+    #[error("write failed")]
+    Write { written: usize },
+}
+
+impl From<AllocError> for ToolFault {
+    ghost use Rattle.sas_requests.specs.declared.ToolFault.TheVariants.{Memory};
+
+    ghost from_gives = { λ _ e. e ≡ Memory };
+
+    fn from(_error: AllocError) -> ToolFault {
+        ToolFault::Memory
+    }
+}
+
+/// Answers the request about the inputs. `Show` and `Print` read the task alone, and `Steps` the plan. Nothing is written
+/// before the answer is whole, so at any fault but `Write` nothing was written, and at `Write` the first bytes of the
+/// answer. A fault of a file's content is no fault of the run: the answer then is a refusal, and the status `No`. Not to be
+/// called with a device that has failed.
+///
+/// The theorem, `output`, holds for every reader that tells its bytes, such as one over memory. The code is generic, and so
+/// the same for a file, which tells none; that a file gives what the disk holds is trusted.
+pub fn run<T: Read, P: Read, W: Write>(
+    alloc: Global,
+    request: Request,
+    task: &mut Watched<T>,
+    plan: &mut Watched<P>,
+    out: &mut Watched<W>,
+) -> Result<Status, ToolFault>
+    requires task { task.old.failed ≡ false }
+    requires plan { plan.old.failed ≡ false }
+    requires out { out.old.failed ≡ false }
+    // Of inputs whose bytes are known, the output went out, or its first bytes, or there is none.
+    ensures output { (b c : List ℕ) → AreInputs request (T.remaining task.old.device) (P.remaining plan.old.device) b c
+        → Ends (Out request b c) (Appends (W.contents out.old.device) (W.contents out.new.device)) result }
+    // And of any inputs, the output for the bytes that were read of them.
+    ensures taken { IsDecided result → (b c : List ℕ)
+        × Consumes (T.remaining task.old.device) (T.remaining task.new.device) b
+        × Consumes (P.remaining plan.old.device) (P.remaining plan.new.device) c
+        × Ends (Out request b c) (Appends (W.contents out.old.device) (W.contents out.new.device)) result }
+    // Before the answer is whole nothing is written.
+    ensures nothing { IfErr result (λ e. IsWrite e ⊎ (out.new ≡ out.old)) }
+    // A device that the request doesn't read stays as it was.
+    ensures task_spared { request ≡ Request.Steps → task.new ≡ task.old }
+    ensures plan_spared { request ≢ Request.Steps → plan.new ≡ plan.old }
+    ensures reads { IsErrOf result ToolFault.Read ↔ IsTrue (task.new.failed || plan.new.failed) }
+    ensures writes { IsErrAnd result IsWrite ↔ IsTrue out.new.failed }
+{
+    let answer = answer_to(alloc, request, task, plan)?;
+    match write_out(out, answer.text.as_slice()) {
+        Ok(()) => Ok(answer.status),
+        Err(short) => Err(ToolFault::Write {
+            written: short.written,
+        }),
+    }
+}

@@ -1,0 +1,9 @@
+pub mod Sections
+pub mod SectionsExample
+pub mod TaskSections
+pub mod TaskLines
+pub mod TaskPlain
+pub mod TaskGrammar
+pub mod TaskExample
+pub mod TaskFilling
+pub mod TaskLaws

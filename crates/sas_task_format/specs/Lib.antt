@@ -1,0 +1,4 @@
+pub mod Process
+pub mod TaskFormat
+pub mod TaskProcess
+pub mod TaskLaws

@@ -1,0 +1,206 @@
+-- The task file of Fast Downward (`output.sas`, version 3), section by section.
+use Rattle.std.specs.Prelude.{◌≡◌, ℕ, Bool, if◌then◌else◌, List, [], ◌∷◌, ◌++◌, length, Option, codes}
+use Rattle.std.specs.List.{flat_map, AllByRecursion}
+use Rattle.std.specs.Fmt.{decimal}
+use Rattle.sas_core.specs.declared.parts.Fact.{Fact}
+use Rattle.sas_core.specs.declared.parts.Variable.{Variable}
+use Rattle.sas_core.specs.declared.parts.Effect.{Effect}
+use Rattle.sas_core.specs.declared.parts.Operator.{Operator}
+use Rattle.sas_core.specs.declared.parts.Rule.{Rule}
+use Rattle.sas_core.specs.declared.parts.Parts.{Parts}
+use Rattle.sas_core.specs.Numbers.{IsNumber, IsSigned}
+use Rattle.sas_core.specs.WellRanged.{WellRanged}
+use Rattle.sas_lines.specs.Spelling.{signed_decimal, joined}
+use Rattle.sas_reader.specs.declared.fault.Kind.{Kind}
+use Rattle.sas_reader.specs.declared.fault.Kind.TheVariants.{Keyword, Name, Shape, Value}
+use Rattle.sas_reader.specs.Format.{Format}
+
+-- ---- single lines
+
+-- a line of a task file, by what it says
+pub data TaskLine : Type 0 where
+  -- a fixed word, such as `begin_version`
+  word : List ℕ → TaskLine
+  -- the name of a variable, a value or an operator
+  name : List ℕ → TaskLine
+  -- a count, or a number with a meaning of its own: the version, the metric, a range, a value in the initial state, a cost
+  number : ℕ → TaskLine
+  -- an axiom layer, if any
+  signed : Option ℕ → TaskLine
+  -- a variable and one of its values
+  fact : Fact → TaskLine
+  -- an effect of an operator: its conditions, its variable, the variable's old value, if any, and its new one
+  effect : Effect → TaskLine
+  -- the head of a rule: its variable, the variable's old value, if any, and its new one
+  head : ℕ → Option ℕ → ℕ → TaskLine
+
+-- what is due: this word, or some line of this sort
+pub data TaskSlot : Type 0 where
+  word_slot : List ℕ → TaskSlot
+  name_slot : TaskSlot
+  number_slot : TaskSlot
+  signed_slot : TaskSlot
+  fact_slot : TaskSlot
+  effect_slot : TaskSlot
+  head_slot : TaskSlot
+
+-- where a line belongs
+abbrev pub task_slot : TaskLine → TaskSlot
+task_slot (word w) = word_slot w
+task_slot (name bytes) = name_slot
+task_slot (number n) = number_slot
+task_slot (signed n) = signed_slot
+task_slot (fact f) = fact_slot
+task_slot (effect e) = effect_slot
+task_slot (head var old new) = head_slot
+
+-- `var value`
+abbrev pub fact_words : Fact → List (List ℕ)
+fact_words f = decimal f.var ∷ decimal f.value ∷ []
+
+-- `var old new`, where an old value of `-1` says that there is none
+abbrev pub head_words : ℕ → Option ℕ → ℕ → List (List ℕ)
+head_words var old new = decimal var ∷ signed_decimal old ∷ decimal new ∷ []
+
+-- the number c of the conditions, then each as `var value`, then `var old new`: 2c + 4 words
+abbrev pub effect_words : Effect → List (List ℕ)
+effect_words e = (decimal (length e.conditions) ∷ []) ++ flat_map fact_words e.conditions ++ head_words e.var e.old e.new
+
+-- the bytes of a line; its words stand with one space between each two
+abbrev pub task_line_bytes : TaskLine → List ℕ
+task_line_bytes (word w) = w
+task_line_bytes (name bytes) = bytes
+task_line_bytes (number n) = decimal n
+task_line_bytes (signed n) = signed_decimal n
+task_line_bytes (fact f) = joined (fact_words f)
+task_line_bytes (effect e) = joined (effect_words e)
+task_line_bytes (head var old new) = joined (head_words var old new)
+
+-- the numbers of a fact line are at most 2,147,483,647
+abbrev pub FactNumbers : Fact → Type 0
+FactNumbers f = IsNumber f.var × IsNumber f.value
+
+-- so are those of a head line
+abbrev pub HeadNumbers : ℕ → Option ℕ → ℕ → Type 0
+HeadNumbers var old new = IsNumber var × IsSigned old × IsNumber new
+
+-- and those of an effect line
+pub record EffectNumbers (e : Effect) : Type 0 where
+  pub count : IsNumber (length e.conditions)
+  pub conditions : AllByRecursion FactNumbers e.conditions
+  pub head : HeadNumbers e.var e.old e.new
+
+-- each number on a line is at most 2,147,483,647
+abbrev pub TaskLineFits : TaskLine → Type 0
+TaskLineFits (word w) = Unit {0}
+TaskLineFits (name bytes) = Unit {0}
+TaskLineFits (number n) = IsNumber n
+TaskLineFits (signed n) = IsSigned n
+TaskLineFits (fact f) = FactNumbers f
+TaskLineFits (effect e) = EffectNumbers e
+TaskLineFits (head var old new) = HeadNumbers var old new
+
+-- ---- the sections
+
+-- one line that says something
+abbrev pub line : {A : Type 0} → (A → TaskLine) → A → List TaskLine
+line says a = says a ∷ []
+
+-- lines between their first and their last word
+abbrev pub between : List ℕ → List TaskLine → List ℕ → List TaskLine
+between first lines last = line word first ++ lines ++ line word last
+
+-- how many there are, then the lines of each
+abbrev pub counted : {A : Type 0} → (A → List TaskLine) → List A → List TaskLine
+counted lines items = line number (length items) ++ flat_map lines items
+
+-- the version is 3
+abbrev pub version_lines : List TaskLine
+version_lines = between (codes "begin_version") (line number 3) (codes "end_version")
+
+-- the metric is 1 where cost lines count, else 0
+abbrev pub metric_lines : Bool → List TaskLine
+metric_lines metric = between (codes "begin_metric") (line number (if metric then 1 else 0)) (codes "end_metric")
+
+-- a variable's name, its axiom layer (`-1` for none), and how many values it has, with the name of each
+abbrev pub variable_lines : Variable → List TaskLine
+variable_lines v =
+    between (codes "begin_variable")
+    (line name v.name
+    ++ line signed v.layer
+    ++ counted (line name) v.values)
+    (codes "end_variable")
+
+-- the facts of a mutex group
+abbrev pub group_lines : List Fact → List TaskLine
+group_lines facts = between (codes "begin_mutex_group") (counted (line fact) facts) (codes "end_mutex_group")
+
+-- the initial state: a value for each variable, in order
+abbrev pub state_lines : List ℕ → List TaskLine
+state_lines values = between (codes "begin_state") (flat_map (line number) values) (codes "end_state")
+
+-- the facts of the goal
+abbrev pub goal_lines : List Fact → List TaskLine
+goal_lines facts = between (codes "begin_goal") (counted (line fact) facts) (codes "end_goal")
+
+-- an operator's name, its prevail conditions, its effects and its cost
+abbrev pub operator_lines : Operator → List TaskLine
+operator_lines o =
+    between (codes "begin_operator")
+    (line name o.name
+    ++ counted (line fact) o.prevail
+    ++ counted (line effect) o.effects
+    ++ line number o.cost)
+    (codes "end_operator")
+
+-- the conditions of a rule (an axiom) and its head
+abbrev pub rule_lines : Rule → List TaskLine
+rule_lines r =
+    between (codes "begin_rule")
+    (counted (line fact) r.conditions
+    ++ head r.var r.old r.new ∷ [])
+    (codes "end_rule")
+
+-- ---- the task
+
+-- the lines of a task file, in order
+abbrev pub task_layout : Parts → List TaskLine
+task_layout p =
+    version_lines
+    ++ metric_lines p.metric
+    ++ counted variable_lines p.variables
+    ++ counted group_lines p.groups
+    ++ state_lines p.init
+    ++ goal_lines p.goal
+    ++ counted operator_lines p.operators
+    ++ counted rule_lines p.rules
+
+-- ---- what is wrong with a line
+
+-- the bytes are those of some line that belongs at the slot, with each number at most 2,147,483,647
+abbrev pub HasShape : TaskSlot → List ℕ → Type 0
+HasShape slot bytes = (i : TaskLine) × (task_slot i ≡ slot) × TaskLineFits i × (task_line_bytes i ≡ bytes)
+
+-- a wrong line of numbers hasn't the shape of its slot, or has it with a number that may not stand there
+pub data NumbersKind (slot : TaskSlot) (bytes : List ℕ) : Kind → Type 0 where
+  no_shape : (HasShape slot bytes → ⊥) → NumbersKind slot bytes Shape
+  no_value : HasShape slot bytes → NumbersKind slot bytes Value
+
+-- the kind of fault of a line that may not stand: it isn't the word that was due, or no name where one was due; or it is
+-- a wrong line of numbers
+abbrev pub TaskKind : TaskSlot → List ℕ → Kind → Type 0
+TaskKind (word_slot w) bytes kind = kind ≡ Keyword
+TaskKind name_slot bytes kind = kind ≡ Name
+TaskKind slot bytes kind = NumbersKind slot bytes kind
+
+-- ---- the format
+
+-- task files: each says a well ranged task
+abbrev pub task_format : Format Parts TaskLine TaskSlot
+task_format = record {
+  layout = task_layout;
+  Good = WellRanged;
+  spelled = task_line_bytes;
+  slot_of = task_slot;
+  KindOf = TaskKind;
+}

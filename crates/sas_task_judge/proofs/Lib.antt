@@ -1,0 +1,5 @@
+pub mod TaskMoves
+pub mod TaskRanges
+pub mod TaskEnds
+pub mod TaskSteps
+pub mod VariablesBehind

@@ -1,0 +1,105 @@
+-- One line of a task moves the judge on.
+use Rattle.std.proofs.Common.{◌≡◌, ◌≢◌, ℕ, zero, suc, ◌<◌, ◌≤◌, ◌-◌, Bool, nat_lt, length, List, [], ◌∷◌, ◌++◌, refl, sym, ap, subst, ◌∙◌, arith, codes, Result, Ok, Err}
+use Rattle.std.specs.Prelude.{drop, Option, Some, None}
+use Rattle.std.specs.Result.{result_err}
+use Rattle.std.proofs.lemmas.Option.{none-some}
+use Rattle.sas_reader.specs.declared.fault.Kind.{Kind}
+use Rattle.sas_reader.specs.declared.fault.Kind.TheVariants as kinds
+use Rattle.sas_reader.specs.Faults.{IsOfBytes}
+use Rattle.sas_reader.specs.System.{Takes, OneLine, Judged, Rejects}
+use Rattle.sas_task_format.specs.Process.{read, process_node}
+use Rattle.sas_task_format.specs.TaskFormat.{TaskLine, TaskSlot, number_slot, task_line_bytes, task_format, TaskLineFits}
+use Rattle.sas_core.specs.declared.parts.Parts.{Parts}
+use Rattle.sas_core.specs.declared.parts.Variable.{Variable}
+use Rattle.sas_core.specs.Variables.{range_of}
+use Rattle.sas_task_judge.specs.declared.task_events.Event.{Event}
+use Rattle.sas_task_judge.specs.declared.task_events.Said.{Said}
+use Rattle.sas_task_judge.specs.declared.so_far.SoFar.{SoFar}
+use Rattle.sas_task_judge.specs.declared.task_judge.Place.{Place}
+use Rattle.sas_task_judge.specs.declared.task_judge.Place.TheVariants as at
+use Rattle.sas_task_judge.specs.declared.task_judge.TaskJudge.{TaskJudge}
+use Rattle.sas_task_judge.specs.declared.task_machine.TaskMachine.{TaskMachine}
+use Rattle.sas_task_judge.specs.TaskEvents.{after}
+use Rattle.sas_task_judge.specs.TaskMachine.{LedBy}
+use Rattle.sas_task_judge.specs.TaskPlaces.{state_values, state_values_of, goal_begin}
+use Rattle.sas_task_judge.specs.TaskJudge.{state_at, state_of, KnownTo, LeadsOn, RejectsLine, TakesMemory, Moves}
+use Rattle.sas_task_line.specs.TaskLine.{IsOfLine}
+use Rattle.sas_task_judge.proofs.TaskRanges.{many_same}
+use Rattle.sas_task_judge.proofs.TaskSteps.{line_led}
+use Rattle.sas_task_judge.proofs.VariablesBehind.{behind}
+use Rattle.sas_task_format.specs.TaskProcess.{TaskProcess, a_word, a_number, number_in}
+
+-- a line that may stand leads on
+pub on : (p q : TaskProcess) (slot : TaskSlot) (test : TaskLine → Bool) (next : TaskLine → TaskProcess) (i : TaskLine) (line : List ℕ)
+    → p ≡ read slot test next → Takes task_format TaskLineFits slot test i × (task_line_bytes i ≡ line) → next i ≡ q → LeadsOn p line q
+on p q slot test next i line at says n = (i, subst (λ (t : TaskProcess). OneLine task_format TaskLineFits (process_node t) i (λ r. r ≡ q)) (sym at) (says.0, n), says.1)
+
+-- a line that may not stand is rejected
+pub off : (p : TaskProcess) (slot : TaskSlot) (test : TaskLine → Bool) (next : TaskLine → TaskProcess) (line : List ℕ) (kind : Kind)
+    → p ≡ read slot test next → Judged task_format TaskLineFits slot test line kind → Rejects task_format TaskLineFits (process_node p) line kind
+off p slot test next line kind at j = subst (λ (t : TaskProcess). Rejects task_format TaskLineFits (process_node t) line kind) (sym at) j
+
+-- one of so many more, and then so many less one
+pub next_of : (n : ℕ) → 0 < n → n ≡ suc (n - 1)
+next_of zero h = absurd (omega arith)
+next_of (suc n) h = omega arith
+
+-- one value more, whichever it is
+one_longer : (xs : List ℕ) → ◌≡◌ {A = ℕ → ℕ} (λ x. length (xs ++ x ∷ [])) (λ x. suc (length xs))
+one_longer [] = refl
+one_longer (y ∷ xs) = ap {B = ℕ → ℕ} (λ (f : ℕ → ℕ) (x : ℕ). suc (f x)) (one_longer xs)
+
+-- before the value of the next variable
+pub value_due : (p : Parts) → length p.init < length p.variables
+    → state_values p ≡ a_number (λ n. nat_lt n (range_of p.variables (length p.init))) (λ n. state_values (record p { init = p.init ++ n ∷ [] }))
+value_due p l =
+    let b = behind p.variables (length p.init) l in
+    let after : TaskLine → Parts = λ i. record p { init = p.init ++ number_in i ∷ [] } in
+    ap (λ (vs : List Variable). state_values_of vs p) b.are
+    ∙ ap (λ (r : ℕ). read number_slot (λ i. nat_lt (number_in i) r) (λ i. state_values_of (drop (suc (length p.init)) p.variables) (after i))) (sym b.range)
+    ∙ ap (λ (f : ℕ → ℕ). read number_slot (λ i. nat_lt (number_in i) (range_of p.variables (length p.init))) (λ i. state_values_of (drop (f (number_in i)) p.variables) (after i))) (sym (one_longer p.init))
+
+-- ---- the judge
+
+-- where each variable has its value, `end_state` is due
+over : (n : ℕ) (vs : List Variable) → length vs ≤ n → drop n vs ≡ []
+over zero [] h = refl
+over zero (v ∷ vs) h = absurd (omega arith)
+over (suc n) [] h = refl
+over (suc n) (v ∷ vs) h = over n vs (omega arith)
+
+pub state_is_over : (j : TaskJudge) (s : SoFar) → j.place ≡ at.StateValues → length j.ranges ≤ j.valued → KnownTo s j → state_of j s ≡ a_word (codes "end_state") (λ _. goal_begin s.parts)
+state_is_over j s here l f =
+    ap (λ (place : Place). state_at place j.left j.more s) here
+    ∙ ap (λ (vs : List Variable). state_values_of vs s.parts) (over (length s.parts.init) s.parts.variables (omega (arith, l, many_same s j f, f.valued)))
+
+-- else the value of the next variable is
+pub state_goes_on : (j : TaskJudge) (s : SoFar) → j.place ≡ at.StateValues → j.valued < length j.ranges → KnownTo s j
+    → state_of j s ≡ a_number (λ n. nat_lt n (range_of s.parts.variables (length s.parts.init))) (λ n. state_values (record s.parts { init = s.parts.init ++ n ∷ [] }))
+state_goes_on j s here l f = ap (λ (place : Place). state_at place j.left j.more s) here ∙ value_due s.parts (omega (arith, l, many_same s j f, f.valued))
+
+-- the kind, if there is one
+abbrev pub some_or : Kind → Option Kind → Kind
+some_or other None = other
+some_or other (Some kind) = kind
+
+-- a line that the judge refuses
+pub refused : (j k : TaskJudge) (line : List ℕ) (r : Result Event Kind) (kind : Kind) → result_err r ≡ Some kind → IsOfBytes kind × (kind ≡ kinds.Memory → TakesMemory j) × (kind ≢ kinds.Memory → RejectsLine j line kind) → Moves j line k r
+refused j k line (Ok event) kind e h = absurd (none-some kind e)
+refused j k line (Err other) kind e h = subst (λ (x : Kind). IsOfBytes x × (x ≡ kinds.Memory → TakesMemory j) × (x ≢ kinds.Memory → RejectsLine j line x)) (sym (ap (some_or other) e)) h
+
+-- a line that may not stand, where no memory is taken
+pub refused_line : (j k : TaskJudge) (line : List ℕ) (r : Result Event Kind) (kind : Kind) → result_err r ≡ Some kind → IsOfLine kind → RejectsLine j line kind → Moves j line k r
+refused_line j k line r kind e of_line rejects = refused j k line r kind e (of_line.0, λ m. absurd (of_line.1 m), λ n. rejects)
+
+-- a machine that a line moves on is led by it too, whatever becomes of what was said
+pub led_on : {K : Type 0} (keeps : List (List ℕ) → SoFar → K → Type 0) (before : List (List ℕ)) (m : TaskMachine K) (j : TaskJudge) (said : Said) (kept : K) (event : Event) (line : List ℕ) → LedBy keeps before m → Moves m.judge line j (Ok event)
+    → ((lines : List (List ℕ)) (s : SoFar) → keeps lines s m.kept → keeps (lines ++ line ∷ []) (after s event j.said line) kept) → LedBy keeps (before ++ line ∷ []) (record { judge = record j { said = said }; kept = kept })
+led_on keeps before m j said kept event line h moves keeps_on =
+    let moved = moves h.so_far h.known in
+    record {
+      so_far = after h.so_far event j.said line;
+      leads = line_led before (state_of m.judge h.so_far) (state_of j (after h.so_far event j.said line)) moved.1.0 line h.leads moved.1.1 moved.1.2;
+      known = record { ranges = moved.0.ranges; valued = moved.0.valued; range = moved.0.range };
+      kept = keeps_on before h.so_far h.kept;
+    }

@@ -1,0 +1,17 @@
+use Rattle.std.proofs.Common.{refl, sym, ap, ◌∙◌, ◌∷◌, [], ◌++◌, arith}
+use Rattle.sas_task_judge.specs.TaskJudge.{state_at}
+use Rattle.sas_task_line.specs.TaskRanges.{ranges_of}
+use Rattle.sas_task_judge.specs.TaskPlaces.{variable_values}
+use Rattle.sas_task_judge.proofs.TaskMoves.{on}
+use Rattle.sas_task_judge.proofs.TaskRanges.{ranges_push}
+use Rattle.sas_task_judge.proofs.task_judge.TaskJudge.variable_end.Goals as goal
+
+pub returns-in-Ok : goal.returns-in-Ok
+returns-in-Ok c = λ s f. (
+  record {
+    ranges = c.in-Ok.ensures.ok ∙ ap (λ rs. rs ++ c.args.self.now.range ∷ []) f.ranges ∙ ap (λ n. ranges_of s.parts.variables ++ n ∷ []) (omega (arith, f.range c.requires.place, c.requires.all)) ∙ sym (ranges_push s.parts.variables (record { name = s.name; layer = s.layer; values = s.values }));
+    valued = f.valued;
+    range = λ h. absurd cc;
+  },
+  on _ _ _ _ _ _ _ ((ap (λ place. state_at place c.args.self.now.left c.args.self.now.more s) c.requires.place) ∙ ap (λ more. variable_values c.args.self.now.left s.parts s.name s.layer more s.values) c.requires.all) c.in_ok-word_at.ensures refl,
+)

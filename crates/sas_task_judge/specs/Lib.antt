@@ -1,0 +1,4 @@
+pub mod TaskPlaces
+pub mod TaskEvents
+pub mod TaskJudge
+pub mod TaskMachine

@@ -1,0 +1,100 @@
+-- What judges the lines of a task file stands for: what may still come, by what has come.
+use Rattle.std.specs.Prelude.{◌≡◌, ◌≢◌, ◌⊎◌, ◌<◌, ℕ, ◌+◌, List, length, Result, Ok, Err, codes}
+use Rattle.sas_core.specs.declared.parts.Variable.{Variable}
+use Rattle.sas_reader.specs.declared.fault.Kind.{Kind}
+use Rattle.sas_reader.specs.declared.fault.Kind.TheVariants as kinds
+use Rattle.sas_task_judge.specs.declared.task_events.Event.{Event}
+use Rattle.sas_task_judge.specs.declared.so_far.SoFar.{SoFar}
+use Rattle.sas_task_judge.specs.declared.task_judge.Place.{Place}
+use Rattle.sas_task_judge.specs.declared.task_judge.Place.TheVariants as at
+use Rattle.sas_task_judge.specs.declared.task_judge.TaskJudge.{TaskJudge}
+use Rattle.sas_reader.specs.Faults.{IsOfBytes}
+use Rattle.sas_task_format.specs.Process.{process_node, ◌>>◌}
+use Rattle.sas_reader.specs.System.{OneLine, Rejects}
+use Rattle.sas_task_judge.specs.TaskEvents.{after}
+use Rattle.sas_task_format.specs.TaskFormat.{TaskLine, task_line_bytes, task_format, TaskLineFits}
+use Rattle.sas_task_format.specs.TaskProcess.{TaskProcess, TaskPart, a_word}
+use Rattle.sas_task_line.specs.TaskRanges.{ranges_of}
+use Rattle.sas_task_judge.specs.TaskPlaces.{version_begin, version_number, version_end, metric_begin, metric_number, metric_end, variable_count, variable_begin, variable_name, variable_layer, variable_range, variable_values, group_begin, group_size, group_facts, state_values, goal_begin, goal_size, goal_facts, operator_count, operator_begin, operator_name, operator_prevail_count, operator_prevail, operator_effects, rule_begin, rule_size, rule_conditions}
+
+-- ---- what may still come
+
+-- at a place, with so many variables, groups, operators or rules left, so many values, facts or effects left, and behind
+-- what has come
+abbrev pub state_at : Place → ℕ → ℕ → SoFar → TaskProcess
+state_at at.VersionBegin left more s = version_begin s.parts
+state_at at.VersionNumber left more s = version_number s.parts
+state_at at.VersionEnd left more s = version_end s.parts
+state_at at.MetricBegin left more s = metric_begin s.parts
+state_at at.MetricNumber left more s = metric_number s.parts
+state_at at.MetricEnd left more s = metric_end s.parts
+state_at at.VariableCount left more s = variable_count s.parts
+state_at at.Variables left more s = variable_begin left s.parts
+state_at at.VariableName left more s = variable_name left s.parts
+state_at at.VariableLayer left more s = variable_layer left s.parts s.name
+state_at at.VariableRange left more s = variable_range left s.parts s.name s.layer
+state_at at.VariableValues left more s = variable_values left s.parts s.name s.layer more s.values
+state_at at.Groups left more s = group_begin left s.parts
+state_at at.GroupSize left more s = group_size left s.parts
+state_at at.GroupFacts left more s = group_facts left s.parts more s.facts
+state_at at.StateValues left more s = state_values s.parts
+state_at at.GoalBegin left more s = goal_begin s.parts
+state_at at.GoalSize left more s = goal_size s.parts
+state_at at.GoalFacts left more s = goal_facts more s.parts
+state_at at.OperatorCount left more s = operator_count s.parts
+state_at at.Operators left more s = operator_begin left s.parts
+state_at at.OperatorName left more s = operator_name left s.parts
+state_at at.PrevailCount left more s = operator_prevail_count left s.parts s.name
+state_at at.Prevail left more s = operator_prevail left s.parts s.name more s.facts
+state_at at.Effects left more s = operator_effects left s.parts s.name s.facts more s.effects
+-- the operator and the rule of the last line are already among the parts
+state_at at.OperatorEnd left more s = a_word (codes "end_operator") >> operator_begin left s.parts
+state_at at.Rules left more s = rule_begin left s.parts
+state_at at.RuleSize left more s = rule_size left s.parts
+state_at at.RuleConditions left more s = rule_conditions left s.parts more s.facts
+state_at at.RuleEnd left more s = a_word (codes "end_rule") >> rule_begin left s.parts
+
+abbrev pub state_of : TaskJudge → SoFar → TaskProcess
+state_of j s = state_at j.place j.left j.more s
+
+-- all has come
+abbrev pub HasEnded : TaskJudge → Type 0
+HasEnded j = (j.place ≡ at.Rules) × (j.left ≡ 0)
+
+-- ---- one line
+
+-- the judge knows of what has come what decides which lines may follow
+pub record KnownTo (s : SoFar) (j : TaskJudge) : Type 0 where
+  pub ranges : j.ranges ≡ ranges_of s.parts.variables
+  pub valued : j.valued ≡ length s.parts.init
+  -- the range of a variable counts its values, those that have come and those that are left
+  pub range : j.place ≡ at.VariableValues → j.range ≡ length s.values + j.more
+
+-- A part is due that tells an A. Behind it the judge is where `next` says, and what has come is what `adds` says.
+abbrev pub Due : {A : Type 0} → TaskJudge → (List Variable → TaskPart A) → (A → TaskJudge) → (A → SoFar → SoFar) → Type 0
+Due j part next adds = (s : SoFar) → KnownTo s j → state_of j s ≡ part s.parts.variables (λ a. state_of (next a) (adds a s))
+
+-- the line leads from one state to the other
+abbrev pub LeadsOn : TaskProcess → List ℕ → TaskProcess → Type 0
+LeadsOn p line q = (i : TaskLine)
+    × OneLine task_format TaskLineFits (process_node p) i (λ r. r ≡ q)
+    × (task_line_bytes i ≡ line)
+
+-- the line may not follow, and the kind of its fault
+abbrev pub RejectsLine : TaskJudge → List ℕ → Kind → Type 0
+RejectsLine j line kind = (s : SoFar) → KnownTo s j
+    → Rejects task_format TaskLineFits (process_node (state_of j s)) line kind
+
+-- what the judge keeps of the next line takes memory: the range of a variable that ends, or the conditions of an effect
+abbrev pub TakesMemory : TaskJudge → Type 0
+TakesMemory j = ((j.place ≡ at.VariableValues) × (j.more ≡ 0)) ⊎ ((j.place ≡ at.Effects) × (0 < j.more))
+
+-- The line leads from what has come to that with what it adds; or it may not follow, and the kind is that of its fault; or
+-- memory was refused, where some is taken.
+abbrev pub Moves : TaskJudge → List ℕ → TaskJudge → Result Event Kind → Type 0
+Moves j line k (Ok event) = (s : SoFar) → KnownTo s j
+    → KnownTo (after s event k.said line) k × LeadsOn (state_of j s) line (state_of k (after s event k.said line))
+Moves j line k (Err kind) =
+    IsOfBytes kind
+    × (kind ≡ kinds.Memory → TakesMemory j)
+    × (kind ≢ kinds.Memory → RejectsLine j line kind)

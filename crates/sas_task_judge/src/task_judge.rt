@@ -1,0 +1,436 @@
+// What judges the lines of a task file, one after another: whether each may stand where it stands, and what it adds.
+ghost use Rattle.std.specs.Prelude.{◌≡◌, ◌≢◌, ◌<◌, ◌≤◌, ◌-◌, ◌^◌, ◌↔◌, length, IsTrue, [], ◌∷◌, ◌++◌};
+ghost use Rattle.sas_task_judge.specs.declared.so_far.SoFar.{SoFar};
+ghost use Rattle.sas_task_format.specs.TaskProcess.{a_word, a_number, a_fact, any};
+ghost use Rattle.sas_task_line.specs.TaskRanges.{range_in};
+ghost use Rattle.sas_task_judge.specs.TaskJudge.{Due, Moves, HasEnded};
+
+use crate::task_events::{Event, Said};
+use sas_core::Items;
+use sas_reader::Kind;
+use sas_task_line::{
+    effect_at, fact_at, head_at, name_at, number_at, number_below, positive_at, signed_at,
+    version_at, word_at,
+};
+use std::alloc::Global;
+
+/// What comes next.
+#[derive(Clone, Copy, Debug, PartialEq, Eq)]
+pub enum Place {
+    VersionBegin,
+    VersionNumber,
+    VersionEnd,
+    MetricBegin,
+    MetricNumber,
+    MetricEnd,
+    VariableCount,
+    /// The next variable, or behind the last one the number of groups.
+    Variables,
+    VariableName,
+    VariableLayer,
+    VariableRange,
+    /// The next value, or behind the last one the end of the variable.
+    VariableValues,
+    /// The next group, or behind the last one the state.
+    Groups,
+    GroupSize,
+    /// The next fact, or behind the last one the end of the group.
+    GroupFacts,
+    /// The value of the next variable, or behind the last one the end of the state.
+    StateValues,
+    GoalBegin,
+    GoalSize,
+    /// The next fact, or behind the last one the end of the goal.
+    GoalFacts,
+    OperatorCount,
+    /// The next operator, or behind the last one the number of rules.
+    Operators,
+    OperatorName,
+    PrevailCount,
+    /// The next prevail condition, or behind the last one the number of effects.
+    Prevail,
+    /// The next effect, or behind the last one the cost.
+    Effects,
+    OperatorEnd,
+    /// The next rule, or behind the last one nothing.
+    Rules,
+    RuleSize,
+    /// The next condition, or behind the last one the head.
+    RuleConditions,
+    RuleEnd,
+}
+
+/// The place behind the lines so far, and what of them decides which lines may follow: it keeps nothing else of a task.
+#[derive(Drop)]
+pub struct TaskJudge {
+    place: Place,
+    /// How many variables, groups, operators or rules are left.
+    left: u32,
+    /// How many values, facts or effects are left in the list that has begun.
+    more: u32,
+    /// How many values the variable has that has begun.
+    range: u32,
+    /// How many values each variable has.
+    ranges: Items<u32>,
+    /// How many variables have their value in the state.
+    valued: usize,
+    /// What the lines said last.
+    pub said: Said,
+}
+
+impl TaskJudge {
+    /// Nothing has come.
+    pub fn new(alloc: Global) -> Self
+        ensures place { result.place ≡ Place.VersionBegin }
+        ensures ranges { result.ranges ≡ [] }
+        ensures valued { result.valued ≡ 0 }
+    {
+        TaskJudge {
+            place: Place::VersionBegin,
+            left: 0,
+            more: 0,
+            range: 0,
+            ranges: Items::new(alloc),
+            valued: 0,
+            said: Said::new(alloc),
+        }
+    }
+
+    /// Whether all has come.
+    pub fn has_ended(&self) -> bool
+        ensures { IsTrue result ↔ HasEnded self.now }
+    {
+        self.left == 0 && self.place == Place::Rules
+    }
+
+    /// Takes a fixed word.
+    fn word(&mut self, line: &[u8], word: &[u8], next: Place) -> Result<Event, Kind>
+        requires apart { next ≢ Place.VariableValues }
+        requires due { Due self.old (λ _. a_word word.now) (λ _. record self.old { place = next }) (λ _ s. s) }
+        ensures { Moves self.old line.now self.new result }
+    {
+        word_at(line, word)?;
+        self.place = next;
+        Ok(Event::Nothing)
+    }
+
+    /// Takes the first word of a variable, a group, an operator or a rule.
+    fn begin(&mut self, line: &[u8], word: &[u8], next: Place) -> Result<Event, Kind>
+        requires apart { next ≢ Place.VariableValues }
+        requires left { 0 < self.old.left }
+        requires due { Due self.old (λ _. a_word word.now)
+            (λ _. record self.old { left = self.old.left - 1; place = next }) (λ _ s. s) }
+        ensures { Moves self.old line.now self.new result }
+    {
+        word_at(line, word)?;
+        self.left -= 1;
+        self.place = next;
+        Ok(Event::Nothing)
+    }
+
+    /// Takes the number of groups, operators or rules.
+    fn count(&mut self, line: &[u8], next: Place) -> Result<Event, Kind>
+        requires apart { next ≢ Place.VariableValues }
+        requires due { Due self.old (λ _. a_number any)
+            (λ n. record self.old { left = n; place = next }) (λ _ s. s) }
+        ensures { Moves self.old line.now self.new result }
+    {
+        self.left = number_at(line)?;
+        self.place = next;
+        Ok(Event::Nothing)
+    }
+
+    fn version(&mut self, line: &[u8]) -> Result<Event, Kind>
+        requires place { self.old.place ≡ Place.VersionNumber }
+        ensures { Moves self.old line.now self.new result }
+    {
+        let _version = version_at(line)?;
+        self.place = Place::VersionEnd;
+        Ok(Event::Nothing)
+    }
+
+    fn metric(&mut self, line: &[u8]) -> Result<Event, Kind>
+        requires place { self.old.place ≡ Place.MetricNumber }
+        ensures { Moves self.old line.now self.new result }
+    {
+        self.said.number = number_below(line, 2)?;
+        self.place = Place::MetricEnd;
+        Ok(Event::Metric)
+    }
+
+    /// Takes the number of variables.
+    fn variable_count(&mut self, line: &[u8]) -> Result<Event, Kind>
+        requires place { self.old.place ≡ Place.VariableCount }
+        ensures { Moves self.old line.now self.new result }
+    {
+        self.left = positive_at(line)?;
+        self.place = Place::Variables;
+        Ok(Event::Nothing)
+    }
+
+    fn variable_name(&mut self, line: &[u8]) -> Result<Event, Kind>
+        requires place { self.old.place ≡ Place.VariableName }
+        ensures { Moves self.old line.now self.new result }
+    {
+        name_at(line)?;
+        self.place = Place::VariableLayer;
+        Ok(Event::Name)
+    }
+
+    fn variable_layer(&mut self, line: &[u8]) -> Result<Event, Kind>
+        requires place { self.old.place ≡ Place.VariableLayer }
+        ensures { Moves self.old line.now self.new result }
+    {
+        self.said.layer = signed_at(line)?;
+        self.place = Place::VariableRange;
+        Ok(Event::Layer)
+    }
+
+    /// Takes the number of a variable's values.
+    fn variable_range(&mut self, line: &[u8]) -> Result<Event, Kind>
+        requires place { self.old.place ≡ Place.VariableRange }
+        ensures { Moves self.old line.now self.new result }
+    {
+        let range = positive_at(line)?;
+        self.range = range;
+        self.more = range;
+        self.place = Place::VariableValues;
+        Ok(Event::Values)
+    }
+
+    /// Takes the name of a value.
+    fn variable_value(&mut self, line: &[u8]) -> Result<Event, Kind>
+        requires place { self.old.place ≡ Place.VariableValues }
+        requires more { 0 < self.old.more }
+        ensures { Moves self.old line.now self.new result }
+    {
+        name_at(line)?;
+        self.more -= 1;
+        Ok(Event::Value)
+    }
+
+    /// Takes the last word of a variable.
+    fn variable_end(&mut self, line: &[u8]) -> Result<Event, Kind>
+        requires place { self.old.place ≡ Place.VariableValues }
+        requires all { self.old.more ≡ 0 }
+        ensures { Moves self.old line.now self.new result }
+    {
+        word_at(line, b"end_variable")?;
+        match self.ranges.push(self.range) {
+            Ok(()) => {
+                self.place = Place::Variables;
+                Ok(Event::Variable)
+            }
+            Err(_) => Err(Kind::Memory),
+        }
+    }
+
+    /// Takes the number of facts that are due next, or of conditions.
+    fn fact_count(&mut self, line: &[u8], next: Place) -> Result<Event, Kind>
+        requires apart { next ≢ Place.VariableValues }
+        requires due { Due self.old (λ _. a_number any)
+            (λ n. record self.old { more = n; place = next }) (λ _ s. record s { facts = [] }) }
+        ensures { Moves self.old line.now self.new result }
+    {
+        self.more = number_at(line)?;
+        self.place = next;
+        Ok(Event::Facts)
+    }
+
+    /// Takes a fact of a group, a prevail condition, or a condition of a rule.
+    fn fact(&mut self, line: &[u8]) -> Result<Event, Kind>
+        requires apart { self.old.place ≢ Place.VariableValues }
+        requires more { 0 < self.old.more }
+        requires due { Due self.old a_fact
+            (λ _. record self.old { more = self.old.more - 1 }) (λ f s. record s { facts = s.facts ++ f ∷ [] }) }
+        ensures { Moves self.old line.now self.new result }
+    {
+        self.said.fact = fact_at(&self.ranges, line)?;
+        self.more -= 1;
+        Ok(Event::Fact)
+    }
+
+    /// Takes the last word of a group.
+    fn group_end(&mut self, line: &[u8]) -> Result<Event, Kind>
+        requires place { self.old.place ≡ Place.GroupFacts }
+        requires all { self.old.more ≡ 0 }
+        ensures { Moves self.old line.now self.new result }
+    {
+        word_at(line, b"end_mutex_group")?;
+        self.place = Place::Groups;
+        Ok(Event::Group)
+    }
+
+    /// How many values the next variable has that has none in the state yet.
+    fn next_range(&self) -> usize
+        ensures { result ≡ range_in self.now.ranges self.now.valued }
+    {
+        match self.ranges.get(self.valued) {
+            Some(&range) => range as usize,
+            None => 0,
+        }
+    }
+
+    /// Takes the value of the next variable.
+    fn state_value(&mut self, line: &[u8]) -> Result<Event, Kind>
+        requires place { self.old.place ≡ Place.StateValues }
+        requires more { self.old.valued < length self.old.ranges }
+        requires few { length self.old.ranges < 2 ^ 64 }
+        ensures { Moves self.old line.now self.new result }
+    {
+        self.said.number = number_below(line, self.next_range())?;
+        self.valued += 1;
+        Ok(Event::State)
+    }
+
+    /// Takes the last word of the initial state.
+    fn state_end(&mut self, line: &[u8]) -> Result<Event, Kind>
+        requires place { self.old.place ≡ Place.StateValues }
+        requires all { length self.old.ranges ≤ self.old.valued }
+        ensures { Moves self.old line.now self.new result }
+    {
+        word_at(line, b"end_state")?;
+        self.place = Place::GoalBegin;
+        Ok(Event::Nothing)
+    }
+
+    /// Takes the number of goal facts.
+    fn goal_size(&mut self, line: &[u8]) -> Result<Event, Kind>
+        requires place { self.old.place ≡ Place.GoalSize }
+        ensures { Moves self.old line.now self.new result }
+    {
+        self.more = number_at(line)?;
+        self.place = Place::GoalFacts;
+        Ok(Event::Nothing)
+    }
+
+    fn goal_fact(&mut self, line: &[u8]) -> Result<Event, Kind>
+        requires place { self.old.place ≡ Place.GoalFacts }
+        requires more { 0 < self.old.more }
+        ensures { Moves self.old line.now self.new result }
+    {
+        self.said.fact = fact_at(&self.ranges, line)?;
+        self.more -= 1;
+        Ok(Event::Goal)
+    }
+
+    /// Takes the last word of the goal.
+    fn goal_end(&mut self, line: &[u8]) -> Result<Event, Kind>
+        requires place { self.old.place ≡ Place.GoalFacts }
+        requires all { self.old.more ≡ 0 }
+        ensures { Moves self.old line.now self.new result }
+    {
+        word_at(line, b"end_goal")?;
+        self.place = Place::OperatorCount;
+        Ok(Event::Nothing)
+    }
+
+    fn operator_name(&mut self, line: &[u8]) -> Result<Event, Kind>
+        requires place { self.old.place ≡ Place.OperatorName }
+        ensures { Moves self.old line.now self.new result }
+    {
+        name_at(line)?;
+        self.place = Place::PrevailCount;
+        Ok(Event::Name)
+    }
+
+    /// Takes the number of an operator's effects.
+    fn effect_count(&mut self, line: &[u8]) -> Result<Event, Kind>
+        requires place { self.old.place ≡ Place.Prevail }
+        requires all { self.old.more ≡ 0 }
+        ensures { Moves self.old line.now self.new result }
+    {
+        self.more = number_at(line)?;
+        self.place = Place::Effects;
+        Ok(Event::Effects)
+    }
+
+    fn effect(&mut self, line: &[u8]) -> Result<Event, Kind>
+        requires place { self.old.place ≡ Place.Effects }
+        requires more { 0 < self.old.more }
+        ensures { Moves self.old line.now self.new result }
+    {
+        effect_at(&mut self.said.effect, &self.ranges, line)?;
+        self.more -= 1;
+        Ok(Event::Effect)
+    }
+
+    /// Takes the cost of an operator.
+    fn operator_cost(&mut self, line: &[u8]) -> Result<Event, Kind>
+        requires place { self.old.place ≡ Place.Effects }
+        requires all { self.old.more ≡ 0 }
+        ensures { Moves self.old line.now self.new result }
+    {
+        self.said.number = number_at(line)?;
+        self.place = Place::OperatorEnd;
+        Ok(Event::Operator)
+    }
+
+    /// Takes the head of a rule.
+    fn rule_head(&mut self, line: &[u8]) -> Result<Event, Kind>
+        requires place { self.old.place ≡ Place.RuleConditions }
+        requires all { self.old.more ≡ 0 }
+        ensures { Moves self.old line.now self.new result }
+    {
+        self.said.head = head_at(&self.ranges, line)?;
+        self.place = Place::RuleEnd;
+        Ok(Event::Rule)
+    }
+
+    /// Takes the next line.
+    pub fn take(&mut self, line: &[u8]) -> Result<Event, Kind>
+        requires { HasEnded self.old → ⊥ }
+        ensures { Moves self.old line.now self.new result }
+    {
+        match self.place {
+            Place::VersionBegin => self.word(line, b"begin_version", Place::VersionNumber),
+            Place::VersionNumber => self.version(line),
+            Place::VersionEnd => self.word(line, b"end_version", Place::MetricBegin),
+            Place::MetricBegin => self.word(line, b"begin_metric", Place::MetricNumber),
+            Place::MetricNumber => self.metric(line),
+            Place::MetricEnd => self.word(line, b"end_metric", Place::VariableCount),
+            Place::VariableCount => self.variable_count(line),
+            Place::Variables if self.left == 0 => self.count(line, Place::Groups),
+            Place::Variables => self.begin(line, b"begin_variable", Place::VariableName),
+            Place::VariableName => self.variable_name(line),
+            Place::VariableLayer => self.variable_layer(line),
+            Place::VariableRange => self.variable_range(line),
+            Place::VariableValues if self.more == 0 => self.variable_end(line),
+            Place::VariableValues => self.variable_value(line),
+            Place::Groups if self.left == 0 => self.word(line, b"begin_state", Place::StateValues),
+            Place::Groups => self.begin(line, b"begin_mutex_group", Place::GroupSize),
+            Place::GroupSize => self.fact_count(line, Place::GroupFacts),
+            Place::GroupFacts if self.more == 0 => self.group_end(line),
+            Place::GroupFacts => self.fact(line),
+            Place::StateValues if self.has_state() => self.state_end(line),
+            Place::StateValues => self.state_value(line),
+            Place::GoalBegin => self.word(line, b"begin_goal", Place::GoalSize),
+            Place::GoalSize => self.goal_size(line),
+            Place::GoalFacts if self.more == 0 => self.goal_end(line),
+            Place::GoalFacts => self.goal_fact(line),
+            Place::OperatorCount => self.count(line, Place::Operators),
+            Place::Operators if self.left == 0 => self.count(line, Place::Rules),
+            Place::Operators => self.begin(line, b"begin_operator", Place::OperatorName),
+            Place::OperatorName => self.operator_name(line),
+            Place::PrevailCount => self.fact_count(line, Place::Prevail),
+            Place::Prevail if self.more == 0 => self.effect_count(line),
+            Place::Prevail => self.fact(line),
+            Place::Effects if self.more == 0 => self.operator_cost(line),
+            Place::Effects => self.effect(line),
+            Place::OperatorEnd => self.word(line, b"end_operator", Place::Operators),
+            Place::Rules => self.begin(line, b"begin_rule", Place::RuleSize),
+            Place::RuleSize => self.fact_count(line, Place::RuleConditions),
+            Place::RuleConditions if self.more == 0 => self.rule_head(line),
+            Place::RuleConditions => self.fact(line),
+            Place::RuleEnd => self.word(line, b"end_rule", Place::Rules),
+        }
+    }
+
+    /// Whether each variable has its value.
+    fn has_state(&self) -> bool
+        ensures has { IsTrue result ↔ (length self.now.ranges ≤ self.now.valued) }
+        ensures few { length self.now.ranges < 2 ^ 64 }
+    {
+        self.ranges.len() <= self.valued
+    }
+}

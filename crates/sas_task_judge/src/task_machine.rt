@@ -1,0 +1,75 @@
+// What takes the lines of a task file: it judges each, and keeps what is asked for of what they say.
+ghost use Rattle.std.specs.Prelude.{◌≡◌, ◌++◌, ◌∷◌, [], List, ℕ, OnOk, IfErr};
+ghost use Rattle.sas_task_judge.specs.TaskJudge.{HasEnded};
+ghost use Rattle.sas_task_judge.specs.TaskMachine.{LedBy};
+
+use crate::task_events::{Event, Said};
+use crate::task_judge::TaskJudge;
+use sas_reader::{Kind, Machine};
+use std::alloc::Global;
+
+/// What is kept of a task as its lines come.
+pub trait Keeper: Drop {
+    ghost use Rattle.sas_task_judge.specs.declared.so_far.SoFar.{SoFar};
+    ghost use Rattle.sas_task_judge.specs.TaskEvents.{after};
+
+    /// It keeps what it is asked to of these lines, with which so much of a task has come.
+    ghost keeps: { List (List ℕ) → SoFar → Self → Type 0 };
+
+    /// Keeps what the next line says. It may take what was said.
+    fn keep(&mut self, line: &[u8], event: Event, said: &mut Said) -> Result<(), Kind>
+        ensures kept { OnOk result ((lines : List (List ℕ)) (s : SoFar)
+            → keeps lines s self.old → keeps (lines ++ line.now ∷ []) (after s event said.old line.now) self.new) }
+        ensures err { IfErr result (λ k. k ≡ Kind.Memory) };
+}
+
+/// The judge of the lines, and what is kept of them.
+#[derive(Drop)]
+pub struct TaskMachine<K> {
+    pub judge: TaskJudge,
+    pub kept: K,
+}
+
+impl<K: Keeper> TaskMachine<K> {
+    ghost use Rattle.std.specs.Prelude.{[]};
+    ghost use Rattle.sas_task_judge.specs.TaskMachine.{LedBy, IsFresh};
+
+    /// Nothing has come.
+    pub fn new(alloc: Global, kept: K) -> Self
+        requires { IsFresh K.keeps kept }
+        ensures led { LedBy K.keeps [] result }
+    {
+        TaskMachine {
+            judge: TaskJudge::new(alloc),
+            kept,
+        }
+    }
+
+    /// What was kept.
+    pub fn into_kept(self) -> K
+        ensures { result ≡ self.kept }
+    {
+        let TaskMachine { kept, .. } = self;
+        kept
+    }
+}
+
+impl<K: Keeper> Machine for TaskMachine<K> {
+    ghost use Rattle.sas_task_judge.specs.TaskJudge.{HasEnded, RejectsLine};
+    ghost use Rattle.sas_task_judge.specs.TaskMachine.{LedBy};
+
+    ghost led_by = { LedBy K.keeps };
+
+    ghost ended = { λ m. HasEnded m.judge };
+
+    ghost rejects = { λ m line k. RejectsLine m.judge line k };
+
+    fn has_ended(&self) -> bool {
+        self.judge.has_ended()
+    }
+
+    fn accept(&mut self, line: &[u8]) -> Result<(), Kind> {
+        let event = self.judge.take(line)?;
+        self.kept.keep(line, event, &mut self.judge.said)
+    }
+}

@@ -1,0 +1,2 @@
+pub mod TaskReading
+pub mod TaskJudging

@@ -1,0 +1,6 @@
+-- The facts so far stood before what is left.
+use Rattle.sas_task_line.specs.TaskWords.{TakesFacts}
+use Rattle.sas_task_line.proofs.task_line.take_facts.Given as goal
+
+abbrev pub invariant-loop-i : goal.invariant-loop-i
+invariant-loop-i l = TakesFacts l.fn.parts l._i l.facts l.parts

@@ -1,0 +1,3 @@
+pub mod TaskLine
+pub mod TaskWords
+pub mod TaskRanges

@@ -1,0 +1,311 @@
+// One line of a task file, by what is due there.
+ghost use Rattle.std.specs.Prelude.{◌≡◌, ◌↔◌, ℕ, List, [], Option, nat_lt, true, false, ◌==◌, IsTrue, IfOk, IfSome, IfNone};
+ghost use Rattle.std.specs.List.{list_all};
+ghost use Rattle.sas_core.specs.Names.{is_name};
+ghost use Rattle.sas_task_format.specs.TaskFormat as format;
+ghost use Rattle.sas_task_format.specs.TaskProcess.{any, positive, name_in, number_in, fact_in, effect_in, head_in};
+ghost use Rattle.sas_task_line.specs.TaskRanges.{value_in, change_in, fact_in_ranges, effect_in_ranges, head_in_ranges};
+ghost use Rattle.sas_task_line.specs.TaskLine.{Says, SaysOrWants};
+ghost use Rattle.sas_task_line.specs.TaskWords.{Spells, TakesNumber, TakesSigned, TakesFact, TakesFacts, TakesHead};
+
+use sas_core::{Effect, Fact, Items, is_name};
+use sas_lines::{Numbers, number, signed};
+use sas_reader::Kind;
+use std::alloc::AllocError;
+
+/// The version of the format.
+const VERSION: u32 = 3;
+
+/// What the head of a rule says, or the end of an effect: its variable, the old value that it asks for, if any, and its
+/// new one.
+#[derive(Clone, Copy, Debug, PartialEq, Eq)]
+pub struct Change {
+    pub var: u32,
+    pub old: Option<u32>,
+    pub new: u32,
+}
+
+/// The fixed word.
+pub fn word_at(line: &[u8], word: &[u8]) -> Result<(), Kind>
+    ensures { Says (format.word_slot word.now) (λ _. true) (λ _. format.word word.now) line.now result }
+{
+    if line == word {
+        Ok(())
+    } else {
+        Err(Kind::Keyword)
+    }
+}
+
+/// A name: the line itself.
+pub fn name_at(line: &[u8]) -> Result<(), Kind>
+    ensures { Says format.name_slot (λ i. is_name (name_in i)) (λ _. format.name line.now) line.now result }
+{
+    if is_name(line) {
+        Ok(())
+    } else {
+        Err(Kind::Name)
+    }
+}
+
+/// A number.
+pub fn number_at(line: &[u8]) -> Result<u32, Kind>
+    ensures { Says format.number_slot (λ i. any (number_in i)) format.number line.now result }
+{
+    match number(line) {
+        Some(n) => Ok(n),
+        None => Err(Kind::Shape),
+    }
+}
+
+/// A number that isn't 0.
+pub fn positive_at(line: &[u8]) -> Result<u32, Kind>
+    ensures { Says format.number_slot (λ i. positive (number_in i)) format.number line.now result }
+{
+    match number(line) {
+        None => Err(Kind::Shape),
+        Some(0) => Err(Kind::Value),
+        Some(n) => Ok(n),
+    }
+}
+
+/// A number below a bound.
+pub fn number_below(line: &[u8], bound: usize) -> Result<u32, Kind>
+    ensures { Says format.number_slot (λ i. nat_lt (number_in i) bound) format.number line.now result }
+{
+    match number(line) {
+        None => Err(Kind::Shape),
+        Some(n) if (n as usize) < bound => Ok(n),
+        Some(_) => Err(Kind::Value),
+    }
+}
+
+/// The version.
+pub fn version_at(line: &[u8]) -> Result<u32, Kind>
+    ensures { Says format.number_slot (λ i. number_in i == 3) format.number line.now result }
+{
+    match number(line) {
+        None => Err(Kind::Shape),
+        Some(VERSION) => Ok(VERSION),
+        Some(_) => Err(Kind::Value),
+    }
+}
+
+/// A number, or none.
+pub fn signed_at(line: &[u8]) -> Result<Option<u32>, Kind>
+    ensures { Says format.signed_slot (λ _. true) format.signed line.now result }
+{
+    match signed(line) {
+        Some(n) => Ok(n),
+        None => Err(Kind::Shape),
+    }
+}
+
+/// The next part, as a number.
+fn take_number(parts: &mut Numbers<'_>) -> Option<u32>
+    ensures found { IfSome result (λ n. TakesNumber parts.old n parts.new) }
+    ensures none { IfNone result ((n : ℕ) (rest : List (List ℕ)) → TakesNumber parts.old n rest → ⊥) }
+{
+    match parts.next() {
+        Some(part) => number(part),
+        None => None,
+    }
+}
+
+/// The next part, as a number or none.
+fn take_signed(parts: &mut Numbers<'_>) -> Option<Option<u32>>
+    ensures found { IfSome result (λ n. TakesSigned parts.old n parts.new) }
+    ensures none { IfNone result ((n : Option ℕ) (rest : List (List ℕ)) → TakesSigned parts.old n rest → ⊥) }
+{
+    match parts.next() {
+        Some(part) => signed(part),
+        None => None,
+    }
+}
+
+/// The next two parts, as a fact.
+fn take_fact(parts: &mut Numbers<'_>) -> Option<Fact>
+    ensures found { IfSome result (λ f. TakesFact parts.old f parts.new) }
+    ensures none { IfNone result ((f : Fact) (rest : List (List ℕ)) → TakesFact parts.old f rest → ⊥) }
+{
+    let Some(var) = take_number(parts) else {
+        return None;
+    };
+    let Some(value) = take_number(parts) else {
+        return None;
+    };
+    Some(Fact { var, value })
+}
+
+/// Takes the next parts as so many facts: whether they are. Nothing is reserved for them, since a line may say any count
+/// and hold few parts.
+fn take_facts(
+    facts: &mut Items<Fact>,
+    parts: &mut Numbers<'_>,
+    count: u32,
+) -> Result<bool, AllocError>
+    ensures found { IfOk result (λ found. IsTrue found → TakesFacts parts.old count facts.new parts.new) }
+    ensures none { IfOk result (λ found. found ≡ false
+        → (facts : List Fact) (rest : List (List ℕ)) → TakesFacts parts.old count facts rest → ⊥) }
+{
+    facts.clear();
+    for _i in 0..count {
+        let Some(fact) = take_fact(parts) else {
+            return Ok(false);
+        };
+        facts.push(fact)?;
+    }
+    Ok(true)
+}
+
+/// The next three parts, as a change.
+fn take_change(parts: &mut Numbers<'_>) -> Option<Change>
+    ensures found { IfSome result (λ (c : Change). TakesHead parts.old c.var c.old c.new parts.new) }
+    ensures none { IfNone result ((var : ℕ) (old : Option ℕ) (new : ℕ) (rest : List (List ℕ))
+        → TakesHead parts.old var old new rest → ⊥) }
+{
+    let Some(var) = take_number(parts) else {
+        return None;
+    };
+    let Some(old) = take_signed(parts) else {
+        return None;
+    };
+    let Some(new) = take_number(parts) else {
+        return None;
+    };
+    Some(Change { var, old, new })
+}
+
+/// Whether no part is left.
+fn is_over(parts: &mut Numbers<'_>) -> bool
+    ensures { IsTrue result ↔ (parts.old ≡ []) }
+{
+    parts.next().is_none()
+}
+
+/// The fact that the line spells, whether it exists or not.
+fn fact_of(line: &[u8]) -> Option<Fact>
+    ensures found { IfSome result (λ f. Spells (format.fact f) line.now) }
+    ensures none { IfNone result ((f : Fact) → Spells (format.fact f) line.now → ⊥) }
+{
+    let mut parts = Numbers::new(line);
+    let Some(fact) = take_fact(&mut parts) else {
+        return None;
+    };
+    if is_over(&mut parts) {
+        Some(fact)
+    } else {
+        None
+    }
+}
+
+/// Takes the effect that the line spells, whether its facts exist or not: whether it spells one.
+fn effect_of(effect: &mut Effect, line: &[u8]) -> Result<bool, AllocError>
+    ensures found { IfOk result (λ found. IsTrue found → Spells (format.effect effect.exit.now) line.now) }
+    ensures none { IfOk result (λ found. found ≡ false → (e : Effect) → Spells (format.effect e) line.now → ⊥) }
+{
+    let mut parts = Numbers::new(line);
+    let Some(count) = take_number(&mut parts) else {
+        return Ok(false);
+    };
+    if !take_facts(&mut effect.conditions, &mut parts, count)? {
+        return Ok(false);
+    }
+    let Some(change) = take_change(&mut parts) else {
+        return Ok(false);
+    };
+    effect.var = change.var;
+    effect.old = change.old;
+    effect.new = change.new;
+    Ok(is_over(&mut parts))
+}
+
+/// The change that the line spells, whether its values exist or not.
+fn change_of(line: &[u8]) -> Option<Change>
+    ensures found { IfSome result (λ (c : Change). Spells (format.head c.var c.old c.new) line.now) }
+    ensures none { IfNone result ((var : ℕ) (old : Option ℕ) (new : ℕ) → Spells (format.head var old new) line.now → ⊥) }
+{
+    let mut parts = Numbers::new(line);
+    let Some(change) = take_change(&mut parts) else {
+        return None;
+    };
+    if is_over(&mut parts) {
+        Some(change)
+    } else {
+        None
+    }
+}
+
+/// Whether the variable exists and has the value, by the number of each variable's values.
+fn value_in(ranges: &Items<u32>, var: u32, value: u32) -> bool
+    ensures { result ≡ value_in ranges.now var value }
+{
+    match ranges.get(var as usize) {
+        Some(&range) => value < range,
+        None => false,
+    }
+}
+
+/// Whether the variable exists and has the new value and the old one, if any.
+fn change_in(ranges: &Items<u32>, var: u32, old: Option<u32>, new: u32) -> bool
+    ensures { result ≡ change_in ranges.now var old new }
+{
+    match old {
+        Some(old) => value_in(ranges, var, old) && value_in(ranges, var, new),
+        None => value_in(ranges, var, new),
+    }
+}
+
+/// Whether all facts exist.
+fn facts_in_ranges(ranges: &Items<u32>, facts: &Items<Fact>) -> bool
+    ensures { result ≡ list_all (fact_in_ranges ranges.now) facts.now }
+{
+    facts
+        .as_slice()
+        .iter()
+        .all(|fact| value_in(ranges, fact.var, fact.value))
+}
+
+/// Whether each fact of the effect exists.
+fn effect_in_ranges(ranges: &Items<u32>, effect: &Effect) -> bool
+    ensures { result ≡ effect_in_ranges ranges.now effect.now }
+{
+    facts_in_ranges(ranges, &effect.conditions)
+        && change_in(ranges, effect.var, effect.old, effect.new)
+}
+
+/// A fact that exists.
+pub fn fact_at(ranges: &Items<u32>, line: &[u8]) -> Result<Fact, Kind>
+    ensures { Says format.fact_slot (λ i. fact_in_ranges ranges.now (fact_in i)) format.fact line.now result }
+{
+    match fact_of(line) {
+        None => Err(Kind::Shape),
+        Some(fact) if value_in(ranges, fact.var, fact.value) => Ok(fact),
+        Some(_) => Err(Kind::Value),
+    }
+}
+
+/// Takes an effect of which each fact exists. Its conditions use the memory of those before, where no one took it.
+pub fn effect_at(effect: &mut Effect, ranges: &Items<u32>, line: &[u8]) -> Result<(), Kind>
+    ensures { SaysOrWants format.effect_slot (λ i. effect_in_ranges ranges.now (effect_in i))
+        (λ _. format.effect effect.exit.now) line.now result }
+{
+    // The whole line is read before a fact is looked up, since a wrong shape is told before a fact that doesn't exist.
+    match effect_of(effect, line) {
+        Err(_) => Err(Kind::Memory),
+        Ok(false) => Err(Kind::Shape),
+        Ok(true) if effect_in_ranges(ranges, effect) => Ok(()),
+        Ok(true) => Err(Kind::Value),
+    }
+}
+
+/// The head of a rule, of which each fact exists.
+pub fn head_at(ranges: &Items<u32>, line: &[u8]) -> Result<Change, Kind>
+    ensures { Says format.head_slot (λ i. head_in_ranges ranges.now (head_in i))
+        (λ (c : Change). format.head c.var c.old c.new) line.now result }
+{
+    match change_of(line) {
+        None => Err(Kind::Shape),
+        Some(change) if change_in(ranges, change.var, change.old, change.new) => Ok(change),
+        Some(_) => Err(Kind::Value),
+    }
+}

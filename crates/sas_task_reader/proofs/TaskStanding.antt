@@ -1,0 +1,57 @@
+-- What a reader of tasks stands for, in terms of the task format.
+use Rattle.std.proofs.Common.{◌≡◌, ℕ, ◌≤◌, List, length, sym, subst, Ok}
+use Rattle.std.proofs.Math.Logic.{∥∥₁_elim}
+use Rattle.std.proofs.Props.{props}
+use Rattle.sas_core.proofs.ChecksAreRules.{checks_are_the_rules}
+use Rattle.sas_core.specs.WellRanged.{WellRanged}
+use Rattle.sas_task_judge.specs.declared.so_far.SoFar.{SoFar}
+use Rattle.sas_task_judge.specs.declared.task_machine.TaskMachine.{TaskMachine}
+use Rattle.sas_reader.specs.Format.{Reads, ReadsAs}
+use Rattle.sas_task_format.specs.Process.{process_node}
+use Rattle.sas_reader.specs.Reader as reading
+use Rattle.sas_task_format.specs.TaskFormat.{task_format, TaskLineFits}
+use Rattle.sas_task_judge.specs.TaskJudge.{state_of, HasEnded, RejectsLine}
+use Rattle.sas_task_judge.specs.TaskMachine.{LedBy}
+use Rattle.sas_task_format.specs.TaskProcess.{task_start}
+use Rattle.sas_task_judge.specs.TaskMachine.{LedTo, EndedAt, RejectsAt}
+use Rattle.sas_reader.proofs.Conversion.{Follows, reads_of_format}
+use Rattle.sas_task_judge.proofs.TaskEnds.{ended_if_done, ends_with}
+use Rattle.sas_task_format.proofs.TaskGrammar.{task_grammar}
+use Rattle.sas_task_judge.proofs.TaskSteps.{done_is}
+
+module _ {K : Type 0} (keeps : List (List ℕ) → SoFar → K → Type 0) where
+  pub machine_follows : Follows task_format TaskLineFits process_node task_start (LedBy keeps) (λ (m : TaskMachine K). HasEnded m.judge) (λ (m : TaskMachine K) line kind. RejectsLine m.judge line kind)
+  machine_follows ls m h = record {
+    state = state_of m.judge h.so_far;
+    leads = h.leads;
+    value = λ d. (h.so_far.parts, ends_with m.judge h.so_far d);
+    is_ended = λ v e. ended_if_done m.judge h.so_far (done_is (state_of m.judge h.so_far) v e);
+    refuses = λ line k going_on r. r h.so_far h.known;
+  }
+
+  -- where it has ended, what has come is what the bytes are read as
+  pub reads_so_far : (m : TaskMachine K) (bytes : List ℕ) (h : reading.Reached (LedBy keeps) (λ (n : TaskMachine K). HasEnded n.judge) m bytes) → HasEnded m.judge → Reads task_format bytes h.led.so_far.parts
+  unfolding machine_follows
+  reads_so_far m bytes h d = reads_of_format task_format TaskLineFits process_node task_start task_grammar (LedBy keeps) _ _ machine_follows m h.led.so_far.parts bytes h (ends_with m.judge h.led.so_far d)
+
+-- the reader keeps all
+pub reader_follows : Follows task_format TaskLineFits process_node task_start LedTo EndedAt RejectsAt
+reader_follows = machine_follows (λ lines s kept. kept ≡ s)
+
+-- ---- the end
+
+-- where the machine has ended, its parts are what the bytes are read as
+pub reads_parts : (m : TaskMachine SoFar) (bytes : List ℕ) → reading.Reached LedTo EndedAt m bytes → EndedAt m → Reads task_format bytes m.kept.parts
+reads_parts m bytes h d = subst (λ (s : SoFar). Reads task_format bytes s.parts) (sym h.led.kept) (reads_so_far (λ lines s kept. kept ≡ s) m bytes h d)
+
+pub well_ranged : (m : TaskMachine SoFar) (bytes : List ℕ) → reading.Reached LedTo EndedAt m bytes → EndedAt m → WellRanged m.kept.parts
+well_ranged m bytes h d = (reads_parts m bytes h d).good
+
+pub read_task_parts : (limit : ℕ) (m : TaskMachine SoFar) (bytes : List ℕ) → EndedAt m → reading.Reached LedTo EndedAt m bytes × (length bytes ≤ limit) → ReadsAs task_format limit bytes (Ok m.kept.parts)
+read_task_parts limit m bytes d h = (reads_parts m bytes h.0 d, h.1)
+
+-- where it was led by some lines to its end, its parts are well ranged
+pub ranged : (m : TaskMachine SoFar) → ∥ ((bytes : List ℕ) × reading.Reached LedTo EndedAt m bytes) ∥₁ → EndedAt m → WellRanged m.kept.parts
+ranged m led d =
+    let law = checks_are_the_rules m.kept.parts in
+    law.0 (∥∥₁_elim led (hlevel props) (λ (h : (bytes : List ℕ) × reading.Reached LedTo EndedAt m bytes). law.1 (well_ranged m h.0 h.1 d)))

@@ -1,0 +1,52 @@
+use Rattle.std.proofs.Common.{◌≡◌, ◌-◌, ◌^◌, List, ℕ, length, arith, ap, ◌∙◌}
+use Rattle.std.specs.Prelude.{min}
+use Rattle.sas_core.specs.Numbers.{IsNumber}
+use Rattle.sas_core.specs.WellRanged.{WellRanged}
+use Rattle.sas_task_reader.specs.declared.task_outline.TaskOutline.{TaskOutline}
+use Rattle.sas_task_reader.specs.Outline.{outline_of}
+use Rattle.sas_task_reader.specs.TaskOutline.{outline_in, seen}
+use Rattle.sas_reader.specs.declared.fault.Kind.{Kind}
+use Rattle.sas_task_judge.specs.declared.so_far.SoFar.{SoFar}
+use Rattle.sas_task_judge.specs.declared.task_machine.TaskMachine.{TaskMachine}
+use Rattle.sas_task_judge.specs.TaskJudge.{HasEnded, RejectsLine}
+use Rattle.sas_task_judge.specs.TaskMachine.{LedBy}
+use Rattle.sas_task_reader.proofs.TaskStanding.{machine_follows, reads_so_far}
+use Rattle.sas_task_format.specs.Process.{process_node}
+use Rattle.sas_task_format.specs.TaskFormat.{task_format, TaskLineFits}
+use Rattle.sas_task_format.specs.TaskProcess.{task_start}
+use Rattle.sas_task_format.proofs.TaskGrammar.{task_grammar}
+use Rattle.sas_reader.proofs.Reading.{reads_all, refuses_all}
+use Rattle.sas_task_reader.proofs.outline.read_outline.Goals as goal
+
+-- what the machine keeps
+abbrev Keeps : List (List ℕ) → SoFar → TaskOutline → Type 0
+Keeps lines s kept = kept ≡ seen s
+
+abbrev Ended : TaskMachine TaskOutline → Type 0
+Ended m = HasEnded m.judge
+
+abbrev Refused : TaskMachine TaskOutline → List ℕ → Kind → Type 0
+Refused m line kind = RejectsLine m.judge line kind
+
+-- a number is counted as it is
+counted_number : (n : ℕ) → IsNumber n → min n (2 ^ 32 - 1) ≡ n
+counted_number n h = omega (arith, h)
+
+-- of a task that is well ranged the outline is what was seen of it
+outline_is : (s : SoFar) → WellRanged s.parts → outline_in (seen s) ≡ outline_of s.parts
+outline_is s w =
+    ap (λ (n : ℕ). record (outline_in (seen s)) { groups = n }) (counted_number (length s.parts.groups) w.groups.count)
+    ∙ ap (λ (n : ℕ). record (outline_in (seen s)) { groups = length s.parts.groups; operators = n }) (counted_number (length s.parts.operators) w.operators.count)
+    ∙ ap (λ (n : ℕ). record (outline_of s.parts) { rules = n }) (counted_number (length s.parts.rules) w.rules.count)
+
+pub new-machine-requires : goal.new-machine-requires
+new-machine-requires g c = (c.args.alloc, c.new.ensures)
+
+pub returns-in-Ok : goal.returns-in-Ok
+returns-in-Ok g c =
+    reads_all task_format TaskLineFits process_node task_start task_grammar (LedBy Keeps) Ended Refused (machine_follows Keeps) g.R.Read.remaining _ _ _ _ _ c.in-Ok.ensures (λ b reached short.
+    let reads = reads_so_far Keeps c.in-Ok.machine b reached c.in-Ok.ensures.at_end in
+    (reached.led.so_far.parts, (reads, short), c.into_outline.ensures ∙ ap outline_in (c.into_kept.ensures ∙ reached.led.kept) ∙ outline_is reached.led.so_far reads.good))
+
+pub returns-in-Err : goal.returns-in-Err
+returns-in-Err g c = refuses_all task_format TaskLineFits process_node task_start task_grammar (LedBy Keeps) Ended Refused (machine_follows Keeps) g.R.Read.remaining _ _ _ c.in-Err.fault c.in-Err.ensures

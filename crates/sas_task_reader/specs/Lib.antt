@@ -1,0 +1,3 @@
+pub mod Outline
+pub mod TaskOutline
+pub mod TaskReader

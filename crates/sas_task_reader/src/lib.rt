@@ -1,0 +1,12 @@
+//! The task file, read in pieces with each fault at its exact place.
+#![tactic(auto)]
+
+mod outline;
+mod task;
+mod task_outline;
+mod task_reader;
+mod task_text;
+
+pub use outline::{Outline, read_outline};
+pub use task::{read_task, read_task_text};
+pub use task_reader::TaskReader;

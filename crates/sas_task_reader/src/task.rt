@@ -1,0 +1,41 @@
+// Task files: read from a device.
+ghost use Rattle.std.specs.Prelude.{◌≡◌, false};
+ghost use Rattle.sas_reader.specs.Devices.{ReadsAll, ValueOf, TextOf};
+ghost use Rattle.sas_task_format.specs.TaskFormat.{task_format};
+
+use crate::task_text::TaskText;
+use sas_core::Task;
+use sas_lines::Watched;
+use sas_reader::{Fault, LIMIT, read_all};
+use sas_task_judge::{SoFar, TaskMachine};
+use std::alloc::Global;
+use std::io::Read;
+
+/// Reads a task from a device: in pieces of at most 4,096 bytes, to its end or to the first fault. A failed read is told as
+/// `Kind::Read`, want of memory as `Kind::Memory`. Not to be called with a device that has failed.
+///
+/// What is said of the bytes is said of those that the device tells (`remaining`). A reader over memory tells them. A file
+/// or standard input tells none, and then nothing more is said than that there are such bytes.
+pub fn read_task<R: Read>(alloc: Global, reader: &mut Watched<R>) -> Result<Task, Fault>
+    requires { reader.old.failed ≡ false }
+    ensures { ReadsAll R.remaining task_format (ValueOf task_format) reader.old reader.new result }
+{
+    let machine = TaskMachine::new(alloc, SoFar::new(alloc));
+    match read_all(alloc, machine, LIMIT, reader) {
+        Ok(machine) => Ok(Task::of_parts(machine.into_kept().into_parts())),
+        Err(fault) => Err(fault),
+    }
+}
+
+/// Reads a task from a device as `read_task` does, and gives its text: its lines, each ended by LF. It keeps no task.
+/// The faults are those of `read_task`.
+pub fn read_task_text<R: Read>(alloc: Global, reader: &mut Watched<R>) -> Result<Vec<u8>, Fault>
+    requires { reader.old.failed ≡ false }
+    ensures { ReadsAll R.remaining task_format (λ b t. TextOf task_format b t.items) reader.old reader.new result }
+{
+    let machine = TaskMachine::new(alloc, TaskText::new(alloc));
+    match read_all(alloc, machine, LIMIT, reader) {
+        Ok(machine) => Ok(machine.into_kept().into_text()),
+        Err(fault) => Err(fault),
+    }
+}

@@ -1,0 +1,58 @@
+// Reads a task that comes in pieces.
+ghost use Rattle.std.specs.Prelude.{◌≤◌, ℕ, List};
+ghost use Rattle.sas_reader.specs.Limit.{most_bytes};
+ghost use Rattle.sas_reader.specs.Reader as reading;
+ghost use Rattle.sas_reader.specs.Reading.{Starts, Feeds, Finishes};
+ghost use Rattle.sas_task_judge.specs.TaskMachine.{LedTo, EndedAt, RejectsAt};
+
+use sas_core::Task;
+use sas_reader::{Fault, LIMIT, Reader};
+use sas_task_judge::{SoFar, TaskMachine};
+use std::alloc::Global;
+
+/// Reads a task file that comes in pieces, cut anywhere.
+#[derive(Drop)]
+pub struct TaskReader {
+    reader: Reader<TaskMachine<SoFar>>,
+    // It stands for some bytes: those that it has taken.
+    ghost some: { ∥ ((bytes : List ℕ) × reading.Stands LedTo EndedAt RejectsAt reader bytes) ∥₁ },
+}
+
+impl TaskReader {
+    ghost use Rattle.sas_task_reader.specs.TaskReader.{task_view};
+
+    /// Nothing has come, and 4 GiB may. It takes no memory.
+    pub fn new(alloc: Global) -> Self
+        ensures { Starts task_view most_bytes result }
+    {
+        TaskReader::within(alloc, LIMIT)
+    }
+
+    /// The same, for at most `limit` bytes.
+    pub(crate) fn within(alloc: Global, limit: u64) -> Self
+        requires { limit ≤ most_bytes }
+        ensures { Starts task_view limit result }
+    {
+        TaskReader {
+            reader: Reader::new(alloc, TaskMachine::new(alloc, SoFar::new(alloc)), limit),
+        }
+    }
+
+    /// Takes the next piece. The first fault is answered from then on, and no byte behind it is looked at.
+    pub fn feed(&mut self, piece: &[u8]) -> Result<(), Fault>
+        ensures { Feeds task_view self.old piece.now self.new result }
+    {
+        self.reader.feed(piece)
+    }
+
+    /// The task, once all has come. It takes no memory: want of memory is answered only where `feed` answered it.
+    pub fn finish(self) -> Result<Task, Fault>
+        ensures { Finishes task_view self result }
+    {
+        let TaskReader { reader } = self;
+        match reader.finish() {
+            Ok(machine) => Ok(Task::of_parts(machine.into_kept().into_parts())),
+            Err(fault) => Err(fault),
+        }
+    }
+}

@@ -1,0 +1,6 @@
+//! The task file, written.
+#![tactic(auto)]
+
+mod task_writer;
+
+pub use task_writer::encode_task;

@@ -1,8 +1,0 @@
-use Rattle.std.proofs.Common.{◌≡◌, map, take}
-use Rattle.sas_lines.specs.Lines.{text}
-use Rattle.sas_text.specs.PlanFormat.{plan_line_bytes, step}
-use Rattle.sas_text.proofs.plan.encode_plan.Given as goal
-
--- the lines of the steps so far
-abbrev pub invariant-loop-name : goal.invariant-loop-name
-invariant-loop-name l = l.out.items ≡ text (map plan_line_bytes (map step (take l.name-index l.name-items)))

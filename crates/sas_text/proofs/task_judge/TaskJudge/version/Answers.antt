@@ -1,7 +1,0 @@
-use Rattle.std.proofs.Common.{refl, ap}
-use Rattle.sas_text.specs.TaskJudge.{state_at}
-use Rattle.sas_text.proofs.TaskMoves.{on}
-use Rattle.sas_text.proofs.task_judge.TaskJudge.version.Goals as goal
-
-pub returns : goal.returns
-returns c = λ s f. (record { ranges = f.ranges; valued = f.valued; range = λ h. absurd cc }, on _ _ _ _ _ _ _ (ap (λ place. state_at place c.args.self.now.left c.args.self.now.more s) c.requires.place) c.in_ok-_version.ensures refl)

@@ -1,6 +1,0 @@
--- The facts so far stood before what is left.
-use Rattle.sas_text.specs.TaskWords.{TakesFacts}
-use Rattle.sas_text.proofs.task_line.take_facts.Given as goal
-
-abbrev pub invariant-loop-i : goal.invariant-loop-i
-invariant-loop-i l = TakesFacts l.fn.parts l._i l.facts l.parts
