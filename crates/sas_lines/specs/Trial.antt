@@ -21,7 +21,7 @@ pub record Narrowed : Type 0 where
   pub fails : Bool
 
 -- its next write fails: it has taken all that it takes
-pub record Refuses (n : Narrowed) : Type 0 where
+pub record IsSpent (n : Narrowed) : Type 0 where
   pub full : n.room ≤ length n.kept
   pub fails : n.fails ≡ true
 

@@ -3,7 +3,7 @@ ghost use Rattle.std.specs.Prelude.{◌≡◌, ◌++◌, [], Some, Ok, length, m
 ghost use Rattle.std.specs.Io.{ReadsAtMost, WritesAtMost};
 ghost use Rattle.std.specs.Io.KnownBytes.{Keeps, ReadConsumes, WriteAppends};
 ghost use Rattle.std.specs.IoError.{error_kind};
-ghost use Rattle.sas_lines.specs.Trial.{Breaking, Narrowed, Refuses, break_kind, count_taken};
+ghost use Rattle.sas_lines.specs.Trial.{Breaking, Narrowed, IsSpent, break_kind, count_taken};
 
 use std::alloc::{AllocError, Global};
 use std::io;
@@ -108,9 +108,9 @@ impl Write for Narrow {
     fn write(&mut self, buf: &[u8]) -> io::Result<usize>
         ensures bound { WritesAtMost result buf.now }
         ensures bytes { WriteAppends (Some self.old.kept) (Some self.new.kept) result buf.now }
-        ensures count { (Refuses self.old → ⊥) → result ≡ Ok (count_taken self.old (length buf.now)) }
+        ensures count { (IsSpent self.old → ⊥) → result ≡ Ok (count_taken self.old (length buf.now)) }
         ensures kept { IfOk result (λ n. self.new ≡ record self.old { kept = self.old.kept ++ take n buf.now }) }
-        ensures fails { Refuses self.old → IsErrAnd result (λ e. error_kind e ≡ ErrorKind.Other) }
+        ensures fails { IsSpent self.old → IsErrAnd result (λ e. error_kind e ≡ ErrorKind.Other) }
         ensures unchanged { OnErr result (self.new ≡ self.old) }
     {
         let left = self.room - self.kept.len();
