@@ -18,6 +18,7 @@ import subprocess
 import sys
 from concurrent.futures import ThreadPoolExecutor
 
+import report
 from texts import as_bytes, changed_lines, table
 
 SECONDS = 60
@@ -122,12 +123,7 @@ def main():
     program, calls = os.path.abspath(sys.argv[1]), cases()
     with ThreadPoolExecutor(os.cpu_count()) as pool:
         wrong = list(pool.map(lambda call: faults(program, call), calls))
-    for call, found in zip(calls, wrong):
-        if found:
-            print(f"FAILED {call['name']}: {'; '.join(found)}")
-    failed = sum(map(bool, wrong))
-    print(f"{len(calls) - failed} passed, {failed} failed")
-    sys.exit(1 if failed else 0)
+    report.end(calls, wrong)
 
 
 if __name__ == "__main__":

@@ -37,6 +37,7 @@ import sys
 import tempfile
 from concurrent.futures import ThreadPoolExecutor
 
+import report
 from texts import TOP, as_bytes, changed_lines, early_end, table
 
 SECONDS = 60
@@ -187,12 +188,7 @@ def main():
         cases = [*task_cases(), *line_cases(), *plan_cases(plans), *table("program.json")]
         with ThreadPoolExecutor(os.cpu_count()) as pool:
             wrong = list(pool.map(lambda case: faults(program, case, folder), cases))
-    for case, found in zip(cases, wrong):
-        if found:
-            print(f"FAILED {case['name']}: {'; '.join(found)}")
-    failed = sum(map(bool, wrong))
-    print(f"{len(cases) - failed} passed, {failed} failed")
-    sys.exit(1 if failed else 0)
+    report.end(cases, wrong)
 
 
 main()
