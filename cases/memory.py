@@ -14,9 +14,9 @@ Each call that fails has a line, and the last line is 'N passed, M failed'. The 
 import os
 import re
 import subprocess
-import sys
 import tempfile
 
+import report
 from texts import TOP, as_bytes, table
 
 REFUSED = 100
@@ -61,15 +61,13 @@ def outcome(said, answer):
 
 
 def main():
-    failed, calls = 0, list(refused_calls())
+    calls = list(refused_calls())
     said = answers(calls)
+    wrong = []
     for number, call in enumerate(calls):
         came = "".join(outcome(said.get(f"{number} {run}"), call["answer"]) for run in range(call["runs"]))
-        if not re.fullmatch("b*w+a+", came):
-            failed += 1
-            print(f"FAILED {call['name']}: {came}")
-    print(f"{len(calls) - failed} passed, {failed} failed")
-    sys.exit(1 if failed else 0)
+        wrong.append([] if re.fullmatch("b*w+a+", came) else [came])
+    report.end(calls, wrong)
 
 
 main()
