@@ -19,7 +19,7 @@ use Rattle.sas_core.specs.WellRanged.{Listed, VariableFits, EffectFits, Operator
 use Rattle.sas_core.specs.Checks.{Check, first_fault, check, listed, name_checks, signed_checks, variable_checks, fact_checks, change_checks, effect_checks, operator_checks, rule_checks, values_in_range, state_checks, checks, ChecksAreTheRules}
 
 -- no check of these fails
-record Pass (row : List Check) : Type 0 where
+record Pass (row : List (Check PartsFault)) : Type 0 where
   pub none : first_fault row ≡ None
 
 check_passes : (passes : Bool) (e : PartsFault) → Pass (check passes e) → passes ≡ true
@@ -42,16 +42,16 @@ none_in_both : (passes : Bool) (e : PartsFault) (x both : Option PartsFault) →
 none_in_both true e x both join none = join none
 none_in_both false e x both join none = absurd (cc)
 
-split_row : (a b : List Check) → first_fault (a ++ b) ≡ None → (first_fault a ≡ None) × (first_fault b ≡ None)
+split_row : (a b : List (Check PartsFault)) → first_fault (a ++ b) ≡ None → (first_fault a ≡ None) × (first_fault b ≡ None)
 split_row [] b none = (refl, none)
 split_row (c ∷ a) b none = both_none c.passes c.fault (first_fault a) (first_fault b) (first_fault (a ++ b)) (split_row a b) none
 
-join_row : (a b : List Check) → first_fault a ≡ None → first_fault b ≡ None → first_fault (a ++ b) ≡ None
+join_row : (a b : List (Check PartsFault)) → first_fault a ≡ None → first_fault b ≡ None → first_fault (a ++ b) ≡ None
 join_row [] b a_none b_none = b_none
 join_row (c ∷ a) b a_none b_none = none_in_both c.passes c.fault (first_fault a) (first_fault (a ++ b)) (λ none. join_row a b none b_none) a_none
 
 -- one section, and another behind it
-and_then : (a b : List Check) (P Q : Type 0) → Pass a ↔ P → Pass b ↔ Q → Pass (a ++ b) ↔ (P × Q)
+and_then : (a b : List (Check PartsFault)) (P Q : Type 0) → Pass a ↔ P → Pass b ↔ Q → Pass (a ++ b) ↔ (P × Q)
 and_then a b P Q first second = (
   λ pass. (first.0 (record { none = (split_row a b pass.none).0 }), second.0 (record { none = (split_row a b pass.none).1 })),
   λ p. record { none = join_row a b (first.1 p.0).none (second.1 p.1).none },
@@ -69,12 +69,12 @@ value variables var v = by_test (has_value variables var v) BadFact (HasValue va
 some : (n : ℕ) (e : PartsFault) → Pass (check (not (n == 0)) e) ↔ (0 < n)
 some n e = by_test (not (n == 0)) e (0 < n) (λ is. grind (arith, nat_tests)) (λ below. grind (arith, nat_tests))
 
-module _ {A : Type 0} (checks_of : A → List Check) (Follows : A → Type 0) (same : (item : A) → Pass (checks_of item) ↔ Follows item) where
+module _ {A : Type 0} (checks_of : A → List (Check PartsFault)) (Follows : A → Type 0) (same : (item : A) → Pass (checks_of item) ↔ Follows item) where
   each_follows : (items : List A) → Pass (flat_map checks_of items) ↔ AllByRecursion Follows items
   each_follows [] = (λ pass. tt, λ p. record { none = refl })
   each_follows (item ∷ items) = and_then (checks_of item) (flat_map checks_of items) (Follows item) (AllByRecursion Follows items) (same item) (each_follows items)
 
-  listed_follow : (items : List A) → Pass (listed checks_of items) ↔ Listed Follows items
+  listed_follow : (items : List A) → Pass (listed TooMany checks_of items) ↔ Listed Follows items
   listed_follow items =
       let both = and_then (check (is_number (length items)) TooMany) (flat_map checks_of items) (IsNumber (length items)) (AllByRecursion Follows items) (number (length items) TooMany) (each_follows items) in (
         λ pass. record { count = (both.0 pass).0; each = (both.0 pass).1 },
@@ -89,7 +89,7 @@ variable_fits : (v : Variable) → Pass (variable_checks v) ↔ VariableFits v
 variable_fits v =
     let named = and_then (name_checks v.name) (signed_checks v.layer) (IsName v.name) (IsSigned v.layer) (name v.name) (signed v.layer) in
     let ranged = and_then (name_checks v.name ++ signed_checks v.layer) (check (not (length v.values == 0)) BadRange) _ _ named (some (length v.values) BadRange) in
-    let all = and_then (name_checks v.name ++ signed_checks v.layer ++ check (not (length v.values == 0)) BadRange) (listed name_checks v.values) _ _ ranged (listed_follow name_checks IsName name v.values) in (
+    let all = and_then (name_checks v.name ++ signed_checks v.layer ++ check (not (length v.values == 0)) BadRange) (listed TooMany name_checks v.values) _ _ ranged (listed_follow name_checks IsName name v.values) in (
       λ pass.
           let p = all.0 pass in
           record { name = p.0.0.0; layer = p.0.0.1; some_value = p.0.1; values = p.1 },
@@ -100,7 +100,7 @@ module _ (variables : List Variable) where
   fact : (f : Fact) → Pass (fact_checks variables f) ↔ FactExists variables f
   fact f = value variables f.var f.value
 
-  facts : (fs : List Fact) → Pass (listed (fact_checks variables) fs) ↔ Listed (FactExists variables) fs
+  facts : (fs : List Fact) → Pass (listed TooMany (fact_checks variables) fs) ↔ Listed (FactExists variables) fs
   facts = listed_follow (fact_checks variables) (FactExists variables) fact
 
   change : (var : ℕ) (old : Option ℕ) (new : ℕ) → Pass (change_checks variables var old new) ↔ (MayHaveValue variables var old × HasValue variables var new)
@@ -113,7 +113,7 @@ module _ (variables : List Variable) where
 
   effect_fits : (e : Effect) → Pass (effect_checks variables e) ↔ EffectFits variables e
   effect_fits e =
-      let all = and_then (listed (fact_checks variables) e.conditions) (change_checks variables e.var e.old e.new) _ _ (facts e.conditions) (change e.var e.old e.new) in (
+      let all = and_then (listed TooMany (fact_checks variables) e.conditions) (change_checks variables e.var e.old e.new) _ _ (facts e.conditions) (change e.var e.old e.new) in (
         λ pass.
             let p = all.0 pass in
             record { conditions = p.0; old = p.1.0; new = p.1.1 },
@@ -122,7 +122,7 @@ module _ (variables : List Variable) where
 
   rule_fits : (r : Rule) → Pass (rule_checks variables r) ↔ RuleFits variables r
   rule_fits r =
-      let all = and_then (listed (fact_checks variables) r.conditions) (change_checks variables r.var r.old r.new) _ _ (facts r.conditions) (change r.var r.old r.new) in (
+      let all = and_then (listed TooMany (fact_checks variables) r.conditions) (change_checks variables r.var r.old r.new) _ _ (facts r.conditions) (change r.var r.old r.new) in (
         λ pass.
             let p = all.0 pass in
             record { conditions = p.0; old = p.1.0; new = p.1.1 },
@@ -131,9 +131,9 @@ module _ (variables : List Variable) where
 
   operator_fits : (o : Operator) → Pass (operator_checks variables o) ↔ OperatorFits variables o
   operator_fits o =
-      let prevail = and_then (name_checks o.name) (listed (fact_checks variables) o.prevail) _ _ (name o.name) (facts o.prevail) in
-      let effects = and_then (name_checks o.name ++ listed (fact_checks variables) o.prevail) (listed (effect_checks variables) o.effects) _ _ prevail (listed_follow (effect_checks variables) (EffectFits variables) effect_fits o.effects) in
-      let all = and_then (name_checks o.name ++ listed (fact_checks variables) o.prevail ++ listed (effect_checks variables) o.effects) (check (is_number o.cost) BadNumber) _ _ effects (number o.cost BadNumber) in (
+      let prevail = and_then (name_checks o.name) (listed TooMany (fact_checks variables) o.prevail) _ _ (name o.name) (facts o.prevail) in
+      let effects = and_then (name_checks o.name ++ listed TooMany (fact_checks variables) o.prevail) (listed TooMany (effect_checks variables) o.effects) _ _ prevail (listed_follow (effect_checks variables) (EffectFits variables) effect_fits o.effects) in
+      let all = and_then (name_checks o.name ++ listed TooMany (fact_checks variables) o.prevail ++ listed TooMany (effect_checks variables) o.effects) (check (is_number o.cost) BadNumber) _ _ effects (number o.cost BadNumber) in (
         λ pass.
             let p = all.0 pass in
             record { name = p.0.0.0; prevail = p.0.0.1; effects = p.0.1; cost = p.1 },
@@ -169,17 +169,17 @@ sections : (p : Parts) → Pass (checks p) ↔ WellRanged p
 sections p =
     let variables = p.variables in
     let some_variable = check (not (length variables == 0)) NoVariable in
-    let to_variables = some_variable ++ listed variable_checks variables in
-    let to_groups = to_variables ++ listed (listed (fact_checks variables)) p.groups in
+    let to_variables = some_variable ++ listed TooMany variable_checks variables in
+    let to_groups = to_variables ++ listed TooMany (listed TooMany (fact_checks variables)) p.groups in
     let to_state = to_groups ++ state_checks variables p.init in
-    let to_goal = to_state ++ listed (fact_checks variables) p.goal in
-    let to_operators = to_goal ++ listed (operator_checks variables) p.operators in
-    let variables_fit = and_then some_variable (listed variable_checks variables) _ _ (some (length variables) NoVariable) (listed_follow variable_checks VariableFits variable_fits variables) in
-    let groups_fit = and_then to_variables (listed (listed (fact_checks variables)) p.groups) _ _ variables_fit (listed_follow (listed (fact_checks variables)) (Listed (FactExists variables)) (facts variables) p.groups) in
+    let to_goal = to_state ++ listed TooMany (fact_checks variables) p.goal in
+    let to_operators = to_goal ++ listed TooMany (operator_checks variables) p.operators in
+    let variables_fit = and_then some_variable (listed TooMany variable_checks variables) _ _ (some (length variables) NoVariable) (listed_follow variable_checks VariableFits variable_fits variables) in
+    let groups_fit = and_then to_variables (listed TooMany (listed TooMany (fact_checks variables)) p.groups) _ _ variables_fit (listed_follow (listed TooMany (fact_checks variables)) (Listed (FactExists variables)) (facts variables) p.groups) in
     let state_fits = and_then to_groups (state_checks variables p.init) _ _ groups_fit (state variables p.init) in
-    let goal_fits = and_then to_state (listed (fact_checks variables) p.goal) _ _ state_fits (facts variables p.goal) in
-    let operators_fit = and_then to_goal (listed (operator_checks variables) p.operators) _ _ goal_fits (listed_follow (operator_checks variables) (OperatorFits variables) (operator_fits variables) p.operators) in
-    let all = and_then to_operators (listed (rule_checks variables) p.rules) _ _ operators_fit (listed_follow (rule_checks variables) (RuleFits variables) (rule_fits variables) p.rules) in (
+    let goal_fits = and_then to_state (listed TooMany (fact_checks variables) p.goal) _ _ state_fits (facts variables p.goal) in
+    let operators_fit = and_then to_goal (listed TooMany (operator_checks variables) p.operators) _ _ goal_fits (listed_follow (operator_checks variables) (OperatorFits variables) (operator_fits variables) p.operators) in
+    let all = and_then to_operators (listed TooMany (rule_checks variables) p.rules) _ _ operators_fit (listed_follow (rule_checks variables) (RuleFits variables) (rule_fits variables) p.rules) in (
       λ pass.
           let q = all.0 pass in
           record {

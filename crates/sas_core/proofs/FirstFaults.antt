@@ -7,31 +7,31 @@ use Rattle.sas_core.specs.declared.checks.PartsFault.TheVariants.{TooMany}
 use Rattle.sas_core.specs.Numbers.{is_number}
 use Rattle.sas_core.specs.Checks.{Check, first_fault, check, listed}
 
-fails_first : (passes : Bool) (d e : PartsFault) (rest whole : Option PartsFault) → (Some e ≡ rest → Some e ≡ whole) → Some e ≡ (if passes then rest else Some d) → Some e ≡ (if passes then whole else Some d)
+fails_first : {F : Type 0} (passes : Bool) (d e : F) (rest whole : Option F) → (Some e ≡ rest → Some e ≡ whole) → Some e ≡ (if passes then rest else Some d) → Some e ≡ (if passes then whole else Some d)
 fails_first true d e rest whole later some = later some
 fails_first false d e rest whole later some = some
 
-passes_first : (passes : Bool) (d : PartsFault) (rest whole found : Option PartsFault) → (None ≡ rest → found ≡ whole) → None ≡ (if passes then rest else Some d) → found ≡ (if passes then whole else Some d)
+passes_first : {F : Type 0} (passes : Bool) (d : F) (rest whole found : Option F) → (None ≡ rest → found ≡ whole) → None ≡ (if passes then rest else Some d) → found ≡ (if passes then whole else Some d)
 passes_first true d rest whole found later none = later none
 passes_first false d rest whole found later none = absurd (cc)
 
 -- where a check of a row fails, those behind it don't count
-pub fails_before : (a b : List Check) (e : PartsFault) → Some e ≡ first_fault a → Some e ≡ first_fault (a ++ b)
+pub fails_before : {F : Type 0} (a b : List (Check F)) (e : F) → Some e ≡ first_fault a → Some e ≡ first_fault (a ++ b)
 fails_before [] b e some = absurd (cc)
 fails_before (c ∷ a) b e some = fails_first c.passes c.fault e (first_fault a) (first_fault (a ++ b)) (fails_before a b e) some
 
 -- where no check of a row fails, those behind it decide
-pub decides_after : (a b : List Check) (found : Option PartsFault) → None ≡ first_fault a → found ≡ first_fault b → found ≡ first_fault (a ++ b)
+pub decides_after : {F : Type 0} (a b : List (Check F)) (found : Option F) → None ≡ first_fault a → found ≡ first_fault b → found ≡ first_fault (a ++ b)
 decides_after [] b found none later = later
 decides_after (c ∷ a) b found none later =
     passes_first c.passes c.fault (first_fault a) (first_fault (a ++ b)) found (λ rest. decides_after a b found rest later) none
 
 -- the items before place i pass, so the first fault is that of the items from i on
-pub record PassBefore {A : Type 0} (checks_of : A → List Check) (items : List A) (i : ℕ) : Type 0 where
-  pub rest_decides : first_fault (listed checks_of items) ≡ first_fault (flat_map checks_of (drop i items))
+pub record PassBefore {A : Type 0} (checks_of : A → List (Check PartsFault)) (items : List A) (i : ℕ) : Type 0 where
+  pub rest_decides : first_fault (listed TooMany checks_of items) ≡ first_fault (flat_map checks_of (drop i items))
 
 -- a list, and what is read of it
-module _ {A : Type 0} (checks_of : A → List Check) (items read : List A) (same : read ≡ items) where
+module _ {A : Type 0} (checks_of : A → List (Check PartsFault)) (items read : List A) (same : read ≡ items) where
   -- the count is a number
   pub pass_before_first : None ≡ first_fault (check (is_number (length items)) TooMany) → PassBefore checks_of items 0
   pass_before_first count = record {
@@ -39,7 +39,7 @@ module _ {A : Type 0} (checks_of : A → List Check) (items read : List A) (same
   }
 
   -- no item is left
-  pub pass_all : (i : ℕ) → length read ≤ i → PassBefore checks_of items i → None ≡ first_fault (listed checks_of items)
+  pub pass_all : (i : ℕ) → length read ≤ i → PassBefore checks_of items i → None ≡ first_fault (listed TooMany checks_of items)
   pass_all i past before =
       sym
       (before.rest_decides
@@ -62,7 +62,7 @@ module _ {A : Type 0} (checks_of : A → List Check) (items read : List A) (same
     }
 
     -- the item at place i fails
-    pub fails_at : (e : PartsFault) → Some e ≡ first_fault (checks_of item) → Some e ≡ first_fault (listed checks_of items)
+    pub fails_at : (e : PartsFault) → Some e ≡ first_fault (checks_of item) → Some e ≡ first_fault (listed TooMany checks_of items)
     fails_at e some =
         fails_before (checks_of item) (flat_map checks_of (drop (i + 1) items)) e some
         ∙ sym (before.rest_decides ∙ ap (λ rest. first_fault (flat_map checks_of rest)) at_item)

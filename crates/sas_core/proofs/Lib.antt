@@ -3,3 +3,4 @@ pub mod BadNames
 pub mod FirstFaults
 pub mod ChecksAreRules
 pub mod SameParts
+pub mod Places

@@ -15,79 +15,79 @@ use Rattle.sas_core.specs.Variables.{has_value, fact_exists}
 use Rattle.sas_core.specs.WellRanged.{WellRanged}
 
 -- a test of some parts, and what is wrong with them where it fails
-pub record Check : Type 0 where
+pub record Check (F : Type 0) : Type 0 where
   pub passes : Bool
-  pub fault : PartsFault
+  pub fault : F
 
 -- the fault of the first check that fails
-abbrev pub first_fault : List Check → Option PartsFault
+abbrev pub first_fault : {F : Type 0} → List (Check F) → Option F
 first_fault [] = None
 first_fault (check ∷ checks) = if check.passes then first_fault checks else Some check.fault
 
 -- one check
-abbrev pub check : Bool → PartsFault → List Check
+abbrev pub check : {F : Type 0} → Bool → F → List (Check F)
 check passes fault = record { passes = passes; fault = fault } ∷ []
 
--- a list behind its count: the count first, then each item in turn
-abbrev pub listed : {A : Type 0} → (A → List Check) → List A → List Check
-listed checks_of items = check (is_number (length items)) TooMany ++ flat_map checks_of items
+-- a list behind its count: the count first, and its fault where it is no number, then each item in turn
+abbrev pub listed : {F A : Type 0} → F → (A → List (Check F)) → List A → List (Check F)
+listed too_many checks_of items = check (is_number (length items)) too_many ++ flat_map checks_of items
 
-abbrev pub name_checks : List ℕ → List Check
+abbrev pub name_checks : List ℕ → List (Check PartsFault)
 name_checks name = check (is_name name) BadName
 
 -- an optional number, which a file writes as -1 where there is none
-abbrev pub signed_checks : Option ℕ → List Check
+abbrev pub signed_checks : Option ℕ → List (Check PartsFault)
 signed_checks None = []
 signed_checks (Some n) = check (is_number n) BadNumber
 
-abbrev pub variable_checks : Variable → List Check
+abbrev pub variable_checks : Variable → List (Check PartsFault)
 variable_checks v =
     name_checks v.name
     ++ signed_checks v.layer
     ++ check (not (length v.values == 0)) BadRange
-    ++ listed name_checks v.values
+    ++ listed TooMany name_checks v.values
 
-abbrev pub fact_checks : List Variable → Fact → List Check
+abbrev pub fact_checks : List Variable → Fact → List (Check PartsFault)
 fact_checks variables fact = check (fact_exists variables fact) BadFact
 
 -- what an effect or a rule changes: the old value of its variable, if one is asked for, and the new one
-abbrev pub change_checks : List Variable → ℕ → Option ℕ → ℕ → List Check
+abbrev pub change_checks : List Variable → ℕ → Option ℕ → ℕ → List (Check PartsFault)
 change_checks variables var None new = check (has_value variables var new) BadFact
 change_checks variables var (Some old) new =
     check (has_value variables var old) BadFact ++ check (has_value variables var new) BadFact
 
-abbrev pub effect_checks : List Variable → Effect → List Check
-effect_checks variables e = listed (fact_checks variables) e.conditions ++ change_checks variables e.var e.old e.new
+abbrev pub effect_checks : List Variable → Effect → List (Check PartsFault)
+effect_checks variables e = listed TooMany (fact_checks variables) e.conditions ++ change_checks variables e.var e.old e.new
 
-abbrev pub operator_checks : List Variable → Operator → List Check
+abbrev pub operator_checks : List Variable → Operator → List (Check PartsFault)
 operator_checks variables o =
     name_checks o.name
-    ++ listed (fact_checks variables) o.prevail
-    ++ listed (effect_checks variables) o.effects
+    ++ listed TooMany (fact_checks variables) o.prevail
+    ++ listed TooMany (effect_checks variables) o.effects
     ++ check (is_number o.cost) BadNumber
 
-abbrev pub rule_checks : List Variable → Rule → List Check
-rule_checks variables r = listed (fact_checks variables) r.conditions ++ change_checks variables r.var r.old r.new
+abbrev pub rule_checks : List Variable → Rule → List (Check PartsFault)
+rule_checks variables r = listed TooMany (fact_checks variables) r.conditions ++ change_checks variables r.var r.old r.new
 
 -- whether each value is in the range of the variable at its place
 abbrev pub values_in_range : List Variable → List ℕ → Bool
 values_in_range variables values = list_all (λ (p : Variable × ℕ). nat_lt p.1 (length p.0.values)) (zip variables values)
 
-abbrev pub state_checks : List Variable → List ℕ → List Check
+abbrev pub state_checks : List Variable → List ℕ → List (Check PartsFault)
 state_checks variables values =
     check (length values == length variables) InitLength
     ++ check (values_in_range variables values) BadFact
 
 -- all the checks of some parts, section by section
-abbrev pub checks : Parts → List Check
+abbrev pub checks : Parts → List (Check PartsFault)
 checks p =
     check (not (length p.variables == 0)) NoVariable
-    ++ listed variable_checks p.variables
-    ++ listed (listed (fact_checks p.variables)) p.groups
+    ++ listed TooMany variable_checks p.variables
+    ++ listed TooMany (listed TooMany (fact_checks p.variables)) p.groups
     ++ state_checks p.variables p.init
-    ++ listed (fact_checks p.variables) p.goal
-    ++ listed (operator_checks p.variables) p.operators
-    ++ listed (rule_checks p.variables) p.rules
+    ++ listed TooMany (fact_checks p.variables) p.goal
+    ++ listed TooMany (operator_checks p.variables) p.operators
+    ++ listed TooMany (rule_checks p.variables) p.rules
 
 -- no check fails exactly where the parts are well ranged
 abbrev pub ChecksAreTheRules : Type 0

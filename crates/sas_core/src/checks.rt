@@ -4,6 +4,7 @@
 ghost use Rattle.std.specs.Prelude.{◌≡◌, ◌==◌, not, length};
 ghost use Rattle.std.specs.Result.{result_err};
 ghost use Rattle.sas_core.specs.Numbers.{is_number};
+ghost use Rattle.sas_core.specs.declared.checks.PartsFault.TheVariants.{TooMany};
 ghost use Rattle.sas_core.specs.Variables as spec;
 ghost use Rattle.sas_core.specs.Checks.{first_fault, check, listed, name_checks, signed_checks, variable_checks, fact_checks, change_checks, effect_checks, operator_checks, rule_checks, state_checks, values_in_range, checks};
 
@@ -48,7 +49,7 @@ pub fn check_parts(parts: &Parts) -> Result<(), PartsFault>
 }
 
 fn check_variables(variables: &Items<Variable>) -> Result<(), PartsFault>
-    ensures { result_err result ≡ first_fault (listed variable_checks variables.now) }
+    ensures { result_err result ≡ first_fault (listed TooMany variable_checks variables.now) }
 {
     check_count(variables)?;
     for variable in variables.as_slice() {
@@ -76,7 +77,7 @@ fn check_layer(layer: Option<u32>) -> Result<(), PartsFault>
 }
 
 fn check_names(names: &Items<Items<u8>>) -> Result<(), PartsFault>
-    ensures { result_err result ≡ first_fault (listed name_checks names.now) }
+    ensures { result_err result ≡ first_fault (listed TooMany name_checks names.now) }
 {
     check_count(names)?;
     for name in names.as_slice() {
@@ -92,7 +93,7 @@ fn check_name(name: &Items<u8>) -> Result<(), PartsFault>
 }
 
 fn check_groups(variables: &Items<Variable>, groups: &Items<Items<Fact>>) -> Result<(), PartsFault>
-    ensures { result_err result ≡ first_fault (listed (listed (fact_checks variables.now)) groups.now) }
+    ensures { result_err result ≡ first_fault (listed TooMany (listed TooMany (fact_checks variables.now)) groups.now) }
 {
     check_count(groups)?;
     for group in groups.as_slice() {
@@ -102,7 +103,7 @@ fn check_groups(variables: &Items<Variable>, groups: &Items<Items<Fact>>) -> Res
 }
 
 fn check_facts(variables: &Items<Variable>, facts: &Items<Fact>) -> Result<(), PartsFault>
-    ensures { result_err result ≡ first_fault (listed (fact_checks variables.now) facts.now) }
+    ensures { result_err result ≡ first_fault (listed TooMany (fact_checks variables.now) facts.now) }
 {
     check_count(facts)?;
     for fact in facts.as_slice() {
@@ -139,7 +140,7 @@ fn check_operators(
     variables: &Items<Variable>,
     operators: &Items<Operator>,
 ) -> Result<(), PartsFault>
-    ensures { result_err result ≡ first_fault (listed (operator_checks variables.now) operators.now) }
+    ensures { result_err result ≡ first_fault (listed TooMany (operator_checks variables.now) operators.now) }
 {
     check_count(operators)?;
     for operator in operators.as_slice() {
@@ -158,7 +159,7 @@ fn check_operator(variables: &Items<Variable>, operator: &Operator) -> Result<()
 }
 
 fn check_effects(variables: &Items<Variable>, effects: &Items<Effect>) -> Result<(), PartsFault>
-    ensures { result_err result ≡ first_fault (listed (effect_checks variables.now) effects.now) }
+    ensures { result_err result ≡ first_fault (listed TooMany (effect_checks variables.now) effects.now) }
 {
     check_count(effects)?;
     for effect in effects.as_slice() {
@@ -175,7 +176,7 @@ fn check_effect(variables: &Items<Variable>, effect: &Effect) -> Result<(), Part
 }
 
 fn check_rules(variables: &Items<Variable>, rules: &Items<Rule>) -> Result<(), PartsFault>
-    ensures { result_err result ≡ first_fault (listed (rule_checks variables.now) rules.now) }
+    ensures { result_err result ≡ first_fault (listed TooMany (rule_checks variables.now) rules.now) }
 {
     check_count(rules)?;
     for rule in rules.as_slice() {
@@ -230,7 +231,7 @@ fn check_some<T>(items: &Items<T>, fault: PartsFault) -> Result<(), PartsFault>
 }
 
 fn check_count<T>(items: &Items<T>) -> Result<(), PartsFault>
-    ensures { result_err result ≡ first_fault (check (is_number (length items.now)) PartsFault.TooMany) }
+    ensures { result_err result ≡ first_fault (check (is_number (length items.now)) TooMany) }
 {
     check(is_number(items.len()), PartsFault::TooMany)
 }

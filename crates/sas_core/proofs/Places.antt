@@ -1,0 +1,15 @@
+-- What is said of each item of a list, said of the item at a place.
+use Rattle.std.proofs.Common.{◌≡◌, ℕ, zero, suc, ◌<◌, List, [], ◌∷◌, length, slice_index_or, arith}
+use Rattle.std.specs.List.{AllByRecursion}
+
+module _ {A : Type 0} (P : A → Type 0) (otherwise : A) where
+  -- each item has it, so that at a place within the list has it
+  pub holds_at : (items : List A) → AllByRecursion P items → (place : ℕ) → place < length items → P (slice_index_or items place otherwise)
+  holds_at [] all place below = absurd (omega arith)
+  holds_at (item ∷ items) all zero below = all.0
+  holds_at (item ∷ items) all (suc place) below = holds_at items all.1 place (omega arith)
+
+  -- the item at each place has it, so each item has it
+  pub holds_everywhere : (items : List A) → ((place : ℕ) → place < length items → P (slice_index_or items place otherwise)) → AllByRecursion P items
+  holds_everywhere [] at = tt
+  holds_everywhere (item ∷ items) at = (at 0 (omega arith), holds_everywhere items (λ place below. at (suc place) (omega arith)))

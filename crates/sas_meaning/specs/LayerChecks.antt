@@ -1,0 +1,62 @@
+-- The conditions of a layered task as tests in order, each with the fault that it finds.
+use Rattle.std.specs.Prelude.{◌≡◌, ◌↔◌, ℕ, ◌==◌, ◌&&◌, ◌||◌, Bool, not, nat_lt, nat_le, if◌then◌else◌, is_some, true, List, [], ◌++◌, take, flat_map, Option, Some, None}
+use Rattle.std.specs.List.{list_all, enumerate_from}
+use Rattle.std.specs.Option.{option_map_or}
+use Rattle.sas_core.specs.declared.parts.Fact.{Fact}
+use Rattle.sas_core.specs.declared.parts.Effect.{Effect}
+use Rattle.sas_core.specs.declared.parts.Operator.{Operator}
+use Rattle.sas_core.specs.declared.parts.Rule.{Rule}
+use Rattle.sas_core.specs.declared.parts.Parts.{Parts}
+use Rattle.sas_core.specs.Checks.{Check, first_fault, check}
+use Rattle.sas_core.specs.Variables.{layer_of}
+use Rattle.sas_meaning.specs.declared.layered.LayerFault.{LayerFault}
+use Rattle.sas_meaning.specs.declared.layered.LayerFault.TheVariants.{EffectOnDerived, RuleOnBasic, OldValue, TwoValues, LayerOrder}
+use Rattle.sas_meaning.specs.Layers.{default_of, can_fire, IsLayered}
+
+-- the checks of each item in turn, which is named by its place
+abbrev pub numbered : {A : Type 0} → (ℕ → A → List (Check LayerFault)) → List A → List (Check LayerFault)
+numbered checks_of items = flat_map (λ (place, item). checks_of place item) (enumerate_from 0 items)
+
+-- ---- operators
+
+abbrev pub effect_checks : Parts → ℕ → ℕ → Effect → List (Check LayerFault)
+effect_checks p operator effect e =
+    check (not (is_some (layer_of p.variables e.var))) (EffectOnDerived operator effect)
+
+abbrev pub operator_checks : Parts → ℕ → Operator → List (Check LayerFault)
+operator_checks p operator o = numbered (effect_checks p operator) o.effects
+
+-- ---- rules
+
+-- whether no earlier rule of the variable that can fire has another new value
+abbrev pub agrees_with : Parts → List Rule → Rule → Bool
+agrees_with p earlier rule =
+    list_all (λ (other : Rule). not ((other.var == rule.var) && can_fire p other) || (other.new == rule.new)) earlier
+
+-- whether a condition of a rule for this variable looks down
+abbrev pub looks_down : Parts → ℕ → Fact → Bool
+looks_down p var condition =
+    option_map_or (λ here.
+        option_map_or (λ its. if condition.value == default_of p condition.var then nat_lt its here else nat_le its here)
+        (layer_of p.variables condition.var) true)
+    (layer_of p.variables var) true
+
+-- the checks of a rule that can fire
+abbrev pub firing_checks : Parts → ℕ → Rule → List (Check LayerFault)
+firing_checks p place rule =
+    check (option_map_or (λ old. old == default_of p rule.var) rule.old true) (OldValue place)
+    ++ check (agrees_with p (take place p.rules) rule) (TwoValues place)
+    ++ numbered (λ condition c. check (looks_down p rule.var c) (LayerOrder place condition)) rule.conditions
+
+abbrev pub rule_checks : Parts → ℕ → Rule → List (Check LayerFault)
+rule_checks p place rule =
+    check (is_some (layer_of p.variables rule.var)) (RuleOnBasic place)
+    ++ (if can_fire p rule then firing_checks p place rule else [])
+
+-- all the checks of some parts: the operators first, then the rules
+abbrev pub layer_checks : Parts → List (Check LayerFault)
+layer_checks p = numbered (operator_checks p) p.operators ++ numbered (rule_checks p) p.rules
+
+-- no check fails exactly where the task is layered
+abbrev pub LayerChecksAreTheRules : Type 0
+LayerChecksAreTheRules = (p : Parts) → (first_fault (layer_checks p) ≡ None) ↔ IsLayered p

@@ -1,0 +1,7 @@
+pub mod States
+pub mod Layers
+pub mod Settled
+pub mod Steps
+pub mod Reachable
+pub mod LayerChecks
+pub mod Laws

@@ -1,0 +1,37 @@
+-- The steps of a task: from a state by an operator to the next state.
+use Rattle.std.specs.Prelude.{◌≡◌, ◌≢◌, ℕ, List, ◌++◌, All, slice_index, filter_map, Option, option_map}
+use Rattle.sas_core.specs.declared.parts.Fact.{Fact}
+use Rattle.sas_core.specs.declared.parts.Effect.{Effect}
+use Rattle.sas_core.specs.declared.parts.Operator.{Operator}
+use Rattle.sas_core.specs.declared.parts.Parts.{Parts}
+use Rattle.sas_core.specs.Variables.{IsState}
+use Rattle.sas_meaning.specs.States.{AllHold}
+use Rattle.sas_meaning.specs.Layers.{IsBasic}
+use Rattle.sas_meaning.specs.Settled.{IsSettled}
+
+-- the old value that an effect asks of its variable, as a fact
+abbrev pub old_fact : Effect → Option Fact
+old_fact e = option_map (λ (value : ℕ). record { var = e.var; value = value }) e.old
+
+-- the prevail conditions, and the old values of all effects, whether these fire or not
+abbrev pub preconditions : Operator → List Fact
+preconditions o = o.prevail ++ filter_map old_fact o.effects
+
+-- an effect fires where its conditions hold
+abbrev pub Fires : List ℕ → Effect → Type 0
+Fires s e = AllHold (slice_index s) e.conditions
+
+-- the operator leads from s to s'
+pub record Step (p : Parts) (s : List ℕ) (o : Operator) (s' : List ℕ) : Type 0 where
+  -- its preconditions hold in s
+  pub applicable : AllHold (slice_index s) (preconditions o)
+  -- no two effects that fire in s set one variable to different values
+  pub agree : All (λ (e : Effect). All (λ (f : Effect). Fires s e → Fires s f → e.var ≡ f.var → e.new ≡ f.new) o.effects) o.effects
+  -- s' is a settled state of the task
+  pub state : IsState p.variables s'
+  pub settled : IsSettled p s'
+  -- each effect that fires sets its variable
+  pub set : All (λ (e : Effect). Fires s e → slice_index s' e.var ≡ e.new) o.effects
+  -- and a basic variable that none sets has its value in s
+  pub kept : (var : ℕ) → IsBasic p var → All (λ (e : Effect). Fires s e → e.var ≢ var) o.effects
+      → slice_index s' var ≡ slice_index s var

@@ -1,0 +1,103 @@
+// Which tasks are layered.
+ghost use Rattle.std.specs.Prelude.{◌≡◌, ◌≢◌, ◌<◌, length, Some, None, IfOk, IfErr};
+ghost use Rattle.std.specs.Result.{result_err};
+ghost use Rattle.sas_core.specs.Checks.{first_fault};
+ghost use Rattle.sas_meaning.specs.LayerChecks.{layer_checks};
+ghost use Rattle.sas_meaning.specs.Layers.{IsLayered};
+
+use sas_core::{Grounded, Task};
+use std::alloc::{AllocError, Global};
+use std::marker::Model;
+
+/// Why a task isn't layered. Operators, effects, rules and conditions are named by their place, counted from 0.
+#[derive(Clone, Copy, Debug, PartialEq, Eq)]
+pub enum LayerFault {
+    /// The operator has an effect on a derived variable.
+    EffectOnDerived { operator: u32, effect: u32 },
+    /// The rule's variable is basic.
+    RuleOnBasic { rule: u32 },
+    /// The rule can fire, and asks for an old value that isn't its variable's default.
+    OldValue { rule: u32 },
+    /// The rule can fire, and so can an earlier rule of its variable with another new value.
+    TwoValues { rule: u32 },
+    /// The rule can fire, and its condition is on a derived variable of a higher layer, or of the same layer and asks for
+    /// its default.
+    LayerOrder { rule: u32, condition: u32 },
+    /// Memory was refused.
+    Memory,
+}
+
+impl From<AllocError> for LayerFault {
+    ghost use Rattle.sas_meaning.specs.declared.layered.LayerFault.TheVariants.{Memory};
+
+    ghost from_gives = { λ _ e. e ≡ Memory };
+
+    fn from(_error: AllocError) -> LayerFault {
+        LayerFault::Memory
+    }
+}
+
+/// A task that is layered. In a contract it is the parts that its task says.
+#[derive(Drop)]
+pub struct Layered<T: Grounded = Task> {
+    task: T,
+}
+
+impl<T: Grounded> Model for Layered<T> {
+    ghost use Rattle.sas_core.specs.declared.parts.Parts.{Parts};
+    ghost use Rattle.sas_core.specs.WellRanged.{WellRanged};
+    ghost use Rattle.sas_meaning.specs.Layers.{IsLayered};
+
+    ghost Value = { Parts };
+
+    ghost view = { λ l. T.says l.task };
+
+    ghost invariant = { λ l. WellRanged (T.says l.task) × IsLayered (T.says l.task) };
+}
+
+impl<T: Grounded> Layered<T> {
+    ghost use Rattle.sas_core.specs.WellRanged.{WellRanged};
+
+    /// The task, if it is layered; else its first fault, and the task unchanged.
+    ///
+    /// The order is: over the operators, and in each over its effects, `EffectOnDerived`; then over the rules, and in each
+    /// `RuleOnBasic` and, where the rule can fire, `OldValue`, `TwoValues`, and `LayerOrder` for its first such condition.
+    /// `Memory` may come at any point.
+    pub fn new(alloc: Global, task: T) -> Result<Layered<T>, (T, LayerFault)>
+        ensures task { IfOk result (λ l. l ≡ T.says task) }
+        ensures layered { IfOk result (λ l. IsLayered l) }
+        ensures handed_back { IfErr result (λ e. e.0 ≡ task) }
+        ensures first { IfErr result (λ e. e.1 ≢ LayerFault.Memory
+            → first_fault (layer_checks (T.says task)) ≡ Some e.1) }
+    {
+        match check_layers(alloc, &task) {
+            Err(fault) => Err((task, fault)),
+            Ok(()) => Ok(Layered { task }),
+        }
+    }
+
+    /// The task. It is well ranged, and layered.
+    pub fn task(&self) -> &T
+        ensures task { T.says result.now ≡ self.now }
+        ensures well_ranged { WellRanged self.now }
+        ensures layered { IsLayered self.now }
+    {
+        &self.task
+    }
+
+    /// The task, for good. It takes no memory.
+    pub fn into_task(self) -> T
+        ensures { T.says result ≡ self }
+    {
+        let Layered { task } = self;
+        task
+    }
+}
+
+/// Looks at the operators and the rules in turn, up to the first fault.
+fn check_layers<T: Grounded>(_alloc: Global, _task: &T) -> Result<(), LayerFault>
+    ensures { result_err result ≢ Some LayerFault.Memory
+        → result_err result ≡ first_fault (layer_checks (T.says _task.now)) }
+{
+    Err(LayerFault::Memory)
+}

@@ -1,0 +1,12 @@
+//! What a task means: which tasks are layered, states, settled states, steps, and which states can be reached.
+#![tactic(auto)]
+
+mod laws;
+mod layered;
+mod settle;
+mod state;
+
+pub use laws::meaning_laws;
+pub use layered::{LayerFault, Layered};
+pub use settle::Settle;
+pub use state::{State, StateFault};

@@ -1,0 +1,112 @@
+// States of a task.
+ghost use Rattle.std.specs.Prelude.{◌≡◌, ◌<◌, ◌↔◌, Some, List, ℕ, length, slice_get, slice_index, slice_set, IfOk, IsErrOf, IsTrue, IsFalse};
+ghost use Rattle.sas_core.specs.Variables.{IsState};
+
+use sas_core::{Fact, Grounded, Items};
+use std::alloc::{AllocError, Global};
+use std::marker::Model;
+
+/// A value for each variable. In a contract it is the list of the values.
+#[derive(Debug, PartialEq, Eq, Drop)]
+pub struct State {
+    values: Items<u32>,
+}
+
+impl Model for State {
+    ghost Value = { List ℕ };
+
+    ghost view = { λ s. s.values };
+
+    ghost inverse = { λ values. record { values = values } };
+}
+
+/// Why some values make no state.
+#[derive(Clone, Copy, Debug, PartialEq, Eq)]
+pub enum StateFault {
+    /// They aren't one for each variable, each in its range.
+    BadState,
+    /// Memory was refused.
+    Memory,
+}
+
+impl From<AllocError> for StateFault {
+    ghost use Rattle.sas_meaning.specs.declared.state.StateFault.TheVariants.{Memory};
+
+    ghost from_gives = { λ _ e. e ≡ Memory };
+
+    fn from(_error: AllocError) -> StateFault {
+        StateFault::Memory
+    }
+}
+
+impl State {
+    /// The state with these values, if they are one for each variable of the task, each in its range. Whether they are is
+    /// tested before memory is asked for.
+    pub fn of<T: Grounded>(alloc: Global, task: &T, values: &[u32]) -> Result<State, StateFault>
+        ensures values { IfOk result (λ s. s ≡ values.now) }
+        ensures fits { IfOk result (λ s. IsState (T.says task.now).variables s) }
+        ensures bad { IsErrOf result StateFault.BadState ↔ (IsState (T.says task.now).variables values.now → ⊥) }
+    {
+        if !fits(task, values) {
+            return Err(StateFault::BadState);
+        }
+        Ok(State {
+            values: Items::from_vec(Vec::from_slice(alloc, values)?),
+        })
+    }
+
+    /// The values of the variables in order.
+    pub fn values(&self) -> &[u32]
+        ensures { result.now ≡ self.now }
+    {
+        self.values.as_slice()
+    }
+
+    /// The value of the variable.
+    pub fn value(&self, var: u32) -> u32
+        requires { var < length self.now }
+        ensures { result ≡ slice_index self.now var }
+    {
+        self.values.as_slice()[var as usize]
+    }
+
+    /// Whether the fact's variable has its value.
+    pub fn holds(&self, fact: Fact) -> bool
+        ensures { IsTrue result ↔ (slice_get self.now fact.var ≡ Some fact.value) }
+    {
+        match self.values.get(fact.var as usize) {
+            Some(value) => *value == fact.value,
+            None => false,
+        }
+    }
+
+    /// Gives the fact's variable the fact's value.
+    pub fn set(&mut self, fact: Fact)
+        requires { fact.var < length self.old }
+        ensures { self.new ≡ slice_set self.old fact.var fact.value }
+    {
+        self.values.set(fact.var as usize, fact.value);
+    }
+}
+
+/// Whether these are a value for each variable of the task, each in its range.
+fn fits<T: Grounded>(task: &T, values: &[u32]) -> bool
+    ensures yes { IsTrue result → IsState (T.says task.now).variables values.now }
+    ensures no { IsFalse result → IsState (T.says task.now).variables values.now → ⊥ }
+{
+    values.len() == task.variables() as usize && are_in_range(task, values)
+}
+
+/// Whether each value is in the range of its variable.
+fn are_in_range<T: Grounded>(task: &T, values: &[u32]) -> bool
+    requires { length values.now ≡ length (T.says task.now).variables }
+    ensures yes { IsTrue result → IsState (T.says task.now).variables values.now }
+    ensures no { IsFalse result → IsState (T.says task.now).variables values.now → ⊥ }
+{
+    for (var, value) in values.iter().enumerate() {
+        if *value >= task.range(var as u32) {
+            return false;
+        }
+    }
+    true
+}
