@@ -5,3 +5,4 @@ pub mod Steps
 pub mod Reachable
 pub mod LayerChecks
 pub mod Laws
+pub mod Forced

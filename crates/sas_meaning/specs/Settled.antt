@@ -47,7 +47,7 @@ IsSettled p s = (layer : ℕ) → IsSettledAt p layer s
 
 -- the basic variables have the same values
 abbrev pub SameBasic : Parts → List ℕ → List ℕ → Type 0
-SameBasic p s s' = (var : ℕ) → IsBasic p var → slice_index s' var ≡ slice_index s var
+SameBasic p s s' = (var : ℕ) → IsBasic p var → slice_index s var ≡ slice_index s' var
 
 -- what settling a state s leads to: the settled state with its basic values
 pub record Settles (p : Parts) (s s' : List ℕ) : Type 0 where

@@ -103,8 +103,8 @@ fn are_in_range<T: Grounded>(task: &T, values: &[u32]) -> bool
     ensures yes { IsTrue result → IsState (T.says task.now).variables values.now }
     ensures no { IsFalse result → IsState (T.says task.now).variables values.now → ⊥ }
 {
-    for (var, value) in values.iter().enumerate() {
-        if *value >= task.range(var as u32) {
+    for var in 0..task.variables() {
+        if values[var as usize] >= task.range(var) {
             return false;
         }
     }

@@ -1,0 +1,65 @@
+-- The new value of a variable's rules.
+use Rattle.std.proofs.Common.{◌≡◌, ◌≢◌, ℕ, zero, suc, ◌<◌, ◌≤◌, ◌==◌, ◌&&◌, ◌⊎◌, Bool, true, false, not, List, [], ◌∷◌, length, get_or, Option, None, Some, refl, sym, ◌∙◌, ap, subst, inl, inr, arith}
+use Rattle.std.proofs.lemmas.Bool.{cases_Bool}
+use Rattle.std.proofs.lemmas.Bool.Decides.{eqb_tells}
+use Rattle.std.specs.List.{find}
+use Rattle.std.specs.Option.{option_map_or}
+use Rattle.sas_core.specs.declared.parts.Rule.{Rule}
+use Rattle.sas_core.specs.declared.parts.Parts.{Parts}
+use Rattle.sas_core.specs.Variables.{range_of, layer_of, HasValue, FactExists, IsState}
+use Rattle.sas_core.specs.WellRanged.{WellRanged}
+use Rattle.sas_meaning.specs.States.{Holds, AllHold}
+use Rattle.sas_meaning.specs.Layers.{IsBasic, IsOnLayer, default_of, CanFire, can_fire, LooksDown, IsLayeredRule, IsLayered}
+use Rattle.sas_meaning.specs.Settled.{is_on_layer, new_value_of, given, IsClosed, differs, IsSettledAt, IsSettled, SameBasic, Settles}
+
+-- what `find` finds, where an element passes
+pub record Found {X : Type 0} (p : X → Bool) (xs : List X) (d : X) : Type 0 where
+  pub it : X
+  pub found : find p xs ≡ Some it
+  pub passes : p it ≡ true
+  pub place : ℕ
+  pub within : place < length xs
+  pub there : get_or xs place d ≡ it
+
+pub find_passing : {X : Type 0} (p : X → Bool) (xs : List X) (k : ℕ) (d : X) → k < length xs → p (get_or xs k d) ≡ true → Found p xs d
+find_passing p [] k d lt e = absurd (omega arith)
+find_passing {X} p (x ∷ xs) zero d lt e = record { it = x; found = rw e refl; passes = e; place = 0; within = omega arith; there = refl }
+find_passing {X} p (x ∷ xs) (suc k) d lt e = elim (cases_Bool (p x)) [
+  | inl y ↦ record { it = x; found = rw y refl; passes = y; place = 0; within = omega arith; there = refl }
+  | inr n ↦ later n (find_passing p xs k d (omega arith) e)
+]
+  where
+    later : p x ≡ false → Found p xs d → Found p (x ∷ xs) d
+    later n f = record { it = f.it; found = rw n f.found; passes = f.passes; place = suc f.place; within = let w = f.within in omega arith; there = f.there }
+
+-- in a layered task each rule that can fire has the new value of its variable's rules
+pub new_value_is : (t : Parts) (k : ℕ) (d : Rule) → IsLayered t → k < length t.rules → CanFire t (get_or t.rules k d)
+    → new_value_of t (get_or t.rules k d).var ≡ (get_or t.rules k d).new
+new_value_is t k d layered lt fire = from (find_passing test t.rules k d lt (passes (get_or t.rules k d) refl fire))
+  where
+    v : ℕ
+    v = (get_or t.rules k d).var
+
+    test : Rule → Bool
+    test = λ rule. (rule.var == (get_or t.rules k d).var) && can_fire t rule
+
+    passes : (rule : Rule) → rule.var ≡ (get_or t.rules k d).var → CanFire t rule → test rule ≡ true
+    passes rule e f = elim (eqb_tells rule.var (get_or t.rules k d).var) [
+      | inl a ↦ elim (eqb_tells rule.new (default_of t rule.var)) [ inl b ↦ absurd (f b.1) | inr b ↦ rw (a.0, b.0) refl ]
+      | inr a ↦ absurd (a.1 e)
+    ]
+
+    told : (rule : Rule) → test rule ≡ true → (rule.var ≡ (get_or t.rules k d).var) × CanFire t rule
+    told rule e = elim (eqb_tells rule.var (get_or t.rules k d).var) [
+      | inl a ↦ elim (eqb_tells rule.new (default_of t rule.var)) [
+        | inl b ↦ (let f = rw (a.0, b.0) at e in absurd (let g : false ≡ true = f in cc))
+        | inr b ↦ (a.1, b.1)
+      ]
+      | inr a ↦ (let f = rw a.0 at e in absurd (let g : false ≡ true = f in cc))
+    ]
+
+    from : Found test t.rules d → new_value_of t (get_or t.rules k d).var ≡ (get_or t.rules k d).new
+    from f = let w = told f.it f.passes in
+        let e : (get_or t.rules f.place d).new ≡ (get_or t.rules k d).new =
+        (layered.rules k d lt fire).one_value f.place d f.within (subst (λ r. CanFire t r) (sym f.there) w.1) (ap (λ (r : Rule). r.var) f.there ∙ w.0) in
+        ap (λ (o : Option Rule). option_map_or (λ (r : Rule). r.new) o (default_of t (get_or t.rules k d).var)) f.found ∙ (sym (ap (λ (r : Rule). r.new) f.there) ∙ e)

@@ -1,0 +1,70 @@
+-- Two settled states with the same basic values are one, layer after layer.
+use Rattle.std.proofs.Common.{◌≡◌, ◌≢◌, ℕ, zero, suc, ◌<◌, ◌≤◌, ◌==◌, ◌⊎◌, Bool, true, false, not, List, length, get_or, refl, sym, ◌∙◌, ap, subst, inl, inr, arith}
+use Rattle.std.proofs.lemmas.Bool.Decides.{eqb_tells}
+use Rattle.std.proofs.lemmas.Grind.{same_number_lists}
+use Rattle.sas_core.specs.declared.parts.Parts.{Parts}
+use Rattle.sas_core.specs.Variables.{range_of, layer_of, HasValue, FactExists, IsState}
+use Rattle.sas_core.specs.WellRanged.{WellRanged}
+use Rattle.sas_meaning.specs.Laws.{SettledIsOne, StepIsOne}
+use Rattle.sas_meaning.specs.Steps.{Fires, Step}
+use Rattle.sas_core.specs.declared.parts.Effect.{Effect}
+use Rattle.sas_core.specs.declared.parts.Operator.{Operator}
+use Rattle.std.proofs.lemmas.List.Elements.{All-contains}
+use Rattle.sas_meaning.proofs.Facts.{SetBy, set_or_kept}
+use Rattle.sas_meaning.specs.States.{Holds, AllHold}
+use Rattle.sas_meaning.specs.Layers.{IsBasic, IsOnLayer, default_of, CanFire, can_fire, LooksDown, IsLayeredRule, IsLayered}
+use Rattle.sas_meaning.specs.Settled.{is_on_layer, new_value_of, given, IsClosed, differs, IsSettledAt, IsSettled, SameBasic, Settles}
+use Rattle.sas_meaning.proofs.Layers.{AgreeBelow, agree_sym, closed_agrees, layer_cases}
+
+-- the test tells whether a variable differs from its default
+pub differs_tells : (t : Parts) (s : List ℕ) (v : ℕ) → ((get_or s v 0 ≡ default_of t v) × (differs t s v ≡ false)) ⊎ ((get_or s v 0 ≢ default_of t v) × (differs t s v ≡ true))
+differs_tells t s v = elim (eqb_tells (get_or s v 0) (default_of t v)) [ inl w ↦ inl (w.1, ap not w.0) | inr w ↦ inr (w.1, ap not w.0) ]
+
+module _ (t : Parts) (layered : IsLayered t) where
+  -- where two states agree below a layer on which both are settled, a variable that differs in one differs in the other
+  both_differ : (layer : ℕ) (s s' : List ℕ) → AgreeBelow t layer s s' → IsSettledAt t layer s → IsSettledAt t layer s'
+      → (v : ℕ) → IsOnLayer t layer v → differs t s v ≡ true → differs t s' v ≡ true
+  both_differ layer s s' agree a b v on d =
+      a.least (differs t s') (closed_agrees t layer s' s (differs t s') layered (agree_sym t layer s s' agree) b.closed) v on d
+
+  same_at : (layer : ℕ) (s s' : List ℕ) → AgreeBelow t layer s s' → IsSettledAt t layer s → IsSettledAt t layer s'
+      → (v : ℕ) → IsOnLayer t layer v → get_or s v 0 ≡ get_or s' v 0
+  same_at layer s s' agree a b v on = elim (differs_tells t s v) [
+    | inl p ↦ elim (differs_tells t s' v) [
+      | inl q ↦ p.0 ∙ sym q.0
+      | inr q ↦ (let e = both_differ layer s' s (agree_sym t layer s s' agree) b a v on q.1 in let f = p.1 in cc)
+    ]
+    | inr p ↦ a.new v on p.1 ∙ sym (b.new v on (both_differ layer s s' agree a b v on p.1))
+  ]
+
+  agree_below : (s s' : List ℕ) → IsSettled t s → IsSettled t s' → SameBasic t s s' → (n : ℕ) → AgreeBelow t n s s'
+  agree_below s s' a b basic zero = record { basic = basic; derived = λ v m lt on. absurd (omega arith) }
+  agree_below s s' a b basic (suc n) = record { basic = basic; derived = λ v m lt on. step v m lt on (agree_below s s' a b basic n) }
+    where
+      step : (v m : ℕ) → m < suc n → IsOnLayer t m v → AgreeBelow t n s s' → get_or s v 0 ≡ get_or s' v 0
+      step v m lt on agree = elim (eqb_tells m n) [
+        | inl w ↦ same_at n s s' agree (a n) (b n) v (subst (λ k. IsOnLayer t k v) w.1 on)
+        | inr w ↦ (let ne : m ≢ n = w.1 in agree.derived v m (omega arith) on)
+      ]
+
+pub settled_is_one : SettledIsOne
+settled_is_one t s p q layered a b = same_number_lists p q (a.state.one_each ∙ sym b.state.one_each) (λ v lt. elim (layer_cases t v) [
+  | inl e ↦ sym (a.basic v e) ∙ b.basic v e
+  | inr w ↦ (agree_below t layered p q a.settled b.settled (λ v e. sym (a.basic v e) ∙ b.basic v e) (suc w.0)).derived v w.0 (omega arith) w.1
+])
+
+-- what an operator does to a basic variable is one value
+step_on_basic : (t : Parts) (s : List ℕ) (o : Operator) (a b : List ℕ) → Step t s o a → Step t s o b → SameBasic t a b
+step_on_basic t s o a b p q v basic = elim (set_or_kept s o.effects v) [
+  | inr kept ↦ p.kept v basic kept ∙ sym (q.kept v basic kept)
+  | inl w ↦
+      (let to_a : get_or a w.effect.var 0 ≡ w.effect.new = All-contains (λ (e : Effect). Fires s e → get_or a e.var 0 ≡ e.new) o.effects w.effect p.set w.among w.fires in
+      let to_b : get_or b w.effect.var 0 ≡ w.effect.new = All-contains (λ (e : Effect). Fires s e → get_or b e.var 0 ≡ e.new) o.effects w.effect q.set w.among w.fires in
+      subst (λ x. get_or a x 0 ≡ get_or b x 0) w.on (to_a ∙ sym to_b))
+]
+
+pub step_is_one : StepIsOne
+step_is_one t s o a b layered p q =
+    settled_is_one t a a b layered
+    (record { state = p.state; basic = λ v e. refl; settled = p.settled })
+    (record { state = q.state; basic = step_on_basic t s o a b p q; settled = q.settled })

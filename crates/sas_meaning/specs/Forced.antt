@@ -1,0 +1,43 @@
+-- How far the rules of a layer have come to fire.
+use Rattle.std.specs.Prelude.{◌≡◌, ◌≢◌, ℕ, suc, ◌+◌, ◌<◌, ◌≤◌, ◌==◌, Bool, if◌then◌else◌, IsTrue, List, [], ◌∷◌, All, slice_index}
+use Rattle.sas_core.specs.declared.parts.Rule.{Rule}
+use Rattle.sas_core.specs.declared.parts.Parts.{Parts}
+use Rattle.sas_core.specs.Variables.{range_of, layer_of, HasValue, FactExists, IsState}
+use Rattle.sas_core.specs.WellRanged.{WellRanged}
+use Rattle.sas_meaning.specs.States.{Holds, AllHold}
+use Rattle.sas_meaning.specs.Layers.{IsBasic, IsOnLayer, default_of, CanFire, can_fire, LooksDown, IsLayeredRule, IsLayered}
+use Rattle.sas_meaning.specs.Settled.{is_on_layer, new_value_of, given, IsClosed, differs, IsSettledAt, IsSettled, SameBasic, Settles}
+
+-- on this layer a variable differs from its default only if every closed set has it, and then it has its rules' new value
+pub record OnlyForced (t : Parts) (layer : ℕ) (s : List ℕ) : Type 0 where
+  pub new : (v : ℕ) → IsOnLayer t layer v → IsTrue (differs t s v) → slice_index s v ≡ new_value_of t v
+  pub least : (set : ℕ → Bool) → IsClosed t layer s set
+      → (v : ℕ) → IsOnLayer t layer v → IsTrue (differs t s v) → IsTrue (set v)
+
+-- how many places of two lists are equal
+abbrev pub equal_places : List ℕ → List ℕ → ℕ
+equal_places [] ys = 0
+equal_places (x ∷ xs) [] = 0
+equal_places (x ∷ xs) (y ∷ ys) = (if x == y then 1 else 0) + equal_places xs ys
+
+-- the rule has given its variable its value, where it is on the layer and fires
+abbrev pub HasFired : Parts → ℕ → List ℕ → Rule → Type 0
+HasFired t layer s rule = IsOnLayer t layer rule.var → CanFire t rule → AllHold (slice_index s) rule.conditions → slice_index s rule.var ≡ rule.new
+
+-- the rule is on the layer, fires, and has not given its variable its value yet
+pub record Changes (t : Parts) (layer : ℕ) (s : List ℕ) (rule : Rule) : Type 0 where
+  pub on : IsOnLayer t layer rule.var
+  pub can : CanFire t rule
+  pub hold : AllHold (slice_index s) rule.conditions
+  pub new : slice_index s rule.var ≢ rule.new
+
+abbrev pub SameOff : Parts → ℕ → List ℕ → List ℕ → Type 0
+SameOff t layer s s' = (v : ℕ) → (IsOnLayer t layer v → ⊥) → slice_index s v ≡ slice_index s' v
+
+-- all variables on the layer have their default
+abbrev pub AtDefault : Parts → ℕ → List ℕ → Type 0
+AtDefault t layer s = (v : ℕ) → IsOnLayer t layer v → slice_index s v ≡ default_of t v
+
+-- the layer has a variable
+abbrev pub Occurs : Parts → ℕ → Type 0
+Occurs t layer = (v : ℕ) × IsOnLayer t layer v
