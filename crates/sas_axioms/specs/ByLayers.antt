@@ -1,0 +1,30 @@
+-- What settling one layer after another says of each.
+use Rattle.std.specs.Prelude.{◌≡◌, ℕ, ◌<◌, ◌≤◌, List, All}
+use Rattle.sas_core.specs.declared.parts.Rule.{Rule}
+use Rattle.sas_core.specs.declared.parts.Parts.{Parts}
+use Rattle.sas_core.specs.Variables.{IsState}
+use Rattle.sas_core.specs.WellRanged.{WellRanged}
+use Rattle.sas_meaning.specs.Layers.{IsOnLayer, CanFire, IsLayered}
+use Rattle.sas_meaning.specs.Settled.{IsSettledAt}
+use Rattle.sas_meaning.specs.Forced.{SameOff}
+
+-- a task of which all is known that a file and its layers ask
+pub record IsLayeredTask (p : Parts) : Type 0 where
+  pub ranged : WellRanged p
+  pub layered : IsLayered p
+
+-- no rule on the layer can fire
+abbrev pub IsIdle : Parts → ℕ → Type 0
+IsIdle p layer = All (λ (rule : Rule). IsOnLayer p layer rule.var → CanFire p rule → ⊥) p.rules
+
+-- one layer was settled, and nothing else changed
+pub record SettlesLayer (p : Parts) (layer : ℕ) (s s' : List ℕ) : Type 0 where
+  pub state : IsState p.variables s'
+  pub off : SameOff p layer s s'
+  pub settled : IsSettledAt p layer s'
+
+-- the lowest layer from `from` on where a rule can fire was settled
+pub record SettlesNext (p : Parts) (from : ℕ) (s s' : List ℕ) (layer : ℕ) : Type 0 where
+  pub from_on : from ≤ layer
+  pub idle : (below : ℕ) → from ≤ below → below < layer → IsIdle p below
+  pub settles : SettlesLayer p layer s s'

@@ -1,0 +1,9 @@
+-- What the public clauses cite.
+pub use Rattle.sas_meaning.specs.States
+pub use Rattle.sas_meaning.specs.Layers
+pub use Rattle.sas_meaning.specs.Settled
+pub use Rattle.sas_meaning.specs.Steps
+pub use Rattle.sas_meaning.specs.Reachable
+pub use Rattle.sas_meaning.specs.LayerChecks
+pub use Rattle.sas_meaning.specs.Laws
+pub mod ByLayers

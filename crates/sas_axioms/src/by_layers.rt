@@ -1,0 +1,61 @@
+// From a layer to all layers: what settles a state, settles one layer after another.
+ghost use Rattle.std.specs.Prelude.{◌≡◌, ℕ};
+ghost use Rattle.sas_core.specs.Variables.{IsState};
+ghost use Rattle.sas_meaning.specs.Settled.{Settles};
+
+use sas_core::Grounded;
+use sas_meaning::{Layered, State};
+
+/// What settles the layers of a task in turn, from the lowest one on.
+pub trait ByLayers<T: Grounded> {
+    ghost use Rattle.std.specs.Prelude.{◌≡◌, ◌+◌, ◌≤◌, ℕ, IfSome, IfNone};
+    ghost use Rattle.sas_core.specs.declared.parts.Parts.{Parts};
+    ghost use Rattle.sas_core.specs.Variables.{IsState};
+    ghost use Rattle.sas_meaning.specs.Settled.{SameBasic};
+    ghost use Rattle.sas_meaning.specs.Forced.{AtDefault};
+    ghost use Rattle.sas_axioms.specs.ByLayers.{IsIdle, SettlesNext};
+
+    /// It can settle states of this task.
+    ghost ready: { Self → Parts → Type 0 };
+
+    /// And the layers from this one on are those that are left.
+    ghost stands: { Self → Parts → ℕ → Type 0 };
+
+    /// Gives the derived variables their default.
+    fn begin(&mut self, layered: &Layered<T>, state: &mut State)
+        requires ready { ready self.old layered.now }
+        requires state { IsState layered.now.variables state.old }
+        ensures stands { stands self.new layered.now 0 }
+        ensures state { IsState layered.now.variables state.new }
+        ensures basic { SameBasic layered.now state.old state.new }
+        ensures default { (layer : ℕ) → AtDefault layered.now layer state.new };
+
+    /// Settles the lowest layer that is left with a rule that can fire, and says which it is.
+    fn settle_next(&mut self, layered: &Layered<T>, from: u64, state: &mut State) -> Option<u32>
+        requires stands { stands self.old layered.now from }
+        requires state { IsState layered.now.variables state.old }
+        requires default { (layer : ℕ) → from ≤ layer → AtDefault layered.now layer state.old }
+        ensures stands { IfSome result (λ layer. stands self.new layered.now (layer + 1)) }
+        ensures settles { IfSome result (λ layer. SettlesNext layered.now from state.old state.new layer) }
+        ensures ready { IfNone result (ready self.new layered.now) }
+        ensures same { IfNone result (state.new ≡ state.old) }
+        ensures idle { IfNone result ((layer : ℕ) → from ≤ layer → IsIdle layered.now layer) };
+}
+
+/// Settles the state, layer after layer.
+pub fn settle_by_layers<T: Grounded, E: ByLayers<T>>(
+    evaluator: &mut E,
+    layered: &Layered<T>,
+    state: &mut State,
+)
+    requires ready { E.ready evaluator.old layered.now }
+    requires state { IsState layered.now.variables state.old }
+    ensures ready { E.ready evaluator.new layered.now }
+    ensures settles { Settles layered.now state.old state.new }
+{
+    evaluator.begin(layered, state);
+    let mut from: u64 = 0;
+    while let Some(layer) = evaluator.settle_next(layered, from, state) {
+        from = u64::from(layer) + 1;
+    }
+}

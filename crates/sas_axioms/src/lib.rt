@@ -1,0 +1,8 @@
+//! Layers, states, and what settles them. The definitions stand in `sas_meaning`, whose calls this crate passes on.
+#![tactic(auto)]
+
+mod by_layers;
+mod rounds;
+
+pub use rounds::Rounds;
+pub use sas_meaning::{LayerFault, Layered, Settle, State, StateFault, meaning_laws};
