@@ -7,3 +7,5 @@ pub use Rattle.sas_meaning.specs.Reachable
 pub use Rattle.sas_meaning.specs.LayerChecks
 pub use Rattle.sas_meaning.specs.Laws
 pub mod ByLayers
+pub mod LayerRules
+pub mod Waiting

@@ -2,7 +2,9 @@
 #![tactic(auto)]
 
 mod by_layers;
+mod layer_rules;
 mod rounds;
+mod waiting;
 
 pub use rounds::Rounds;
 pub use sas_meaning::{LayerFault, Layered, Settle, State, StateFault, meaning_laws};

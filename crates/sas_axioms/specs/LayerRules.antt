@@ -1,0 +1,35 @@
+-- The rules that can fire, layer after layer.
+use Rattle.std.specs.Prelude.{◌≡◌, ℕ, ◌<◌, ◌≤◌, List, length, All, Contains, slice_index_or, take, drop, ◌-◌}
+use Rattle.std.specs.List.Sorted.{IsNonDecreasingBy}
+use Rattle.sas_core.specs.declared.parts.Parts.{Parts}
+use Rattle.sas_core.specs.Grounded.{rule_at}
+use Rattle.sas_meaning.specs.Layers.{IsOnLayer, CanFire}
+use Rattle.sas_axioms.specs.declared.layer_rules.LayerRule.{LayerRule}
+
+-- the rule at this place is on the layer, and can fire
+pub record IsRuleOn (p : Parts) (layer rule : ℕ) : Type 0 where
+  pub exists : rule < length p.rules
+  pub on : IsOnLayer p layer (rule_at p rule).var
+  pub can : CanFire p (rule_at p rule)
+
+-- the rules that can fire, each with its layer
+pub record AreFiringRules (p : Parts) (rules : List LayerRule) : Type 0 where
+  pub only : All (λ (r : LayerRule). IsRuleOn p r.layer r.rule) rules
+  pub each : (layer rule : ℕ) → IsRuleOn p layer rule → Contains rules (record { layer = layer; rule = rule })
+
+-- in ascending order of their layers
+pub record AreLayerRules (p : Parts) (rules : List LayerRule) : Type 0 where
+  pub firing : AreFiringRules p rules
+  pub ascending : IsNonDecreasingBy (λ (r : LayerRule). r.layer) rules
+
+-- the rules from `start` to `end` are on the layer, and the one at `end` isn't
+pub record IsLayerEnd (rules : List LayerRule) (start layer end : ℕ) : Type 0 where
+  pub from_start : start ≤ end
+  pub within : end ≤ length rules
+  pub on : (place : ℕ) (d : LayerRule) → start ≤ place → place < end → (slice_index_or rules place d).layer ≡ layer
+  pub last : (d : LayerRule) → end < length rules → (slice_index_or rules end d).layer ≡ layer → ⊥
+
+-- the rules of one layer that can fire
+pub record AreRulesOn (p : Parts) (layer : ℕ) (rules : List LayerRule) : Type 0 where
+  pub only : All (λ (r : LayerRule). IsRuleOn p layer r.rule) rules
+  pub each : (rule : ℕ) → IsRuleOn p layer rule → Contains rules (record { layer = layer; rule = rule })

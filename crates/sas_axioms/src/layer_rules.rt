@@ -1,0 +1,64 @@
+// The rules that can fire, layer after layer.
+ghost use Rattle.std.specs.Prelude.{◌≡◌, ◌<◌, ◌≤◌, ◌^◌, ℕ, length, IfOk, IfSome, IfNone};
+ghost use Rattle.sas_axioms.specs.ByLayers.{IsLayeredTask};
+ghost use Rattle.sas_axioms.specs.LayerRules.{IsRuleOn, AreFiringRules, AreLayerRules, IsLayerEnd};
+
+use sas_core::Grounded;
+use std::alloc::{AllocError, Global};
+
+/// A rule that can fire, and the layer of its variable.
+#[derive(Clone, Copy, Debug, PartialEq, Eq)]
+pub struct LayerRule {
+    pub layer: u32,
+    pub rule: u32,
+}
+
+/// The rules that can fire, in ascending order of their layers.
+pub fn ranked_rules<T: Grounded>(alloc: Global, task: &T) -> Result<Vec<LayerRule>, AllocError>
+    requires layered { IsLayeredTask (T.says task.now) }
+    ensures { IfOk result (λ rules. AreLayerRules (T.says task.now) rules.items) }
+{
+    let mut rules = firing_rules(alloc, task)?;
+    rules.sort_by_key(|entry| entry.layer)?;
+    Ok(rules)
+}
+
+/// The rules that can fire, in the order of the task.
+fn firing_rules<T: Grounded>(alloc: Global, task: &T) -> Result<Vec<LayerRule>, AllocError>
+    requires layered { IsLayeredTask (T.says task.now) }
+    ensures { IfOk result (λ rules. AreFiringRules (T.says task.now) rules.items) }
+{
+    let mut rules = Vec::new(alloc);
+    for rule in 0..task.rules() {
+        if let Some(layer) = firing_layer(task, rule) {
+            rules.push(LayerRule { layer, rule })?;
+        }
+    }
+    Ok(rules)
+}
+
+/// The layer of the rule's variable, if the rule can fire.
+pub fn firing_layer<T: Grounded>(task: &T, rule: u32) -> Option<u32>
+    requires layered { IsLayeredTask (T.says task.now) }
+    requires rule { rule < length (T.says task.now).rules }
+    ensures some { IfSome result (λ layer. IsRuleOn (T.says task.now) layer rule) }
+    ensures none { IfNone result ((layer : ℕ) → IsRuleOn (T.says task.now) layer rule → ⊥) }
+{
+    let change = task.rule_change(rule);
+    if change.new == task.initial_value(change.var) {
+        return None;
+    }
+    task.layer(change.var)
+}
+
+/// Where the rules of the layer end that begin at this place.
+pub fn layer_end(rules: &[LayerRule], start: usize, layer: u32) -> usize
+    requires { start ≤ length rules.now }
+    ensures { IsLayerEnd rules.now start layer result }
+{
+    let mut end = start;
+    while end < rules.len() && rules[end].layer == layer {
+        end += 1;
+    }
+    end
+}
