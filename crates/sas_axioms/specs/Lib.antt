@@ -9,3 +9,4 @@ pub use Rattle.sas_meaning.specs.Laws
 pub mod ByLayers
 pub mod LayerRules
 pub mod Waiting
+pub mod Worklist

@@ -2,9 +2,12 @@
 #![tactic(auto)]
 
 mod by_layers;
+mod firing;
 mod layer_rules;
 mod rounds;
 mod waiting;
+mod worklist;
 
 pub use rounds::Rounds;
 pub use sas_meaning::{LayerFault, Layered, Settle, State, StateFault, meaning_laws};
+pub use worklist::Worklist;

@@ -1,0 +1,84 @@
+-- How far a worklist has come on a layer, and what it needs.
+use Rattle.std.specs.Prelude.{◌≡◌, ℕ, ◌+◌, ◌*◌, ◌<◌, ◌≤◌, ◌==◌, if◌then◌else◌, IsTrue, List, [], ◌∷◌, length, All, Contains, slice_index, slice_index_or}
+use Rattle.sas_core.specs.declared.parts.Fact.{Fact}
+use Rattle.sas_core.specs.declared.parts.Parts.{Parts}
+use Rattle.sas_core.specs.Grounded.{rule_at}
+use Rattle.sas_core.specs.Variables.{IsState, IsDerived}
+use Rattle.sas_meaning.specs.Layers.{IsOnLayer, default_of}
+use Rattle.sas_meaning.specs.Settled.{differs}
+use Rattle.sas_meaning.specs.Forced.{OnlyForced, equal_places, SameOff}
+use Rattle.sas_axioms.specs.declared.layer_rules.LayerRule.{LayerRule}
+use Rattle.sas_axioms.specs.declared.waiting.Waiting.{Waiting}
+use Rattle.sas_axioms.specs.LayerRules.{IsRuleOn, AreLayerRules}
+use Rattle.sas_axioms.specs.Waiting.{occurrences, IsIndex}
+
+-- how many of the conditions don't hold
+abbrev pub open_conditions : (ℕ → ℕ) → List Fact → ℕ
+open_conditions value [] = 0
+open_conditions value (c ∷ cs) = (if value c.var == c.value then 0 else 1) + open_conditions value cs
+
+-- a variable on the stack still counts with its default
+abbrev pub seen : Parts → List ℕ → List ℕ → ℕ → ℕ
+seen p s stack var = if occurrences var stack == 0 then slice_index s var else default_of p var
+
+-- the stack has variables of the layer that have been given their rules' value, each once
+pub record IsRunning (p : Parts) (layer : ℕ) (s stack : List ℕ) : Type 0 where
+  pub state : IsState p.variables s
+  pub forced : OnlyForced p layer s
+  pub fired : (var : ℕ) → 0 < occurrences var stack → IsOnLayer p layer var × IsTrue (differs p s var)
+  pub once : (var : ℕ) → occurrences var stack ≤ 1
+  pub room : length stack + equal_places s p.init ≤ length s
+
+-- each counter is the number of its rule's conditions that don't hold yet, and of its places in `left`
+abbrev pub Counts : Parts → ℕ → List ℕ → List ℕ → List ℕ → List ℕ → Type 0
+Counts p layer s stack counters left = (rule : ℕ) → IsRuleOn p layer rule
+    → slice_index counters rule ≡ open_conditions (seen p s stack) (rule_at p rule).conditions + occurrences rule left
+
+-- each rule with no open condition has given its variable its value
+abbrev pub HaveFired : Parts → ℕ → List ℕ → List ℕ → Type 0
+HaveFired p layer s counters = (rule : ℕ) → IsRuleOn p layer rule
+    → slice_index counters rule ≡ 0 → slice_index s (rule_at p rule).var ≡ (rule_at p rule).new
+
+-- what is left to do
+abbrev pub work : Parts → List ℕ → List ℕ → ℕ
+work p s stack = 2 * equal_places s p.init + length stack
+
+-- a counter for each rule, and room on the stack for each variable
+pub record HasRoom (p : Parts) (counters : List ℕ) (room : ℕ) : Type 0 where
+  pub one_each : length counters ≡ length p.rules
+  pub variables : length p.variables ≤ room
+
+-- the rules of a layer are at work
+pub record IsAtWork (p : Parts) (layer : ℕ) (s stack counters left : List ℕ) : Type 0 where
+  pub running : IsRunning p layer s stack
+  pub counts : Counts p layer s stack counters left
+  pub fired : HaveFired p layer s counters
+
+-- one rule fired, or had
+pub record Fires (p : Parts) (layer rule : ℕ) (s stack s' stack' : List ℕ) : Type 0 where
+  pub running : IsRunning p layer s' stack'
+  pub seen : (var : ℕ) → seen p s' stack' var ≡ seen p s stack var
+  pub fired : slice_index s' (rule_at p rule).var ≡ (rule_at p rule).new
+  pub kept : (var : ℕ) → IsTrue (differs p s var) → slice_index s' var ≡ slice_index s var
+  pub off : SameOff p layer s s'
+  pub work : work p s' stack' ≤ work p s stack
+
+-- the derived variables, each at least once
+pub record AreDerived (p : Parts) (variables : List ℕ) : Type 0 where
+  pub only : All (IsDerived p.variables) variables
+  pub each : (var : ℕ) → IsDerived p.variables var → Contains variables var
+
+-- what a worklist holds fits the task, and nothing is left on its stack
+pub record IsReadyFor (p : Parts) (derived : List ℕ) (rules : List LayerRule) (ws : List Waiting)
+    (starts counters stack : List ℕ) (room : ℕ) : Type 0 where
+  pub variables : AreDerived p derived
+  pub firing : AreLayerRules p rules
+  pub index : IsIndex p ws starts
+  pub has_room : HasRoom p counters room
+  pub empty : stack ≡ []
+
+-- the rules from this place on are those from the layer on
+pub record StandsAt (rules : List LayerRule) (layer place : ℕ) : Type 0 where
+  pub within : place ≤ length rules
+  pub before : (k : ℕ) (d : LayerRule) → k < place → (slice_index_or rules k d).layer < layer
+  pub behind : (k : ℕ) (d : LayerRule) → place ≤ k → k < length rules → layer ≤ (slice_index_or rules k d).layer

@@ -1,0 +1,125 @@
+// Settling by counters: each rule is looked at when a condition of it comes to hold, and not before.
+ghost use Rattle.std.specs.Prelude.{◌≡◌, ℕ, IfOk, vec_capacity};
+ghost use Rattle.sas_core.specs.Variables.{IsState};
+ghost use Rattle.sas_meaning.specs.Settled.{SameBasic};
+ghost use Rattle.sas_meaning.specs.Forced.{AtDefault};
+ghost use Rattle.sas_axioms.specs.ByLayers.{IsLayeredTask};
+ghost use Rattle.sas_axioms.specs.Worklist.{AreDerived, IsReadyFor};
+
+use crate::by_layers::{ByLayers, settle_by_layers};
+use crate::firing::settle_layer;
+use crate::layer_rules::{LayerRule, layer_end, ranked_rules};
+use crate::waiting::Index;
+use sas_core::{Fact, Grounded};
+use sas_meaning::{Layered, Settle, State};
+use std::alloc::{AllocError, Global};
+
+/// Settles states of one layered task. All that it needs is reserved by `new`, so `settle` takes no memory, and nothing of
+/// a state stays behind. Its space depends on the numbers of variables, rules and conditions, and not on which layers
+/// there are.
+#[derive(Drop)]
+pub struct Worklist {
+    /// The derived variables.
+    derived: Vec<u32>,
+    /// The rules that can fire, in ascending order of their layers.
+    rules: Vec<LayerRule>,
+    /// Where in `rules` the next layer begins.
+    next: usize,
+    /// Which rules wait for which facts.
+    index: Index,
+    /// How many conditions of each rule don't hold yet.
+    counters: Vec<u32>,
+    /// Variables that were given their rules' value, while the rules that wait for it don't know it yet.
+    stack: Vec<u32>,
+}
+
+impl Worklist {
+    /// A worklist that is ready for the task.
+    pub fn new<T: Grounded>(alloc: Global, layered: &Layered<T>) -> Result<Worklist, AllocError>
+        ensures { IfOk result (λ w. IsReadyFor layered.now w.derived.items w.rules.items w.index.waiting.items
+            w.index.starts.items w.counters.items w.stack.items (vec_capacity w.stack)) }
+    {
+        let task = layered.task();
+        Ok(Worklist {
+            derived: derived_variables(alloc, task)?,
+            rules: ranked_rules(alloc, task)?,
+            next: 0,
+            index: Index::new(alloc, task)?,
+            counters: vec![in alloc; 0u32; task.rules() as usize]?,
+            stack: Vec::with_capacity(alloc, task.variables() as usize)?,
+        })
+    }
+}
+
+impl<T: Grounded> Settle<T> for Worklist {
+    ghost use Rattle.std.specs.Prelude.{vec_capacity};
+    ghost use Rattle.sas_axioms.specs.Worklist.{IsReadyFor};
+
+    ghost ready = { λ w p. IsReadyFor p w.derived.items w.rules.items w.index.waiting.items w.index.starts.items
+        w.counters.items w.stack.items (vec_capacity w.stack) };
+
+    fn settle(&mut self, layered: &Layered<T>, state: &mut State) {
+        settle_by_layers(self, layered, state);
+    }
+}
+
+impl<T: Grounded> ByLayers<T> for Worklist {
+    ghost use Rattle.std.specs.Prelude.{vec_capacity};
+    ghost use Rattle.sas_axioms.specs.Worklist.{IsReadyFor, StandsAt};
+
+    ghost ready = { λ w p. IsReadyFor p w.derived.items w.rules.items w.index.waiting.items w.index.starts.items
+        w.counters.items w.stack.items (vec_capacity w.stack) };
+
+    ghost stands = { λ w p layer. IsReadyFor p w.derived.items w.rules.items w.index.waiting.items
+        w.index.starts.items w.counters.items w.stack.items (vec_capacity w.stack) × StandsAt w.rules.items layer w.next };
+
+    fn begin(&mut self, layered: &Layered<T>, state: &mut State) {
+        set_defaults(layered.task(), self.derived.as_slice(), state);
+        self.next = 0;
+    }
+
+    fn settle_next(&mut self, layered: &Layered<T>, _from: u64, state: &mut State) -> Option<u32> {
+        let layer = self.rules.get(self.next)?.layer;
+        let end = layer_end(self.rules.as_slice(), self.next, layer);
+        settle_layer(
+            layered.task(),
+            layer,
+            &self.rules.as_slice()[self.next..end],
+            &self.index,
+            self.counters.as_mut_slice(),
+            &mut self.stack,
+            state,
+        );
+        self.next = end;
+        Some(layer)
+    }
+}
+
+/// The derived variables.
+fn derived_variables<T: Grounded>(alloc: Global, task: &T) -> Result<Vec<u32>, AllocError>
+    ensures { IfOk result (λ variables. AreDerived (T.says task.now) variables.items) }
+{
+    let mut variables = Vec::new(alloc);
+    for var in 0..task.variables() {
+        if task.layer(var).is_some() {
+            variables.push(var)?;
+        }
+    }
+    Ok(variables)
+}
+
+/// Gives the derived variables, which these are, their default.
+fn set_defaults<T: Grounded>(task: &T, derived: &[u32], state: &mut State)
+    requires derived { AreDerived (T.says task.now) derived.now }
+    requires state { IsState (T.says task.now).variables state.old }
+    ensures state { IsState (T.says task.now).variables state.new }
+    ensures basic { SameBasic (T.says task.now) state.old state.new }
+    ensures default { (layer : ℕ) → AtDefault (T.says task.now) layer state.new }
+{
+    for var in derived {
+        state.set(Fact {
+            var: *var,
+            value: task.initial_value(*var),
+        });
+    }
+}
