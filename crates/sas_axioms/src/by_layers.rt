@@ -53,6 +53,8 @@ pub fn settle_by_layers<T: Grounded, E: ByLayers<T>>(
     ensures ready { E.ready evaluator.new layered.now }
     ensures settles { Settles layered.now state.old state.new }
 {
+    // its contract tells that the task is layered
+    let _ = layered.task();
     evaluator.begin(layered, state);
     let mut from: u64 = 0;
     while let Some(layer) = evaluator.settle_next(layered, from, state) {
