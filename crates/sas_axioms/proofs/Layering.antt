@@ -1,14 +1,13 @@
 -- From a settled layer to the next one on which a rule can fire.
-use Rattle.std.proofs.Common.{◌≡◌, ◌≢◌, ℕ, ◌+◌, ◌<◌, ◌≤◌, ◌⊎◌, List, length, get_or, sym, subst, inl, inr, arith}
+use Rattle.std.proofs.Common.{ℕ, ◌+◌, ◌<◌, ◌≤◌, List, get_or, sym, subst, inl, inr, arith}
 use Rattle.std.proofs.lemmas.Bool.{cases_eq, cases_lt}
-use Rattle.sas_core.specs.declared.parts.Rule.{Rule}
 use Rattle.sas_core.specs.declared.parts.Parts.{Parts}
-use Rattle.sas_meaning.specs.Layers.{IsOnLayer, CanFire, IsLayered}
+use Rattle.sas_meaning.specs.Layers.{IsLayered}
 use Rattle.sas_meaning.specs.Settled.{IsSettledAt, IsSettled}
-use Rattle.sas_meaning.specs.Forced.{AtDefault, SameOff, Occurs}
+use Rattle.sas_meaning.specs.Forced.{AtDefault, Occurs}
 use Rattle.sas_meaning.proofs.Forced.{differs_not}
 use Rattle.sas_meaning.proofs.Settling.{default_off, settled_off}
-use Rattle.sas_axioms.specs.ByLayers.{IsIdle, SettlesLayer, SettlesNext}
+use Rattle.sas_axioms.specs.ByLayers.{IsIdle, SettlesNext}
 
 -- a layer without a variable is idle
 pub idle_where_empty : (p : Parts) (layer : ℕ) → (Occurs p layer → ⊥) → IsIdle p layer

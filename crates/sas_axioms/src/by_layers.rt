@@ -1,5 +1,4 @@
 // From a layer to all layers: what settles a state, settles one layer after another.
-ghost use Rattle.std.specs.Prelude.{◌≡◌, ℕ};
 ghost use Rattle.sas_core.specs.Variables.{IsState};
 ghost use Rattle.sas_meaning.specs.Settled.{Settles};
 
@@ -53,7 +52,7 @@ pub fn settle_by_layers<T: Grounded, E: ByLayers<T>>(
     ensures ready { E.ready evaluator.new layered.now }
     ensures settles { Settles layered.now state.old state.new }
 {
-    // its contract tells that the task is layered
+    // The contract of this call tells that the task is layered.
     let _ = layered.task();
     evaluator.begin(layered, state);
     let mut from: u64 = 0;

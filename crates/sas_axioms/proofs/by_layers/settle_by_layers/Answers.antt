@@ -1,4 +1,4 @@
-use Rattle.std.proofs.Common.{◌≡◌, ◌≤◌, ℕ, ◌+◌, ◌^◌, ◌∙◌, arith, rules}
+use Rattle.std.proofs.Common.{◌≡◌, ◌≤◌, ◌+◌, ◌^◌, ◌∙◌, arith, rules}
 use Rattle.sas_meaning.proofs.Settling.{basic_off, default_off}
 use Rattle.sas_axioms.proofs.Layering.{settled_to_next, settled_in_the_end}
 use Rattle.sas_axioms.proofs.by_layers.settle_by_layers.Goals as goal

@@ -1,4 +1,4 @@
-use Rattle.std.proofs.Common.{◌≡◌, ℕ, ◌<◌, ◌≤◌, get_or, IsTrue, IsFalse}
+use Rattle.std.proofs.Common.{ℕ, ◌<◌, ◌≤◌, get_or, IsTrue, IsFalse}
 use Rattle.sas_core.specs.declared.parts.Rule.{Rule}
 use Rattle.sas_core.specs.Variables.{IsState}
 use Rattle.sas_meaning.specs.Forced.{OnlyForced, equal_places, HasFired, SameOff}

@@ -1,4 +1,3 @@
-use Rattle.std.proofs.Common.{ℕ}
 use Rattle.sas_core.specs.Variables.{IsState}
 use Rattle.sas_meaning.specs.Forced.{OnlyForced, SameOff, equal_places}
 use Rattle.sas_axioms.proofs.rounds.settle_layer.Given as goal

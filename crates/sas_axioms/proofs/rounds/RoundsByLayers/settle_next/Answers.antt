@@ -1,4 +1,4 @@
-use Rattle.std.proofs.Common.{◌≡◌, ◌≤◌, ◌<◌, ℕ, sym, subst, arith, rules}
+use Rattle.std.proofs.Common.{◌≤◌, ℕ, sym, subst, arith, rules}
 use Rattle.sas_meaning.specs.Forced.{AtDefault, Occurs}
 use Rattle.sas_axioms.specs.ByLayers.{IsIdle, SettlesLayer}
 use Rattle.sas_axioms.proofs.Layering.{idle_where_empty}
