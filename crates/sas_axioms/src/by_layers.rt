@@ -1,5 +1,4 @@
 // From a layer to all layers: what settles a state, settles one layer after another.
-ghost use Rattle.std.specs.Prelude.{◌≡◌, ℕ};
 ghost use Rattle.sas_core.specs.Variables.{IsState};
 ghost use Rattle.sas_meaning.specs.Settled.{Settles};
 
@@ -53,6 +52,8 @@ pub fn settle_by_layers<T: Grounded, E: ByLayers<T>>(
     ensures ready { E.ready evaluator.new layered.now }
     ensures settles { Settles layered.now state.old state.new }
 {
+    // The contract of this call tells that the task is layered.
+    let _ = layered.task();
     evaluator.begin(layered, state);
     let mut from: u64 = 0;
     while let Some(layer) = evaluator.settle_next(layered, from, state) {

@@ -1,7 +1,7 @@
 // Settling in rounds: the rules of a layer are repeated until none changes a value.
-ghost use Rattle.std.specs.Prelude.{◌≡◌, ◌≢◌, ℕ, ◌<◌, ◌≤◌, ◌↔◌, length, All, IsTrue, IsFalse, IfSome, IfNone, slice_index};
+ghost use Rattle.std.specs.Prelude.{ℕ, ◌<◌, ◌≤◌, ◌↔◌, length, All, IsTrue, IsFalse, IfSome, IfNone, slice_index};
 ghost use Rattle.sas_core.specs.Grounded.{rule_at};
-ghost use Rattle.sas_core.specs.Variables.{FactExists, IsState};
+ghost use Rattle.sas_core.specs.Variables.{IsState};
 ghost use Rattle.sas_meaning.specs.States.{AllHold};
 ghost use Rattle.sas_meaning.specs.Settled.{SameBasic};
 ghost use Rattle.sas_meaning.specs.Forced.{OnlyForced, equal_places, HasFired, Changes, SameOff, AtDefault, Occurs};
@@ -128,7 +128,5 @@ fn all_hold(state: &State, facts: &[Fact]) -> bool
     requires { All (λ (f : Fact). f.var < length state.now) facts.now }
     ensures { IsTrue result ↔ AllHold (slice_index state.now) facts.now }
 {
-    facts
-        .iter()
-        .all(|fact| state.value(fact.var) == fact.value)
+    facts.iter().all(|fact| state.value(fact.var) == fact.value)
 }

@@ -1,0 +1,36 @@
+use Rattle.std.proofs.Common.{◌≡◌, ◌≤◌, ◌+◌, ◌^◌, ◌∙◌, arith, rules}
+use Rattle.sas_meaning.proofs.Settling.{basic_off, default_off}
+use Rattle.sas_axioms.proofs.Layering.{settled_to_next, settled_in_the_end}
+use Rattle.sas_axioms.proofs.by_layers.settle_by_layers.Goals as goal
+
+pub loop-layer-preserved : goal.loop-layer-preserved
+loop-layer-preserved g c =
+    let p = c.args.layered.now in
+    let layer = c.in-Some.layer in
+    let s = c.loop-layer.state in
+    let s' = c.settle_next.new.state in
+    let inv = c.loop-layer.invariant in
+    let layered = c.task.ensures.layered in
+    let next = c.in-Some.ensures.settles in
+    let stands = c.in-Some.ensures.stands in
+    let off = next.settles.off in
+    let is : c.from-from.result ≡ layer = search rules in
+    let bound : layer + 1 ≤ 2 ^ 32 = search rules in
+    rw is record {
+      stands = stands;
+      state = next.settles.state;
+      basic = λ v b. inv.basic v b ∙ basic_off p layer s s' layered off v b;
+      below = settled_to_next p c.loop-layer.from layer s s' layered next inv.below inv.above;
+      above = λ m le. default_off p layer s s' layered off m (omega arith) (inv.above m (let k = next.from_on in omega arith));
+      bound = bound;
+    }
+
+pub returns-clause-settles : goal.returns-clause-settles
+returns-clause-settles g c =
+    let inv = c.loop-layer.invariant in
+    let same = c.in_default.ensures.same in
+    rw same record {
+      state = inv.state;
+      basic = inv.basic;
+      settled = settled_in_the_end c.args.layered.now c.loop-layer.from c.loop-layer.state inv.below inv.above c.in_default.ensures.idle;
+    }

@@ -1,0 +1,46 @@
+use Rattle.std.proofs.Common.{◌≡◌, ◌<◌, [], None, length, get_or, set, sym, ◌∙◌, subst, inl, inr, arith, rules}
+use Rattle.std.proofs.lemmas.Bool.{cases_eq}
+use Rattle.std.proofs.lemmas.List.{get_or_default}
+use Rattle.sas_core.specs.declared.parts.Rule.{Rule}
+use Rattle.sas_core.specs.Grounded.{rule_at}
+use Rattle.sas_meaning.specs.Forced.{HasFired}
+use Rattle.sas_meaning.proofs.Forced.{Fired, fired_there}
+use Rattle.sas_axioms.proofs.rounds.go_round.Goals as goal
+use Rattle.sas_axioms.proofs.rounds.go_round.Goals.{then-changes, else-changes}
+
+pub loop-rule-preserved : goal.loop-rule-preserved
+loop-rule-preserved g c =
+    let p = g.T.Grounded.says c.args.task.now in
+    let layer = c.args.layer in
+    let s = c.loop-rule.state in
+    let k = c.loop-rule.rule in
+    let inv = c.loop-rule.invariant in
+    let behind : Rule = record { conditions = []; var = 0; old = None; new = 0 } in
+    let within : k < length p.rules = search rules in
+    elim c.if-changes.branch [
+      | then-changes w ↦
+          (let f : Fired p layer s (rule_at p k) = fired_there p layer s k behind c.requires.layered.ranged c.requires.layered.layered inv.state inv.forced within (c.changes.ensures.yes w.if-changes.true) in
+          let is : c.if-changes.state ≡ set s (rule_at p k).var (rule_at p k).new = search rules in
+          let fewer = f.fewer in
+          let was = inv.fewer in
+          rw is record {
+            state = f.state;
+            forced = f.forced;
+            off = λ v off. inv.off v off ∙ f.off v off;
+            fewer = omega arith;
+            more = λ _. omega arith;
+            done = λ no. let yes = w.changed-is in absurd cc;
+          })
+      | else-changes w ↦ rw (w.state-is, w.changed-is) record {
+        state = inv.state;
+        forced = inv.forced;
+        off = inv.off;
+        fewer = inv.fewer;
+        more = inv.more;
+        done = λ no j d lt. elim (cases_eq j k) [
+          | inl e ↦ subst (λ i. HasFired p layer s (get_or p.rules i d)) (sym e)
+              (subst (λ r. HasFired p layer s r) (get_or_default p.rules k behind d within) (c.changes.ensures.no w.if-changes.false))
+          | inr ne ↦ inv.done no j d (omega arith)
+        ];
+      }
+    ]

@@ -1,0 +1,16 @@
+use Rattle.std.proofs.Common.{ℕ, ◌<◌, ◌≤◌, get_or, IsTrue, IsFalse}
+use Rattle.sas_core.specs.declared.parts.Rule.{Rule}
+use Rattle.sas_core.specs.Variables.{IsState}
+use Rattle.sas_meaning.specs.Forced.{OnlyForced, equal_places, HasFired, SameOff}
+use Rattle.sas_axioms.proofs.rounds.go_round.Given as goal
+
+abbrev pub invariant-loop-rule : goal.invariant-loop-rule
+invariant-loop-rule g l = record {
+  state : IsState (g.T.Grounded.says l.task).variables l.state;
+  forced : OnlyForced (g.T.Grounded.says l.task) l.layer l.state;
+  off : SameOff (g.T.Grounded.says l.task) l.layer l.fn.state l.state;
+  fewer : equal_places l.state (g.T.Grounded.says l.task).init ≤ equal_places l.fn.state (g.T.Grounded.says l.task).init;
+  more : IsTrue l.changed → equal_places l.state (g.T.Grounded.says l.task).init < equal_places l.fn.state (g.T.Grounded.says l.task).init;
+  done : IsFalse l.changed → (k : ℕ) (d : Rule) → k < l.rule
+      → HasFired (g.T.Grounded.says l.task) l.layer l.state (get_or (g.T.Grounded.says l.task).rules k d);
+}
