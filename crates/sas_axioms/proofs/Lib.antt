@@ -1,1 +1,2 @@
 pub mod Layering
+pub mod Counters

@@ -55,7 +55,7 @@ pub record IsAtWork (p : Parts) (layer : ℕ) (s stack counters left : List ℕ)
   pub fired : HaveFired p layer s counters
 
 -- one rule fired, or had
-pub record Fires (p : Parts) (layer rule : ℕ) (s stack s' stack' : List ℕ) : Type 0 where
+pub record FiresRule (p : Parts) (layer rule : ℕ) (s stack s' stack' : List ℕ) : Type 0 where
   pub running : IsRunning p layer s' stack'
   pub seen : (var : ℕ) → seen p s' stack' var ≡ seen p s stack var
   pub fired : slice_index s' (rule_at p rule).var ≡ (rule_at p rule).new

@@ -8,7 +8,7 @@ ghost use Rattle.sas_axioms.specs.declared.waiting.Waiting.{Waiting};
 ghost use Rattle.sas_axioms.specs.ByLayers.{IsLayeredTask, SettlesLayer};
 ghost use Rattle.sas_axioms.specs.LayerRules.{IsRuleOn, AreRulesOn};
 ghost use Rattle.sas_axioms.specs.Waiting.{IsIndex, released};
-ghost use Rattle.sas_axioms.specs.Worklist.{open_conditions, IsRunning, Counts, HaveFired, HasRoom, IsAtWork, Fires, work};
+ghost use Rattle.sas_axioms.specs.Worklist.{open_conditions, IsRunning, Counts, HaveFired, HasRoom, IsAtWork, FiresRule, work};
 
 use crate::layer_rules::LayerRule;
 use crate::waiting::{Index, Waiting};
@@ -108,7 +108,7 @@ fn fire<T: Grounded>(task: &T, layer: u32, rule: u32, stack: &mut Vec<u32>, stat
     requires running { IsRunning (T.says task.now) layer state.old stack.old.items }
     requires room { length (T.says task.now).variables ≤ vec_capacity stack.old }
     requires hold { AllHold (slice_index state.old) (rule_at (T.says task.now) rule).conditions }
-    ensures fires { Fires (T.says task.now) layer rule state.old stack.old.items state.new stack.new.items }
+    ensures fires { FiresRule (T.says task.now) layer rule state.old stack.old.items state.new stack.new.items }
     ensures room { vec_capacity stack.old ≤ vec_capacity stack.new }
 {
     let change = task.rule_change(rule);

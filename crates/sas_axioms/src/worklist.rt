@@ -110,6 +110,7 @@ fn derived_variables<T: Grounded>(alloc: Global, task: &T) -> Result<Vec<u32>, A
 
 /// Gives the derived variables, which these are, their default.
 fn set_defaults<T: Grounded>(task: &T, derived: &[u32], state: &mut State)
+    requires layered { IsLayeredTask (T.says task.now) }
     requires derived { AreDerived (T.says task.now) derived.now }
     requires state { IsState (T.says task.now).variables state.old }
     ensures state { IsState (T.says task.now).variables state.new }

@@ -1,0 +1,310 @@
+-- The counters of a worklist.
+use Rattle.std.proofs.Common.{◌≡◌, ◌≢◌, ℕ, zero, suc, ◌+◌, ◌-◌, ◌*◌, ◌<◌, ◌≤◌, ◌==◌, ◌&&◌, ◌⊎◌, Bool, true, false, not, cond, Option, None, List, [], ◌∷◌, ◌++◌, length, get_or, set, refl, sym, ◌∙◌, ap, subst, inl, inr, arith}
+use Rattle.std.proofs.lemmas.Bool.{cases_eq, eq-eqb}
+use Rattle.std.proofs.lemmas.Bool.Decides.{eqb_tells}
+use Rattle.std.proofs.lemmas.List.{get_or-set_same, get_or-set_other, length-set, get_or_default}
+use Rattle.std.proofs.Math.ListN.{length-append}
+use Rattle.std.specs.List.{Contains}
+use Rattle.sas_core.specs.declared.parts.Fact.{Fact}
+use Rattle.sas_core.specs.declared.parts.Rule.{Rule}
+use Rattle.sas_core.specs.declared.parts.Parts.{Parts}
+use Rattle.sas_core.specs.Grounded.{rule_at}
+use Rattle.sas_core.specs.Variables.{range_of, layer_of, HasValue, FactExists, IsState}
+use Rattle.sas_core.specs.WellRanged.{WellRanged}
+use Rattle.sas_meaning.specs.States.{Holds, AllHold}
+use Rattle.sas_meaning.specs.Layers.{IsBasic, IsOnLayer, default_of, CanFire, can_fire, LooksDown, IsLayeredRule, IsLayered}
+use Rattle.sas_meaning.specs.Settled.{is_on_layer, new_value_of, given, IsClosed, differs, IsSettledAt, IsSettled, SameBasic, Settles}
+use Rattle.sas_meaning.specs.Forced.{OnlyForced, HasFired, Changes, SameOff, AtDefault, equal_places}
+use Rattle.sas_axioms.specs.LayerRules.{IsRuleOn}
+use Rattle.sas_axioms.specs.Waiting.{occurrences, asking, IsIndex}
+use Rattle.sas_axioms.specs.Worklist.{open_conditions, seen, IsRunning, Counts, HaveFired, IsAtWork, FiresRule, work}
+use Rattle.std.specs.List.{All}
+use Rattle.std.proofs.lemmas.List.Elements.{All-contains, All-nil, All-cons, All-head, All-tail}
+use Rattle.sas_meaning.proofs.Forced.{Fired, fired_there, rule_new, differs_true, differs_not, fact_within}
+use Rattle.sas_meaning.proofs.Rules.{new_value_is}
+use Rattle.sas_meaning.proofs.Settling.{forced_at_default, settled_when_fired}
+use Rattle.sas_meaning.proofs.Unique.{differs_tells}
+
+pub occurrences-append : (n : ℕ) (xs ys : List ℕ) → occurrences n (xs ++ ys) ≡ occurrences n xs + occurrences n ys
+occurrences-append n [] ys = omega arith
+occurrences-append n (x ∷ xs) ys = let ih = occurrences-append n xs ys in omega arith
+
+-- one more on the stack
+pub occurrences_pushed : (n v : ℕ) (xs : List ℕ) → ((v ≡ n) × (occurrences n (xs ++ v ∷ []) ≡ occurrences n xs + 1)) ⊎ ((v ≢ n) × (occurrences n (xs ++ v ∷ []) ≡ occurrences n xs))
+occurrences_pushed n v xs = elim (eqb_tells v n) [
+  | inl w ↦ inl (w.1, occurrences-append n xs (v ∷ []) ∙ rw w.0 (omega arith))
+  | inr w ↦ inr (w.1, occurrences-append n xs (v ∷ []) ∙ rw w.0 (omega arith))
+]
+
+pub seen_tells : (t : Parts) (s stack : List ℕ) (v : ℕ) → ((occurrences v stack ≡ 0) × (seen t s stack v ≡ get_or s v 0)) ⊎ ((0 < occurrences v stack) × (seen t s stack v ≡ default_of t v))
+seen_tells t s stack v = elim (eqb_tells (occurrences v stack) 0) [
+  | inl w ↦ inl (w.1, rw w.0 refl)
+  | inr w ↦ (let ne : occurrences v stack ≢ 0 = w.1 in inr (omega arith, rw w.0 refl))
+]
+
+-- a rule that changes its variable's value, with the variable put on the stack
+pub record Pushed (t : Parts) (layer : ℕ) (s stack : List ℕ) (rule : Rule) : Type 0 where
+  pub running : IsRunning t layer (set s rule.var rule.new) (stack ++ rule.var ∷ [])
+  pub seen : (v : ℕ) → seen t (set s rule.var rule.new) (stack ++ rule.var ∷ []) v ≡ seen t s stack v
+  pub kept : (v : ℕ) → differs t s v ≡ true → get_or (set s rule.var rule.new) v 0 ≡ get_or s v 0
+  pub off : SameOff t layer s (set s rule.var rule.new)
+  pub fewer : equal_places (set s rule.var rule.new) t.init < equal_places s t.init
+
+abbrev no_rule : Rule
+no_rule = record { conditions = []; var = 0; old = None; new = 0 }
+
+-- the variable of a rule exists
+pub rule_within : (t : Parts) (s : List ℕ) (k : ℕ) → WellRanged t → IsState t.variables s → k < length t.rules → (rule_at t k).var < length s
+rule_within t s k ranged state lt =
+    let within = fact_within t (rule_at t k).var (rule_at t k).new (rule_new t ranged k no_rule lt) in
+    let len = state.one_each in omega arith
+
+was_default : (t : Parts) (layer : ℕ) (s : List ℕ) (k : ℕ) → IsLayered t → OnlyForced t layer s → IsRuleOn t layer k → get_or s (rule_at t k).var 0 ≢ (rule_at t k).new → get_or s (rule_at t k).var 0 ≡ default_of t (rule_at t k).var
+was_default t layer s k layered forced on changes = elim (differs_tells t s (rule_at t k).var) [
+  | inl p ↦ p.0
+  | inr p ↦ absurd (changes (forced.new (rule_at t k).var on.on p.1 ∙ new_value_is t k no_rule layered on.exists on.can))
+]
+
+pub pushed : (t : Parts) (layer : ℕ) (s stack : List ℕ) (k : ℕ) → WellRanged t → IsLayered t → IsRunning t layer s stack → IsRuleOn t layer k
+    → AllHold (λ v. get_or s v 0) (rule_at t k).conditions → get_or s (rule_at t k).var 0 ≢ (rule_at t k).new → Pushed t layer s stack (rule_at t k)
+pushed t layer s stack k ranged layered run on_k hold changes = record {
+  running = record { state = f.state; forced = f.forced; fired = fired; once = once; room = room };
+  seen = seen_same;
+  kept = kept;
+  off = f.off;
+  fewer = f.fewer;
+}
+  where
+    rule : Rule
+    rule = rule_at t k
+
+    within : (rule_at t k).var < length s
+    within = rule_within t s k ranged run.state on_k.exists
+
+    f : Fired t layer s (rule_at t k)
+    f = fired_there t layer s k no_rule ranged layered run.state run.forced on_k.exists (record { on = on_k.on; can = on_k.can; hold = hold; new = changes })
+
+    default : get_or s (rule_at t k).var 0 ≡ default_of t (rule_at t k).var
+    default = was_default t layer s k layered run.forced on_k changes
+
+    other : (v : ℕ) → v ≢ (rule_at t k).var → get_or (set s (rule_at t k).var (rule_at t k).new) v 0 ≡ get_or s v 0
+    other v ne = get_or-set_other s (rule_at t k).var v (rule_at t k).new 0 ne
+
+    kept : (v : ℕ) → differs t s v ≡ true → get_or (set s (rule_at t k).var (rule_at t k).new) v 0 ≡ get_or s v 0
+    kept v d = other v (λ e. differs_not t s v d (subst (λ x. get_or s x 0 ≡ default_of t x) (sym e) default))
+
+    not_yet : occurrences (rule_at t k).var stack ≡ 0
+    not_yet = elim (seen_tells t s stack (rule_at t k).var) [ inl w ↦ w.0 | inr w ↦ absurd (differs_not t s (rule_at t k).var (run.fired (rule_at t k).var w.0).1 default) ]
+
+    fired : (v : ℕ) → 0 < occurrences v (stack ++ (rule_at t k).var ∷ []) → IsOnLayer t layer v × (differs t (set s (rule_at t k).var (rule_at t k).new) v ≡ true)
+    fired v lt = elim (occurrences_pushed v (rule_at t k).var stack) [
+      | inl w ↦ (
+        subst (λ x. IsOnLayer t layer x) w.0 on_k.on,
+        subst (λ x. differs t (set s (rule_at t k).var (rule_at t k).new) x ≡ true) w.0
+            (differs_true t (set s (rule_at t k).var (rule_at t k).new) (rule_at t k).var (λ e. on_k.can (sym (get_or-set_same s (rule_at t k).var (rule_at t k).new 0 within) ∙ e))),
+      )
+      | inr w ↦ (let p = run.fired v (subst (λ n. 0 < n) w.1 lt) in
+          (p.0, differs_true t (set s (rule_at t k).var (rule_at t k).new) v (λ e. differs_not t s v p.1 (sym (kept v p.1) ∙ e))))
+    ]
+
+    once : (v : ℕ) → occurrences v (stack ++ (rule_at t k).var ∷ []) ≤ 1
+    once v = elim (occurrences_pushed v (rule_at t k).var stack) [
+      | inl w ↦ (let z : occurrences v stack ≡ 0 = subst (λ x. occurrences x stack ≡ 0) w.0 not_yet in let e = w.1 in omega arith)
+      | inr w ↦ (let le = run.once v in let e = w.1 in omega arith)
+    ]
+
+    room : length (stack ++ (rule_at t k).var ∷ []) + equal_places (set s (rule_at t k).var (rule_at t k).new) t.init ≤ length (set s (rule_at t k).var (rule_at t k).new)
+    room = let a = length-append stack ((rule_at t k).var ∷ []) in let b = length-set s (rule_at t k).var (rule_at t k).new in let le = run.room in let lt = f.fewer in omega arith
+
+    seen_same : (v : ℕ) → seen t (set s (rule_at t k).var (rule_at t k).new) (stack ++ (rule_at t k).var ∷ []) v ≡ seen t s stack v
+    seen_same v = elim (occurrences_pushed v (rule_at t k).var stack) [
+      | inl w ↦ elim (seen_tells t (set s (rule_at t k).var (rule_at t k).new) (stack ++ (rule_at t k).var ∷ []) v) [
+        | inl a ↦ (let x = w.1 in let y = a.0 in absurd (omega arith))
+        | inr a ↦ a.1 ∙ (subst (λ x. default_of t x ≡ seen t s stack x) w.0
+            (elim (seen_tells t s stack (rule_at t k).var) [ inl b ↦ sym (b.1 ∙ default) | inr b ↦ sym b.1 ]))
+      ]
+      | inr w ↦ ap (λ n. cond (n == 0) (get_or (set s (rule_at t k).var (rule_at t k).new) v 0) (default_of t v)) w.1
+          ∙ ap (λ x. cond (occurrences v stack == 0) x (default_of t v)) (other v (λ e. w.0 (sym e)))
+    ]
+
+-- the two writes of a rule that fires
+pub fires_by : (t : Parts) (layer : ℕ) (s stack s' stack' : List ℕ) (k : ℕ) → WellRanged t → IsState t.variables s → IsRuleOn t layer k → Pushed t layer s stack (rule_at t k)
+    → s' ≡ set s (rule_at t k).var (rule_at t k).new → stack' ≡ stack ++ (rule_at t k).var ∷ [] → FiresRule t layer k s stack s' stack'
+fires_by t layer s stack s' stack' k ranged state on p s-is stack-is = rw (s-is, stack-is) record {
+  running = p.running;
+  seen = p.seen;
+  fired = get_or-set_same s (rule_at t k).var (rule_at t k).new 0 (rule_within t s k ranged state on.exists);
+  kept = p.kept;
+  off = p.off;
+  work = let fewer = p.fewer in let len = length-append stack ((rule_at t k).var ∷ []) in omega arith;
+}
+
+-- ---- counting conditions
+
+pub all_hold_when_none_open : (value : ℕ → ℕ) (cs : List Fact) → open_conditions value cs ≡ 0 → AllHold value cs
+all_hold_when_none_open value [] e = All-nil (Holds value)
+all_hold_when_none_open value (c ∷ cs) e = elim (eqb_tells (value c.var) c.value) [
+  | inl w ↦ All-cons (Holds value) c cs w.1 (all_hold_when_none_open value cs (omega arith))
+  | inr w ↦ (let f : 1 + open_conditions value cs ≡ 0 = rw w.0 at e in absurd (omega arith))
+]
+
+pub none_open_when_all_hold : (value : ℕ → ℕ) (cs : List Fact) → AllHold value cs → open_conditions value cs ≡ 0
+none_open_when_all_hold value [] h = refl
+none_open_when_all_hold value (c ∷ cs) h = elim (eqb_tells (value c.var) c.value) [
+  | inl w ↦ rw w.0 (let ih = none_open_when_all_hold value cs (All-tail (Holds value) c cs h) in omega arith)
+  | inr w ↦ absurd (w.1 (All-head (Holds value) c cs h))
+]
+
+pub open_same : (value value' : ℕ → ℕ) (cs : List Fact) → ((v : ℕ) → value v ≡ value' v) → open_conditions value cs ≡ open_conditions value' cs
+open_same value value' [] same = refl
+open_same value value' (c ∷ cs) same = rw (same c.var) (let ih = open_same value value' cs same in omega arith)
+
+-- a popped variable: the conditions on its new value are no longer open
+open_popped : (value value' : ℕ → ℕ) (v x : ℕ) (cs : List Fact) → ((u : ℕ) → u ≢ v → value u ≡ value' u) → value' v ≡ x
+    → All (λ (c : Fact). c.var ≡ v → c.value ≢ value v) cs → open_conditions value cs ≡ open_conditions value' cs + asking v x cs
+open_popped value value' v x [] same new asks = omega arith
+open_popped value value' v x (c ∷ cs) same new asks = by_cases (open_popped value value' v x cs same new (All-tail (λ (c : Fact). c.var ≡ v → c.value ≢ value v) c cs asks))
+  where
+    by_cases : open_conditions value cs ≡ open_conditions value' cs + asking v x cs
+        → (cond (value c.var == c.value) 0 1) + open_conditions value cs ≡ (cond (value' c.var == c.value) 0 1) + open_conditions value' cs + (cond ((c.var == v) && (c.value == x)) 1 0 + asking v x cs)
+    by_cases ih = elim (eqb_tells c.var v) [
+      | inr ne ↦ rw (ne.0, same c.var ne.1) (omega arith)
+      | inl e ↦ elim (eqb_tells (value c.var) c.value) [
+        | inl h ↦ absurd (All-head (λ (c : Fact). c.var ≡ v → c.value ≢ value v) c cs asks e.1 (sym h.1 ∙ ap value e.1))
+        | inr h ↦ elim (eqb_tells c.value x) [
+          | inl y ↦ (let here : (value' c.var == c.value) ≡ true = eq-eqb (value' c.var) c.value (ap value' e.1 ∙ (new ∙ sym y.1)) in rw (h.0, here, e.0, y.0) (omega arith))
+          | inr y ↦ elim (eqb_tells (value' c.var) c.value) [
+            | inl z ↦ absurd (y.1 (sym z.1 ∙ (ap value' e.1 ∙ new)))
+            | inr z ↦ rw (h.0, z.0, e.0, y.0) (omega arith)
+          ]
+        ]
+      ]
+    ]
+
+-- ---- the counters of a layer
+
+-- a rule whose counter is at zero has conditions that hold
+pub ready : (t : Parts) (layer : ℕ) (s stack counters left : List ℕ) (k : ℕ) → IsLayered t → IsRunning t layer s stack → Counts t layer s stack counters left → IsRuleOn t layer k
+    → get_or counters k 0 ≡ 0 → AllHold (λ v. get_or s v 0) (rule_at t k).conditions
+ready t layer s stack counters left k layered run counts on nil j e lt' =
+    elim (seen_tells t s stack (get_or (rule_at t k).conditions j e).var) [
+      | inl w ↦ sym w.1 ∙ holds
+      | inr w ↦ (let down = (layered.rules k no_rule on.exists on.can).order j e lt' in
+          let z : layer < layer = (down layer layer on.on (run.fired (get_or (rule_at t k).conditions j e).var w.0).0).1 (sym holds ∙ w.1) in absurd (omega arith))
+    ]
+  where
+    holds : seen t s stack (get_or (rule_at t k).conditions j e).var ≡ (get_or (rule_at t k).conditions j e).value
+    holds = all_hold_when_none_open (seen t s stack) (rule_at t k).conditions (let n = counts k on in omega arith) j e lt'
+
+pub counts_seen : (t : Parts) (layer : ℕ) (s s' stack stack' counters left : List ℕ) → ((v : ℕ) → seen t s' stack' v ≡ seen t s stack v) → Counts t layer s stack counters left → Counts t layer s' stack' counters left
+counts_seen t layer s s' stack stack' counters left same counts k on =
+    let e = open_same (seen t s' stack') (seen t s stack) (rule_at t k).conditions same in
+    let f = counts k on in omega arith
+
+pub fired_kept : (t : Parts) (layer : ℕ) (s s' counters : List ℕ) → ((v : ℕ) → differs t s v ≡ true → get_or s' v 0 ≡ get_or s v 0) → HaveFired t layer s counters → HaveFired t layer s' counters
+fired_kept t layer s s' counters kept fired k on nil =
+    let e = fired k on nil in kept (rule_at t k).var (differs_true t s (rule_at t k).var (λ f. on.can (sym e ∙ f))) ∙ e
+
+pub counted_down : (t : Parts) (layer : ℕ) (s stack counters left : List ℕ) (k : ℕ) → k < length counters → Counts t layer s stack counters (k ∷ left) → Counts t layer s stack (set counters k (get_or counters k 0 - 1)) left
+counted_down t layer s stack counters left k within counts j on = elim (eqb_tells k j) [
+  | inl w ↦ subst (λ i. get_or (set counters k (get_or counters k 0 - 1)) i 0 ≡ open_conditions (seen t s stack) (rule_at t j).conditions + occurrences j left) w.1
+      (get_or-set_same counters k (get_or counters k 0 - 1) 0 within
+      ∙ (let n : get_or counters j 0 ≡ open_conditions (seen t s stack) (rule_at t j).conditions + (1 + occurrences j left) = rw w.0 at (counts j on) in
+      let e : get_or counters k 0 ≡ get_or counters j 0 = ap (λ i. get_or counters i 0) w.1 in omega arith))
+  | inr w ↦ get_or-set_other counters k j (get_or counters k 0 - 1) 0 (λ e. w.1 (sym e))
+      ∙ (let n : get_or counters j 0 ≡ open_conditions (seen t s stack) (rule_at t j).conditions + (0 + occurrences j left) = rw w.0 at (counts j on) in omega arith)
+]
+
+pub waits : (t : Parts) (layer : ℕ) (s stack counters left : List ℕ) (k : ℕ) → IsRuleOn t layer k → Counts t layer s stack counters (k ∷ left) → 1 ≤ get_or counters k 0
+waits t layer s stack counters left k on counts =
+    let n : get_or counters k 0 ≡ open_conditions (seen t s stack) (rule_at t k).conditions + (1 + occurrences k left) = rw (eq-eqb k k refl) at (counts k on) in omega arith
+
+pub fired_set : (t : Parts) (layer : ℕ) (s counters : List ℕ) (k n : ℕ) → k < length counters → (n ≡ 0 → get_or s (rule_at t k).var 0 ≡ (rule_at t k).new)
+    → HaveFired t layer s counters → HaveFired t layer s (set counters k n)
+fired_set t layer s counters k n within here fired j on nil = elim (cases_eq j k) [
+  | inl e ↦ subst (λ i. get_or s (rule_at t i).var 0 ≡ (rule_at t i).new) (sym e)
+      (here (sym (get_or-set_same counters k n 0 within) ∙ subst (λ i. get_or (set counters k n) i 0 ≡ 0) e nil))
+  | inr ne ↦ fired j on (sym (get_or-set_other counters k j n 0 ne) ∙ nil)
+]
+
+-- ---- a variable is popped
+
+pub popped_running : (t : Parts) (layer : ℕ) (s rest : List ℕ) (v : ℕ) → IsRunning t layer s (rest ++ v ∷ []) → IsRunning t layer s rest
+popped_running t layer s rest v run = record {
+  state = run.state;
+  forced = run.forced;
+  fired = λ u lt. run.fired u (let e = occurrences-append u rest (v ∷ []) in omega arith);
+  once = λ u. let e = occurrences-append u rest (v ∷ []) in let le = run.once u in omega arith;
+  room = let e = length-append rest (v ∷ []) in let le = run.room in omega arith;
+}
+
+pub top_is : (t : Parts) (layer : ℕ) (s rest : List ℕ) (v : ℕ) → IsRunning t layer s (rest ++ v ∷ []) → IsOnLayer t layer v × (differs t s v ≡ true)
+top_is t layer s rest v run = elim (occurrences_pushed v v rest) [
+  | inl w ↦ run.fired v (let e = w.1 in omega arith)
+  | inr w ↦ absurd (w.0 refl)
+]
+
+pub popped_counts : (t : Parts) (layer : ℕ) (s rest counters left : List ℕ) (v : ℕ) → IsLayered t → IsRunning t layer s (rest ++ v ∷ [])
+    → ((k : ℕ) → IsRuleOn t layer k → occurrences k left ≡ asking v (get_or s v 0) (rule_at t k).conditions)
+    → Counts t layer s (rest ++ v ∷ []) counters [] → Counts t layer s rest counters left
+popped_counts t layer s rest counters left v layered run each counts k on =
+    let a = counts k on in
+    let b = open_popped (seen t s (rest ++ v ∷ [])) (seen t s rest) v (get_or s v 0) (rule_at t k).conditions others now asks in
+    let c = each k on in
+    omega arith
+  where
+    v_on : IsOnLayer t layer v
+    v_on = (top_is t layer s rest v run).0
+
+    gone : occurrences v rest ≡ 0
+    gone = elim (occurrences_pushed v v rest) [ inl w ↦ (let e = w.1 in let le = run.once v in omega arith) | inr w ↦ absurd (w.0 refl) ]
+
+    now : seen t s rest v ≡ get_or s v 0
+    now = elim (seen_tells t s rest v) [ inl w ↦ w.1 | inr w ↦ (let z = gone in let p = w.0 in absurd (omega arith)) ]
+
+    default : seen t s (rest ++ v ∷ []) v ≡ default_of t v
+    default = elim (seen_tells t s (rest ++ v ∷ []) v) [ inl w ↦ (let z = w.0 in let e = occurrences_pushed v v rest in absurd (elim e [ inl p ↦ (let q = p.1 in omega arith) | inr p ↦ p.0 refl ])) | inr w ↦ w.1 ]
+
+    others : (u : ℕ) → u ≢ v → seen t s (rest ++ v ∷ []) u ≡ seen t s rest u
+    others u ne = elim (occurrences_pushed u v rest) [
+      | inl w ↦ absurd (ne (sym w.0))
+      | inr w ↦ ap (λ n. cond (n == 0) (get_or s u 0) (default_of t u)) w.1
+    ]
+
+    asks : All (λ (c : Fact). c.var ≡ v → c.value ≢ seen t s (rest ++ v ∷ []) v) (rule_at t k).conditions
+    asks j e lt' is_v is_default =
+        let down = (layered.rules k no_rule on.exists on.can).order j e lt' in
+        let z : layer < layer = (down layer layer on.on (subst (λ u. IsOnLayer t layer u) (sym is_v) v_on)).1 (is_default ∙ (default ∙ ap (default_of t) (sym is_v))) in absurd (omega arith)
+
+-- with nothing left on the stack the layer is settled
+pub settled_when_empty : (t : Parts) (layer : ℕ) (s counters : List ℕ) → IsRunning t layer s [] → Counts t layer s [] counters [] → HaveFired t layer s counters → IsSettledAt t layer s
+settled_when_empty t layer s counters run counts fired = settled_when_fired t layer s run.forced (λ k d lt.
+    subst (λ (r : Rule). HasFired t layer s r) (get_or_default t.rules k no_rule d lt) (has k lt))
+  where
+    has : (k : ℕ) → k < length t.rules → HasFired t layer s (rule_at t k)
+    has k lt on can hold =
+        let is : IsRuleOn t layer k = record { exists = lt; on = on; can = can } in
+        fired k is (let a = counts k is in let b = none_open_when_all_hold (λ v. get_or s v 0) (rule_at t k).conditions hold in omega arith)
+
+pub running_at_default : (t : Parts) (layer : ℕ) (s : List ℕ) → IsState t.variables s → AtDefault t layer s → IsRunning t layer s []
+running_at_default t layer s state at = record {
+  state = state;
+  forced = forced_at_default t layer s at;
+  fired = λ v lt. absurd (omega arith);
+  once = λ v. omega arith;
+  room = let le = equal_places-le s t.init in omega arith;
+}
+  where
+    equal_places-le : (xs ys : List ℕ) → equal_places xs ys ≤ length xs
+    equal_places-le [] ys = omega arith
+    equal_places-le (x ∷ xs) [] = omega arith
+    equal_places-le (x ∷ xs) (y ∷ ys) = let ih = equal_places-le xs ys in elim (eqb_tells x y) [ inl w ↦ rw w.0 (omega arith) | inr w ↦ rw w.0 (omega arith) ]
+
+-- a rule that was counted down to nothing has fired
+pub at_work_fired : (t : Parts) (layer : ℕ) (s stack s' stack' counters left : List ℕ) (k : ℕ) → k < length counters → IsAtWork t layer s stack counters (k ∷ left)
+    → FiresRule t layer k s stack s' stack' → IsAtWork t layer s' stack' (set counters k (get_or counters k 0 - 1)) left
+at_work_fired t layer s stack s' stack' counters left k within work f = record {
+  running = f.running;
+  counts = counts_seen t layer s s' stack stack' (set counters k (get_or counters k 0 - 1)) left f.seen (counted_down t layer s stack counters left k within work.counts);
+  fired = fired_set t layer s' counters k (get_or counters k 0 - 1) within (λ _. f.fired) (fired_kept t layer s s' counters f.kept work.fired);
+}

@@ -1,0 +1,33 @@
+-- The two writes.
+use Rattle.std.proofs.Common.{rules, ◌≡◌, ◌≢◌, ℕ, ◌+◌, ◌<◌, ◌≤◌, Bool, true, List, [], ◌∷◌, ◌++◌, length, get_or, set, sym, ap, ◌∙◌, arith}
+use Rattle.std.specs.Result.{is_ok}
+use Rattle.sas_core.specs.declared.grounded.Change.{Change}
+use Rattle.sas_core.specs.Grounded.{rule_at}
+use Rattle.sas_meaning.specs.Forced.{equal_places}
+use Rattle.sas_axioms.specs.Worklist.{IsRunning, FiresRule}
+use Rattle.sas_axioms.proofs.Counters.{Pushed, pushed, fires_by}
+use Rattle.sas_axioms.proofs.firing.fire.Goals as goal
+use Rattle.sas_axioms.proofs.firing.fire.Given.{Over}
+use Rattle.sas_axioms.proofs.firing.fire.Goals.{After-push}
+
+-- what the two writes do
+after : (g : Over) (c : After-push g) → Pushed (g.T.Grounded.says c.args.task.now) c.args.layer c.args.state.now c.args.stack.now.items (rule_at (g.T.Grounded.says c.args.task.now) c.args.rule)
+after g c =
+    let p = g.T.Grounded.says c.args.task.now in
+    let e = c.rule_change-change.ensures in
+    pushed p c.args.layer c.args.state.now c.args.stack.now.items c.args.rule c.requires.layered.ranged c.requires.layered.layered c.requires.running c.requires.rule c.requires.hold
+    (λ same. c.if-value-change.true (c.value.ensures ∙ (ap (λ (x : Change). get_or c.args.state.now x.var 0) e ∙ (same ∙ sym (ap (λ (x : Change). x.new) e)))))
+
+succeeds : (g : Over) (c : After-push g) → is_ok c.push.result ≡ true
+succeeds g c = let p = after g c in let fewer = p.fewer in let room = c.requires.running.room in let len = c.requires.running.state.one_each in c.push.ensures.succeeds (omega (arith, c.requires.room, c.args.stack.now.ok.0))
+
+pub unwrap-requires : goal.unwrap-requires
+unwrap-requires g c = succeeds g c
+
+pub returns-then-value-change-clause-fires : goal.returns-then-value-change-clause-fires
+returns-then-value-change-clause-fires g c =
+    let a = (goal.at.returns-then-value-change-clause-fires g c).After-push in
+    let e = c.rule_change-change.ensures in
+    fires_by (g.T.Grounded.says c.args.task.now) c.args.layer c.args.state.now c.args.stack.now.items _ _ c.args.rule c.requires.layered.ranged c.requires.running.state c.requires.rule (after g a)
+    (c.set.ensures ∙ ap (λ (x : Change). set c.args.state.now x.var x.new) e)
+    ((rw (succeeds g a) at c.push.ensures.items) ∙ ap (λ (x : Change). c.args.stack.now.items ++ x.var ∷ []) e)

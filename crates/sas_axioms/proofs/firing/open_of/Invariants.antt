@@ -1,0 +1,11 @@
+-- The open conditions so far.
+use Rattle.std.proofs.Common.{◌≡◌, ℕ, ◌+◌, ◌≤◌, drop}
+use Rattle.std.specs.Prelude.{slice_index}
+use Rattle.sas_axioms.specs.Worklist.{open_conditions}
+use Rattle.sas_axioms.proofs.firing.open_of.Given as goal
+
+abbrev pub invariant-loop-condition : goal.invariant-loop-condition
+invariant-loop-condition l = record {
+  so_far : l.«open» + open_conditions (slice_index l.state) (drop l.condition-index l.conditions) ≡ open_conditions (slice_index l.state) l.conditions;
+  small : l.«open» ≤ l.condition-index;
+}
