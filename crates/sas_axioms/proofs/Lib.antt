@@ -1,1 +1,4 @@
-
+pub mod Firing
+pub mod Entries
+pub mod Cuts
+pub mod Groups
