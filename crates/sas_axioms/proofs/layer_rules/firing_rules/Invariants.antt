@@ -1,0 +1,6 @@
+-- Those of the first rules that can fire.
+use Rattle.sas_axioms.proofs.Firing.{FiringUpTo}
+use Rattle.sas_axioms.proofs.layer_rules.firing_rules.Given as goal
+
+abbrev pub invariant-loop-rule : goal.invariant-loop-rule
+invariant-loop-rule g l = FiringUpTo (g.T.Grounded.says l.task) l.rule l.rules.items

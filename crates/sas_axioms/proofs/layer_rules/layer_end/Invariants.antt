@@ -1,0 +1,14 @@
+-- The rules passed so far are on the layer.
+use Rattle.std.proofs.Common.{◌≡◌, ℕ, ◌-◌, ◌<◌, ◌≤◌, length, get_or}
+use Rattle.sas_axioms.specs.declared.layer_rules.LayerRule.{LayerRule}
+use Rattle.sas_axioms.proofs.layer_rules.layer_end.Given as goal
+
+abbrev pub invariant-loop-end : goal.invariant-loop-end
+invariant-loop-end l = record {
+  from_start : l.start ≤ l.end;
+  within : l.end ≤ length l.rules;
+  on : (place : ℕ) (d : LayerRule) → l.start ≤ place → place < l.end → (get_or l.rules place d).layer ≡ l.layer;
+}
+
+abbrev pub decreases-loop-end : goal.decreases-loop-end
+decreases-loop-end l = length l.rules - l.end
