@@ -1,0 +1,3 @@
+pub mod NumberedChecks
+pub mod RuleTests
+pub mod KnownValues
