@@ -21,9 +21,6 @@ module _ (p : Parts) (place : ℕ) (values : List (Option ℕ)) (known : NewValu
       sym (known.all k before can) ∙ ap (λ v. slice_index_or values v None) same ∙ is
 
   module _ (rule : Rule) (within : place ≤ length p.rules) where
-    agrees : Type 0
-    agrees = Bool
-
     agrees_by : (value : Option ℕ) → slice_index_or values rule.var None ≡ value → agrees_with p (take place p.rules) rule ≡ option_map_or (λ its. its == rule.new) value true
     agrees_by None is =
         (agrees_with_earlier p rule place within).1 (λ k before can same. let impossible = value_of rule.var None is k before can same in absurd (cc))
@@ -42,3 +39,66 @@ module _ (p : Parts) (place : ℕ) (values : List (Option ℕ)) (known : NewValu
                 let equal : value ≡ rule.new = sym gives.its_new ∙ its in
                 let yes : (value == rule.new) ≡ true = eq-eqb value rule.new equal in
                 absurd (cc))
+
+    -- the test whether the rule agrees with the rules before the place, by the value that is known of its variable
+    pub agrees_by_value : agrees_with p (take place p.rules) rule ≡ option_map_or (λ its. its == rule.new) (slice_index_or values rule.var None) true
+    agrees_by_value = agrees_by (slice_index_or values rule.var None) refl
+
+  later : {rule var value : ℕ} → Gives p place rule var value → Gives p (place + 1) rule var value
+  later gives = record {
+    before = let before = gives.before in omega arith;
+    can_fire = gives.can_fire;
+    its_var = gives.its_var;
+    its_new = gives.its_new;
+  }
+
+  -- the rule at the place can't fire
+  pub known_as_before : (CanFire p (rule_at p place) → ⊥) → NewValues p (place + 1) values
+  known_as_before cannot = record {
+    one_each = known.one_each;
+    all =
+        below_more
+            (λ k. CanFire p (rule_at p k) → slice_index_or values (rule_at p k).var None ≡ Some (rule_at p k).new)
+            place
+            known.all
+            (λ can. absurd (cannot can));
+    only = λ var value is. let (k, gives) = known.only var value is in (k, later gives);
+  }
+
+  -- the rule at the place can fire, and its new value is written
+  module _ (can : CanFire p (rule_at p place)) (agrees : option_map_or (λ its. its == (rule_at p place).new) (slice_index_or values (rule_at p place).var None) true ≡ true) (below : (rule_at p place).var < length values) where
+    abbrev written : List (Option ℕ)
+    written = slice_set values (rule_at p place).var (Some (rule_at p place).new)
+
+    same_value : (value : Option ℕ) (new : ℕ) → option_map_or (λ its. its == (rule_at p place).new) value true ≡ true → Some new ≡ value → Some (rule_at p place).new ≡ Some new
+    same_value None new test is = absurd (cc)
+    same_value (Some value) new test is = let equal = eqb-true value (rule_at p place).new test in cc
+
+    still : (k : ℕ) → k < place → CanFire p (rule_at p k) → ((rule_at p k).var ≡ (rule_at p place).var) ⊎ ((rule_at p k).var ≢ (rule_at p place).var) → slice_index_or written (rule_at p k).var None ≡ Some (rule_at p k).new
+    still k before can_too (inl same) =
+        ap (λ v. slice_index_or written v None) same
+        ∙ get_or-set_same values (rule_at p place).var _ None below
+        ∙ same_value _ (rule_at p k).new agrees (value_of (rule_at p place).var _ refl k before can_too same)
+    still k before can_too (inr other) = get_or-set_other values _ _ _ None other ∙ known.all k before can_too
+
+    only_known : (var value : ℕ) → slice_index_or written var None ≡ Some value → (var ≡ (rule_at p place).var) ⊎ (var ≢ (rule_at p place).var) → (k : ℕ) × Gives p (place + 1) k var value
+    only_known var value is (inl same) =
+        let new : slice_index_or written (rule_at p place).var None ≡ Some (rule_at p place).new = get_or-set_same values (rule_at p place).var _ None below in
+        let moved : slice_index_or written (rule_at p place).var None ≡ Some value = ap (λ v. slice_index_or written v None) (sym same) ∙ is in (
+          place,
+          record { before = omega arith; can_fire = can; its_var = sym same; its_new = cc },
+        )
+    only_known var value is (inr other) =
+        let (k, gives) = known.only var value (sym (get_or-set_other values _ _ _ None other) ∙ is) in (k, later gives)
+
+    pub known_behind : NewValues p (place + 1) (slice_set values (rule_at p place).var (Some (rule_at p place).new))
+    known_behind = record {
+      one_each = length-set values _ _ ∙ known.one_each;
+      all =
+          below_more
+              (λ k. CanFire p (rule_at p k) → slice_index_or written (rule_at p k).var None ≡ Some (rule_at p k).new)
+              place
+              (λ k before can_too. still k before can_too (same_or_other _ _ _ refl))
+              (λ _. get_or-set_same values _ _ None below);
+      only = λ var value is. only_known var value is (same_or_other _ _ _ refl);
+    }

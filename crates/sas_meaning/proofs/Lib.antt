@@ -1,3 +1,4 @@
 pub mod NumberedChecks
 pub mod RuleTests
 pub mod KnownValues
+pub mod LayerChecksAreRules

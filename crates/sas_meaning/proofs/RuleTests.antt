@@ -17,14 +17,14 @@ pub fires : (p : Parts) (rule : Rule) → (can_fire p rule ≡ true) ↔ CanFire
 fires p rule = differs _ _ _ refl
 
 passes : (a b c : Bool) → (a ≡ true → b ≡ true → c ≡ true) → (not (a && b) || c) ≡ true
-passes true true c then = then refl refl
-passes true false c then = refl
-passes false b c then = refl
+passes true true c so = so refl refl
+passes true false c so = refl
+passes false b c so = refl
 
 says : (a b c : Bool) → (not (a && b) || c) ≡ true → a ≡ true → b ≡ true → c ≡ true
-says true true c test yes also = test
-says true false c test yes also = absurd (cc)
-says false b c test yes also = absurd (cc)
+says true true c test a_is b_is = test
+says true false c test a_is b_is = absurd (cc)
+says false b c test a_is b_is = absurd (cc)
 
 module _ (p : Parts) (rule : Rule) (place : ℕ) (within : place ≤ length p.rules) where
   -- what the rule asks of an earlier one
