@@ -1,13 +1,17 @@
 -- The first fault of the checks of a list's items, each of which is named by its place.
-use Rattle.std.proofs.Common.{◌≡◌, ℕ, ◌+◌, ◌<◌, ◌≤◌, List, ◌∷◌, length, flat_map, drop, get_or, Option, Some, None, refl, sym, ◌∙◌, ap, add-one, arith}
+use Rattle.std.proofs.Common.{◌≡◌, ℕ, ◌+◌, ◌<◌, ◌≤◌, Bool, List, ◌∷◌, length, flat_map, drop, get_or, Option, Some, None, refl, sym, ◌∙◌, ap, add-one, arith}
 use Rattle.std.proofs.Math.Seq.{drop-cons}
 use Rattle.std.proofs.lemmas.List.{drop_all}
 use Rattle.std.proofs.lemmas.List.FromFn.{get_or-enumerate_from, length-enumerate_from}
 use Rattle.std.specs.List.{enumerate_from}
-use Rattle.sas_core.specs.Checks.{Check, first_fault}
+use Rattle.sas_core.specs.Checks.{Check, first_fault, check}
 use Rattle.sas_core.proofs.FirstFaults.{fails_before, decides_after}
 use Rattle.sas_meaning.specs.declared.layered.LayerFault.{LayerFault}
 use Rattle.sas_meaning.specs.LayerChecks.{numbered}
+
+-- a check, and one whose test says the same
+pub same_check : (passes test : Bool) (e : LayerFault) (found : Option LayerFault) → passes ≡ test → found ≡ first_fault (check passes e) → found ≡ first_fault (check test e)
+same_check passes test e found same is = is ∙ ap (λ b. first_fault (check b e)) same
 
 -- the checks of items that are named already
 abbrev named : {A : Type 0} → (ℕ → A → List (Check LayerFault)) → List (ℕ × A) → List (Check LayerFault)
