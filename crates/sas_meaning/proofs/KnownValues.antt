@@ -1,4 +1,5 @@
--- The new values that are known of the rules before a place: whether the rule there agrees with them, and what is known behind it.
+-- The new values that are known of the rules before a place: whether the rule there agrees with
+-- them, and what is known behind it.
 use Rattle.std.proofs.Common.{◌≡◌, ◌≢◌, ℕ, ◌+◌, ◌<◌, ◌≤◌, ◌⊎◌, inl, inr, ◌==◌, Bool, true, false, List, length, take, slice_index_or, slice_set, Option, Some, None, refl, sym, ap, ◌∙◌, arith, eqb-true, eq-eqb, below_more, length-set, get_or-set_same, get_or-set_other}
 use Rattle.std.proofs.lemmas.Bool.{false_from_ne_true}
 use Rattle.std.specs.Option.{option_map_or}
@@ -21,24 +22,30 @@ module _ (p : Parts) (place : ℕ) (values : List (Option ℕ)) (known : NewValu
       sym (known.all k before can) ∙ ap (λ v. slice_index_or values v None) same ∙ is
 
   module _ (rule : Rule) (within : place ≤ length p.rules) where
+    -- the value that is known is the rule's
+    all_same : (value : ℕ) → slice_index_or values rule.var None ≡ Some value → (value == rule.new) ≡ true → (k : ℕ) → k < place → CanFire p (rule_at p k) → (rule_at p k).var ≡ rule.var → (rule_at p k).new ≡ rule.new
+    all_same value is same k before can at =
+        let its = value_of rule.var (Some value) is k before can at in
+        let equal = eqb-true value rule.new same in
+        cc
+
+    -- the value that is known is another one
+    one_differs : (value : ℕ) → slice_index_or values rule.var None ≡ Some value → (value == rule.new) ≡ false → agrees_with p (take place p.rules) rule ≡ true → ⊥
+    one_differs value is differ test =
+        let (k, gives) = known.only rule.var value is in
+        let its = (agrees_with_earlier p rule place within).0 test k gives.before gives.can_fire gives.its_var in
+        let equal : value ≡ rule.new = sym gives.its_new ∙ its in
+        let same : (value == rule.new) ≡ true = eq-eqb value rule.new equal in
+        absurd (cc)
+
+    by_test : (value : ℕ) (same : Bool) → slice_index_or values rule.var None ≡ Some value → (value == rule.new) ≡ same → agrees_with p (take place p.rules) rule ≡ same
+    by_test value true is same = (agrees_with_earlier p rule place within).1 (all_same value is same)
+    by_test value false is differ = false_from_ne_true _ (one_differs value is differ)
+
     agrees_by : (value : Option ℕ) → slice_index_or values rule.var None ≡ value → agrees_with p (take place p.rules) rule ≡ option_map_or (λ its. its == rule.new) value true
     agrees_by None is =
         (agrees_with_earlier p rule place within).1 (λ k before can same. let impossible = value_of rule.var None is k before can same in absurd (cc))
-    agrees_by (Some value) is = by_test (value == rule.new) refl
-      where
-        by_test : (same : Bool) → (value == rule.new) ≡ same → agrees_with p (take place p.rules) rule ≡ same
-        by_test true same =
-            (agrees_with_earlier p rule place within).1 (λ k before can at.
-                let its = value_of rule.var (Some value) is k before can at in
-                let equal = eqb-true value rule.new same in
-                cc)
-        by_test false differ =
-            false_from_ne_true _ (λ test.
-                let (k, gives) = known.only rule.var value is in
-                let its = (agrees_with_earlier p rule place within).0 test k gives.before gives.can_fire gives.its_var in
-                let equal : value ≡ rule.new = sym gives.its_new ∙ its in
-                let yes : (value == rule.new) ≡ true = eq-eqb value rule.new equal in
-                absurd (cc))
+    agrees_by (Some value) is = by_test value (value == rule.new) is refl
 
     -- the test whether the rule agrees with the rules before the place, by the value that is known of its variable
     pub agrees_by_value : agrees_with p (take place p.rules) rule ≡ option_map_or (λ its. its == rule.new) (slice_index_or values rule.var None) true
@@ -50,19 +57,6 @@ module _ (p : Parts) (place : ℕ) (values : List (Option ℕ)) (known : NewValu
     can_fire = gives.can_fire;
     its_var = gives.its_var;
     its_new = gives.its_new;
-  }
-
-  -- the rule at the place can't fire
-  pub known_as_before : (CanFire p (rule_at p place) → ⊥) → NewValues p (place + 1) values
-  known_as_before cannot = record {
-    one_each = known.one_each;
-    all =
-        below_more
-            (λ k. CanFire p (rule_at p k) → slice_index_or values (rule_at p k).var None ≡ Some (rule_at p k).new)
-            place
-            known.all
-            (λ can. absurd (cannot can));
-    only = λ var value is. let (k, gives) = known.only var value is in (k, later gives);
   }
 
   -- the rule at the place can fire, and its new value is written
@@ -91,14 +85,15 @@ module _ (p : Parts) (place : ℕ) (values : List (Option ℕ)) (known : NewValu
     only_known var value is (inr other) =
         let (k, gives) = known.only var value (sym (get_or-set_other values _ _ _ None other) ∙ is) in (k, later gives)
 
+    -- what is known behind it
     pub known_behind : NewValues p (place + 1) (slice_set values (rule_at p place).var (Some (rule_at p place).new))
     known_behind = record {
       one_each = length-set values _ _ ∙ known.one_each;
       all =
           below_more
-              (λ k. CanFire p (rule_at p k) → slice_index_or written (rule_at p k).var None ≡ Some (rule_at p k).new)
-              place
-              (λ k before can_too. still k before can_too (same_or_other _ _ _ refl))
-              (λ _. get_or-set_same values _ _ None below);
+          (λ k. CanFire p (rule_at p k) → slice_index_or written (rule_at p k).var None ≡ Some (rule_at p k).new)
+          place
+          (λ k before can_too. still k before can_too (same_or_other _ _ _ refl))
+          (λ _. get_or-set_same values _ _ None below);
       only = λ var value is. only_known var value is (same_or_other _ _ _ refl);
     }

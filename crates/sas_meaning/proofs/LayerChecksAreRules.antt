@@ -4,7 +4,6 @@ use Rattle.std.proofs.lemmas.List.{get_or_default}
 use Rattle.std.proofs.lemmas.Bool.Decides.{nat_tests}
 use Rattle.std.specs.List.{enumerate_from}
 use Rattle.std.specs.Option.{option_map_or, is_some}
-use Rattle.sas_core.specs.declared.parts.Fact.{Fact}
 use Rattle.sas_core.specs.declared.parts.Effect.{Effect}
 use Rattle.sas_core.specs.declared.parts.Operator.{Operator}
 use Rattle.sas_core.specs.declared.parts.Rule.{Rule}
@@ -226,12 +225,15 @@ module _ (p : Parts) where
               derived = each_rule (λ (rule : Rule). IsDerived p.variables rule.var) (λ place below. (q.1 place below).0);
               rules = each_rule (λ (rule : Rule). CanFire p rule → IsLayeredRule p rule) (layered_rule q.1);
             },
-        λ layered. both.1 (layered.effects, λ place below. (
-          layered.derived place _ below,
-          λ can.
-              let its = layered.rules place _ below can in
-              ((its.old, λ k before k_can same. its.one_value k _ (omega arith) k_can same), its.order),
-        )),
+        λ layered. both.1 (
+          layered.effects,
+          λ place below. (
+            layered.derived place _ below,
+            λ can.
+                let its = layered.rules place _ below can in
+                ((its.old, λ k before k_can same. its.one_value k _ (omega arith) k_can same), its.order),
+          ),
+        ),
       )
 
 pub checks_are_rules : LayerChecksAreTheRules

@@ -22,9 +22,6 @@ pub record PassBefore {A : Type 0} (checks_of : ℕ → A → List (Check LayerF
   pub rest_decides : first_fault (numbered checks_of items) ≡ first_fault (named checks_of (drop place (enumerate_from 0 items)))
 
 module _ {A : Type 0} (checks_of : ℕ → A → List (Check LayerFault)) (items : List A) where
-  pub pass_before_first : PassBefore checks_of items 0
-  pass_before_first = record { rest_decides = refl }
-
   -- no item is left
   pub pass_all : (place : ℕ) → length items ≤ place → PassBefore checks_of items place → None ≡ first_fault (numbered checks_of items)
   pass_all place past before =

@@ -1,7 +1,8 @@
 -- The tests of a rule, and what they say of the rules at their places.
-use Rattle.std.proofs.Common.{◌≡◌, ℕ, ◌<◌, ◌≤◌, ◌==◌, ◌&&◌, ◌||◌, ◌↔◌, Bool, true, false, not, List, length, take, get_or, Option, Some, None, refl, sym, ap, ◌∙◌, arith, eqb-true, eq-eqb, length-take, get_or-take}
+use Rattle.std.proofs.Common.{◌≡◌, ℕ, ◌<◌, ◌≤◌, ◌==◌, ◌&&◌, ◌||◌, ◌↔◌, Bool, true, false, not, length, take, get_or, refl, sym, ap, ◌∙◌, arith, eqb-true, eq-eqb, get_or-take}
 use Rattle.std.proofs.lemmas.List.{get_or_default, length-take-le}
 use Rattle.std.proofs.lemmas.List.Sums.{AllPass-from_list_all, list_all-from_AllPass}
+use Rattle.std.specs.List.{AllPass, list_all}
 use Rattle.sas_core.specs.declared.parts.Rule.{Rule}
 use Rattle.sas_core.specs.declared.parts.Parts.{Parts}
 use Rattle.sas_core.specs.Grounded.{rule_at}
@@ -45,13 +46,15 @@ module _ (p : Parts) (rule : Rule) (place : ℕ) (within : place ≤ length p.ru
   earlier : (k : ℕ) (d : Rule) → k < place → get_or (take place p.rules) k d ≡ rule_at p k
   earlier k d before = get_or-take place p.rules k d before ∙ get_or_default p.rules k d _ (omega arith)
 
+  each_agrees : list_all agrees (take place p.rules) ≡ true → (k : ℕ) → k < place → Agrees (rule_at p k)
+  each_agrees test k before =
+      agrees_so (rule_at p k) (ap agrees (sym (earlier k rule before)) ∙ AllPass-from_list_all agrees (take place p.rules) test k rule (omega (arith, length-take-le place p.rules within)))
+
+  all_agree : ((k : ℕ) → k < place → Agrees (rule_at p k)) → AllPass agrees (take place p.rules)
+  all_agree each k d below =
+      let before : k < place = omega (arith, length-take-le place p.rules within) in
+      ap agrees (earlier k d before) ∙ so_agrees (rule_at p k) (each k before)
+
   -- the test whether the rule agrees with the rules before the place
   pub agrees_with_earlier : (agrees_with p (take place p.rules) rule ≡ true) ↔ ((k : ℕ) → k < place → Agrees (rule_at p k))
-  agrees_with_earlier = (
-    λ test k before.
-        agrees_so (rule_at p k) (ap agrees (sym (earlier k rule before)) ∙ AllPass-from_list_all agrees (take place p.rules) test k rule (omega (arith, length-take-le place p.rules within))),
-    λ each.
-        list_all-from_AllPass agrees (take place p.rules) (λ k d below.
-            let before : k < place = omega (arith, length-take-le place p.rules within) in
-            ap agrees (earlier k d before) ∙ so_agrees (rule_at p k) (each k before)),
-  )
+  agrees_with_earlier = (each_agrees, λ each. list_all-from_AllPass agrees (take place p.rules) (all_agree each))

@@ -26,6 +26,7 @@ pub fn check_layers<T: Grounded>(alloc: Global, task: &T) -> Result<(), LayerFau
     check_rules(task, &mut new_values)
 }
 
+/// Looks at the operators in turn.
 fn check_operators<T: Grounded>(task: &T) -> Result<(), LayerFault>
     requires { WellRanged (T.says task.now) }
     ensures { result_err result
@@ -37,6 +38,7 @@ fn check_operators<T: Grounded>(task: &T) -> Result<(), LayerFault>
     Ok(())
 }
 
+/// Looks at the effects of an operator in turn.
 fn check_operator<T: Grounded>(task: &T, operator: u32) -> Result<(), LayerFault>
     requires well_ranged { WellRanged (T.says task.now) }
     requires operator { operator < length (T.says task.now).operators }
@@ -53,11 +55,8 @@ fn check_operator<T: Grounded>(task: &T, operator: u32) -> Result<(), LayerFault
     Ok(())
 }
 
-/// Looks at the rules in turn. The new values that are known at the start are those of no rule.
-fn check_rules<T: Grounded>(
-    task: &T,
-    new_values: &mut Items<Option<u32>>,
-) -> Result<(), LayerFault>
+/// Looks at the rules in turn. No rule's new value is known at the start.
+fn check_rules<T: Grounded>(task: &T, new_values: &mut Items<Option<u32>>) -> Result<(), LayerFault>
     requires well_ranged { WellRanged (T.says task.now) }
     requires known { NewValues (T.says task.now) 0 new_values.old }
     ensures { result_err result
@@ -110,17 +109,18 @@ fn check_firing_rule<T: Grounded>(
     ensures known { IfOk result (λ _. NewValues (T.says task.now) (rule + 1) new_values.new) }
 {
     check(
-        is_none_or(change.old, task.initial_value(change.var)),
+        is_none_or_just(change.old, task.initial_value(change.var)),
         LayerFault::OldValue { rule },
     )?;
     check(
-        is_none_or(value_of(new_values, change.var), change.new),
+        is_none_or_just(value_of(new_values, change.var), change.new),
         LayerFault::TwoValues { rule },
     )?;
     new_values.set(change.var as usize, Some(change.new));
     check_conditions(task, rule, change.var)
 }
 
+/// Looks at the conditions of a rule for this variable in turn.
 fn check_conditions<T: Grounded>(task: &T, rule: u32, var: u32) -> Result<(), LayerFault>
     requires well_ranged { WellRanged (T.says task.now) }
     requires rule { rule < length (T.says task.now).rules }
@@ -166,13 +166,10 @@ fn value_of(values: &Items<Option<u32>>, var: u32) -> Option<u32>
 }
 
 /// Whether there is no value, or just this one.
-fn is_none_or(value: Option<u32>, other: u32) -> bool
-    ensures { result ≡ option_map_or (λ its. its == other) value true }
+fn is_none_or_just(value: Option<u32>, only: u32) -> bool
+    ensures { result ≡ option_map_or (λ its. its == only) value true }
 {
-    match value {
-        Some(value) => value == other,
-        None => true,
-    }
+    value.is_none_or(|its| its == only)
 }
 
 /// The fault, unless the test passes.

@@ -1,5 +1,5 @@
 -- The first of the conditions that fails decides.
-use Rattle.std.proofs.Common.{rules, ◌≡◌, ◌∙◌, ℕ, Bool, List, length, get_or, Option, Some, ap, arith}
+use Rattle.std.proofs.Common.{rules, ◌≡◌, ◌∙◌, ℕ, Bool, List, length, get_or, Option, Some, None, ap, arith}
 use Rattle.std.specs.Result.{result_err}
 use Rattle.sas_core.specs.declared.parts.Fact.{Fact}
 use Rattle.sas_core.specs.declared.parts.Parts.{Parts}
@@ -28,7 +28,7 @@ loop-condition-preserved g c =
     let p = g.T.Grounded.says c.args.task.now in
     let conditions = (rule_at p c.args.rule).conditions in
     let same = c.rule_conditions-fact-items.ensures in
-    pass_before_next (checks_of p c.args.rule) conditions c.loop-condition.condition _ _ (omega (arith, ap length same)) (same_item _ conditions _ _ same) c.loop-condition.invariant (its_checks p c.args.rule _ _ _ _ _ c.requires.var c.looks_down.ensures c.in_ok-check.ensures)
+    pass_before_next (checks_of p c.args.rule) conditions c.loop-condition.condition _ _ (omega (arith, ap length same)) (same_item _ conditions _ _ same) c.loop-condition.invariant (its_checks p c.args.rule c.args.var c.loop-condition.condition _ c.looks_down.result None c.requires.var c.looks_down.ensures c.in_ok-check.ensures)
 
 pub returns-in_err-check : goal.returns-in_err-check
 returns-in_err-check g c =
@@ -36,7 +36,7 @@ returns-in_err-check g c =
     let conditions = (rule_at p c.args.rule).conditions in
     let same = c.rule_conditions-fact-items.ensures in
     let its : result_err c.from_residual.result ≡ Some c.in_err-check.field-0.0 = search rules in
-    its ∙ fails_at (checks_of p c.args.rule) conditions c.loop-condition.condition _ _ (omega (arith, ap length same)) (same_item _ conditions _ _ same) c.loop-condition.invariant _ (its_checks p c.args.rule _ _ _ _ _ c.requires.var c.looks_down.ensures c.in_err-check.ensures)
+    its ∙ fails_at (checks_of p c.args.rule) conditions c.loop-condition.condition _ _ (omega (arith, ap length same)) (same_item _ conditions _ _ same) c.loop-condition.invariant c.in_err-check.field-0.0 (its_checks p c.args.rule c.args.var c.loop-condition.condition _ c.looks_down.result (Some c.in_err-check.field-0.0) c.requires.var c.looks_down.ensures c.in_err-check.ensures)
 
 pub returns : goal.returns
 returns g c =

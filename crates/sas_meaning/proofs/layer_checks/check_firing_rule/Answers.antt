@@ -12,7 +12,7 @@ pub returns-in_err-check-2-clause-first : goal.returns-in_err-check-2-clause-fir
 returns-in_err-check-2-clause-first g c =
     let p = g.T.Grounded.says c.args.task.now in
     let same : result_err c.from_residual-in_err-check-2.result ≡ Some c.in_err-check-2.field-0.0 = search rules in
-    same ∙ others_fail p c.args.rule c.args.change c.requires.change c.requires.rule _ _ c.initial_value.ensures c.is_none_or.ensures _ c.requires.known _ _ c.value_of.ensures c.is_none_or-2.ensures c.in_ok-check.ensures _ c.in_err-check-2.ensures
+    same ∙ others_fail p c.args.rule c.args.change c.requires.change c.requires.rule _ _ c.initial_value.ensures c.is_none_or_just.ensures _ c.requires.known _ _ c.value_of.ensures c.is_none_or_just-2.ensures c.in_ok-check.ensures _ c.in_err-check-2.ensures
 
 pub set-requires : goal.set-requires
 set-requires g c =
@@ -23,10 +23,10 @@ set-requires g c =
 pub returns-clause-first : goal.returns-clause-first
 returns-clause-first g c =
     let p = g.T.Grounded.says c.args.task.now in
-    conditions_decide p c.args.rule c.args.change c.requires.change c.requires.rule _ _ c.initial_value.ensures c.is_none_or.ensures _ c.requires.known _ _ c.value_of.ensures c.is_none_or-2.ensures c.in_ok-check.ensures c.in_ok-check-2.ensures _ c.check_conditions.ensures
+    conditions_decide p c.args.rule c.args.change c.requires.change c.requires.rule _ _ c.initial_value.ensures c.is_none_or_just.ensures _ c.requires.known _ _ c.value_of.ensures c.is_none_or_just-2.ensures c.in_ok-check.ensures c.in_ok-check-2.ensures _ c.check_conditions.ensures
 
 pub returns-clause-known : goal.returns-clause-known
 returns-clause-known g c =
     let p = g.T.Grounded.says c.args.task.now in
     let exists = var_exists p c.args.rule c.args.change c.requires.change c.requires.rule c.requires.well_ranged in
-    if_ok c.check_conditions.result _ (known_then p c.args.rule c.args.change c.requires.change c.requires.rule _ _ c.initial_value.ensures c.is_none_or.ensures _ c.requires.known _ _ c.value_of.ensures c.is_none_or-2.ensures c.in_ok-check.ensures c.in_ok-check-2.ensures c.set.new.self c.requires.can_fire (omega (arith, c.requires.known.one_each)) c.set.ensures)
+    if_ok c.check_conditions.result _ (known_then p c.args.rule c.args.change c.requires.change c.requires.rule _ _ c.initial_value.ensures c.is_none_or_just.ensures _ c.requires.known _ _ c.value_of.ensures c.is_none_or_just-2.ensures c.in_ok-check.ensures c.in_ok-check-2.ensures c.set.new.self c.requires.can_fire (omega (arith, c.requires.known.one_each)) c.set.ensures)

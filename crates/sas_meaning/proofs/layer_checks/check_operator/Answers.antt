@@ -1,5 +1,5 @@
 -- The first of the effects that fails decides.
-use Rattle.std.proofs.Common.{rules, ◌≡◌, ◌∙◌, ℕ, Bool, true, false, not, Option, Some, refl, ap, arith}
+use Rattle.std.proofs.Common.{rules, ◌≡◌, ◌∙◌, ℕ, Bool, true, false, not, Option, Some, None, refl, ap, arith}
 use Rattle.std.specs.Option.{is_some}
 use Rattle.std.specs.Result.{result_err}
 use Rattle.sas_core.specs.declared.grounded.Change.{Change}
@@ -28,13 +28,13 @@ its_checks p operator effect change layer passes found is its test =
 pub loop-effect-preserved : goal.loop-effect-preserved
 loop-effect-preserved g c =
     let p = g.T.Grounded.says c.args.task.now in
-    pass_before_next (effect_checks p c.args.operator) (operator_at p c.args.operator).effects c.loop-effect.effect _ _ (omega arith) refl c.loop-effect.invariant (its_checks p c.args.operator c.loop-effect.effect _ _ _ _ c.effect_change-change.ensures c.layer.ensures c.is_none.ensures c.in_ok-check.ensures)
+    pass_before_next (effect_checks p c.args.operator) (operator_at p c.args.operator).effects c.loop-effect.effect _ _ (omega arith) refl c.loop-effect.invariant (its_checks p c.args.operator c.loop-effect.effect _ _ c.is_none.result None c.effect_change-change.ensures c.layer.ensures c.is_none.ensures c.in_ok-check.ensures)
 
 pub returns-in_err-check : goal.returns-in_err-check
 returns-in_err-check g c =
     let p = g.T.Grounded.says c.args.task.now in
     let same : result_err c.from_residual.result ≡ Some c.in_err-check.field-0.0 = search rules in
-    same ∙ fails_at (effect_checks p c.args.operator) (operator_at p c.args.operator).effects c.loop-effect.effect _ _ (omega arith) refl c.loop-effect.invariant _ (its_checks p c.args.operator c.loop-effect.effect _ _ _ _ c.effect_change-change.ensures c.layer.ensures c.is_none.ensures c.in_err-check.ensures)
+    same ∙ fails_at (effect_checks p c.args.operator) (operator_at p c.args.operator).effects c.loop-effect.effect _ _ (omega arith) refl c.loop-effect.invariant c.in_err-check.field-0.0 (its_checks p c.args.operator c.loop-effect.effect _ _ c.is_none.result (Some c.in_err-check.field-0.0) c.effect_change-change.ensures c.layer.ensures c.is_none.ensures c.in_err-check.ensures)
 
 pub returns : goal.returns
 returns g c =

@@ -1,5 +1,5 @@
 -- Where no check of layers fails, the task is layered.
-use Rattle.std.proofs.Common.{◌≡◌, sym}
+use Rattle.std.proofs.Common.{sym}
 use Rattle.sas_meaning.proofs.LayerChecksAreRules.{checks_are_rules}
 use Rattle.sas_meaning.proofs.layered.Layered.new.Goals as goal
 
