@@ -126,7 +126,8 @@ fn check_conditions<T: Grounded>(task: &T, rule: u32, var: u32) -> Result<(), La
     requires rule { rule < length (T.says task.now).rules }
     requires var { var ≡ (rule_at (T.says task.now) rule).var }
     ensures { result_err result ≡ first_fault (spec.numbered
-        (λ condition c. check (spec.looks_down (T.says task.now) (rule_at (T.says task.now) rule).var c) (LayerOrder rule condition))
+        (λ condition c. check (spec.looks_down (T.says task.now) (rule_at (T.says task.now) rule).var c)
+        (LayerOrder rule condition))
         (rule_at (T.says task.now) rule).conditions) }
 {
     for (condition, fact) in task.rule_conditions(rule).iter().enumerate() {
