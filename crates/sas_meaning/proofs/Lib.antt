@@ -5,3 +5,8 @@ pub mod Forced
 pub mod Settling
 pub mod Unique
 pub mod Exists
+pub mod NumberedChecks
+pub mod RuleTests
+pub mod KnownValues
+pub mod LayerChecksAreRules
+pub mod FiringRules

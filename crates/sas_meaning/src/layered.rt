@@ -1,10 +1,10 @@
 // Which tasks are layered.
-ghost use Rattle.std.specs.Prelude.{◌≡◌, ◌≢◌, ◌<◌, length, Some, None, IfOk, IfErr};
-ghost use Rattle.std.specs.Result.{result_err};
+ghost use Rattle.std.specs.Prelude.{◌≡◌, ◌≢◌, Some, IfOk, IfErr};
 ghost use Rattle.sas_core.specs.Checks.{first_fault};
 ghost use Rattle.sas_meaning.specs.LayerChecks.{layer_checks};
 ghost use Rattle.sas_meaning.specs.Layers.{IsLayered};
 
+use crate::layer_checks::check_layers;
 use sas_core::{Grounded, Task};
 use std::alloc::{AllocError, Global};
 use std::marker::Model;
@@ -92,12 +92,4 @@ impl<T: Grounded> Layered<T> {
         let Layered { task } = self;
         task
     }
-}
-
-/// Looks at the operators and the rules in turn, up to the first fault.
-fn check_layers<T: Grounded>(_alloc: Global, _task: &T) -> Result<(), LayerFault>
-    ensures { result_err result ≢ Some LayerFault.Memory
-        → result_err result ≡ first_fault (layer_checks (T.says _task.now)) }
-{
-    Err(LayerFault::Memory)
 }

@@ -2,6 +2,7 @@
 #![tactic(auto)]
 
 mod laws;
+mod layer_checks;
 mod layered;
 mod settle;
 mod state;

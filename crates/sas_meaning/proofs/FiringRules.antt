@@ -1,0 +1,91 @@
+-- A rule that can fire: the tests of it by what is known of the rules before it, and which of its checks is the first to fail.
+use Rattle.std.proofs.Common.{◌≡◌, ◌∙◌, ℕ, zero, suc, ◌+◌, ◌<◌, ◌==◌, Bool, true, false, List, [], ◌∷◌, ◌++◌, length, take, slice_index, slice_index_or, slice_set, Option, Some, None, refl, sym, ap, subst, arith}
+use Rattle.std.specs.Option.{option_map_or}
+use Rattle.sas_core.specs.declared.grounded.Change.{Change}
+use Rattle.sas_core.specs.declared.parts.Rule.{Rule}
+use Rattle.sas_core.specs.declared.parts.Variable.{Variable}
+use Rattle.sas_core.specs.declared.parts.Parts.{Parts}
+use Rattle.sas_core.specs.Checks.{Check, first_fault, check}
+use Rattle.sas_core.specs.Grounded.{rule_at, rule_change}
+use Rattle.sas_core.specs.Variables.{range_of}
+use Rattle.sas_core.specs.WellRanged.{RuleFits, WellRanged}
+use Rattle.sas_core.proofs.FirstFaults.{fails_before, decides_after}
+use Rattle.sas_core.proofs.Places.{holds_at}
+use Rattle.sas_meaning.specs.declared.layered.LayerFault.{LayerFault}
+use Rattle.sas_meaning.specs.declared.layered.LayerFault.TheVariants.{OldValue, TwoValues, LayerOrder}
+use Rattle.sas_meaning.specs.Layers.{CanFire, default_of}
+use Rattle.sas_meaning.specs.LayerChecks.{numbered, agrees_with, looks_down, firing_checks}
+use Rattle.sas_meaning.specs.NewValues.{NewValues}
+use Rattle.sas_meaning.proofs.NumberedChecks.{same_check}
+use Rattle.sas_meaning.proofs.KnownValues.{agrees_by_value, known_behind}
+
+passed : (passes : Bool) (e : LayerFault) → None ≡ first_fault (check passes e) → passes ≡ true
+passed true e none = refl
+passed false e none = absurd (cc)
+
+var_of_value : (variables : List Variable) (var value : ℕ) → value < range_of variables var → var < length variables
+var_of_value [] var value below = absurd (omega arith)
+var_of_value (v ∷ variables) zero value below = omega arith
+var_of_value (v ∷ variables) (suc var) value below = omega (arith, var_of_value variables var value below)
+
+-- the checks of the conditions of a rule
+abbrev pub condition_checks : Parts → ℕ → Rule → List (Check LayerFault)
+condition_checks p place rule =
+    numbered (λ condition c. check (looks_down p rule.var c) (LayerOrder place condition)) rule.conditions
+
+-- the rule at a place, and what it changes
+module _ (p : Parts) (place : ℕ) (change : Change) (is : change ≡ rule_change (rule_at p place)) (below : place < length p.rules) where
+  pub var_exists : WellRanged p → change.var < length p.variables
+  var_exists ranged =
+      let fits : RuleFits p.variables (rule_at p place) = holds_at (RuleFits p.variables) _ p.rules ranged.rules.each place below in
+      let its = var_of_value p.variables (rule_at p place).var (rule_at p place).new fits.new in
+      let same = ap (λ (c : Change). c.var) is in
+      omega arith
+
+  -- the test of its old value, which passes or not
+  module _ (passes : Bool) (default : ℕ) (its : default ≡ slice_index p.init change.var) (test : passes ≡ option_map_or (λ old. old == default) change.old true) where
+    old_test : passes ≡ option_map_or (λ old. old == default_of p (rule_at p place).var) (rule_at p place).old true
+    old_test =
+        test
+        ∙ ap (λ d. option_map_or (λ old. old == d) change.old true) its
+        ∙ ap (λ (c : Change). option_map_or (λ old. old == default_of p c.var) c.old true) is
+
+    -- and the test of its new value by what is known of the rules before it
+    module _ (values : List (Option ℕ)) (known : NewValues p place values) (agrees : Bool) (value : Option ℕ) (known_value : value ≡ slice_index_or values change.var None) (test_of_new : agrees ≡ option_map_or (λ its. its == change.new) value true) where
+      value_test : agrees ≡ option_map_or (λ its. its == (rule_at p place).new) (slice_index_or values (rule_at p place).var None) true
+      value_test =
+          test_of_new
+          ∙ ap (λ v. option_map_or (λ its. its == change.new) v true) known_value
+          ∙ ap (λ (c : Change). option_map_or (λ its. its == c.new) (slice_index_or values c.var None) true) is
+
+      others_test : agrees ≡ agrees_with p (take place p.rules) (rule_at p place)
+      others_test = value_test ∙ sym (agrees_by_value p place values known (rule_at p place) (omega arith))
+
+      module _ (old_passes : None ≡ first_fault (check passes (OldValue place))) where
+        -- another new value is known
+        pub others_fail : (e : LayerFault) → Some e ≡ first_fault (check agrees (TwoValues place)) → Some e ≡ first_fault (firing_checks p place (rule_at p place))
+        others_fail e some =
+            let rule = rule_at p place in
+            let test_of_old = option_map_or (λ old. old == default_of p rule.var) rule.old true in
+            let test_of_others = agrees_with p (take place p.rules) rule in
+            let old = same_check passes test_of_old (OldValue place) _ old_test old_passes in
+            let fails = same_check agrees test_of_others (TwoValues place) _ others_test some in
+            decides_after (check test_of_old (OldValue place)) (check test_of_others (TwoValues place) ++ condition_checks p place rule) _ old (fails_before (check test_of_others (TwoValues place)) (condition_checks p place rule) e fails)
+
+        module _ (new_passes : None ≡ first_fault (check agrees (TwoValues place))) where
+          -- both tests pass
+          pub conditions_decide : (found : Option LayerFault) → found ≡ first_fault (condition_checks p place (rule_at p place)) → found ≡ first_fault (firing_checks p place (rule_at p place))
+          conditions_decide found some =
+              let rule = rule_at p place in
+              let test_of_old = option_map_or (λ old. old == default_of p rule.var) rule.old true in
+              let test_of_others = agrees_with p (take place p.rules) rule in
+              let old = same_check passes test_of_old (OldValue place) _ old_test old_passes in
+              let new = same_check agrees test_of_others (TwoValues place) _ others_test new_passes in
+              decides_after (check test_of_old (OldValue place)) (check test_of_others (TwoValues place) ++ condition_checks p place rule) found old (decides_after (check test_of_others (TwoValues place)) (condition_checks p place rule) found new some)
+
+          -- and its new value is written
+          pub known_then : (new : List (Option ℕ)) → CanFire p (rule_at p place) → change.var < length values → new ≡ slice_set values change.var (Some change.new) → NewValues p (place + 1) new
+          known_then new can within set =
+              let var = ap (λ (c : Change). c.var) is in
+              let same = set ∙ ap (λ (c : Change). slice_set values c.var (Some c.new)) is in
+              subst (NewValues p (place + 1)) (sym same) (known_behind p place values known can (sym value_test ∙ passed agrees (TwoValues place) new_passes) (omega arith))

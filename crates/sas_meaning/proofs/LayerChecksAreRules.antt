@@ -1,0 +1,240 @@
+-- No check of layers fails exactly where the task is layered: each check and its rule, place by place.
+use Rattle.std.proofs.Common.{◌≡◌, ℕ, zero, suc, ◌+◌, ◌<◌, ◌≤◌, ◌==◌, ◌↔◌, Bool, true, false, nat_lt, nat_le, if◌then◌else◌, List, [], ◌∷◌, ◌++◌, length, take, flat_map, get_or, ◌⊎◌, inl, inr, not, Option, Some, None, All, refl, sym, ap, ◌∙◌, subst, arith, eqb-true, eq-eqb, ltb-true, lt-ltb, leb-true, le-leb}
+use Rattle.std.proofs.lemmas.List.{get_or_default}
+use Rattle.std.proofs.lemmas.Bool.Decides.{nat_tests}
+use Rattle.std.specs.List.{enumerate_from}
+use Rattle.std.specs.Option.{option_map_or, is_some}
+use Rattle.sas_core.specs.declared.parts.Effect.{Effect}
+use Rattle.sas_core.specs.declared.parts.Operator.{Operator}
+use Rattle.sas_core.specs.declared.parts.Rule.{Rule}
+use Rattle.sas_core.specs.declared.parts.Parts.{Parts}
+use Rattle.sas_core.specs.Checks.{Check, first_fault, check}
+use Rattle.sas_core.specs.Grounded.{rule_at}
+use Rattle.sas_core.specs.Variables.{layer_of, IsDerived}
+use Rattle.sas_meaning.specs.declared.layered.LayerFault.{LayerFault}
+use Rattle.sas_meaning.specs.declared.layered.LayerFault.TheVariants.{EffectOnDerived, RuleOnBasic, OldValue, TwoValues, LayerOrder}
+use Rattle.sas_meaning.specs.Layers.{IsBasic, default_of, CanFire, can_fire, LooksDown, IsLayeredRule, IsLayered}
+use Rattle.sas_meaning.specs.LayerChecks.{numbered, effect_checks, operator_checks, agrees_with, looks_down, firing_checks, rule_checks, layer_checks, LayerChecksAreTheRules}
+use Rattle.sas_meaning.proofs.RuleTests.{fires, agrees_with_earlier}
+
+-- no check of these fails
+record Pass (row : List (Check LayerFault)) : Type 0 where
+  pub none : first_fault row ≡ None
+
+check_passes : (passes : Bool) (e : LayerFault) → Pass (check passes e) → passes ≡ true
+check_passes true e pass = refl
+check_passes false e pass = let impossible : Some e ≡ None = pass.none in absurd (cc)
+
+passing_check : (passes : Bool) (e : LayerFault) → passes ≡ true → Pass (check passes e)
+passing_check true e is = record { none = refl }
+passing_check false e is = absurd (cc)
+
+-- a test that decides a rule, as a check
+by_test : (passes : Bool) (e : LayerFault) (P : Type 0) → (passes ≡ true) ↔ P → Pass (check passes e) ↔ P
+by_test passes e P same = (λ pass. same.0 (check_passes passes e pass), λ p. passing_check passes e (same.1 p))
+
+both_none : (passes : Bool) (e : LayerFault) (x y both : Option LayerFault) → (both ≡ None → (x ≡ None) × (y ≡ None)) → (if passes then both else Some e) ≡ None → ((if passes then x else Some e) ≡ None) × (y ≡ None)
+both_none true e x y both split none = split none
+both_none false e x y both split none = absurd (cc)
+
+none_in_both : (passes : Bool) (e : LayerFault) (x both : Option LayerFault) → (x ≡ None → both ≡ None) → (if passes then x else Some e) ≡ None → (if passes then both else Some e) ≡ None
+none_in_both true e x both join none = join none
+none_in_both false e x both join none = absurd (cc)
+
+split_row : (a b : List (Check LayerFault)) → first_fault (a ++ b) ≡ None → (first_fault a ≡ None) × (first_fault b ≡ None)
+split_row [] b none = (refl, none)
+split_row (c ∷ a) b none = both_none c.passes c.fault (first_fault a) (first_fault b) (first_fault (a ++ b)) (split_row a b) none
+
+join_row : (a b : List (Check LayerFault)) → first_fault a ≡ None → first_fault b ≡ None → first_fault (a ++ b) ≡ None
+join_row [] b a_none b_none = b_none
+join_row (c ∷ a) b a_none b_none = none_in_both c.passes c.fault (first_fault a) (first_fault (a ++ b)) (λ none. join_row a b none b_none) a_none
+
+-- some checks, and others behind them
+and_then : (a b : List (Check LayerFault)) (P Q : Type 0) → Pass a ↔ P → Pass b ↔ Q → Pass (a ++ b) ↔ (P × Q)
+and_then a b P Q first second = (
+  λ pass. (first.0 (record { none = (split_row a b pass.none).0 }), second.0 (record { none = (split_row a b pass.none).1 })),
+  λ p. record { none = join_row a b (first.1 p.0).none (second.1 p.1).none },
+)
+
+-- checks that are made only where a test says so
+where_so : (so : Bool) (row : List (Check LayerFault)) (C P : Type 0) → (so ≡ true) ↔ C → Pass row ↔ P → Pass (if so then row else []) ↔ (C → P)
+where_so true row C P is same = (λ pass _. same.0 pass, λ f. same.1 (f (is.0 refl)))
+where_so false row C P is same = (λ pass c. let so : false ≡ true = is.1 c in absurd (cc), λ f. record { none = refl })
+
+-- ---- the items of a list, each named by its place
+
+module _ {A : Type 0} (checks_of : ℕ → A → List (Check LayerFault)) where
+  moved : (n m : ℕ) (item : A) → n ≡ m → Pass (checks_of n item) → Pass (checks_of m item)
+  moved n m item same pass = record { none = ap (λ k. first_fault (checks_of k item)) (sym same) ∙ pass.none }
+
+  abbrev Each : ℕ → List A → Type 0
+  Each n items = (place : ℕ) (d : A) → place < length items → Pass (checks_of (n + place) (get_or items place d))
+
+  each_from : (n : ℕ) (item : A) (items : List A) → Pass (checks_of n item) → Each (n + 1) items → (place : ℕ) (d : A) → place < length (item ∷ items) → Pass (checks_of (n + place) (get_or (item ∷ items) place d))
+  each_from n item items first rest zero d below = moved n (n + 0) item (omega arith) first
+  each_from n item items first rest (suc place) d below =
+      moved (n + 1 + place) (n + suc place) (get_or items place d) (omega arith) (rest place d (omega arith))
+
+  passes_each : (n : ℕ) (items : List A) → Pass (flat_map (λ (place, item). checks_of place item) (enumerate_from n items)) → Each n items
+  passes_each n [] pass = λ place d below. absurd (omega arith)
+  passes_each n (item ∷ items) pass =
+      let both = split_row (checks_of n item) (flat_map (λ (place, item). checks_of place item) (enumerate_from (n + 1) items)) pass.none in
+      each_from n item items (record { none = both.0 }) (passes_each (n + 1) items (record { none = both.1 }))
+
+  each_passes : (n : ℕ) (items : List A) → Each n items → Pass (flat_map (λ (place, item). checks_of place item) (enumerate_from n items))
+  each_passes n [] each = record { none = refl }
+  each_passes n (item ∷ items) each =
+      let first = moved (n + 0) n item (omega arith) (each 0 item (omega arith)) in
+      let rest = each_passes (n + 1) items (λ place d below. moved (n + suc place) (n + 1 + place) (get_or items place d) (omega arith) (each (suc place) d (omega arith))) in
+      record { none = join_row (checks_of n item) (flat_map (λ (place, item). checks_of place item) (enumerate_from (n + 1) items)) first.none rest.none }
+
+  -- the checks of all items pass exactly where those of the item at each place do
+  numbered_pass : (items : List A) → Pass (numbered checks_of items) ↔ ((place : ℕ) (d : A) → place < length items → Pass (checks_of place (get_or items place d)))
+  numbered_pass items = (
+    λ pass place d below. moved (0 + place) place (get_or items place d) (omega arith) (passes_each 0 items pass place d below),
+    λ each. each_passes 0 items (λ place d below. moved place (0 + place) (get_or items place d) (omega arith) (each place d below)),
+  )
+
+  -- where the checks of an item say the same at each place
+  all_follow : (Follows : A → Type 0) (items : List A) → ((place : ℕ) (item : A) → Pass (checks_of place item) ↔ Follows item) → Pass (numbered checks_of items) ↔ All Follows items
+  all_follow Follows items same = (
+    λ pass place d below. (same place (get_or items place d)).0 ((numbered_pass items).0 pass place d below),
+    λ all. (numbered_pass items).1 (λ place d below. (same place (get_or items place d)).1 (all place d below)),
+  )
+
+-- ---- operators
+
+no_layer : (layer : Option ℕ) → (not (is_some layer) ≡ true) ↔ (layer ≡ None)
+no_layer None = (λ test. refl, λ none. refl)
+no_layer (Some n) = (λ test. absurd (cc), λ none. absurd (cc))
+
+effect_follows : (p : Parts) (operator effect : ℕ) (e : Effect) → Pass (effect_checks p operator effect e) ↔ IsBasic p e.var
+effect_follows p operator effect e =
+    by_test (not (is_some (layer_of p.variables e.var))) (EffectOnDerived operator effect) (IsBasic p e.var) (no_layer (layer_of p.variables e.var))
+
+operator_follows : (p : Parts) (operator : ℕ) (o : Operator) → Pass (operator_checks p operator o) ↔ All (λ (e : Effect). IsBasic p e.var) o.effects
+operator_follows p operator o =
+    all_follow (effect_checks p operator) (λ (e : Effect). IsBasic p e.var) o.effects (effect_follows p operator)
+
+-- ---- rules
+
+old_is : (old : Option ℕ) (default : ℕ) → (option_map_or (λ its. its == default) old true ≡ true) ↔ ((value : ℕ) → old ≡ Some value → value ≡ default)
+old_is None default = (λ test value is. absurd (cc), λ each. refl)
+old_is (Some old) default = (
+  λ test value is. let equal = eqb-true old default test in cc,
+  λ each. eq-eqb old default (each old refl),
+)
+
+module _ (here its value default : ℕ) where
+  abbrev IsDown : Type 0
+  IsDown = (its ≤ here) × (value ≡ default → its < here)
+
+  is_down : (same : Bool) → (value == default) ≡ same → ((if same then nat_lt its here else nat_le its here) ≡ true) ↔ IsDown
+  is_down true same = (
+    λ test. let below = ltb-true its here test in (omega arith, λ _. below),
+    λ down. lt-ltb its here (down.1 (eqb-true value default same)),
+  )
+  is_down false differ = (
+    λ test. (leb-true its here test, λ same. let yes : (value == default) ≡ true = eq-eqb value default same in absurd (cc)),
+    λ down. le-leb its here down.0,
+  )
+
+down_is : (here its : Option ℕ) (value default : ℕ) → (option_map_or (λ here. option_map_or (λ its. if value == default then nat_lt its here else nat_le its here) its true) here true ≡ true) ↔ ((h i : ℕ) → here ≡ Some h → its ≡ Some i → (i ≤ h) × (value ≡ default → i < h))
+down_is None its value default = (λ test h i here_is its_is. absurd (cc), λ each. refl)
+down_is (Some here) None value default = (λ test h i here_is its_is. absurd (cc), λ each. refl)
+down_is (Some here) (Some its) value default = (
+  λ test h i here_is its_is.
+      let down = (is_down here its value default (value == default) refl).0 test in
+      let same_here : here ≡ h = cc in
+      let same_its : its ≡ i = cc in
+      (omega (arith, down.0), λ same. let below = down.1 same in omega arith),
+  λ each. (is_down here its value default (value == default) refl).1 (each here its refl refl),
+)
+
+module _ (p : Parts) where
+  conditions_follow : (place : ℕ) (rule : Rule) → Pass (numbered (λ condition c. check (looks_down p rule.var c) (LayerOrder place condition)) rule.conditions) ↔ All (LooksDown p rule.var) rule.conditions
+  conditions_follow place rule =
+      all_follow (λ condition c. check (looks_down p rule.var c) (LayerOrder place condition)) (LooksDown p rule.var) rule.conditions (λ condition c. by_test (looks_down p rule.var c) (LayerOrder place condition) (LooksDown p rule.var c) (down_is (layer_of p.variables rule.var) (layer_of p.variables c.var) c.value (default_of p c.var)))
+
+  -- what the checks of a rule that can fire say of it
+  abbrev Firing : ℕ → Rule → Type 0
+  Firing place rule =
+      (((value : ℕ) → rule.old ≡ Some value → value ≡ default_of p rule.var) × ((k : ℕ) → k < place → CanFire p (rule_at p k) → (rule_at p k).var ≡ rule.var → (rule_at p k).new ≡ rule.new)) × All (LooksDown p rule.var) rule.conditions
+
+  firing_follows : (place : ℕ) (rule : Rule) → place ≤ length p.rules → Pass (firing_checks p place rule) ↔ Firing place rule
+  firing_follows place rule within =
+      let test_of_old = option_map_or (λ old. old == default_of p rule.var) rule.old true in
+      let old = by_test test_of_old (OldValue place) _ (old_is rule.old (default_of p rule.var)) in
+      let test_of_others = agrees_with p (take place p.rules) rule in
+      let others = by_test test_of_others (TwoValues place) _ (agrees_with_earlier p rule place within) in
+      let both = and_then (check test_of_old (OldValue place)) (check test_of_others (TwoValues place)) _ _ old others in
+      and_then (check test_of_old (OldValue place) ++ check test_of_others (TwoValues place)) _ _ _ both (conditions_follow place rule)
+
+  rule_follows : (place : ℕ) (rule : Rule) → place ≤ length p.rules → Pass (rule_checks p place rule) ↔ (IsDerived p.variables rule.var × (CanFire p rule → Firing place rule))
+  rule_follows place rule within =
+      let derived = by_test (is_some (layer_of p.variables rule.var)) (RuleOnBasic place) (IsDerived p.variables rule.var) (λ is. is, λ is. is) in
+      let firing = where_so (can_fire p rule) (firing_checks p place rule) _ _ (fires p rule) (firing_follows place rule within) in
+      and_then (check (is_some (layer_of p.variables rule.var)) (RuleOnBasic place)) (if can_fire p rule then firing_checks p place rule else []) _ _ derived firing
+
+  -- each rule, read as a task says it
+  each_rule : (P : Rule → Type 0) → ((place : ℕ) → place < length p.rules → P (rule_at p place)) → All P p.rules
+  each_rule P each place d below = subst P (get_or_default p.rules place _ d below) (each place below)
+
+  abbrev Followed : Type 0
+  Followed = (place : ℕ) → place < length p.rules → IsDerived p.variables (rule_at p place).var × (CanFire p (rule_at p place) → Firing place (rule_at p place))
+
+  rules_follow : Pass (numbered (rule_checks p) p.rules) ↔ Followed
+  rules_follow = (
+    λ pass place below.
+        (rule_follows place (rule_at p place) (omega arith)).0 ((numbered_pass (rule_checks p) p.rules).0 pass place _ below),
+    λ each. (numbered_pass (rule_checks p) p.rules).1 (λ place d below.
+        (rule_follows place (get_or p.rules place d) (omega arith)).1 (subst (λ (rule : Rule). IsDerived p.variables rule.var × (CanFire p rule → Firing place rule)) (get_or_default p.rules place _ d below) (each place below))),
+  )
+
+  -- two rules of a variable that can fire, of which one is before the other
+  one_value : Followed → (place : ℕ) → place < length p.rules → CanFire p (rule_at p place) → (k : ℕ) → k < length p.rules → CanFire p (rule_at p k) → (rule_at p k).var ≡ (rule_at p place).var → (k < place) ⊎ ((place < k) ⊎ (k ≡ place)) → (rule_at p k).new ≡ (rule_at p place).new
+  one_value each place below can k k_below k_can same (inl before) = ((each place below).1 can).0.1 k before k_can same
+  one_value each place below can k k_below k_can same (inr (inl behind)) = sym (((each k k_below).1 k_can).0.1 place behind can (sym same))
+  one_value each place below can k k_below k_can same (inr (inr here)) = ap (λ n. (rule_at p n).new) here
+
+  order : (a b : ℕ) → (a < b) ⊎ ((b < a) ⊎ (a ≡ b))
+  order a b = by_tests (nat_lt a b) (nat_lt b a) refl refl
+    where
+      by_tests : (first second : Bool) → nat_lt a b ≡ first → nat_lt b a ≡ second → (a < b) ⊎ ((b < a) ⊎ (a ≡ b))
+      by_tests true second is other = inl (ltb-true a b is)
+      by_tests false true is other = inr (inl (ltb-true b a other))
+      by_tests false false is other = inr (inr (grind (arith, nat_tests)))
+
+  layered_rule : Followed → (place : ℕ) → place < length p.rules → CanFire p (rule_at p place) → IsLayeredRule p (rule_at p place)
+  layered_rule each place below can =
+      let firing = (each place below).1 can in
+      record {
+        old = firing.0.0;
+        one_value = each_rule (λ (other : Rule). CanFire p other → other.var ≡ (rule_at p place).var → other.new ≡ (rule_at p place).new) (λ k k_below k_can same. one_value each place below can k k_below k_can same (order k place));
+        order = firing.1;
+      }
+
+  sections : Pass (layer_checks p) ↔ IsLayered p
+  sections =
+      let operators = all_follow (operator_checks p) (λ (o : Operator). All (λ (e : Effect). IsBasic p e.var) o.effects) p.operators (operator_follows p) in
+      let both = and_then (numbered (operator_checks p) p.operators) (numbered (rule_checks p) p.rules) _ _ operators rules_follow in (
+        λ pass.
+            let q = both.0 pass in
+            record {
+              effects = q.0;
+              derived = each_rule (λ (rule : Rule). IsDerived p.variables rule.var) (λ place below. (q.1 place below).0);
+              rules = each_rule (λ (rule : Rule). CanFire p rule → IsLayeredRule p rule) (layered_rule q.1);
+            },
+        λ layered. both.1 (
+          layered.effects,
+          λ place below. (
+            layered.derived place _ below,
+            λ can.
+                let its = layered.rules place _ below can in
+                ((its.old, λ k before k_can same. its.one_value k _ (omega arith) k_can same), its.order),
+          ),
+        ),
+      )
+
+pub checks_are_rules : LayerChecksAreTheRules
+checks_are_rules p = (λ none. (sections p).0 (record { none = none }), λ layered. ((sections p).1 layered).none)

@@ -1,0 +1,55 @@
+-- The first fault of the checks of a list's items, each of which is named by its place.
+use Rattle.std.proofs.Common.{◌≡◌, ℕ, ◌+◌, ◌<◌, ◌≤◌, Bool, List, ◌∷◌, length, flat_map, drop, get_or, Option, Some, None, refl, sym, ◌∙◌, ap, add-one, arith}
+use Rattle.std.proofs.Math.Seq.{drop-cons}
+use Rattle.std.proofs.lemmas.List.{drop_all}
+use Rattle.std.proofs.lemmas.List.FromFn.{get_or-enumerate_from, length-enumerate_from}
+use Rattle.std.specs.List.{enumerate_from}
+use Rattle.sas_core.specs.Checks.{Check, first_fault, check}
+use Rattle.sas_core.proofs.FirstFaults.{fails_before, decides_after}
+use Rattle.sas_meaning.specs.declared.layered.LayerFault.{LayerFault}
+use Rattle.sas_meaning.specs.LayerChecks.{numbered}
+
+-- a check, and one whose test says the same
+pub same_check : (passes test : Bool) (e : LayerFault) (found : Option LayerFault) → passes ≡ test → found ≡ first_fault (check passes e) → found ≡ first_fault (check test e)
+same_check passes test e found same is = is ∙ ap (λ b. first_fault (check b e)) same
+
+-- the checks of items that are named already
+abbrev named : {A : Type 0} → (ℕ → A → List (Check LayerFault)) → List (ℕ × A) → List (Check LayerFault)
+named checks_of items = flat_map (λ (place, item). checks_of place item) items
+
+-- the items before this place pass, so the first fault is that of the items from there on
+pub record PassBefore {A : Type 0} (checks_of : ℕ → A → List (Check LayerFault)) (items : List A) (place : ℕ) : Type 0 where
+  pub rest_decides : first_fault (numbered checks_of items) ≡ first_fault (named checks_of (drop place (enumerate_from 0 items)))
+
+module _ {A : Type 0} (checks_of : ℕ → A → List (Check LayerFault)) (items : List A) where
+  -- no item is left
+  pub pass_all : (place : ℕ) → length items ≤ place → PassBefore checks_of items place → None ≡ first_fault (numbered checks_of items)
+  pass_all place past before =
+      sym
+      (before.rest_decides
+      ∙ ap (λ rest. first_fault (named checks_of rest)) (drop_all place (enumerate_from 0 items) (omega (arith, length-enumerate_from 0 items))))
+
+  module _ (place : ℕ) (otherwise item : A) (below : place < length items) (is : item ≡ get_or items place otherwise) (before : PassBefore checks_of items place) where
+    at_item : drop place (enumerate_from 0 items) ≡ (place, item) ∷ drop (place + 1) (enumerate_from 0 items)
+    at_item =
+        let here = drop-cons (enumerate_from 0 items) place (0, otherwise) (omega (arith, length-enumerate_from 0 items)) in
+        let its = get_or-enumerate_from 0 items place (0, otherwise) below in
+        let same_place : 0 + place ≡ place = omega arith in
+        here
+        ∙ (λ j. its j ∷ drop (sym (add-one place) j) (enumerate_from 0 items))
+        ∙ (λ j. (same_place j, sym is j) ∷ drop (place + 1) (enumerate_from 0 items))
+
+    -- the item at this place passes
+    pub pass_before_next : None ≡ first_fault (checks_of place item) → PassBefore checks_of items (place + 1)
+    pass_before_next none = record {
+      rest_decides =
+          before.rest_decides
+          ∙ ap (λ rest. first_fault (named checks_of rest)) at_item
+          ∙ sym (decides_after (checks_of place item) (named checks_of (drop (place + 1) (enumerate_from 0 items))) _ none refl);
+    }
+
+    -- the item at this place fails
+    pub fails_at : (e : LayerFault) → Some e ≡ first_fault (checks_of place item) → Some e ≡ first_fault (numbered checks_of items)
+    fails_at e some =
+        fails_before (checks_of place item) (named checks_of (drop (place + 1) (enumerate_from 0 items))) e some
+        ∙ sym (before.rest_decides ∙ ap (λ rest. first_fault (named checks_of rest)) at_item)

@@ -1,0 +1,60 @@
+-- The tests of a rule, and what they say of the rules at their places.
+use Rattle.std.proofs.Common.{◌≡◌, ℕ, ◌<◌, ◌≤◌, ◌==◌, ◌&&◌, ◌||◌, ◌↔◌, Bool, true, false, not, length, take, get_or, refl, sym, ap, ◌∙◌, arith, eqb-true, eq-eqb, get_or-take}
+use Rattle.std.proofs.lemmas.List.{get_or_default, length-take-le}
+use Rattle.std.proofs.lemmas.List.Sums.{AllPass-from_list_all, list_all-from_AllPass}
+use Rattle.std.specs.List.{AllPass, list_all}
+use Rattle.sas_core.specs.declared.parts.Rule.{Rule}
+use Rattle.sas_core.specs.declared.parts.Parts.{Parts}
+use Rattle.sas_core.specs.Grounded.{rule_at}
+use Rattle.sas_meaning.specs.Layers.{CanFire, can_fire}
+use Rattle.sas_meaning.specs.LayerChecks.{agrees_with}
+
+differs : (a b : ℕ) (same : Bool) → (a == b) ≡ same → (not same ≡ true) ↔ (a ≡ b → ⊥)
+differs a b true is = (λ test. absurd (cc), λ differ. absurd (differ (eqb-true a b is)))
+differs a b false is = (λ test same. let yes : (a == b) ≡ true = eq-eqb a b same in absurd (cc), λ differ. refl)
+
+-- the test whether a rule can fire
+pub fires : (p : Parts) (rule : Rule) → (can_fire p rule ≡ true) ↔ CanFire p rule
+fires p rule = differs _ _ _ refl
+
+passes : (a b c : Bool) → (a ≡ true → b ≡ true → c ≡ true) → (not (a && b) || c) ≡ true
+passes true true c so = so refl refl
+passes true false c so = refl
+passes false b c so = refl
+
+says : (a b c : Bool) → (not (a && b) || c) ≡ true → a ≡ true → b ≡ true → c ≡ true
+says true true c test a_is b_is = test
+says true false c test a_is b_is = absurd (cc)
+says false b c test a_is b_is = absurd (cc)
+
+module _ (p : Parts) (rule : Rule) (place : ℕ) (within : place ≤ length p.rules) where
+  -- what the rule asks of an earlier one
+  abbrev Agrees : Rule → Type 0
+  Agrees other = CanFire p other → other.var ≡ rule.var → other.new ≡ rule.new
+
+  abbrev agrees : Rule → Bool
+  agrees other = not ((other.var == rule.var) && can_fire p other) || (other.new == rule.new)
+
+  agrees_so : (other : Rule) → agrees other ≡ true → Agrees other
+  agrees_so other test can same =
+      eqb-true _ _ (says (other.var == rule.var) (can_fire p other) (other.new == rule.new) test (eq-eqb _ _ same) ((fires p other).1 can))
+
+  so_agrees : (other : Rule) → Agrees other → agrees other ≡ true
+  so_agrees other so =
+      passes (other.var == rule.var) (can_fire p other) (other.new == rule.new) (λ same can. eq-eqb _ _ (so ((fires p other).0 can) (eqb-true _ _ same)))
+
+  earlier : (k : ℕ) (d : Rule) → k < place → get_or (take place p.rules) k d ≡ rule_at p k
+  earlier k d before = get_or-take place p.rules k d before ∙ get_or_default p.rules k d _ (omega arith)
+
+  each_agrees : list_all agrees (take place p.rules) ≡ true → (k : ℕ) → k < place → Agrees (rule_at p k)
+  each_agrees test k before =
+      agrees_so (rule_at p k) (ap agrees (sym (earlier k rule before)) ∙ AllPass-from_list_all agrees (take place p.rules) test k rule (omega (arith, length-take-le place p.rules within)))
+
+  all_agree : ((k : ℕ) → k < place → Agrees (rule_at p k)) → AllPass agrees (take place p.rules)
+  all_agree each k d below =
+      let before : k < place = omega (arith, length-take-le place p.rules within) in
+      ap agrees (earlier k d before) ∙ so_agrees (rule_at p k) (each k before)
+
+  -- the test whether the rule agrees with the rules before the place
+  pub agrees_with_earlier : (agrees_with p (take place p.rules) rule ≡ true) ↔ ((k : ℕ) → k < place → Agrees (rule_at p k))
+  agrees_with_earlier = (each_agrees, λ each. list_all-from_AllPass agrees (take place p.rules) (all_agree each))

@@ -1,0 +1,181 @@
+// The conditions of a layered task, looked at in order.
+ghost use Rattle.std.specs.Prelude.{◌≡◌, ◌≢◌, ◌==◌, ◌<◌, ◌+◌, length, slice_index_or, true, Some, None, IfOk};
+ghost use Rattle.std.specs.Option.{option_map_or};
+ghost use Rattle.std.specs.Result.{result_err};
+ghost use Rattle.sas_core.specs.Checks.{first_fault, check};
+ghost use Rattle.sas_core.specs.Grounded.{operator_at, rule_at, rule_change};
+ghost use Rattle.sas_core.specs.WellRanged.{WellRanged};
+ghost use Rattle.sas_meaning.specs.LayerChecks as spec;
+ghost use Rattle.sas_meaning.specs.Layers.{CanFire};
+ghost use Rattle.sas_meaning.specs.NewValues.{NewValues};
+ghost use Rattle.sas_meaning.specs.declared.layered.LayerFault.TheVariants.{LayerOrder};
+
+use crate::layered::LayerFault;
+use sas_core::{Change, Fact, Grounded, Items};
+use std::alloc::Global;
+
+/// Looks at the operators and the rules in turn, up to the first fault.
+pub fn check_layers<T: Grounded>(alloc: Global, task: &T) -> Result<(), LayerFault>
+    ensures first { result_err result ≢ Some LayerFault.Memory
+        → result_err result ≡ first_fault (spec.layer_checks (T.says task.now)) }
+    ensures well_ranged { WellRanged (T.says task.now) }
+{
+    let variables = task.variables() as usize;
+    check_operators(task)?;
+    let mut new_values = Items::from_vec(vec![in alloc; None; variables]?);
+    check_rules(task, &mut new_values)
+}
+
+/// Looks at the operators in turn.
+fn check_operators<T: Grounded>(task: &T) -> Result<(), LayerFault>
+    requires { WellRanged (T.says task.now) }
+    ensures { result_err result
+        ≡ first_fault (spec.numbered (spec.operator_checks (T.says task.now)) (T.says task.now).operators) }
+{
+    for operator in 0..task.operators() {
+        check_operator(task, operator)?;
+    }
+    Ok(())
+}
+
+/// Looks at the effects of an operator in turn.
+fn check_operator<T: Grounded>(task: &T, operator: u32) -> Result<(), LayerFault>
+    requires well_ranged { WellRanged (T.says task.now) }
+    requires operator { operator < length (T.says task.now).operators }
+    ensures { result_err result
+        ≡ first_fault (spec.operator_checks (T.says task.now) operator (operator_at (T.says task.now) operator)) }
+{
+    for effect in 0..task.effects(operator) {
+        let change = task.effect_change(operator, effect);
+        check(
+            task.layer(change.var).is_none(),
+            LayerFault::EffectOnDerived { operator, effect },
+        )?;
+    }
+    Ok(())
+}
+
+/// Looks at the rules in turn. No rule's new value is known at the start.
+fn check_rules<T: Grounded>(task: &T, new_values: &mut Items<Option<u32>>) -> Result<(), LayerFault>
+    requires well_ranged { WellRanged (T.says task.now) }
+    requires known { NewValues (T.says task.now) 0 new_values.old }
+    ensures { result_err result
+        ≡ first_fault (spec.numbered (spec.rule_checks (T.says task.now)) (T.says task.now).rules) }
+{
+    for rule in 0..task.rules() {
+        check_rule(task, rule, new_values)?;
+    }
+    Ok(())
+}
+
+/// Looks at a rule, where the new values of the rules before it are known.
+fn check_rule<T: Grounded>(
+    task: &T,
+    rule: u32,
+    new_values: &mut Items<Option<u32>>,
+) -> Result<(), LayerFault>
+    requires well_ranged { WellRanged (T.says task.now) }
+    requires rule { rule < length (T.says task.now).rules }
+    requires known { NewValues (T.says task.now) rule new_values.old }
+    ensures first { result_err result
+        ≡ first_fault (spec.rule_checks (T.says task.now) rule (rule_at (T.says task.now) rule)) }
+    ensures known { IfOk result (λ _. NewValues (T.says task.now) (rule + 1) new_values.new) }
+{
+    let change = task.rule_change(rule);
+    check(
+        task.layer(change.var).is_some(),
+        LayerFault::RuleOnBasic { rule },
+    )?;
+    if change.new == task.initial_value(change.var) {
+        return Ok(());
+    }
+    check_firing_rule(task, rule, change, new_values)
+}
+
+/// Looks at a rule that can fire, and makes its new value known.
+fn check_firing_rule<T: Grounded>(
+    task: &T,
+    rule: u32,
+    change: Change,
+    new_values: &mut Items<Option<u32>>,
+) -> Result<(), LayerFault>
+    requires well_ranged { WellRanged (T.says task.now) }
+    requires rule { rule < length (T.says task.now).rules }
+    requires change { change ≡ rule_change (rule_at (T.says task.now) rule) }
+    requires can_fire { CanFire (T.says task.now) (rule_at (T.says task.now) rule) }
+    requires known { NewValues (T.says task.now) rule new_values.old }
+    ensures first { result_err result
+        ≡ first_fault (spec.firing_checks (T.says task.now) rule (rule_at (T.says task.now) rule)) }
+    ensures known { IfOk result (λ _. NewValues (T.says task.now) (rule + 1) new_values.new) }
+{
+    check(
+        is_none_or_just(change.old, task.initial_value(change.var)),
+        LayerFault::OldValue { rule },
+    )?;
+    check(
+        is_none_or_just(value_of(new_values, change.var), change.new),
+        LayerFault::TwoValues { rule },
+    )?;
+    new_values.set(change.var as usize, Some(change.new));
+    check_conditions(task, rule, change.var)
+}
+
+/// Looks at the conditions of a rule for this variable in turn.
+fn check_conditions<T: Grounded>(task: &T, rule: u32, var: u32) -> Result<(), LayerFault>
+    requires well_ranged { WellRanged (T.says task.now) }
+    requires rule { rule < length (T.says task.now).rules }
+    requires var { var ≡ (rule_at (T.says task.now) rule).var }
+    ensures { result_err result ≡ first_fault (spec.numbered
+        (λ condition c. check (spec.looks_down (T.says task.now) (rule_at (T.says task.now) rule).var c)
+        (LayerOrder rule condition))
+        (rule_at (T.says task.now) rule).conditions) }
+{
+    for (condition, fact) in task.rule_conditions(rule).iter().enumerate() {
+        check(
+            looks_down(task, var, *fact),
+            LayerFault::LayerOrder {
+                rule,
+                condition: condition as u32,
+            },
+        )?;
+    }
+    Ok(())
+}
+
+/// Whether a condition of a rule for this variable looks down.
+fn looks_down<T: Grounded>(task: &T, var: u32, condition: Fact) -> bool
+    requires var { var < length (T.says task.now).variables }
+    requires condition { condition.var < length (T.says task.now).variables }
+    ensures { result ≡ spec.looks_down (T.says task.now) var condition }
+{
+    let (Some(here), Some(its)) = (task.layer(var), task.layer(condition.var)) else {
+        return true;
+    };
+    if condition.value == task.initial_value(condition.var) {
+        its < here
+    } else {
+        its <= here
+    }
+}
+
+/// The value that is known of the variable, if any.
+fn value_of(values: &Items<Option<u32>>, var: u32) -> Option<u32>
+    requires { var < length values.now }
+    ensures { result ≡ slice_index_or values.now var None }
+{
+    values.as_slice()[var as usize]
+}
+
+/// Whether there is no value, or just this one.
+fn is_none_or_just(value: Option<u32>, only: u32) -> bool
+    ensures { result ≡ option_map_or (λ its. its == only) value true }
+{
+    value.is_none_or(|its| its == only)
+}
+
+/// The fault, unless the test passes.
+fn check(passes: bool, fault: LayerFault) -> Result<(), LayerFault>
+    ensures { result_err result ≡ first_fault (check passes fault) }
+{
+    if passes { Ok(()) } else { Err(fault) }
+}
