@@ -1,5 +1,5 @@
 -- What the program prints: one output for each request and its inputs.
-use Rattle.std.specs.Prelude.{◌≡◌, ℕ, ◌<◌, List, ◌++◌, length, codes, decimal, Option, Some, None, option_map, Result, Ok, Err}
+use Rattle.std.specs.Prelude.{◌≡◌, ◌⊎◌, ℕ, ◌<◌, Bool, true, false, IsTrue, List, ◌++◌, length, codes, decimal, Option, Some, None, option_map, Result, Ok, Err}
 use Rattle.sas_core.specs.declared.parts.Parts.{Parts}
 use Rattle.sas_lines.specs.Lines.{text}
 use Rattle.sas_reader.specs.declared.fault.Fault.{Fault}
@@ -41,35 +41,36 @@ abbrev pub refusal : List ℕ → Fault → Option Output
 refusal name fault =
     option_map (λ word. record { text = refusal_line name fault.line word; status = No }) (word_of fault.kind)
 
--- the answer to what a file is read as: to its value, or the refusal
-abbrev pub answer_or_refusal : {V : Type 0} → List ℕ → (V → Output) → Result V Fault → Option Output
-answer_or_refusal name answer (Ok value) = Some (answer value)
-answer_or_refusal name answer (Err fault) = refusal name fault
+-- the output about what the file of this name is read as: an answer about its value, or the refusal. `IsAnswer` tells which
+-- outputs are answers about a value
+abbrev pub IsAnswerOrRefusal : {V : Type 0} → List ℕ → (V → Output → Type 0) → Result V Fault → Option Output → Type 0
+IsAnswerOrRefusal name IsAnswer (Ok value) output = (answer : Output) × IsAnswer value answer × (output ≡ Some answer)
+IsAnswerOrRefusal name IsAnswer (Err fault) output = output ≡ refusal name fault
 
 -- a task is shown by the lines of its summary, each ended by LF
-abbrev pub shown : Parts → Output
-shown p = record { text = text (summary_lines p); status = Yes }
+abbrev pub ShowAnswer : Parts → Output → Type 0
+ShowAnswer p output = output ≡ record { text = text (summary_lines p); status = Yes }
 
 module _ {V I S : Type 0} (F : Format V I S) where
   -- a value is printed as its lines, each ended by LF
-  abbrev pub printed : V → Output
-  printed value = record { text = text (lines_of F value); status = Yes }
+  abbrev pub PrintAnswer : V → Output → Type 0
+  PrintAnswer value output = output ≡ record { text = text (lines_of F value); status = Yes }
 
-  -- the output about the bytes of a file
-  abbrev pub FileOut : List ℕ → (V → Output) → List ℕ → Option Output → Type 0
-  FileOut name answer bytes output = (read : Result V Fault)
+  -- the output about the bytes of the file of this name
+  abbrev pub FileOut : List ℕ → (V → Output → Type 0) → List ℕ → Option Output → Type 0
+  FileOut name IsAnswer bytes output = (read : Result V Fault)
       × ReadsAs F most_bytes bytes read
-      × (output ≡ answer_or_refusal name answer read)
+      × IsAnswerOrRefusal name IsAnswer read output
 
 -- the output of `show`, `print` and `steps` about the bytes of their file
 abbrev pub ShowOut : List ℕ → Option Output → Type 0
-ShowOut = FileOut task_format (codes "task") shown
+ShowOut = FileOut task_format (codes "task") ShowAnswer
 
 abbrev pub PrintOut : List ℕ → Option Output → Type 0
-PrintOut = FileOut task_format (codes "task") (printed task_format)
+PrintOut = FileOut task_format (codes "task") (PrintAnswer task_format)
 
 abbrev pub StepsOut : List ℕ → Option Output → Type 0
-StepsOut = FileOut plan_format (codes "plan") (printed plan_format)
+StepsOut = FileOut plan_format (codes "plan") (PrintAnswer plan_format)
 
 -- the output for the bytes b of the task and c of the plan, where a file that decides it isn't too long; else none
 abbrev pub Out : Request → List ℕ → List ℕ → Option Output → Type 0
@@ -79,17 +80,27 @@ Out Steps b c output = StepsOut c output
 
 -- ---- the inputs that a request reads
 
+-- whether it reads the task
+abbrev pub reads_task : Request → Bool
+reads_task Show = true
+reads_task Print = true
+reads_task Steps = false
+
+-- whether it reads the plan
+abbrev pub reads_plan : Request → Bool
+reads_plan Show = false
+reads_plan Print = false
+reads_plan Steps = true
+
 -- they have these bytes: b the task, c the plan
 abbrev pub AreInputs : Request → Option (List ℕ) → Option (List ℕ) → List ℕ → List ℕ → Type 0
-AreInputs Show task plan b c = task ≡ Some b
-AreInputs Print task plan b c = task ≡ Some b
-AreInputs Steps task plan b c = plan ≡ Some c
+AreInputs request task plan b c =
+    (IsTrue (reads_task request) → task ≡ Some b) × (IsTrue (reads_plan request) → plan ≡ Some c)
 
 -- one of them passes the limit
 abbrev pub IsLong : Request → List ℕ → List ℕ → Type 0
-IsLong Show b c = most_bytes < length b
-IsLong Print b c = most_bytes < length b
-IsLong Steps b c = most_bytes < length c
+IsLong request b c =
+    (IsTrue (reads_task request) × (most_bytes < length b)) ⊎ (IsTrue (reads_plan request) × (most_bytes < length c))
 
 -- ---- laws
 

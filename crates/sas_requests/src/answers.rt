@@ -1,9 +1,9 @@
 // The answer to each request, before anything of it is written.
-ghost use Rattle.std.specs.Prelude.{◌≡◌, ◌≢◌, ◌↔◌, ◌||◌, List, ℕ, false, Some, IfOk, IfErr, IsErrOf, IsTrue};
+ghost use Rattle.std.specs.Prelude.{◌≡◌, ◌↔◌, ◌||◌, List, ℕ, false, Some, IfOk, IfErr, IsErrOf, IsFalse, IsTrue};
 ghost use Rattle.std.specs.Io.KnownBytes.{Consumes};
 ghost use Rattle.sas_requests.specs.Answering.{Answers, AnswersFile, output_of};
 ghost use Rattle.sas_requests.specs.Ending.{IsDecided, IsWrite};
-ghost use Rattle.sas_requests.specs.Output.{Out, ShowOut, PrintOut, StepsOut, AreInputs, refusal, refusal_line, word_of};
+ghost use Rattle.sas_requests.specs.Output.{Out, ShowOut, PrintOut, StepsOut, AreInputs, reads_plan, reads_task, refusal, refusal_line, word_of};
 
 use crate::summary::summary_text;
 use crate::{Request, Status, ToolFault};
@@ -34,8 +34,8 @@ pub fn answer_to<T: Read, P: Read>(
         × Consumes (T.remaining task.old.device) (T.remaining task.new.device) b
         × Consumes (P.remaining plan.old.device) (P.remaining plan.new.device) c
         × Answers (Out request b c) result }
-    ensures task_spared { request ≡ Request.Steps → task.new ≡ task.old }
-    ensures plan_spared { request ≢ Request.Steps → plan.new ≡ plan.old }
+    ensures task_spared { IsFalse (reads_task request) → task.new ≡ task.old }
+    ensures plan_spared { IsFalse (reads_plan request) → plan.new ≡ plan.old }
     ensures reads { IsErrOf result ToolFault.Read ↔ IsTrue (task.new.failed || plan.new.failed) }
     ensures writes { IfErr result (λ e. IsWrite e → ⊥) }
 {

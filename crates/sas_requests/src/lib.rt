@@ -5,9 +5,9 @@ mod answers;
 mod laws;
 mod summary;
 
-ghost use Rattle.std.specs.Prelude.{◌≡◌, ◌≢◌, ◌⊎◌, ◌↔◌, ◌||◌, false, List, ℕ, IfErr, IsErrAnd, IsErrOf, IsTrue};
+ghost use Rattle.std.specs.Prelude.{◌≡◌, ◌⊎◌, ◌↔◌, ◌||◌, false, List, ℕ, IfErr, IsErrAnd, IsErrOf, IsFalse, IsTrue};
 ghost use Rattle.std.specs.Io.KnownBytes.{Appends, Consumes};
-ghost use Rattle.sas_requests.specs.Output.{Out, AreInputs};
+ghost use Rattle.sas_requests.specs.Output.{Out, AreInputs, reads_plan, reads_task};
 ghost use Rattle.sas_requests.specs.Ending.{Ends, IsDecided, IsWrite};
 
 use answers::answer_to;
@@ -92,8 +92,8 @@ pub fn run<T: Read, P: Read, W: Write>(
     // Before the answer is whole nothing is written.
     ensures nothing { IfErr result (λ e. IsWrite e ⊎ (out.new ≡ out.old)) }
     // A device that the request doesn't read stays as it was.
-    ensures task_spared { request ≡ Request.Steps → task.new ≡ task.old }
-    ensures plan_spared { request ≢ Request.Steps → plan.new ≡ plan.old }
+    ensures task_spared { IsFalse (reads_task request) → task.new ≡ task.old }
+    ensures plan_spared { IsFalse (reads_plan request) → plan.new ≡ plan.old }
     ensures reads { IsErrOf result ToolFault.Read ↔ IsTrue (task.new.failed || plan.new.failed) }
     ensures writes { IsErrAnd result IsWrite ↔ IsTrue out.new.failed }
 {
