@@ -1,0 +1,27 @@
+-- What follows: a plan of a layered task is valid in one way, or has exactly one fault.
+use Rattle.std.specs.Prelude.{◌≡◌, ◌⊎◌, ℕ, List}
+use Rattle.sas_core.specs.declared.parts.Parts.{Parts}
+use Rattle.sas_core.specs.PlanParts.{PlanParts}
+use Rattle.sas_core.specs.WellRanged.{WellRanged}
+use Rattle.sas_meaning.specs.Layers.{IsLayered}
+use Rattle.sas_run.specs.declared.plan_check.PlanFault.{PlanFault}
+use Rattle.sas_run.specs.Plans.{IsValid}
+use Rattle.sas_run.specs.Verdicts.{IsFaultOf}
+
+-- a plan is valid or has a fault
+abbrev pub SomeVerdict : Type 0
+SomeVerdict = (p : Parts) (plan : PlanParts) → WellRanged p → IsLayered p
+    → ((operators : List ℕ) × IsValid p plan operators) ⊎ ((fault : PlanFault) × IsFaultOf p plan fault)
+
+-- never both
+abbrev pub ValidHasNoFault : Type 0
+ValidHasNoFault = (p : Parts) (plan : PlanParts) (operators : List ℕ) (fault : PlanFault) → IsLayered p
+    → IsValid p plan operators → IsFaultOf p plan fault → ⊥
+
+-- it is valid with one list of operators at most
+abbrev pub ValidIsOne : Type 0
+ValidIsOne = (p : Parts) (plan : PlanParts) (a b : List ℕ) → IsLayered p → IsValid p plan a → IsValid p plan b → a ≡ b
+
+-- and has one fault at most
+abbrev pub FaultIsOne : Type 0
+FaultIsOne = (p : Parts) (plan : PlanParts) (a b : PlanFault) → IsLayered p → IsFaultOf p plan a → IsFaultOf p plan b → a ≡ b

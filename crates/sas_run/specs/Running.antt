@@ -1,0 +1,71 @@
+-- What the calls of a runner say.
+use Rattle.std.specs.Prelude.{◌≡◌, ◌≢◌, ℕ, ◌<◌, List, length, All, slice_index, slice_index_or, Option, None, Some, Result, Ok, Err}
+use Rattle.sas_core.specs.declared.parts.Fact.{Fact}
+use Rattle.sas_core.specs.declared.parts.Effect.{Effect}
+use Rattle.sas_core.specs.declared.parts.Operator.{Operator}
+use Rattle.sas_core.specs.declared.parts.Parts.{Parts}
+use Rattle.sas_core.specs.Grounded.{operator_at, effect_at}
+use Rattle.sas_core.specs.Variables.{IsState}
+use Rattle.sas_meaning.specs.States.{Holds, AllHold}
+use Rattle.sas_meaning.specs.Steps.{preconditions, Fires, Step}
+use Rattle.sas_run.specs.declared.runner.Choice.{Choice}
+use Rattle.sas_run.specs.declared.runner.Choice.TheVariants.{Unknown, Blocked, Found}
+use Rattle.sas_run.specs.declared.steps.StepFault.{StepFault}
+use Rattle.sas_run.specs.declared.steps.StepFault.TheVariants as step_fault
+use Rattle.sas_run.specs.Plans.{IsNamed, IsChosen}
+use Rattle.sas_run.specs.Verdicts.{IsFirstMissed}
+
+-- which operator a name means in a state: no operator has the name, none that has it is applicable, or the chosen one
+abbrev pub IsChoice : Parts → List ℕ → List ℕ → Choice → Type 0
+IsChoice p s name Unknown = (operator : ℕ) → IsNamed p name operator → ⊥
+IsChoice p s name Blocked = ((operator : ℕ) × IsNamed p name operator) × ((operator : ℕ) → IsChosen p s name operator → ⊥)
+IsChoice p s name (Found operator) = IsChosen p s name operator
+
+-- two effects set one variable to different values
+pub record Contradicts (e f : Effect) : Type 0 where
+  pub var : e.var ≡ f.var
+  pub new : e.new ≢ f.new
+
+-- no two effects that fire contradict each other
+abbrev pub Agree : List ℕ → List Effect → Type 0
+Agree s effects = All (λ (e : Effect). All (λ (f : Effect). Fires s e → Fires s f → e.var ≡ f.var → e.new ≡ f.new) effects) effects
+
+-- the first effect that fires and contradicts an earlier one that fires
+pub record IsFirstConflict (s : List ℕ) (o : Operator) (effect : ℕ) : Type 0 where
+  pub exists : effect < length o.effects
+  pub fires : Fires s (effect_at o effect)
+  pub earlier : ℕ
+  pub before : earlier < effect
+  pub earlier_fires : Fires s (effect_at o earlier)
+  pub contradicts : Contradicts (effect_at o earlier) (effect_at o effect)
+  pub first : (e f : ℕ) → e < f → f < effect → Fires s (effect_at o e) → Fires s (effect_at o f) → Contradicts (effect_at o e) (effect_at o f) → ⊥
+
+-- why an operator has no step: the first of its preconditions that fails, or, where all hold, the first conflict
+abbrev pub IsStepFault : List ℕ → Operator → StepFault → Type 0
+IsStepFault s o (step_fault.NotApplicable fact) = (index : ℕ)
+    × IsFirstMissed (slice_index s) (preconditions o) index
+    × ((d : Fact) → slice_index_or (preconditions o) index d ≡ fact)
+IsStepFault s o (step_fault.Conflict effect) = AllHold (slice_index s) (preconditions o) × IsFirstConflict s o effect
+
+-- what the operator's effects that fire do to a state, before it is settled
+pub record IsApplied (p : Parts) (s : List ℕ) (o : Operator) (s' : List ℕ) : Type 0 where
+  pub applicable : AllHold (slice_index s) (preconditions o)
+  pub agree : Agree s o.effects
+  pub state : IsState p.variables s'
+  pub set : All (λ (e : Effect). Fires s e → slice_index s' e.var ≡ e.new) o.effects
+  pub kept : (var : ℕ) → All (λ (e : Effect). Fires s e → e.var ≢ var) o.effects → slice_index s' var ≡ slice_index s var
+
+-- the effects were done, or refused with the state as it was
+abbrev pub Applies : Parts → List ℕ → ℕ → List ℕ → Result (Unit {0}) StepFault → Type 0
+Applies p s operator s' (Ok _) = IsApplied p s (operator_at p operator) s'
+Applies p s operator s' (Err fault) = IsStepFault s (operator_at p operator) fault × (s' ≡ s)
+
+-- a step was made, or refused with the state as it was
+abbrev pub Steps : Parts → List ℕ → ℕ → List ℕ → Result (Unit {0}) StepFault → Type 0
+Steps p s operator s' (Ok _) = Step p s (operator_at p operator) s'
+Steps p s operator s' (Err fault) = IsStepFault s (operator_at p operator) fault × (s' ≡ s)
+
+-- the first fact of the goal that fails, if one does
+abbrev pub IsGoalAnswer : List ℕ → List Fact → Option ℕ → Type 0
+IsGoalAnswer s goal None = AllHold (slice_index s) goal
+IsGoalAnswer s goal (Some index) = IsFirstMissed (slice_index s) goal index

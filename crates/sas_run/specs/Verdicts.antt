@@ -1,0 +1,54 @@
+-- Why a plan isn't valid.
+use Rattle.std.specs.Prelude.{◌≡◌, ◌≢◌, ℕ, ◌+◌, ◌<◌, List, [], ◌∷◌, ◌++◌, length, slice_index, slice_index_or}
+use Rattle.sas_core.specs.declared.parts.Fact.{Fact}
+use Rattle.sas_core.specs.declared.parts.Parts.{Parts}
+use Rattle.sas_core.specs.Grounded.{operator_at}
+use Rattle.sas_core.specs.PlanParts.{PlanParts}
+use Rattle.sas_meaning.specs.States.{Holds, AllHold}
+use Rattle.sas_meaning.specs.Steps.{Step}
+use Rattle.sas_run.specs.declared.plan_check.PlanFault.{PlanFault}
+use Rattle.sas_run.specs.declared.plan_check.PlanFault.TheVariants.{Memory, NoOperator, NotApplicable, Conflict, GoalMissed, CostDiffers}
+use Rattle.sas_run.specs.Plans.{IsNamed, IsChosen, LeadsTo, cost_of_all}
+
+-- the steps before this one, counted from 1, go through and lead to the state s; the name is its own
+pub record ComesTo (p : Parts) (steps : List (List ℕ)) (step : ℕ) (s name : List ℕ) : Type 0 where
+  pub before : List (List ℕ)
+  pub behind : List (List ℕ)
+  pub whole : steps ≡ before ++ name ∷ behind
+  pub place : step ≡ length before + 1
+  pub operators : List ℕ
+  pub leads : LeadsTo p before operators s
+
+-- the first of the facts that doesn't hold
+pub record IsFirstMissed (value : ℕ → ℕ) (facts : List Fact) (index : ℕ) : Type 0 where
+  pub exists : index < length facts
+  pub missed : (d : Fact) → Holds value (slice_index_or facts index d) → ⊥
+  pub before : (k : ℕ) (d : Fact) → k < index → Holds value (slice_index_or facts k d)
+
+-- what is wrong with a plan that isn't valid: the first thing in the order of its steps, then the goal, then the cost
+abbrev pub IsFaultOf : Parts → PlanParts → PlanFault → Type 0
+-- no operator has the step's name
+IsFaultOf p plan (NoOperator step) = (s name : List ℕ)
+    × ComesTo p plan.steps step s name
+    × ((operator : ℕ) → IsNamed p name operator → ⊥)
+-- one has it, and none that has it is applicable
+IsFaultOf p plan (NotApplicable step) = (s name : List ℕ)
+    × ComesTo p plan.steps step s name
+    × ((operator : ℕ) × IsNamed p name operator)
+    × ((operator : ℕ) → IsChosen p s name operator → ⊥)
+-- the chosen operator has no step: two of its effects conflict
+IsFaultOf p plan (Conflict step operator) = (s name : List ℕ)
+    × ComesTo p plan.steps step s name
+    × IsChosen p s name operator
+    × ((next : List ℕ) → Step p s (operator_at p operator) next → ⊥)
+-- all steps go through, and a fact of the goal doesn't hold
+IsFaultOf p plan (GoalMissed index) = (operators last : List ℕ)
+    × LeadsTo p plan.steps operators last
+    × IsFirstMissed (slice_index last) p.goal index
+-- all steps go through to the goal, and the cost is another one
+IsFaultOf p plan (CostDiffers sum) = (operators last : List ℕ)
+    × LeadsTo p plan.steps operators last
+    × AllHold (slice_index last) p.goal
+    × (sum ≡ cost_of_all p operators)
+    × (sum ≢ plan.cost)
+IsFaultOf p plan Memory = ⊥

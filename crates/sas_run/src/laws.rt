@@ -1,0 +1,11 @@
+// Laws of plans.
+ghost use Rattle.sas_run.specs.Laws.{SomeVerdict, ValidHasNoFault, ValidIsOne, FaultIsOne};
+
+/// What holds of plans of layered tasks: a plan is valid, with one list of operators, or has exactly one fault, and never
+/// both.
+pub fn plan_laws()
+    ensures some { SomeVerdict }
+    ensures not_both { ValidHasNoFault }
+    ensures valid_one { ValidIsOne }
+    ensures fault_one { FaultIsOne }
+{}

@@ -1,0 +1,14 @@
+//! Steps and plans: what a plan of a task does, and whether it is valid.
+#![tactic(auto)]
+
+mod laws;
+mod names;
+mod plan_check;
+mod preconditions;
+mod runner;
+mod steps;
+
+pub use laws::plan_laws;
+pub use plan_check::{PlanFault, Valid};
+pub use runner::{Choice, Runner};
+pub use steps::StepFault;
