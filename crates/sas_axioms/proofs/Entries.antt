@@ -20,7 +20,7 @@ use Rattle.sas_meaning.proofs.Forced.{fact_within}
 use Rattle.sas_axioms.specs.declared.waiting.Waiting.{Waiting}
 use Rattle.sas_axioms.specs.LayerRules.{IsRuleOn}
 use Rattle.sas_axioms.specs.Waiting.{asking, waits, IsOfOneLayer, IsWaiting, AddsWaiting}
-use Rattle.sas_axioms.proofs.Firing.{one_layer}
+use Rattle.sas_axioms.proofs.OneLayer.{one_layer}
 
 -- the variable of a rule's condition exists
 pub condition_within : (p : Parts) (rule place : ℕ) (d : Fact) → WellRanged p → rule < length p.rules → place < length (rule_at p rule).conditions

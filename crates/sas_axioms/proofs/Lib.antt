@@ -1,6 +1,6 @@
 pub mod Layering
 pub mod Counters
-pub mod Firing
+pub mod OneLayer
 pub mod Entries
 pub mod Cuts
 pub mod Groups

@@ -19,7 +19,7 @@ use Rattle.sas_requests.specs.declared.ToolFault.{ToolFault}
 use Rattle.sas_requests.specs.declared.ToolFault.TheVariants as tool_fault
 use Rattle.sas_requests.specs.Answering.{Answers, AnswersFile, output_of}
 use Rattle.sas_requests.specs.Ending.{IsDecided, IsWrite}
-use Rattle.sas_requests.specs.Output.{Output, word_of, refusal, answer_or_refusal, FileOut}
+use Rattle.sas_requests.specs.Output.{Output, word_of, refusal, IsAnswerOrRefusal, FileOut}
 
 -- no word, no refusal
 no_word : (word : Option (List ℕ)) (said : List ℕ → Output) → None ≡ option_map said word → word ≡ None
@@ -71,15 +71,23 @@ task_worded fact_slot line k why none = numbers_worded fact_slot line k why none
 task_worded effect_slot line k why none = numbers_worded effect_slot line k why none
 task_worded head_slot line k why none = numbers_worded head_slot line k why none
 
-module _ {V I S : Type 0} (F : Format V I S) (name : List ℕ) (answer : V → Output) (bytes : List ℕ) where
-  file_refused : (f : Fault) (o : Output) → refusal name f ≡ Some o → IsFaultOf F bytes f → FileOut F name answer bytes (Some o)
+-- a value has one answer
+abbrev pub OneAnswer : {V : Type 0} → (V → Output → Type 0) → Type 0
+OneAnswer {V} IsAnswer = (value : V) (o p : Output) → IsAnswer value o → IsAnswer value p → o ≡ p
+
+-- and it can't have none
+abbrev pub SomeAnswer : {V : Type 0} → (V → Output → Type 0) → Type 0
+SomeAnswer {V} IsAnswer = (value : V) → ((o : Output) → IsAnswer value o → ⊥) → ⊥
+
+module _ {V I S : Type 0} (F : Format V I S) (name : List ℕ) (IsAnswer : V → Output → Type 0) (bytes : List ℕ) where
+  file_refused : (f : Fault) (o : Output) → refusal name f ≡ Some o → IsFaultOf F bytes f → FileOut F name IsAnswer bytes (Some o)
   file_refused f o e fault = (Err f, fault (refused_kind f.kind Memory _ o refl e) (refused_kind f.kind Read _ o refl e), sym e)
 
-  file_too_long : (f : Fault) → f.kind ≡ TooLong → IsFaultOf F bytes f → FileOut F name answer bytes None
+  file_too_long : (f : Fault) → f.kind ≡ TooLong → IsFaultOf F bytes f → FileOut F name IsAnswer bytes None
   file_too_long f e fault = (Err f, fault (too_long_else f.kind Memory e (λ h. absurd cc)) (too_long_else f.kind Read e (λ h. absurd cc)), rw e refl)
 
   -- the refusal, or why the run ends
-  pub file_refusal : (f : Fault) (r : Result Answer ToolFault) → IfOk r (λ a. refusal name f ≡ Some (output_of a)) → (IsErrOf r tool_fault.TooLong → f.kind ≡ TooLong) → IsFaultOf F bytes f → Answers (FileOut F name answer bytes) r
+  pub file_refusal : (f : Fault) (r : Result Answer ToolFault) → IfOk r (λ a. refusal name f ≡ Some (output_of a)) → (IsErrOf r tool_fault.TooLong → f.kind ≡ TooLong) → IsFaultOf F bytes f → Answers (FileOut F name IsAnswer bytes) r
   file_refusal f (Ok a) ok long fault = file_refused f (output_of a) ok fault
   file_refusal f (Err e) ok long fault = λ is. file_too_long f (long (ap Err is)) fault
 
@@ -91,11 +99,24 @@ module _ {V I S : Type 0} (F : Format V I S) (name : List ℕ) (answer : V → O
   decided_kind f (Err tool_fault.Read) decided ok long writes = absurd decided
   decided_kind f (Err (tool_fault.Write n)) decided ok long writes = absurd (writes tt)
 
-  pub one_file_output : Laws F → (o p : Option Output) → FileOut F name answer bytes o → FileOut F name answer bytes p → o ≡ p
-  one_file_output laws o p a b = a.2 ∙ ap (answer_or_refusal name answer) (laws.one_reading most_bytes bytes a.0 b.0 a.1 b.1) ∙ sym b.2
+  -- a reading has one output where a value has one answer
+  one_reading_output : OneAnswer IsAnswer → (r : Result V Fault) (o p : Option Output) → IsAnswerOrRefusal name IsAnswer r o → IsAnswerOrRefusal name IsAnswer r p → o ≡ p
+  one_reading_output one (Ok value) o p a b = a.2 ∙ ap Some (one value a.0 b.0 a.1 b.1) ∙ sym b.2
+  one_reading_output one (Err fault) o p a b = a ∙ sym b
 
-  pub some_file_output : Laws F → ((o : Option Output) → FileOut F name answer bytes o → ⊥) → ⊥
-  some_file_output laws none = laws.some_reading most_bytes bytes (λ r reads. none (answer_or_refusal name answer r) (r, reads, refl))
+  pub one_file_output : Laws F → OneAnswer IsAnswer → (o p : Option Output) → FileOut F name IsAnswer bytes o → FileOut F name IsAnswer bytes p → o ≡ p
+  one_file_output laws one o p a b =
+      let same = laws.one_reading most_bytes bytes b.0 a.0 b.1 a.1 in
+      one_reading_output one a.0 o p a.2 (subst (λ (r : Result V Fault). IsAnswerOrRefusal name IsAnswer r p) same b.2)
+
+  -- and some output where a value has some answer
+  some_reading_output : SomeAnswer IsAnswer → (r : Result V Fault) → ((o : Option Output) → IsAnswerOrRefusal name IsAnswer r o → ⊥) → ⊥
+  some_reading_output some (Ok value) none = some value (λ answer is. none (Some answer) (answer, is, refl))
+  some_reading_output some (Err fault) none = none (refusal name fault) refl
+
+  pub some_file_output : Laws F → SomeAnswer IsAnswer → ((o : Option Output) → FileOut F name IsAnswer bytes o → ⊥) → ⊥
+  some_file_output laws some none =
+      laws.some_reading most_bytes bytes (λ r reads. some_reading_output some r (λ o is. none o (r, reads, is)))
 
   too_long_at : Worded F → (before : List ℕ) (byte : ℕ) (k : Kind) → KindAt F most_bytes before byte k → word_of k ≡ None → most_bytes < length before + 1
   too_long_at worded before byte k (too_long long e) none = long
@@ -107,31 +128,31 @@ module _ {V I S : Type 0} (F : Format V I S) (name : List ℕ) (answer : V → O
       let long = too_long_at worded fault.before fault.byte f.kind fault.kind none in
       rw fault.whole (omega (arith, length-append fault.before (fault.byte ∷ fault.after)))
 
-  no_output_reading : Worded F → (r : Result V Fault) → ReadsAs F most_bytes bytes r → None ≡ answer_or_refusal name answer r → most_bytes < length bytes
-  no_output_reading worded (Ok v) reads e = absurd (none-some _ e)
+  no_output_reading : Worded F → (r : Result V Fault) → ReadsAs F most_bytes bytes r → IsAnswerOrRefusal name IsAnswer r None → most_bytes < length bytes
+  no_output_reading worded (Ok v) reads e = absurd (none-some _ e.2)
   no_output_reading worded (Err f) (inl fault) e = too_long_fault worded f fault (no_word (word_of f.kind) _ e)
   no_output_reading worded (Err f) (inr early) e = absurd (none-some _ (sym (no_word (word_of f.kind) _ e) ∙ ap word_of early.kind))
 
-  pub no_file_output : Worded F → FileOut F name answer bytes None → most_bytes < length bytes
+  pub no_file_output : Worded F → FileOut F name IsAnswer bytes None → most_bytes < length bytes
   no_file_output worded out = no_output_reading worded out.0 out.1 out.2
 
 -- what a device gave is refused as the bytes that it gave
-module _ {V I S : Type 0} (F : Format V I S) (name : List ℕ) (answer : V → Output) where
+module _ {V I S : Type 0} (F : Format V I S) (name : List ℕ) (IsAnswer : V → Output → Type 0) where
   pub taken_refusal : (old new : Option (List ℕ)) (f : Fault) (r : Result Answer ToolFault)
       → (f.kind ≢ Memory → (bytes : List ℕ) × Consumes old new bytes × Refuses F bytes (IsAtEnd new) f)
       → IfOk r (λ a. refusal name f ≡ Some (output_of a)) → (IsErrOf r tool_fault.TooLong → f.kind ≡ TooLong) → IfErr r (λ e. IsWrite e → ⊥) → IsDecided r
-      → (bytes : List ℕ) × Consumes old new bytes × Answers (FileOut F name answer bytes) r
+      → (bytes : List ℕ) × Consumes old new bytes × Answers (FileOut F name IsAnswer bytes) r
   taken_refusal old new f r taken ok long writes decided =
-      let (memory, read) = decided_kind F name answer [] f r decided ok long writes in
+      let (memory, read) = decided_kind F name IsAnswer [] f r decided ok long writes in
       let (bytes, consumed, why) = taken memory in
-      (bytes, consumed, file_refusal F name answer bytes f r ok long (λ m n. reading_of_refusal F bytes (IsAtEnd new) f why read))
+      (bytes, consumed, file_refusal F name IsAnswer bytes f r ok long (λ m n. reading_of_refusal F bytes (IsAtEnd new) f why read))
 
 -- ---- the answer to a request over one file
 
-module _ {D V I S A : Type 0} (left : D → Option (List ℕ)) (F : Format V I S) (Gives : List ℕ → A → Type 0) (name : List ℕ) (answer : V → Output) where
+module _ {D V I S A : Type 0} (left : D → Option (List ℕ)) (F : Format V I S) (Gives : List ℕ → A → Type 0) (name : List ℕ) (IsAnswer : V → Output → Type 0) where
   -- what was read is answered
-  pub answers_value : (old new : Device D) (a : A) (r : Answer) → ReadsAll left F Gives old new (Ok a) → ((b : List ℕ) → Gives b a → FileOut F name answer b (Some (output_of r)))
-      → AnswersFile left (FileOut F name answer) old new (Ok r)
+  pub answers_value : (old new : Device D) (a : A) (r : Answer) → ReadsAll left F Gives old new (Ok a) → ((b : List ℕ) → Gives b a → FileOut F name IsAnswer b (Some (output_of r)))
+      → AnswersFile left (FileOut F name IsAnswer) old new (Ok r)
   answers_value old new a r h gives = record {
     output = λ b known. gives b (known_answer left F Gives old new a b h known);
     taken = λ decided. let read = h.read in (read.0, read.1.0, gives read.0 read.2);
@@ -142,10 +163,10 @@ module _ {D V I S A : Type 0} (left : D → Option (List ℕ)) (F : Format V I S
   -- a fault is refused, or the run ends at it
   pub answers_refusal : (old new : Device D) (f : Fault) (r : Result Answer ToolFault) → ReadsAll left F Gives old new (Err f)
       → IfOk r (λ a. refusal name f ≡ Some (output_of a)) → (IsErrOf r tool_fault.TooLong → f.kind ≡ TooLong) → IsErrOf r tool_fault.Read ↔ (f.kind ≡ Read) → IfErr r (λ e. IsWrite e → ⊥)
-      → AnswersFile left (FileOut F name answer) old new r
+      → AnswersFile left (FileOut F name IsAnswer) old new r
   answers_refusal old new f r h ok long read writes = record {
-    output = λ b known. file_refusal F name answer b f r ok long (known_fault left F Gives old new f b h known);
-    taken = taken_refusal F name answer (left old.device) (left new.device) f r h.fault ok long writes;
+    output = λ b known. file_refusal F name IsAnswer b f r ok long (known_fault left F Gives old new f b h known);
+    taken = taken_refusal F name IsAnswer (left old.device) (left new.device) f r h.fault ok long writes;
     reads = (λ e. h.note.0 (read.0 e), λ t. read.1 (h.note.1 t));
     writes = writes;
   }

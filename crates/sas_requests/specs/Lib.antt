@@ -1,4 +1,5 @@
 pub mod Summary
+pub mod LayerWords
 pub mod Output
 pub mod Ending
 pub mod Answering

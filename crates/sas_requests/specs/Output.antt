@@ -1,6 +1,9 @@
 -- What the program prints: one output for each request and its inputs.
-use Rattle.std.specs.Prelude.{◌≡◌, ℕ, ◌<◌, List, ◌++◌, length, codes, decimal, Option, Some, None, option_map, Result, Ok, Err}
+use Rattle.std.specs.Prelude.{◌≡◌, ◌⊎◌, ℕ, ◌<◌, Bool, true, false, IsTrue, List, ◌++◌, length, codes, decimal, Option, Some, None, option_map, Result, Ok, Err}
 use Rattle.sas_core.specs.declared.parts.Parts.{Parts}
+use Rattle.sas_core.specs.Checks.{first_fault}
+use Rattle.sas_meaning.specs.declared.layered.LayerFault.{LayerFault}
+use Rattle.sas_meaning.specs.LayerChecks.{layer_checks}
 use Rattle.sas_lines.specs.Lines.{text}
 use Rattle.sas_reader.specs.declared.fault.Fault.{Fault}
 use Rattle.sas_reader.specs.declared.fault.Kind.{Kind}
@@ -10,9 +13,10 @@ use Rattle.sas_reader.specs.Limit.{most_bytes}
 use Rattle.sas_plan_file.specs.PlanFormat.{plan_format}
 use Rattle.sas_task_format.specs.TaskFormat.{task_format}
 use Rattle.sas_requests.specs.declared.Request.{Request}
-use Rattle.sas_requests.specs.declared.Request.TheVariants.{Show, Print, Steps}
+use Rattle.sas_requests.specs.declared.Request.TheVariants.{Show, Print, Steps, Check}
 use Rattle.sas_requests.specs.declared.Status.{Status}
 use Rattle.sas_requests.specs.declared.Status.TheVariants.{Yes, No}
+use Rattle.sas_requests.specs.LayerWords.{layer_words, layers_line}
 use Rattle.sas_requests.specs.Summary.{summary_lines}
 
 -- what is printed, and the status
@@ -41,55 +45,85 @@ abbrev pub refusal : List ℕ → Fault → Option Output
 refusal name fault =
     option_map (λ word. record { text = refusal_line name fault.line word; status = No }) (word_of fault.kind)
 
--- the answer to what a file is read as: to its value, or the refusal
-abbrev pub answer_or_refusal : {V : Type 0} → List ℕ → (V → Output) → Result V Fault → Option Output
-answer_or_refusal name answer (Ok value) = Some (answer value)
-answer_or_refusal name answer (Err fault) = refusal name fault
+-- the output about what the file of this name is read as: an answer about its value, or the refusal. `IsAnswer` tells
+-- which outputs are answers about a value
+abbrev pub IsAnswerOrRefusal : {V : Type 0} → List ℕ → (V → Output → Type 0) → Result V Fault → Option Output → Type 0
+IsAnswerOrRefusal name IsAnswer (Ok value) output = (answer : Output) × IsAnswer value answer × (output ≡ Some answer)
+IsAnswerOrRefusal name IsAnswer (Err fault) output = output ≡ refusal name fault
 
 -- a task is shown by the lines of its summary, each ended by LF
-abbrev pub shown : Parts → Output
-shown p = record { text = text (summary_lines p); status = Yes }
+abbrev pub ShowAnswer : Parts → Output → Type 0
+ShowAnswer p output = output ≡ record { text = text (summary_lines p); status = Yes }
+
+-- the refusal of a task for a fault of its layers; want of memory has none
+abbrev pub layers_refusal : LayerFault → Option Output
+layers_refusal fault = option_map (λ words. record { text = layers_line words; status = No }) (layer_words fault)
+
+-- what is said of a task's layers, by their first fault if they have one
+abbrev pub layers_verdict : Option LayerFault → Option Output
+layers_verdict None = Some (record { text = codes "task layered\n"; status = Yes })
+layers_verdict (Some fault) = layers_refusal fault
+
+-- a task is checked by a line: that it is layered, or the refusal for the first fault of its layers
+abbrev pub CheckAnswer : Parts → Output → Type 0
+CheckAnswer p output = layers_verdict (first_fault (layer_checks p)) ≡ Some output
 
 module _ {V I S : Type 0} (F : Format V I S) where
   -- a value is printed as its lines, each ended by LF
-  abbrev pub printed : V → Output
-  printed value = record { text = text (lines_of F value); status = Yes }
+  abbrev pub PrintAnswer : V → Output → Type 0
+  PrintAnswer value output = output ≡ record { text = text (lines_of F value); status = Yes }
 
-  -- the output about the bytes of a file
-  abbrev pub FileOut : List ℕ → (V → Output) → List ℕ → Option Output → Type 0
-  FileOut name answer bytes output = (read : Result V Fault)
+  -- the output about the bytes of the file of this name
+  abbrev pub FileOut : List ℕ → (V → Output → Type 0) → List ℕ → Option Output → Type 0
+  FileOut name IsAnswer bytes output = (read : Result V Fault)
       × ReadsAs F most_bytes bytes read
-      × (output ≡ answer_or_refusal name answer read)
+      × IsAnswerOrRefusal name IsAnswer read output
 
--- the output of `show`, `print` and `steps` about the bytes of their file
+-- the output of `show`, `print`, `steps` and `check` about the bytes of their file
 abbrev pub ShowOut : List ℕ → Option Output → Type 0
-ShowOut = FileOut task_format (codes "task") shown
+ShowOut = FileOut task_format (codes "task") ShowAnswer
 
 abbrev pub PrintOut : List ℕ → Option Output → Type 0
-PrintOut = FileOut task_format (codes "task") (printed task_format)
+PrintOut = FileOut task_format (codes "task") (PrintAnswer task_format)
 
 abbrev pub StepsOut : List ℕ → Option Output → Type 0
-StepsOut = FileOut plan_format (codes "plan") (printed plan_format)
+StepsOut = FileOut plan_format (codes "plan") (PrintAnswer plan_format)
+
+abbrev pub CheckOut : List ℕ → Option Output → Type 0
+CheckOut = FileOut task_format (codes "task") CheckAnswer
 
 -- the output for the bytes b of the task and c of the plan, where a file that decides it isn't too long; else none
 abbrev pub Out : Request → List ℕ → List ℕ → Option Output → Type 0
 Out Show b c output = ShowOut b output
 Out Print b c output = PrintOut b output
 Out Steps b c output = StepsOut c output
+Out Check b c output = CheckOut b output
 
 -- ---- the inputs that a request reads
 
+-- whether it reads the task
+abbrev pub reads_task : Request → Bool
+reads_task Show = true
+reads_task Print = true
+reads_task Steps = false
+reads_task Check = true
+
+-- whether it reads the plan
+abbrev pub reads_plan : Request → Bool
+reads_plan Show = false
+reads_plan Print = false
+reads_plan Steps = true
+reads_plan Check = false
+
 -- they have these bytes: b the task, c the plan
 abbrev pub AreInputs : Request → Option (List ℕ) → Option (List ℕ) → List ℕ → List ℕ → Type 0
-AreInputs Show task plan b c = task ≡ Some b
-AreInputs Print task plan b c = task ≡ Some b
-AreInputs Steps task plan b c = plan ≡ Some c
+AreInputs request task plan b c =
+    (IsTrue (reads_task request) → task ≡ Some b) × (IsTrue (reads_plan request) → plan ≡ Some c)
 
 -- one of them passes the limit
 abbrev pub IsLong : Request → List ℕ → List ℕ → Type 0
-IsLong Show b c = most_bytes < length b
-IsLong Print b c = most_bytes < length b
-IsLong Steps b c = most_bytes < length c
+IsLong request b c =
+    (IsTrue (reads_task request) × (most_bytes < length b)) ⊎ (IsTrue (reads_plan request) × (most_bytes < length c))
 
 -- ---- laws
 

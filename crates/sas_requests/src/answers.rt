@@ -1,14 +1,15 @@
 // The answer to each request, before anything of it is written.
-ghost use Rattle.std.specs.Prelude.{◌≡◌, ◌≢◌, ◌↔◌, ◌||◌, List, ℕ, false, Some, IfOk, IfErr, IsErrOf, IsTrue};
+ghost use Rattle.std.specs.Prelude.{◌≡◌, ◌↔◌, ◌||◌, List, ℕ, false, Some, IfOk, IfErr, IsErrOf, IsFalse, IsTrue};
 ghost use Rattle.std.specs.Io.KnownBytes.{Consumes};
 ghost use Rattle.sas_requests.specs.Answering.{Answers, AnswersFile, output_of};
 ghost use Rattle.sas_requests.specs.Ending.{IsDecided, IsWrite};
-ghost use Rattle.sas_requests.specs.Output.{Out, ShowOut, PrintOut, StepsOut, AreInputs, refusal, refusal_line, word_of};
+ghost use Rattle.sas_requests.specs.Output.{Out, ShowOut, PrintOut, StepsOut, CheckOut, AreInputs, reads_plan, reads_task, refusal, refusal_line, word_of};
 
+use crate::layers::layers_answer;
 use crate::summary::summary_text;
 use crate::{Request, Status, ToolFault};
 use sas_lines::{Watched, push_line, push_number};
-use sas_text::{Fault, Kind, read_outline, read_plan_text, read_task_text};
+use sas_text::{Fault, Kind, read_outline, read_plan_text, read_task, read_task_text};
 use std::alloc::{AllocError, Global};
 use std::io::Read;
 
@@ -34,8 +35,8 @@ pub fn answer_to<T: Read, P: Read>(
         × Consumes (T.remaining task.old.device) (T.remaining task.new.device) b
         × Consumes (P.remaining plan.old.device) (P.remaining plan.new.device) c
         × Answers (Out request b c) result }
-    ensures task_spared { request ≡ Request.Steps → task.new ≡ task.old }
-    ensures plan_spared { request ≢ Request.Steps → plan.new ≡ plan.old }
+    ensures task_spared { IsFalse (reads_task request) → task.new ≡ task.old }
+    ensures plan_spared { IsFalse (reads_plan request) → plan.new ≡ plan.old }
     ensures reads { IsErrOf result ToolFault.Read ↔ IsTrue (task.new.failed || plan.new.failed) }
     ensures writes { IfErr result (λ e. IsWrite e → ⊥) }
 {
@@ -43,6 +44,7 @@ pub fn answer_to<T: Read, P: Read>(
         Request::Show => show(alloc, task),
         Request::Print => print(alloc, task),
         Request::Steps => steps(alloc, plan),
+        Request::Check => check(alloc, task),
     }
 }
 
@@ -87,6 +89,18 @@ fn steps<R: Read>(alloc: Global, plan: &mut Watched<R>) -> Result<Answer, ToolFa
         }),
         Err(fault) => refuse(alloc, "plan", fault),
     }
+}
+
+/// Whether a task is layered.
+fn check<R: Read>(alloc: Global, reader: &mut Watched<R>) -> Result<Answer, ToolFault>
+    requires { reader.old.failed ≡ false }
+    ensures { AnswersFile R.remaining CheckOut reader.old reader.new result }
+{
+    let task = match read_task(alloc, reader) {
+        Ok(task) => task,
+        Err(fault) => return refuse(alloc, "task", fault),
+    };
+    Ok(layers_answer(alloc, task)?)
 }
 
 /// The word for what is wrong with a file, or why the run ends at this kind.

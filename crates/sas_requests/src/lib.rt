@@ -3,11 +3,12 @@
 
 mod answers;
 mod laws;
+mod layers;
 mod summary;
 
-ghost use Rattle.std.specs.Prelude.{◌≡◌, ◌≢◌, ◌⊎◌, ◌↔◌, ◌||◌, false, List, ℕ, IfErr, IsErrAnd, IsErrOf, IsTrue};
+ghost use Rattle.std.specs.Prelude.{◌≡◌, ◌⊎◌, ◌↔◌, ◌||◌, false, List, ℕ, IfErr, IsErrAnd, IsErrOf, IsFalse, IsTrue};
 ghost use Rattle.std.specs.Io.KnownBytes.{Appends, Consumes};
-ghost use Rattle.sas_requests.specs.Output.{Out, AreInputs};
+ghost use Rattle.sas_requests.specs.Output.{Out, AreInputs, reads_plan, reads_task};
 ghost use Rattle.sas_requests.specs.Ending.{Ends, IsDecided, IsWrite};
 
 use answers::answer_to;
@@ -26,12 +27,14 @@ pub enum Request {
     Print,
     /// The steps of a plan and its cost, printed again.
     Steps,
+    /// Whether a task is layered.
+    Check,
 }
 
 /// The answer in one word.
 #[derive(Clone, Copy, Debug, PartialEq, Eq)]
 pub enum Status {
-    /// The file is a text of its format, and its answer was written.
+    /// The file is a text of its format, and layered where that was asked; its answer was written.
     Yes,
     /// The file is refused, and that was written.
     No,
@@ -64,10 +67,10 @@ impl From<AllocError> for ToolFault {
     }
 }
 
-/// Answers the request about the inputs. `Show` and `Print` read the task alone, and `Steps` the plan. Nothing is written
-/// before the answer is whole, so at any fault but `Write` nothing was written, and at `Write` the first bytes of the
-/// answer. A fault of a file's content is no fault of the run: the answer then is a refusal, and the status `No`. Not to be
-/// called with a device that has failed.
+/// Answers the request about the inputs. `Show`, `Print` and `Check` read the task alone, and `Steps` the plan. Nothing is
+/// written before the answer is whole, so at any fault but `Write` nothing was written, and at `Write` the first bytes of
+/// the answer. A fault of a file's content is no fault of the run: the answer then is a refusal, and the status `No`; so it
+/// is where `Check` finds that the task isn't layered. Not to be called with a device that has failed.
 ///
 /// The theorem, `output`, holds for every reader that tells its bytes, such as one over memory. The code is generic, and so
 /// the same for a file, which tells none; that a file gives what the disk holds is trusted.
@@ -92,8 +95,8 @@ pub fn run<T: Read, P: Read, W: Write>(
     // Before the answer is whole nothing is written.
     ensures nothing { IfErr result (λ e. IsWrite e ⊎ (out.new ≡ out.old)) }
     // A device that the request doesn't read stays as it was.
-    ensures task_spared { request ≡ Request.Steps → task.new ≡ task.old }
-    ensures plan_spared { request ≢ Request.Steps → plan.new ≡ plan.old }
+    ensures task_spared { IsFalse (reads_task request) → task.new ≡ task.old }
+    ensures plan_spared { IsFalse (reads_plan request) → plan.new ≡ plan.old }
     ensures reads { IsErrOf result ToolFault.Read ↔ IsTrue (task.new.failed || plan.new.failed) }
     ensures writes { IsErrAnd result IsWrite ↔ IsTrue out.new.failed }
 {

@@ -1,6 +1,6 @@
 -- Each turn adds a rule that can fire, or passes one that can't.
 use Rattle.std.proofs.Common.{◌≡◌, ◌∷◌, [], ◌++◌, arith}
-use Rattle.sas_axioms.proofs.Firing.{firing_none, firing_more, firing_skip, firing_all}
+use Rattle.sas_axioms.proofs.OneLayer.{firing_none, firing_more, firing_skip, firing_all}
 use Rattle.sas_axioms.proofs.layer_rules.firing_rules.Goals as goal
 use Rattle.sas_axioms.proofs.layer_rules.firing_rules.Goals.{in-Some+in_ok-push, in_default}
 

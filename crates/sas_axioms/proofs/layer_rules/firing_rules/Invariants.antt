@@ -1,5 +1,5 @@
 -- Those of the first rules that can fire.
-use Rattle.sas_axioms.proofs.Firing.{FiringUpTo}
+use Rattle.sas_axioms.proofs.OneLayer.{FiringUpTo}
 use Rattle.sas_axioms.proofs.layer_rules.firing_rules.Given as goal
 
 abbrev pub invariant-loop-rule : goal.invariant-loop-rule

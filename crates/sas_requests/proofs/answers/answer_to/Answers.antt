@@ -16,3 +16,8 @@ pub returns-in-Steps-clause-taken : goal.returns-in-Steps-clause-taken
 returns-in-Steps-clause-taken g c = λ decided.
     let (bytes, consumed, is) = c.steps.ensures.taken decided in
     ([], bytes, takes_nothing _, consumed, rw c.in-Steps.is is)
+
+pub returns-in-Check-clause-taken : goal.returns-in-Check-clause-taken
+returns-in-Check-clause-taken g c = λ decided.
+    let (bytes, consumed, is) = c.check.ensures.taken decided in
+    (bytes, [], consumed, takes_nothing _, rw c.in-Check.is is)

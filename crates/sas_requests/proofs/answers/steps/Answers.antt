@@ -1,11 +1,11 @@
 use Rattle.std.proofs.Common.{codes, Ok, refl}
 use Rattle.sas_plan_file.specs.PlanFormat.{plan_format}
-use Rattle.sas_requests.specs.Output.{printed}
+use Rattle.sas_requests.specs.Output.{PrintAnswer}
 use Rattle.sas_requests.proofs.Outputs.{answers_value, answers_refusal}
 use Rattle.sas_requests.proofs.answers.steps.Goals as goal
 
 pub returns-in-Ok : goal.returns-in-Ok
-returns-in-Ok g c = answers_value g.R.Read.remaining plan_format _ (codes "plan") (printed plan_format) _ _ c.in-Ok.text _ c.in-Ok.ensures (λ b text. (Ok text.0, text.1, rw text.2 refl))
+returns-in-Ok g c = answers_value g.R.Read.remaining plan_format _ (codes "plan") (PrintAnswer plan_format) _ _ c.in-Ok.text _ c.in-Ok.ensures (λ b text. (Ok text.0, text.1, (_, rw text.2 refl, refl)))
 
 pub returns-in-Err : goal.returns-in-Err
-returns-in-Err g c = answers_refusal g.R.Read.remaining plan_format _ (codes "plan") (printed plan_format) _ _ c.in-Err.fault c.refuse.result c.in-Err.ensures c.refuse.ensures.ok c.refuse.ensures.long.0 c.refuse.ensures.read c.refuse.ensures.writes
+returns-in-Err g c = answers_refusal g.R.Read.remaining plan_format _ (codes "plan") (PrintAnswer plan_format) _ _ c.in-Err.fault c.refuse.result c.in-Err.ensures c.refuse.ensures.ok c.refuse.ensures.long.0 c.refuse.ensures.read c.refuse.ensures.writes

@@ -1,27 +1,31 @@
-use Rattle.std.proofs.Common.{codes}
+use Rattle.std.proofs.Common.{refl, sym, ◌∙◌, inl, inr, codes}
 use Rattle.sas_plan_file.specs.PlanFormat.{plan_format}
 use Rattle.sas_task_format.specs.TaskFormat.{task_format}
 use Rattle.sas_plan_file.proofs.PlanLaws.{plan_laws_hold}
 use Rattle.sas_task_format.proofs.TaskLaws.{task_laws_hold}
-use Rattle.sas_requests.specs.Output.{OneOutput, SomeOutput, NoneIsLong, shown, printed}
-use Rattle.sas_requests.specs.declared.Request.TheVariants.{Show, Print, Steps}
+use Rattle.sas_requests.specs.Output.{OneOutput, SomeOutput, NoneIsLong, ShowAnswer, PrintAnswer, CheckAnswer}
+use Rattle.sas_requests.specs.declared.Request.TheVariants.{Show, Print, Steps, Check}
 use Rattle.sas_requests.proofs.Outputs.{one_file_output, some_file_output, no_file_output, plan_worded, task_worded}
+use Rattle.sas_requests.proofs.CheckAnswers.{one_check_answer, some_check_answer}
 use Rattle.sas_requests.proofs.laws.run_laws.Goals as goal
 
 one : OneOutput
-one Show b c o p = one_file_output task_format (codes "task") shown b task_laws_hold o p
-one Print b c o p = one_file_output task_format (codes "task") (printed task_format) b task_laws_hold o p
-one Steps b c o p = one_file_output plan_format (codes "plan") (printed plan_format) c plan_laws_hold o p
+one Show b c o p = one_file_output task_format (codes "task") ShowAnswer b task_laws_hold (λ v o p a b. a ∙ sym b) o p
+one Print b c o p = one_file_output task_format (codes "task") (PrintAnswer task_format) b task_laws_hold (λ v o p a b. a ∙ sym b) o p
+one Steps b c o p = one_file_output plan_format (codes "plan") (PrintAnswer plan_format) c plan_laws_hold (λ v o p a b. a ∙ sym b) o p
+one Check b c o p = one_file_output task_format (codes "task") CheckAnswer b task_laws_hold one_check_answer o p
 
 some : SomeOutput
-some Show b c = some_file_output task_format (codes "task") shown b task_laws_hold
-some Print b c = some_file_output task_format (codes "task") (printed task_format) b task_laws_hold
-some Steps b c = some_file_output plan_format (codes "plan") (printed plan_format) c plan_laws_hold
+some Show b c = some_file_output task_format (codes "task") ShowAnswer b task_laws_hold (λ v none. none _ refl)
+some Print b c = some_file_output task_format (codes "task") (PrintAnswer task_format) b task_laws_hold (λ v none. none _ refl)
+some Steps b c = some_file_output plan_format (codes "plan") (PrintAnswer plan_format) c plan_laws_hold (λ v none. none _ refl)
+some Check b c = some_file_output task_format (codes "task") CheckAnswer b task_laws_hold some_check_answer
 
 long : NoneIsLong
-long Show b c out = no_file_output task_format (codes "task") shown b task_worded out
-long Print b c out = no_file_output task_format (codes "task") (printed task_format) b task_worded out
-long Steps b c out = no_file_output plan_format (codes "plan") (printed plan_format) c (λ s line k. plan_worded line k) out
+long Show b c out = inl (refl, no_file_output task_format (codes "task") ShowAnswer b task_worded out)
+long Print b c out = inl (refl, no_file_output task_format (codes "task") (PrintAnswer task_format) b task_worded out)
+long Steps b c out = inr (refl, no_file_output plan_format (codes "plan") (PrintAnswer plan_format) c (λ s line k. plan_worded line k) out)
+long Check b c out = inl (refl, no_file_output task_format (codes "task") CheckAnswer b task_worded out)
 
 pub returns-clause-one : goal.returns-clause-one
 returns-clause-one c = one

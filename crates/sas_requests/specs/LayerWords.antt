@@ -1,0 +1,22 @@
+-- The words for why a task isn't layered.
+use Rattle.std.specs.Prelude.{ℕ, List, ◌++◌, codes, decimal, Option, Some, None}
+use Rattle.sas_meaning.specs.declared.layered.LayerFault.{LayerFault}
+use Rattle.sas_meaning.specs.declared.layered.LayerFault.TheVariants.{EffectOnDerived, RuleOnBasic, OldValue, TwoValues, LayerOrder, Memory}
+
+-- `PART I: WHAT`, where I is the part's place
+abbrev pub part_words : List ℕ → ℕ → List ℕ → List ℕ
+part_words part place what = part ++ codes " " ++ decimal place ++ codes ": " ++ what
+
+-- the words for a fault of a task's layers; want of memory is no fault of the task
+abbrev pub layer_words : LayerFault → Option (List ℕ)
+layer_words (EffectOnDerived operator effect) =
+    Some (part_words (codes "operator") operator (codes "effect on derived variable"))
+layer_words (RuleOnBasic rule) = Some (part_words (codes "rule") rule (codes "not on a derived variable"))
+layer_words (OldValue rule) = Some (part_words (codes "rule") rule (codes "old value"))
+layer_words (TwoValues rule) = Some (part_words (codes "rule") rule (codes "two values"))
+layer_words (LayerOrder rule condition) = Some (part_words (codes "rule") rule (codes "layer order"))
+layer_words Memory = None
+
+-- the line that refuses a task with these words
+abbrev pub layers_line : List ℕ → List ℕ
+layers_line words = codes "task refused: " ++ words ++ codes "\n"

@@ -1,0 +1,66 @@
+// Whether a task is layered, as an answer.
+ghost use Rattle.std.specs.Prelude.{◌≡◌, Some, IfOk, option_map};
+ghost use Rattle.sas_requests.specs.Answering.{output_of};
+ghost use Rattle.sas_requests.specs.LayerWords.{layer_words, layers_line, part_words};
+ghost use Rattle.sas_requests.specs.Output.{CheckAnswer, layers_refusal};
+
+use crate::Status;
+use crate::answers::Answer;
+use sas_core::Task;
+use sas_lines::{push_line, push_number};
+use sas_meaning::{LayerFault, Layered};
+use std::alloc::{AllocError, Global};
+
+/// The answer about the layers of a task.
+pub fn layers_answer(alloc: Global, task: Task) -> Result<Answer, AllocError>
+    ensures { IfOk result (λ a. CheckAnswer task (output_of a)) }
+{
+    match Layered::new(alloc, task) {
+        Ok(_) => Ok(Answer {
+            text: Vec::from_slice(alloc, b"task layered\n")?,
+            status: Status::Yes,
+        }),
+        Err((_, fault)) => refuse_layers(alloc, fault),
+    }
+}
+
+/// The refusal of a task for a fault of its layers.
+fn refuse_layers(alloc: Global, fault: LayerFault) -> Result<Answer, AllocError>
+    ensures { IfOk result (λ a. layers_refusal fault ≡ Some (output_of a)) }
+{
+    Ok(Answer {
+        text: layers_text(alloc, fault)?,
+        status: Status::No,
+    })
+}
+
+/// The line that refuses a task for a fault of its layers.
+fn layers_text(alloc: Global, fault: LayerFault) -> Result<Vec<u8>, AllocError>
+    ensures { IfOk result (λ t. option_map layers_line (layer_words fault) ≡ Some t.items) }
+{
+    match fault {
+        LayerFault::EffectOnDerived { operator, .. } => {
+            part_text(alloc, "operator", operator, "effect on derived variable")
+        }
+        LayerFault::RuleOnBasic { rule } => {
+            part_text(alloc, "rule", rule, "not on a derived variable")
+        }
+        LayerFault::OldValue { rule } => part_text(alloc, "rule", rule, "old value"),
+        LayerFault::TwoValues { rule } => part_text(alloc, "rule", rule, "two values"),
+        LayerFault::LayerOrder { rule, .. } => part_text(alloc, "rule", rule, "layer order"),
+        LayerFault::Memory => Err(AllocError),
+    }
+}
+
+/// The line that refuses a task for what is wrong with this part of it.
+fn part_text(alloc: Global, part: &str, place: u32, what: &str) -> Result<Vec<u8>, AllocError>
+    ensures { IfOk result (λ t. t.items ≡ layers_line (part_words part.now place what.now)) }
+{
+    let mut text = Vec::from_slice(alloc, b"task refused: ")?;
+    text.extend_from_slice(part.as_bytes())?;
+    text.push(b' ')?;
+    push_number(&mut text, u128::from(place))?;
+    text.extend_from_slice(b": ")?;
+    push_line(&mut text, what.as_bytes())?;
+    Ok(text)
+}
