@@ -1,0 +1,120 @@
+"""Small tasks with derived variables, made at random from a fixed seed, with states and what these settle to.
+
+A task here is
+
+    ranges     how many values each variable has
+    layers     its layer, None for a basic variable
+    defaults   its value in the state section
+    rules      (CONDITIONS, VARIABLE, OLD, NEW): facts (VARIABLE, VALUE), and what changes; -1 stands for no old value
+
+What a state settles to is computed from the meaning of a task. The basic values stay. Layer after layer, from the lowest
+one on, a derived variable has its default, unless a rule that can fire gives it another value: one whose conditions hold
+in the values so reached. A rule whose new value is the default can't fire.
+"""
+import random
+
+SEED = 20
+TASKS = 200
+STATES = 8
+LAYERS = ((0,), (0, 1), (0, 1, 2), (3, 2147483647))
+
+
+def other_value(chance, size, value):
+    """A value of such a range that isn't this one."""
+    return chance.choice([other for other in range(size) if other != value])
+
+
+def random_condition(chance, task, var, news):
+    """A condition that a rule of this variable may have: on a basic variable, on a lower layer, or on its own layer. On
+    that it isn't a default, and most often it is what the rules give."""
+    ranges, layers, defaults = task["ranges"], task["layers"], task["defaults"]
+    basic = [other for other, layer in enumerate(layers) if layer is None]
+    lower = [other for other, layer in enumerate(layers) if layer is not None and layer < layers[var]]
+    same = [other for other, layer in enumerate(layers) if layer == layers[var]]
+    on = chance.choice(chance.choice([places for places in (basic, lower, same, same) if places]))
+    if on not in same:
+        return on, chance.randrange(ranges[on])
+    if chance.random() < 0.9:
+        return on, news[on]
+    return on, other_value(chance, ranges[on], defaults[on])
+
+
+def idle_rule(chance, task, var):
+    """A rule that can't fire; it may have any old value and any conditions."""
+    places = chance.choices(range(len(task["ranges"])), k=chance.randrange(3))
+    facts = [(on, chance.randrange(task["ranges"][on])) for on in places]
+    return facts, var, chance.randrange(-1, task["ranges"][var]), task["defaults"][var]
+
+
+def random_rule(chance, task, news):
+    """A rule of some derived variable, in a layered task whose rules give these new values."""
+    var = chance.choice(list(news))
+    if chance.random() < 0.15:
+        return idle_rule(chance, task, var)
+    facts = [random_condition(chance, task, var, news) for _ in range(chance.choice((0, 1, 1, 1, 2, 2, 3)))]
+    if facts and chance.random() < 0.2:
+        facts.append(chance.choice(facts))
+    return facts, var, chance.choice((-1, task["defaults"][var])), news[var]
+
+
+def random_task(chance):
+    """A layered task. It has a basic variable, and a variable on each of its layers."""
+    layers = chance.choice(LAYERS)
+    size = chance.randint(2 + len(layers), 7)
+    task = {
+        "ranges": [chance.choice((2, 2, 3)) for _ in range(size)],
+        "layers": [None, *layers, *(chance.choice((None, *layers, *layers)) for _ in range(size - 1 - len(layers)))],
+        "rules": [],
+    }
+    chance.shuffle(task["layers"])
+    task["defaults"] = [chance.randrange(most) for most in task["ranges"]]
+    derived = [var for var, layer in enumerate(task["layers"]) if layer is not None]
+    news = {var: other_value(chance, task["ranges"][var], task["defaults"][var]) for var in derived}
+    task["rules"] = [random_rule(chance, task, news) for _ in range(chance.randint(len(derived), 4 * len(derived)))]
+    return task
+
+
+def random_state(chance, task):
+    """A value for each variable, the derived ones too."""
+    return [chance.randrange(most) for most in task["ranges"]]
+
+
+def section(name, lines):
+    """Lines between the two words of their section."""
+    return [f"begin_{name}", *lines, f"end_{name}"]
+
+
+def text_of(task):
+    """The file of a task. It has no group, no goal and no operator."""
+    lines = [*section("version", [3]), *section("metric", [0]), len(task["ranges"])]
+    for var, (size, layer) in enumerate(zip(task["ranges"], task["layers"])):
+        values = [f"Atom v{var}({value})" for value in range(size)]
+        lines += section("variable", [f"var{var}", -1 if layer is None else layer, size, *values])
+    lines += [0, *section("state", task["defaults"]), *section("goal", [0]), 0, len(task["rules"])]
+    for facts, var, old, new in task["rules"]:
+        conditions = [f"{on} {value}" for on, value in facts]
+        lines += section("rule", [len(facts), *conditions, f"{var} {old} {new}"])
+    return "".join(f"{line}\n" for line in lines)
+
+
+def settled(task, state):
+    """What a state settles to."""
+    layers, defaults = task["layers"], task["defaults"]
+    values = [value if layer is None else default for value, layer, default in zip(state, layers, defaults)]
+    for layer in sorted({layer for layer in layers if layer is not None}):
+        rules = [rule for rule in task["rules"] if layers[rule[1]] == layer and rule[3] != defaults[rule[1]]]
+        while True:
+            due = {var: new for facts, var, _, new in rules if all(values[on] == value for on, value in facts)}
+            if all(values[var] == new for var, new in due.items()):
+                break
+            values = [due.get(var, value) for var, value in enumerate(values)]
+    return values
+
+
+def settled_tasks():
+    """Each task, as a text, with its states and what they settle to."""
+    chance = random.Random(SEED)
+    for _ in range(TASKS):
+        task = random_task(chance)
+        states = [random_state(chance, task) for _ in range(STATES)]
+        yield {"task": text_of(task), "states": states, "settled": [settled(task, state) for state in states]}
