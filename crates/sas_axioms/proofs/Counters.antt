@@ -1,25 +1,24 @@
 -- The counters of a worklist.
-use Rattle.std.proofs.Common.{◌≡◌, ◌≢◌, ℕ, zero, suc, ◌+◌, ◌-◌, ◌*◌, ◌<◌, ◌≤◌, ◌==◌, ◌&&◌, ◌⊎◌, Bool, true, false, not, cond, Option, None, List, [], ◌∷◌, ◌++◌, length, get_or, set, refl, sym, ◌∙◌, ap, subst, inl, inr, arith}
+use Rattle.std.proofs.Common.{◌≡◌, ◌≢◌, ℕ, ◌+◌, ◌-◌, ◌<◌, ◌≤◌, ◌==◌, ◌&&◌, ◌⊎◌, true, cond, None, List, [], ◌∷◌, ◌++◌, length, get_or, set, refl, sym, ◌∙◌, ap, subst, inl, inr, arith}
 use Rattle.std.proofs.lemmas.Bool.{cases_eq, eq-eqb}
 use Rattle.std.proofs.lemmas.Bool.Decides.{eqb_tells}
 use Rattle.std.proofs.lemmas.List.{get_or-set_same, get_or-set_other, length-set, get_or_default}
 use Rattle.std.proofs.Math.ListN.{length-append}
-use Rattle.std.specs.List.{Contains}
 use Rattle.sas_core.specs.declared.parts.Fact.{Fact}
 use Rattle.sas_core.specs.declared.parts.Rule.{Rule}
 use Rattle.sas_core.specs.declared.parts.Parts.{Parts}
 use Rattle.sas_core.specs.Grounded.{rule_at}
-use Rattle.sas_core.specs.Variables.{range_of, layer_of, HasValue, FactExists, IsState}
+use Rattle.sas_core.specs.Variables.{IsState}
 use Rattle.sas_core.specs.WellRanged.{WellRanged}
 use Rattle.sas_meaning.specs.States.{Holds, AllHold}
-use Rattle.sas_meaning.specs.Layers.{IsBasic, IsOnLayer, default_of, CanFire, can_fire, LooksDown, IsLayeredRule, IsLayered}
-use Rattle.sas_meaning.specs.Settled.{is_on_layer, new_value_of, given, IsClosed, differs, IsSettledAt, IsSettled, SameBasic, Settles}
-use Rattle.sas_meaning.specs.Forced.{OnlyForced, HasFired, Changes, SameOff, AtDefault, equal_places}
+use Rattle.sas_meaning.specs.Layers.{IsOnLayer, default_of, IsLayered}
+use Rattle.sas_meaning.specs.Settled.{differs, IsSettledAt}
+use Rattle.sas_meaning.specs.Forced.{OnlyForced, HasFired, SameOff, AtDefault, equal_places}
 use Rattle.sas_axioms.specs.LayerRules.{IsRuleOn}
-use Rattle.sas_axioms.specs.Waiting.{occurrences, asking, IsIndex}
+use Rattle.sas_axioms.specs.Waiting.{occurrences, asking}
 use Rattle.sas_axioms.specs.Worklist.{open_conditions, seen, IsRunning, Counts, HaveFired, IsAtWork, FiresRule, work}
 use Rattle.std.specs.List.{All}
-use Rattle.std.proofs.lemmas.List.Elements.{All-contains, All-nil, All-cons, All-head, All-tail}
+use Rattle.std.proofs.lemmas.List.Elements.{All-nil, All-cons, All-head, All-tail}
 use Rattle.sas_meaning.proofs.Forced.{Fired, fired_there, rule_new, differs_true, differs_not, fact_within}
 use Rattle.sas_meaning.proofs.Rules.{new_value_is}
 use Rattle.sas_meaning.proofs.Settling.{forced_at_default, settled_when_fired}

@@ -4,3 +4,4 @@ pub mod OneLayer
 pub mod Entries
 pub mod Cuts
 pub mod Groups
+pub mod Standing

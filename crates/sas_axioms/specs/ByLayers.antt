@@ -23,7 +23,7 @@ pub record SettlesLayer (p : Parts) (layer : ℕ) (s s' : List ℕ) : Type 0 whe
   pub off : SameOff p layer s s'
   pub settled : IsSettledAt p layer s'
 
--- the lowest layer from `from` on where a rule can fire was settled
+-- a layer from `from` on was settled, and no rule can fire on those that were passed over
 pub record SettlesNext (p : Parts) (from : ℕ) (s s' : List ℕ) (layer : ℕ) : Type 0 where
   pub from_on : from ≤ layer
   pub idle : (below : ℕ) → from ≤ below → below < layer → IsIdle p below

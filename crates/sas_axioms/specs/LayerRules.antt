@@ -1,5 +1,5 @@
 -- The rules that can fire, layer after layer.
-use Rattle.std.specs.Prelude.{◌≡◌, ℕ, ◌<◌, ◌≤◌, List, length, All, Contains, slice_index_or, take, drop, ◌-◌}
+use Rattle.std.specs.Prelude.{◌≡◌, ℕ, ◌<◌, ◌≤◌, List, length, All, Contains, slice_index_or}
 use Rattle.std.specs.List.Sorted.{IsNonDecreasingBy}
 use Rattle.sas_core.specs.declared.parts.Parts.{Parts}
 use Rattle.sas_core.specs.Grounded.{rule_at}
@@ -28,6 +28,12 @@ pub record IsLayerEnd (rules : List LayerRule) (start layer end : ℕ) : Type 0 
   pub within : end ≤ length rules
   pub on : (place : ℕ) (d : LayerRule) → start ≤ place → place < end → (slice_index_or rules place d).layer ≡ layer
   pub last : (d : LayerRule) → end < length rules → (slice_index_or rules end d).layer ≡ layer → ⊥
+
+-- the rules from `start` to `end`, of which there is one, are those of the layer
+pub record IsLayerSpan (rules : List LayerRule) (start layer end : ℕ) : Type 0 where
+  pub some : start < length rules
+  pub first : (d : LayerRule) → (slice_index_or rules start d).layer ≡ layer
+  pub ends : IsLayerEnd rules start layer end
 
 -- the rules of one layer that can fire
 pub record AreRulesOn (p : Parts) (layer : ℕ) (rules : List LayerRule) : Type 0 where

@@ -1,5 +1,5 @@
 -- How far a worklist has come on a layer, and what it needs.
-use Rattle.std.specs.Prelude.{◌≡◌, ℕ, ◌+◌, ◌*◌, ◌<◌, ◌≤◌, ◌==◌, if◌then◌else◌, IsTrue, List, [], ◌∷◌, length, All, Contains, slice_index, slice_index_or}
+use Rattle.std.specs.Prelude.{◌≡◌, ℕ, ◌+◌, ◌*◌, ◌<◌, ◌≤◌, ◌==◌, if◌then◌else◌, IsTrue, List, [], ◌∷◌, length, All, Contains, slice_index, slice_index_or, vec_capacity}
 use Rattle.sas_core.specs.declared.parts.Fact.{Fact}
 use Rattle.sas_core.specs.declared.parts.Parts.{Parts}
 use Rattle.sas_core.specs.Grounded.{rule_at}
@@ -8,7 +8,7 @@ use Rattle.sas_meaning.specs.Layers.{IsOnLayer, default_of}
 use Rattle.sas_meaning.specs.Settled.{differs}
 use Rattle.sas_meaning.specs.Forced.{OnlyForced, equal_places, SameOff}
 use Rattle.sas_axioms.specs.declared.layer_rules.LayerRule.{LayerRule}
-use Rattle.sas_axioms.specs.declared.waiting.Waiting.{Waiting}
+use Rattle.sas_axioms.specs.declared.worklist.Worklist.{Worklist}
 use Rattle.sas_axioms.specs.LayerRules.{IsRuleOn, AreLayerRules}
 use Rattle.sas_axioms.specs.Waiting.{occurrences, IsIndex}
 
@@ -69,16 +69,20 @@ pub record AreDerived (p : Parts) (variables : List ℕ) : Type 0 where
   pub each : (var : ℕ) → IsDerived p.variables var → Contains variables var
 
 -- what a worklist holds fits the task, and nothing is left on its stack
-pub record IsReadyFor (p : Parts) (derived : List ℕ) (rules : List LayerRule) (ws : List Waiting)
-    (starts counters stack : List ℕ) (room : ℕ) : Type 0 where
-  pub variables : AreDerived p derived
-  pub firing : AreLayerRules p rules
-  pub index : IsIndex p ws starts
-  pub has_room : HasRoom p counters room
-  pub empty : stack ≡ []
+pub record IsReadyFor (p : Parts) (w : Worklist) : Type 0 where
+  pub variables : AreDerived p w.derived.items
+  pub firing : AreLayerRules p w.rules.items
+  pub index : IsIndex p w.index.waiting.items w.index.starts.items
+  pub has_room : HasRoom p w.counters (vec_capacity w.stack)
+  pub empty : w.stack.items ≡ []
 
 -- the rules from this place on are those from the layer on
 pub record StandsAt (rules : List LayerRule) (layer place : ℕ) : Type 0 where
   pub within : place ≤ length rules
   pub before : (k : ℕ) (d : LayerRule) → k < place → (slice_index_or rules k d).layer < layer
   pub behind : (k : ℕ) (d : LayerRule) → place ≤ k → k < length rules → layer ≤ (slice_index_or rules k d).layer
+
+-- it is ready, and the layers from this one on are left
+pub record IsReadyFrom (p : Parts) (layer : ℕ) (w : Worklist) : Type 0 where
+  pub ready : IsReadyFor p w
+  pub stands : StandsAt w.rules.items layer w.next

@@ -29,7 +29,8 @@ pub trait ByLayers<T: Grounded> {
         ensures basic { SameBasic layered.now state.old state.new }
         ensures default { (layer : ℕ) → AtDefault layered.now layer state.new };
 
-    /// Settles the lowest layer that is left with a rule that can fire, and says which it is.
+    /// Settles one of the layers that are left, and says which it is. No rule can fire on those that it passes over, nor, where
+    /// it settles none, on any that is left.
     fn settle_next(&mut self, layered: &Layered<T>, from: u64, state: &mut State) -> Option<u32>
         requires stands { stands self.old layered.now from }
         requires state { IsState layered.now.variables state.old }

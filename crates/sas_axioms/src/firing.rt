@@ -12,7 +12,7 @@ ghost use Rattle.sas_axioms.specs.Worklist.{open_conditions, IsRunning, Counts, 
 
 use crate::layer_rules::LayerRule;
 use crate::waiting::{Index, Waiting};
-use sas_core::{Fact, Grounded};
+use sas_core::{Fact, Grounded, Items};
 use sas_meaning::State;
 
 /// Settles a layer on which all variables have their default. These are its rules that can fire.
@@ -21,7 +21,7 @@ pub fn settle_layer<T: Grounded>(
     layer: u32,
     rules: &[LayerRule],
     index: &Index,
-    counters: &mut [u32],
+    counters: &mut Items<u32>,
     stack: &mut Vec<u32>,
     state: &mut State,
 )
@@ -37,7 +37,7 @@ pub fn settle_layer<T: Grounded>(
     ensures empty { stack.new.items ≡ [] }
 {
     count_conditions(task, layer, rules, state, counters);
-    fire_ready(task, layer, rules, counters, stack, state);
+    fire_ready(task, layer, rules, counters.as_slice(), stack, state);
     empty_stack(task, layer, index, counters, stack, state);
 }
 
@@ -47,7 +47,7 @@ fn count_conditions<T: Grounded>(
     layer: u32,
     rules: &[LayerRule],
     state: &State,
-    counters: &mut [u32],
+    counters: &mut Items<u32>,
 )
     requires layered { IsLayeredTask (T.says task.now) }
     requires rules { AreRulesOn (T.says task.now) layer rules.now }
@@ -57,7 +57,8 @@ fn count_conditions<T: Grounded>(
     ensures counts { Counts (T.says task.now) layer state.now [] counters.new [] }
 {
     for entry in rules {
-        counters[entry.rule as usize] = open_of(state, task.rule_conditions(entry.rule));
+        let open = open_of(state, task.rule_conditions(entry.rule));
+        counters.set(entry.rule as usize, open);
     }
 }
 
@@ -126,7 +127,7 @@ fn empty_stack<T: Grounded>(
     task: &T,
     layer: u32,
     index: &Index,
-    counters: &mut [u32],
+    counters: &mut Items<u32>,
     stack: &mut Vec<u32>,
     state: &mut State,
 )
@@ -140,7 +141,15 @@ fn empty_stack<T: Grounded>(
 {
     while let Some(var) = stack.pop() {
         let value = state.value(var);
-        release(task, layer, value, index.of_variable(var), counters, stack, state);
+        release(
+            task,
+            layer,
+            value,
+            index.of_variable(var),
+            counters,
+            stack,
+            state,
+        );
     }
 }
 
@@ -150,7 +159,7 @@ fn release<T: Grounded>(
     layer: u32,
     value: u32,
     waiting: &[Waiting],
-    counters: &mut [u32],
+    counters: &mut Items<u32>,
     stack: &mut Vec<u32>,
     state: &mut State,
 )
@@ -176,7 +185,7 @@ fn count_down<T: Grounded>(
     task: &T,
     layer: u32,
     rule: u32,
-    counters: &mut [u32],
+    counters: &mut Items<u32>,
     stack: &mut Vec<u32>,
     state: &mut State,
 )
@@ -193,8 +202,8 @@ fn count_down<T: Grounded>(
     ensures work { work (T.says task.now) state.new stack.new.items
         ≤ work (T.says task.now) state.old stack.old.items }
 {
-    let open = counters[rule as usize] - 1;
-    counters[rule as usize] = open;
+    let open = counters.as_slice()[rule as usize] - 1;
+    counters.set(rule as usize, open);
     if open == 0 {
         fire(task, layer, rule, stack, state);
     }

@@ -1,7 +1,7 @@
 // The rules that can fire, layer after layer.
 ghost use Rattle.std.specs.Prelude.{◌≡◌, ◌<◌, ◌≤◌, ◌^◌, ℕ, length, IfOk, IfSome, IfNone};
 ghost use Rattle.sas_axioms.specs.ByLayers.{IsLayeredTask};
-ghost use Rattle.sas_axioms.specs.LayerRules.{IsRuleOn, AreFiringRules, AreLayerRules, IsLayerEnd};
+ghost use Rattle.sas_axioms.specs.LayerRules.{IsRuleOn, AreFiringRules, AreLayerRules, IsLayerEnd, IsLayerSpan};
 
 use sas_core::Grounded;
 use std::alloc::{AllocError, Global};
@@ -51,8 +51,29 @@ pub fn firing_layer<T: Grounded>(task: &T, rule: u32) -> Option<u32>
     task.layer(change.var)
 }
 
+/// A layer in a list of rules, and where its rules end.
+#[derive(Clone, Copy, Debug, PartialEq, Eq)]
+pub struct LayerSpan {
+    pub layer: u32,
+    pub end: usize,
+}
+
+/// The layer whose rules begin at this place.
+pub fn layer_at(rules: &[LayerRule], start: usize) -> Option<LayerSpan>
+    ensures some { IfSome result (λ span. IsLayerSpan rules.now start span.layer span.end) }
+    ensures none { IfNone result (length rules.now ≤ start) }
+{
+    match rules.get(start) {
+        Some(first) => Some(LayerSpan {
+            layer: first.layer,
+            end: layer_end(rules, start, first.layer),
+        }),
+        None => None,
+    }
+}
+
 /// Where the rules of the layer end that begin at this place.
-pub fn layer_end(rules: &[LayerRule], start: usize, layer: u32) -> usize
+fn layer_end(rules: &[LayerRule], start: usize, layer: u32) -> usize
     requires { start ≤ length rules.now }
     ensures { IsLayerEnd rules.now start layer result }
 {

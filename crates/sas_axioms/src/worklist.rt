@@ -8,9 +8,9 @@ ghost use Rattle.sas_axioms.specs.Worklist.{AreDerived, IsReadyFor};
 
 use crate::by_layers::{ByLayers, settle_by_layers};
 use crate::firing::settle_layer;
-use crate::layer_rules::{LayerRule, layer_end, ranked_rules};
+use crate::layer_rules::{LayerRule, layer_at, ranked_rules};
 use crate::waiting::Index;
-use sas_core::{Fact, Grounded};
+use sas_core::{Fact, Grounded, Items};
 use sas_meaning::{Layered, Settle, State};
 use std::alloc::{AllocError, Global};
 
@@ -28,7 +28,7 @@ pub struct Worklist {
     /// Which rules wait for which facts.
     index: Index,
     /// How many conditions of each rule don't hold yet.
-    counters: Vec<u32>,
+    counters: Items<u32>,
     /// Variables that were given their rules' value, while the rules that wait for it don't know it yet.
     stack: Vec<u32>,
 }
@@ -36,8 +36,7 @@ pub struct Worklist {
 impl Worklist {
     /// A worklist that is ready for the task.
     pub fn new<T: Grounded>(alloc: Global, layered: &Layered<T>) -> Result<Worklist, AllocError>
-        ensures { IfOk result (λ w. IsReadyFor layered.now w.derived.items w.rules.items w.index.waiting.items
-            w.index.starts.items w.counters.items w.stack.items (vec_capacity w.stack)) }
+        ensures { IfOk result (λ w. IsReadyFor layered.now w) }
     {
         let task = layered.task();
         Ok(Worklist {
@@ -45,18 +44,16 @@ impl Worklist {
             rules: ranked_rules(alloc, task)?,
             next: 0,
             index: Index::new(alloc, task)?,
-            counters: vec![in alloc; 0u32; task.rules() as usize]?,
+            counters: Items::from_vec(vec![in alloc; 0u32; task.rules() as usize]?),
             stack: Vec::with_capacity(alloc, task.variables() as usize)?,
         })
     }
 }
 
 impl<T: Grounded> Settle<T> for Worklist {
-    ghost use Rattle.std.specs.Prelude.{vec_capacity};
     ghost use Rattle.sas_axioms.specs.Worklist.{IsReadyFor};
 
-    ghost ready = { λ w p. IsReadyFor p w.derived.items w.rules.items w.index.waiting.items w.index.starts.items
-        w.counters.items w.stack.items (vec_capacity w.stack) };
+    ghost ready = { λ w p. IsReadyFor p w };
 
     fn settle(&mut self, layered: &Layered<T>, state: &mut State) {
         settle_by_layers(self, layered, state);
@@ -64,14 +61,11 @@ impl<T: Grounded> Settle<T> for Worklist {
 }
 
 impl<T: Grounded> ByLayers<T> for Worklist {
-    ghost use Rattle.std.specs.Prelude.{vec_capacity};
-    ghost use Rattle.sas_axioms.specs.Worklist.{IsReadyFor, StandsAt};
+    ghost use Rattle.sas_axioms.specs.Worklist.{IsReadyFor, IsReadyFrom};
 
-    ghost ready = { λ w p. IsReadyFor p w.derived.items w.rules.items w.index.waiting.items w.index.starts.items
-        w.counters.items w.stack.items (vec_capacity w.stack) };
+    ghost ready = { λ w p. IsReadyFor p w };
 
-    ghost stands = { λ w p layer. IsReadyFor p w.derived.items w.rules.items w.index.waiting.items
-        w.index.starts.items w.counters.items w.stack.items (vec_capacity w.stack) × StandsAt w.rules.items layer w.next };
+    ghost stands = { λ w p layer. IsReadyFrom p layer w };
 
     fn begin(&mut self, layered: &Layered<T>, state: &mut State) {
         set_defaults(layered.task(), self.derived.as_slice(), state);
@@ -79,19 +73,21 @@ impl<T: Grounded> ByLayers<T> for Worklist {
     }
 
     fn settle_next(&mut self, layered: &Layered<T>, _from: u64, state: &mut State) -> Option<u32> {
-        let layer = self.rules.get(self.next)?.layer;
-        let end = layer_end(self.rules.as_slice(), self.next, layer);
+        let rules = self.rules.as_slice();
+        let Some(span) = layer_at(rules, self.next) else {
+            return None;
+        };
         settle_layer(
             layered.task(),
-            layer,
-            &self.rules.as_slice()[self.next..end],
+            span.layer,
+            &rules[self.next..span.end],
             &self.index,
-            self.counters.as_mut_slice(),
+            &mut self.counters,
             &mut self.stack,
             state,
         );
-        self.next = end;
-        Some(layer)
+        self.next = span.end;
+        Some(span.layer)
     }
 }
 

@@ -1,13 +1,10 @@
 -- From a layer to all layers.
-use Rattle.std.proofs.Common.{◌≡◌, ◌≢◌, ℕ, zero, suc, ◌+◌, ◌<◌, ◌≤◌, ◌==◌, ◌⊎◌, Bool, true, false, not, cond, List, length, get_or, refl, sym, ◌∙◌, ap, subst, inl, inr, arith}
+use Rattle.std.proofs.Common.{◌≡◌, ◌≢◌, ℕ, suc, ◌+◌, ◌<◌, ◌≤◌, ◌==◌, Bool, true, not, cond, List, length, get_or, sym, ◌∙◌, ap, subst, inl, inr, arith}
 use Rattle.std.proofs.lemmas.Bool.{cases_eq, cases_lt}
 use Rattle.sas_core.specs.declared.parts.Rule.{Rule}
 use Rattle.sas_core.specs.declared.parts.Parts.{Parts}
-use Rattle.sas_core.specs.Variables.{range_of, layer_of, HasValue, FactExists, IsState}
-use Rattle.sas_core.specs.WellRanged.{WellRanged}
-use Rattle.sas_meaning.specs.States.{Holds, AllHold}
-use Rattle.sas_meaning.specs.Layers.{IsBasic, IsOnLayer, default_of, CanFire, can_fire, LooksDown, IsLayeredRule, IsLayered}
-use Rattle.sas_meaning.specs.Settled.{is_on_layer, new_value_of, given, IsClosed, differs, IsSettledAt, IsSettled, SameBasic, Settles}
+use Rattle.sas_meaning.specs.Layers.{IsOnLayer, default_of, IsLayered}
+use Rattle.sas_meaning.specs.Settled.{new_value_of, given, IsClosed, differs, IsSettledAt, IsSettled, SameBasic}
 use Rattle.sas_meaning.specs.Forced.{OnlyForced, HasFired, SameOff, AtDefault, Occurs}
 use Rattle.sas_meaning.proofs.Layers.{AgreeBelow, agree_sym, closed_agrees, layer_tells, given_on, given_off}
 use Rattle.sas_meaning.proofs.Forced.{closed_when_fired, differs_not}

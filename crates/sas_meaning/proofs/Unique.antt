@@ -1,19 +1,16 @@
 -- Two settled states with the same basic values are one, layer after layer.
-use Rattle.std.proofs.Common.{◌≡◌, ◌≢◌, ℕ, zero, suc, ◌<◌, ◌≤◌, ◌==◌, ◌⊎◌, Bool, true, false, not, List, length, get_or, refl, sym, ◌∙◌, ap, subst, inl, inr, arith}
+use Rattle.std.proofs.Common.{◌≡◌, ◌≢◌, ℕ, zero, suc, ◌<◌, ◌⊎◌, true, false, not, List, get_or, refl, sym, ◌∙◌, ap, subst, inl, inr, arith}
 use Rattle.std.proofs.lemmas.Bool.Decides.{eqb_tells}
 use Rattle.std.proofs.lemmas.Grind.{same_number_lists}
 use Rattle.sas_core.specs.declared.parts.Parts.{Parts}
-use Rattle.sas_core.specs.Variables.{range_of, layer_of, HasValue, FactExists, IsState}
-use Rattle.sas_core.specs.WellRanged.{WellRanged}
 use Rattle.sas_meaning.specs.Laws.{SettledIsOne, StepIsOne}
 use Rattle.sas_meaning.specs.Steps.{Fires, Step}
 use Rattle.sas_core.specs.declared.parts.Effect.{Effect}
 use Rattle.sas_core.specs.declared.parts.Operator.{Operator}
 use Rattle.std.proofs.lemmas.List.Elements.{All-contains}
-use Rattle.sas_meaning.proofs.Facts.{SetBy, set_or_kept}
-use Rattle.sas_meaning.specs.States.{Holds, AllHold}
-use Rattle.sas_meaning.specs.Layers.{IsBasic, IsOnLayer, default_of, CanFire, can_fire, LooksDown, IsLayeredRule, IsLayered}
-use Rattle.sas_meaning.specs.Settled.{is_on_layer, new_value_of, given, IsClosed, differs, IsSettledAt, IsSettled, SameBasic, Settles}
+use Rattle.sas_meaning.proofs.Facts.{set_or_kept}
+use Rattle.sas_meaning.specs.Layers.{IsOnLayer, default_of, IsLayered}
+use Rattle.sas_meaning.specs.Settled.{differs, IsSettledAt, IsSettled, SameBasic}
 use Rattle.sas_meaning.proofs.Layers.{AgreeBelow, agree_sym, closed_agrees, layer_cases}
 
 -- the test tells whether a variable differs from its default

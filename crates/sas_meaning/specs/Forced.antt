@@ -1,12 +1,10 @@
 -- How far the rules of a layer have come to fire.
-use Rattle.std.specs.Prelude.{◌≡◌, ◌≢◌, ℕ, suc, ◌+◌, ◌<◌, ◌≤◌, ◌==◌, Bool, if◌then◌else◌, IsTrue, List, [], ◌∷◌, All, slice_index}
+use Rattle.std.specs.Prelude.{◌≡◌, ◌≢◌, ℕ, ◌+◌, ◌==◌, Bool, if◌then◌else◌, IsTrue, List, [], ◌∷◌, slice_index}
 use Rattle.sas_core.specs.declared.parts.Rule.{Rule}
 use Rattle.sas_core.specs.declared.parts.Parts.{Parts}
-use Rattle.sas_core.specs.Variables.{range_of, layer_of, HasValue, FactExists, IsState}
-use Rattle.sas_core.specs.WellRanged.{WellRanged}
-use Rattle.sas_meaning.specs.States.{Holds, AllHold}
-use Rattle.sas_meaning.specs.Layers.{IsBasic, IsOnLayer, default_of, CanFire, can_fire, LooksDown, IsLayeredRule, IsLayered}
-use Rattle.sas_meaning.specs.Settled.{is_on_layer, new_value_of, given, IsClosed, differs, IsSettledAt, IsSettled, SameBasic, Settles}
+use Rattle.sas_meaning.specs.States.{AllHold}
+use Rattle.sas_meaning.specs.Layers.{IsOnLayer, default_of, CanFire}
+use Rattle.sas_meaning.specs.Settled.{new_value_of, IsClosed, differs}
 
 -- on this layer a variable differs from its default only if every closed set has it, and then it has its rules' new value
 pub record OnlyForced (t : Parts) (layer : ℕ) (s : List ℕ) : Type 0 where

@@ -1,5 +1,5 @@
 -- The conditions of a layered task as tests in order, each with the fault that it finds.
-use Rattle.std.specs.Prelude.{◌≡◌, ◌↔◌, ℕ, ◌==◌, ◌&&◌, ◌||◌, Bool, not, nat_lt, nat_le, if◌then◌else◌, is_some, true, List, [], ◌++◌, take, flat_map, Option, Some, None}
+use Rattle.std.specs.Prelude.{◌≡◌, ◌↔◌, ℕ, ◌==◌, ◌&&◌, ◌||◌, Bool, not, nat_lt, nat_le, if◌then◌else◌, is_some, true, List, [], ◌++◌, take, flat_map, None}
 use Rattle.std.specs.List.{list_all, enumerate_from}
 use Rattle.std.specs.Option.{option_map_or}
 use Rattle.sas_core.specs.declared.parts.Fact.{Fact}
@@ -37,8 +37,8 @@ agrees_with p earlier rule =
 abbrev pub looks_down : Parts → ℕ → Fact → Bool
 looks_down p var condition =
     option_map_or (λ here.
-        option_map_or (λ its. if condition.value == default_of p condition.var then nat_lt its here else nat_le its here)
-        (layer_of p.variables condition.var) true)
+    option_map_or (λ its. if condition.value == default_of p condition.var then nat_lt its here else nat_le its here)
+    (layer_of p.variables condition.var) true)
     (layer_of p.variables var) true
 
 -- the checks of a rule that can fire

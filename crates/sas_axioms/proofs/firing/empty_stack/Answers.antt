@@ -1,12 +1,12 @@
 -- A variable comes off the stack, and what waits for it is released.
-use Rattle.std.proofs.Common.{rules, ◌≡◌, ℕ, ◌+◌, ◌<◌, ◌≤◌, List, [], ◌∷◌, ◌++◌, length, get_or, sym, subst, ap, ◌∙◌, arith}
+use Rattle.std.proofs.Common.{rules, ◌≡◌, ℕ, ◌<◌, List, [], ◌∷◌, ◌++◌, length, get_or, sym, subst, ap, ◌∙◌, arith}
 use Rattle.std.specs.List.{All}
 use Rattle.sas_core.specs.Grounded.{rule_at}
 use Rattle.sas_meaning.specs.Layers.{IsOnLayer}
 use Rattle.sas_meaning.proofs.Layers.{on_layer_within}
 use Rattle.sas_axioms.specs.declared.waiting.Waiting.{Waiting}
 use Rattle.sas_axioms.specs.LayerRules.{IsRuleOn}
-use Rattle.sas_axioms.specs.Waiting.{released, occurrences, asking, waiting_at}
+use Rattle.sas_axioms.specs.Waiting.{released, occurrences, asking}
 use Rattle.sas_axioms.specs.Worklist.{IsAtWork}
 use Rattle.sas_axioms.proofs.Counters.{popped_running, popped_counts, top_is, settled_when_empty}
 use Rattle.sas_axioms.proofs.Groups.{waiting_only, waiting_counts}
@@ -45,9 +45,9 @@ release-requires-clause-at_work g c =
     let some = (goal.at.release-requires-clause-at_work g c).In-Some in
     let was = was_at_work g some in
     let each : (k : ℕ) → IsRuleOn p layer k → occurrences k (released c.value-value.result c.of_variable.result.now) ≡ asking v (get_or s v 0) (rule_at p k).conditions =
-        λ k on_k. ap (λ (ws : List Waiting). occurrences k (released c.value-value.result ws)) c.of_variable.ensures
-            ∙ (waiting_counts p c.args.index.now.waiting.items c.args.index.now.starts.items layer v c.value-value.result k c.requires.index (on g some) on_k
-            ∙ ap (λ x. asking v x (rule_at p k).conditions) c.value-value.ensures) in
+    λ k on_k. ap (λ (ws : List Waiting). occurrences k (released c.value-value.result ws)) c.of_variable.ensures
+    ∙ (waiting_counts p c.args.index.now.waiting.items c.args.index.now.starts.items layer v c.value-value.result k c.requires.index (on g some) on_k
+    ∙ ap (λ x. asking v x (rule_at p k).conditions) c.value-value.ensures) in
     record {
       running = popped_running p layer s c.pop.new.self.items v was.running;
       counts = popped_counts p layer s c.pop.new.self.items c.loop-var.counters (released c.value-value.result c.of_variable.result.now) v c.requires.layered.layered was.running each was.counts;

@@ -1,10 +1,8 @@
 -- The two writes.
-use Rattle.std.proofs.Common.{rules, ◌≡◌, ◌≢◌, ℕ, ◌+◌, ◌<◌, ◌≤◌, Bool, true, List, [], ◌∷◌, ◌++◌, length, get_or, set, sym, ap, ◌∙◌, arith}
+use Rattle.std.proofs.Common.{◌≡◌, true, [], ◌∷◌, ◌++◌, get_or, set, sym, ap, ◌∙◌, arith}
 use Rattle.std.specs.Result.{is_ok}
 use Rattle.sas_core.specs.declared.grounded.Change.{Change}
 use Rattle.sas_core.specs.Grounded.{rule_at}
-use Rattle.sas_meaning.specs.Forced.{equal_places}
-use Rattle.sas_axioms.specs.Worklist.{IsRunning, FiresRule}
 use Rattle.sas_axioms.proofs.Counters.{Pushed, pushed, fires_by}
 use Rattle.sas_axioms.proofs.firing.fire.Goals as goal
 use Rattle.sas_axioms.proofs.firing.fire.Given.{Over}

@@ -1,5 +1,5 @@
 -- The entries so far are released.
-use Rattle.std.proofs.Common.{◌≡◌, ℕ, ◌≤◌, drop}
+use Rattle.std.proofs.Common.{◌≤◌, drop}
 use Rattle.std.specs.Prelude.{vec_capacity}
 use Rattle.sas_meaning.specs.Forced.{SameOff}
 use Rattle.sas_axioms.specs.Waiting.{released}

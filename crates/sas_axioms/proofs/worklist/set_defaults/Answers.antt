@@ -1,9 +1,9 @@
 -- One more variable has its default.
-use Rattle.std.proofs.Common.{◌≡◌, ◌≢◌, ℕ, ◌+◌, ◌<◌, ◌≤◌, true, false, refl, List, length, get_or, set, Option, None, Some, sym, subst, ap, ◌∙◌, inl, inr, arith}
+use Rattle.std.proofs.Common.{◌≡◌, ◌≢◌, ℕ, ◌<◌, true, false, refl, length, get_or, set, None, sym, subst, ap, ◌∙◌, inl, inr, arith}
 use Rattle.std.proofs.lemmas.Bool.{cases_eq}
 use Rattle.std.proofs.lemmas.List.{get_or_default, get_or-set_same, get_or-set_other}
 use Rattle.sas_core.specs.declared.parts.Parts.{Parts}
-use Rattle.sas_core.specs.Variables.{IsState, IsDerived, layer_of}
+use Rattle.sas_core.specs.Variables.{IsDerived, layer_of}
 use Rattle.sas_meaning.specs.Layers.{IsBasic, default_of}
 use Rattle.sas_meaning.proofs.Layers.{layer_cases, on_layer_within}
 use Rattle.sas_meaning.proofs.Forced.{state_set}

@@ -1,0 +1,78 @@
+-- Where the layers of a worklist begin and end.
+use Rattle.std.proofs.Common.{◌≡◌, ◌≢◌, ℕ, ◌+◌, ◌-◌, ◌<◌, ◌≤◌, List, [], length, get_or, take, drop, None, subst, ap, inl, inr, arith}
+use Rattle.std.proofs.lemmas.Bool.{cases_lt}
+use Rattle.std.proofs.lemmas.List.{get_or_default}
+use Rattle.std.specs.List.{Contains}
+use Rattle.sas_core.specs.declared.parts.Rule.{Rule}
+use Rattle.sas_core.specs.declared.parts.Parts.{Parts}
+use Rattle.sas_meaning.specs.Layers.{IsOnLayer, CanFire}
+use Rattle.sas_axioms.specs.declared.layer_rules.LayerRule.{LayerRule}
+use Rattle.sas_axioms.specs.ByLayers.{IsIdle}
+use Rattle.sas_axioms.specs.LayerRules.{AreLayerRules, IsLayerSpan, AreRulesOn}
+use Rattle.sas_axioms.specs.Worklist.{StandsAt}
+use Rattle.sas_axioms.proofs.Groups.{layer_group}
+
+abbrev no_rule : Rule
+no_rule = record { conditions = []; var = 0; old = None; new = 0 }
+
+module _ (p : Parts) (rules : List LayerRule) (from place : ℕ) (firing : AreLayerRules p rules) (stands : StandsAt rules from place) where
+  -- a layer is idle if no rule that is left is on it
+  idle_without : (layer : ℕ) → from ≤ layer → ((k : ℕ) (d : LayerRule) → place ≤ k → k < length rules → (get_or rules k d).layer ≢ layer) → IsIdle p layer
+  idle_without layer le none k d lt on can = not_there (firing.firing.each layer k (record {
+    exists = lt;
+    on = subst (λ (r : Rule). IsOnLayer p layer r.var) (get_or_default p.rules k d no_rule lt) on;
+    can = subst (λ (r : Rule). CanFire p r) (get_or_default p.rules k d no_rule lt) can;
+  }))
+    where
+      not_there : Contains rules (record { layer = layer; rule = k }) → ⊥
+      not_there there =
+          let is : (get_or rules there.0 (record { layer = layer; rule = k })).layer ≡ layer = ap (λ (r : LayerRule). r.layer) there.2 in
+          elim (cases_lt there.0 place) [
+            | inl before ↦ (let lt = stands.before there.0 (record { layer = layer; rule = k }) before in absurd (omega arith))
+            | inr behind ↦ none there.0 (record { layer = layer; rule = k }) behind there.1 is
+          ]
+
+  -- where no rule is left, all layers that are left are idle
+  pub idle_in_the_end : length rules ≤ place → (layer : ℕ) → from ≤ layer → IsIdle p layer
+  idle_in_the_end past layer le = idle_without layer le (λ k d ge lt. absurd (omega arith))
+
+  module _ (layer end : ℕ) (span : IsLayerSpan rules place layer end) where
+    no_entry : LayerRule
+    no_entry = record { layer = 0; rule = 0 }
+
+    -- the layer is left
+    pub from_on : from ≤ layer
+    from_on = let le = stands.behind place no_entry (omega arith) span.some in let e = span.first no_entry in omega arith
+
+    -- the rules behind the place are on no lower layer
+    not_lower : (k : ℕ) (d : LayerRule) → place ≤ k → k < length rules → layer ≤ (get_or rules k d).layer
+    not_lower k d ge lt = let le = firing.ascending place k d ge lt in let e = span.first d in omega arith
+
+    -- those between are idle
+    pub idle_between : (below : ℕ) → from ≤ below → below < layer → IsIdle p below
+    idle_between below le lt = idle_without below le (λ k d ge within e. let not = not_lower k d ge within in absurd (omega arith))
+
+    -- the rules of the span are those of the layer
+    pub rules_of_span : AreRulesOn p layer (take (end - place) (drop place rules))
+    rules_of_span = layer_group p rules place end layer firing
+        (λ k d lt. let before = stands.before k d lt in let le = from_on in omega arith)
+        (λ d lt. let e = span.first d in omega arith)
+        span.ends
+
+    -- behind the span the next layers are left
+    pub stands_behind : StandsAt rules (layer + 1) end
+    stands_behind = record {
+      within = span.ends.within;
+      before = λ k d lt. elim (cases_lt k place) [
+        | inl early ↦ (let before = stands.before k d early in let le = from_on in omega arith)
+        | inr late ↦ (let e = span.ends.on k d late lt in omega arith)
+      ];
+      behind = λ k d ge lt. above k d ge lt;
+    }
+      where
+        above : (k : ℕ) (d : LayerRule) → end ≤ k → k < length rules → layer + 1 ≤ (get_or rules k d).layer
+        above k d ge lt =
+            let start = span.ends.from_start in
+            let not = not_lower end d start (omega arith) in
+            let other : (get_or rules end d).layer ≢ layer = span.ends.last d (omega arith) in
+            let up = firing.ascending end k d ge lt in omega arith
