@@ -1,4 +1,5 @@
-"""Small tasks with derived variables, made at random from a fixed seed, with states and what these settle to.
+"""Small tasks with derived variables, made at random from a fixed seed: what states of them settle to, and what is wrong
+with the layers of others.
 
 A task here is
 
@@ -10,6 +11,9 @@ A task here is
 What a state settles to is computed from the meaning of a task. The basic values stay. Layer after layer, from the lowest
 one on, a derived variable has its default, unless a rule that can fire gives it another value: one whose conditions hold
 in the values so reached. A rule whose new value is the default can't fire.
+
+A rule has to be of a derived variable. If it can fire, its old value is none or the default, rules before it give its
+variable the same value, and its conditions are on no higher layer; one that asks for a default is on a lower layer.
 """
 import random
 
@@ -39,18 +43,20 @@ def random_condition(chance, task, var, news):
     return on, other_value(chance, ranges[on], defaults[on])
 
 
-def idle_rule(chance, task, var):
-    """A rule that can't fire; it may have any old value and any conditions."""
+def any_rule(chance, task, var):
+    """A rule of this variable with any old value, any new value and any conditions."""
     places = chance.choices(range(len(task["ranges"])), k=chance.randrange(3))
     facts = [(on, chance.randrange(task["ranges"][on])) for on in places]
-    return facts, var, chance.randrange(-1, task["ranges"][var]), task["defaults"][var]
+    return facts, var, chance.randrange(-1, task["ranges"][var]), chance.randrange(task["ranges"][var])
 
 
 def random_rule(chance, task, news):
-    """A rule of some derived variable, in a layered task whose rules give these new values."""
+    """A rule of some derived variable, in a layered task whose rules give these new values. Some can't fire, and these have
+    any old value and any conditions."""
     var = chance.choice(list(news))
     if chance.random() < 0.15:
-        return idle_rule(chance, task, var)
+        facts, _, old, _ = any_rule(chance, task, var)
+        return facts, var, old, task["defaults"][var]
     facts = [random_condition(chance, task, var, news) for _ in range(chance.choice((0, 1, 1, 1, 2, 2, 3)))]
     if facts and chance.random() < 0.2:
         facts.append(chance.choice(facts))
@@ -71,6 +77,14 @@ def random_task(chance):
     derived = [var for var, layer in enumerate(task["layers"]) if layer is not None]
     news = {var: other_value(chance, task["ranges"][var], task["defaults"][var]) for var in derived}
     task["rules"] = [random_rule(chance, task, news) for _ in range(chance.randint(len(derived), 4 * len(derived)))]
+    return task
+
+
+def spoiled_task(chance):
+    """A task that was layered before some of its rules were exchanged for any others."""
+    task = random_task(chance)
+    for place in chance.choices(range(len(task["rules"])), k=2):
+        task["rules"][place] = any_rule(chance, task, chance.randrange(len(task["ranges"])))
     return task
 
 
@@ -111,10 +125,37 @@ def settled(task, state):
     return values
 
 
+def layer_fault(task):
+    """What is wrong first with the layers of a task, as the rules stand in its file; None where it is layered."""
+    layers, defaults, news = task["layers"], task["defaults"], {}
+    for rule, (facts, var, old, new) in enumerate(task["rules"]):
+        if layers[var] is None:
+            return f"RuleOnBasic {{ rule: {rule} }}"
+        if new == defaults[var]:
+            continue
+        if old not in (-1, defaults[var]):
+            return f"OldValue {{ rule: {rule} }}"
+        if news.setdefault(var, new) != new:
+            return f"TwoValues {{ rule: {rule} }}"
+        for place, (on, value) in enumerate(facts):
+            highest = layers[var] - 1 if value == defaults[on] else layers[var]
+            if layers[on] is not None and layers[on] > highest:
+                return f"LayerOrder {{ rule: {rule}, condition: {place} }}"
+    return None
+
+
 def settled_tasks():
-    """Each task, as a text, with its states and what they settle to."""
+    """Layered tasks, as texts, each with states and what they settle to."""
     chance = random.Random(SEED)
     for _ in range(TASKS):
         task = random_task(chance)
         states = [random_state(chance, task) for _ in range(STATES)]
         yield {"task": text_of(task), "states": states, "settled": [settled(task, state) for state in states]}
+
+
+def spoiled_tasks():
+    """Tasks, as texts, each with what is wrong with its layers."""
+    chance = random.Random(SEED)
+    for _ in range(TASKS):
+        task = spoiled_task(chance)
+        yield {"task": text_of(task), "fault": layer_fault(task)}

@@ -20,13 +20,14 @@ import sys
 from concurrent.futures import ThreadPoolExecutor
 
 import report
-from axioms import settled_tasks
+from axioms import settled_tasks, spoiled_tasks
 from texts import as_bytes, changed_lines, table
 
 SECONDS = 60
 # the program reads no more than 8,192 bytes
 LONGEST = 8000
 RIGHT = "right\n"
+LAYERED = "layered\nkept\n"
 
 
 def case(call, given, answer, about=""):
@@ -49,7 +50,7 @@ def task_cases():
         yield case("new-task", ["|", {"file": name}], ["kept\n", whole], name)
         yield case("same-parts", ["|", {"file": name}], "equal\nequal tasks\n", name)
         if task["check"] == "task layered":
-            yield case("layered", {"file": name}, "layered\nkept\n", name)
+            yield case("layered", {"file": name}, LAYERED, name)
         for ends in ("\n", "\r\n"):
             given, about = {"file": name, "ends": ends}, f"{name} {ends!r}"
             for way in ("task", "task-text"):
@@ -108,17 +109,24 @@ def numbers(values):
 
 
 def settled_cases():
-    """States of tasks made at random: settled by each evaluator in turn, and by both."""
+    """States of tasks made at random, settled in turn by each evaluator."""
     for number, made in enumerate(settled_tasks()):
         given = [";".join(map(numbers, made["states"])), "|", made["task"]]
-        settled = "".join(f"state {numbers(values)}\n" for values in made["settled"])
-        for way, answer in (("rounds", settled), ("worklist", settled), ("both", "equal\n" * len(made["states"]))):
+        answer = "".join(f"state {numbers(values)}\n" for values in made["settled"])
+        for way in ("rounds", "worklist"):
             yield case(f"settle {way}", given, answer, f"random task {number}")
+
+
+def layer_cases():
+    """The layers of tasks made at random."""
+    for number, made in enumerate(spoiled_tasks()):
+        answer = f"kept\n{made['fault']}\n" if made["fault"] else LAYERED
+        yield case("layered", made["task"], answer, f"random task {number}")
 
 
 def cases():
     """All calls."""
-    return [*written_cases(), *task_cases(), *line_cases(), *plan_cases(), *settled_cases()]
+    return [*written_cases(), *task_cases(), *line_cases(), *plan_cases(), *settled_cases(), *layer_cases()]
 
 
 def faults(program, call):

@@ -90,6 +90,15 @@ fn numbers_of(alloc: Global, words: &[u8]) -> Result<Vec<u32>, AllocError> {
     Ok(numbers)
 }
 
+/// The pieces that have `;` between them.
+fn pieces_of(alloc: Global, bytes: &[u8]) -> Result<Vec<&[u8]>, AllocError> {
+    let mut pieces = Vec::new(alloc);
+    for piece in bytes.split(|&byte| byte == b';') {
+        pieces.push(piece)?;
+    }
+    Ok(pieces)
+}
+
 /// Says the values of a state.
 fn say_values<P: Print>(out: &P, values: &[u32]) {
     let _ = print!(out; "state");
@@ -175,6 +184,8 @@ fn settle<R: AllocGlobal + Print>(rt: &R, kind: &str, bytes: &[u8]) -> Result<()
         say(rt, "WRONG: no layered task");
         return Ok(());
     };
+    let pieces = pieces_of(rt.alloc(), states)?;
+    let states = pieces.as_slice();
     match kind {
         "rounds" => settle_each(rt, &mut Rounds, &layered, states),
         "worklist" => {
@@ -194,11 +205,11 @@ fn settle_each<R: AllocGlobal + Print, E: Settle<Task>>(
     rt: &R,
     evaluator: &mut E,
     layered: &Layered<Task>,
-    states: &[u8],
+    states: &[&[u8]],
 )
     requires { E.ready evaluator.old layered.now }
 {
-    for words in states.split(|&byte| byte == b';') {
+    for words in states {
         say_state(rt, &settled(rt.alloc(), evaluator, layered, words));
     }
 }
@@ -217,12 +228,12 @@ fn compare_each<R: AllocGlobal + Print, E: Settle<Task>, F: Settle<Task>>(
     evaluator: &mut E,
     other: &mut F,
     layered: &Layered<Task>,
-    states: &[u8],
+    states: &[&[u8]],
 )
     requires evaluator { E.ready evaluator.old layered.now }
     requires other { F.ready other.old layered.now }
 {
-    for words in states.split(|&byte| byte == b';') {
+    for words in states {
         let state = settled(rt.alloc(), evaluator, layered, words);
         let same = are_same(&state, &settled(rt.alloc(), other, layered, words));
         say(rt, if same { "equal" } else { "WRONG: different" });
@@ -241,14 +252,17 @@ fn new_worklist<R: AllocGlobal + Print>(
         return Ok(());
     };
     let values = numbers_of(rt.alloc(), words)?;
-    let state = State::of(rt.alloc(), layered.task(), values.as_slice());
+    let Ok(state) = State::of(rt.alloc(), layered.task(), values.as_slice()) else {
+        say(rt, "WRONG: no state");
+        return Ok(());
+    };
     spend(rt.alloc(), count)?;
-    match (Worklist::new(rt.alloc(), &layered), state) {
-        (Ok(worklist), Ok(state)) => {
+    match Worklist::new(rt.alloc(), &layered) {
+        Ok(worklist) => {
             let mut worklist = worklist;
             say_settled(rt, &mut worklist, &layered, state);
         }
-        (_, state) => say_want(rt, state.is_ok()),
+        Err(_) => say(rt, "wanting"),
     }
     Ok(())
 }
