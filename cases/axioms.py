@@ -1,5 +1,5 @@
-"""Small tasks with derived variables, made at random from a fixed seed: what states of them settle to, and what is wrong
-with the layers of others.
+"""Small tasks with derived variables, made at random from a fixed seed: what states of them settle to, and what is
+wrong with the layers of others.
 
 A task here is
 
@@ -8,9 +8,9 @@ A task here is
     defaults   its value in the state section
     rules      (CONDITIONS, VARIABLE, OLD, NEW): facts (VARIABLE, VALUE), and what changes; -1 stands for no old value
 
-What a state settles to is computed from the meaning of a task. The basic values stay. Layer after layer, from the lowest
-one on, a derived variable has its default, unless a rule that can fire gives it another value: one whose conditions hold
-in the values so reached. A rule whose new value is the default can't fire.
+What a state settles to is computed from the meaning of a task. The basic values stay. Layer after layer, from the
+lowest one on, a derived variable has its default, unless a rule that can fire gives it another value: one whose
+conditions hold in the values so reached. A rule whose new value is the default can't fire.
 
 A rule has to be of a derived variable. If it can fire, its old value is none or the default, rules before it give its
 variable the same value, and its conditions are on no higher layer; one that asks for a default is on a lower layer.
@@ -43,16 +43,21 @@ def random_condition(chance, task, var, news):
     return on, other_value(chance, ranges[on], defaults[on])
 
 
+def any_fact(chance, task):
+    """A fact that exists."""
+    on = chance.randrange(len(task["ranges"]))
+    return on, chance.randrange(task["ranges"][on])
+
+
 def any_rule(chance, task, var):
-    """A rule of this variable with any old value, any new value and any conditions."""
-    places = chance.choices(range(len(task["ranges"])), k=chance.randrange(3))
-    facts = [(on, chance.randrange(task["ranges"][on])) for on in places]
+    """A rule of this variable with any conditions, any old value and any new value."""
+    facts = [any_fact(chance, task) for _ in range(chance.randrange(3))]
     return facts, var, chance.randrange(-1, task["ranges"][var]), chance.randrange(task["ranges"][var])
 
 
 def random_rule(chance, task, news):
-    """A rule of some derived variable, in a layered task whose rules give these new values. Some can't fire, and these have
-    any old value and any conditions."""
+    """A rule of some derived variable, in a layered task whose rules give these new values. Some can't fire, and these
+    have any old value and any conditions."""
     var = chance.choice(list(news))
     if chance.random() < 0.15:
         facts, _, old, _ = any_rule(chance, task, var)
@@ -80,11 +85,24 @@ def random_task(chance):
     return task
 
 
+def spoiled_rule(chance, task, rule):
+    """This rule with another old value, another new value or a condition more, or another rule."""
+    facts, var, old, new = rule
+    size, change = task["ranges"][var], chance.randrange(6)
+    if change == 0:
+        return any_rule(chance, task, chance.randrange(len(task["ranges"])))
+    if change == 1:
+        return facts, var, chance.randrange(size), new
+    if change in (2, 3):
+        return facts, var, old, chance.randrange(size)
+    return [*facts, any_fact(chance, task)], var, old, new
+
+
 def spoiled_task(chance):
-    """A task that was layered before some of its rules were exchanged for any others."""
+    """A task that was layered before some of its rules were changed."""
     task = random_task(chance)
     for place in chance.choices(range(len(task["rules"])), k=2):
-        task["rules"][place] = any_rule(chance, task, chance.randrange(len(task["ranges"])))
+        task["rules"][place] = spoiled_rule(chance, task, task["rules"][place])
     return task
 
 
