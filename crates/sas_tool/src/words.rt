@@ -54,6 +54,11 @@ fn grammar<'a>(alloc: Global) -> Result<Command<'a>, AllocError> {
         "show",
         "Shows what a task is about: its numbers, initial state and goal",
     )?;
+    let check = over_task(
+        alloc,
+        "check",
+        "Says whether a task is well formed and layered, or what is wrong with it",
+    )?;
     let print = over_task(
         alloc,
         "print",
@@ -68,6 +73,7 @@ fn grammar<'a>(alloc: Global) -> Result<Command<'a>, AllocError> {
         .about("Reads, checks and prints task files and plan files of Fast Downward")
         .version(VERSION)
         .subcommand(show)?
+        .subcommand(check)?
         .subcommand(print)?
         .subcommand(steps)
 }
@@ -92,6 +98,7 @@ fn over_plan<'a>(alloc: Global, name: &'a str, about: &'a str) -> Result<Command
 fn job_of(alloc: Global, matches: &ArgMatches<'_>) -> Result<Job, AllocError> {
     match matches.subcommand() {
         Some(("show", inner)) => job_over_task(alloc, Request::Show, inner),
+        Some(("check", inner)) => job_over_task(alloc, Request::Check, inner),
         Some(("print", inner)) => job_over_task(alloc, Request::Print, inner),
         Some((_steps, inner)) => Ok(Job {
             request: Request::Steps,
