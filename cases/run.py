@@ -3,8 +3,9 @@
 
     python3 cases/run.py ./sas
 
-tasks.json: task files, and what is said of each. `print` gives each back: as it stands; with CR LF at the end of each
-line, and of one line alone, as it stands; and cut off after any byte it ends early, on its last line.
+tasks.json: task files, and what is said of each, as it stands and with CR LF at the end of each line. `print` gives it
+back as it stands, and does so with CR LF at the end of one line alone. Cut off after any byte it ends early, on its last
+line; that is tried with `print`, and with `check` where the file is small.
 
     file         the file, a path from the top of the repository
     check        what `check` says of it
@@ -77,7 +78,8 @@ def task_cases():
             yield over_task(f"{name}, CR LF on line {number + 1}", "print", given, held, 0)
         for length in range(len(held)):
             front = held[:length]
-            yield over_task(f"{name}, {length} bytes", "print", front, **refused("task", early_end(front)))
+            for request in ("print", "check")[: 2 if len(held) < 600 else 1]:
+                yield over_task(f"{name}, {length} bytes, {request}", request, front, **refused("task", early_end(front)))
 
 
 def line_cases():

@@ -30,8 +30,8 @@ fn layered_of(alloc: Global, file: &[u8]) -> Option<Layered<Task>> {
     Layered::new(alloc, task).ok()
 }
 
-/// `Layered::new` of the task of a file: whether it is layered, or its fault. It could show a task that the definition of
-/// layered tasks refuses, or takes, and shouldn't, an order of faults that isn't that of the file, or that it always wants
+/// `Layered::new` of the task of a file: whether it is layered, or its fault. It could show a definition that takes a task
+/// whose layers are broken or refuses another, an order of faults that isn't that of the file, or that the call always wants
 /// memory.
 fn new_layered<R: AllocGlobal + Print>(
     rt: &R,
@@ -117,8 +117,8 @@ fn say_state<P: Print>(out: &P, state: &Result<State, StateFault>) {
     }
 }
 
-/// `State::of` such values, and what the state says of a fact and is once that is set: `VALUES;FACT|FILE`. It could show a
-/// definition of states that takes a value too many or a range too far, or that it always wants memory.
+/// `State::of` such values, and what the state says of a fact, before and after it is set: `VALUES;FACT|FILE`. It could show
+/// a definition of states that takes a value too many or one out of its range, or that the call always wants memory.
 fn new_state<R: AllocGlobal + Print>(rt: &R, count: usize, bytes: &[u8]) -> Result<(), AllocError> {
     let (words, file) = cut(bytes, b'|');
     let (values, fact) = cut(words, b';');
@@ -177,7 +177,8 @@ fn settled<E: Settle<Task>>(
 }
 
 /// States of a task, settled one after another by one evaluator of the kind: `STATES|FILE`, with `;` between the states. It
-/// could show a definition of settled states that isn't that of the least fixed points layer after layer.
+/// could show a definition of settled states that counts a rule which can't fire, takes layers in another order, or lets a
+/// cycle hold itself up.
 fn settle<R: AllocGlobal + Print>(rt: &R, kind: &str, bytes: &[u8]) -> Result<(), AllocError> {
     let (states, file) = cut(bytes, b'|');
     let Some(layered) = layered_of(rt.alloc(), file) else {
@@ -222,7 +223,8 @@ fn are_same(state: &Result<State, StateFault>, other: &Result<State, StateFault>
     }
 }
 
-/// Says of each of the states whether both evaluators settle it alike.
+/// Says of each of the states whether both evaluators settle it alike. It could show a definition by which a state settles to
+/// two others.
 fn compare_each<R: AllocGlobal + Print, E: Settle<Task>, F: Settle<Task>>(
     rt: &R,
     evaluator: &mut E,
@@ -240,7 +242,7 @@ fn compare_each<R: AllocGlobal + Print, E: Settle<Task>, F: Settle<Task>>(
     }
 }
 
-/// `Worklist::new`, and a state that it settles: `STATE|FILE`. It could show that it always wants memory.
+/// `Worklist::new`, and a state that it settles: `STATE|FILE`. It could show that the call always wants memory.
 fn new_worklist<R: AllocGlobal + Print>(
     rt: &R,
     count: usize,
@@ -267,7 +269,7 @@ fn new_worklist<R: AllocGlobal + Print>(
     Ok(())
 }
 
-/// Says the state, settled by this evaluator, which takes no memory.
+/// Says the state, settled by this evaluator. That takes no memory.
 fn say_settled<P: Print, E: Settle<Task>>(
     out: &P,
     evaluator: &mut E,
