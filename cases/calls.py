@@ -10,8 +10,9 @@ calls.json: what a call says, in groups of the same call.
     refused      left out, or so many runs are enough to refuse each allocation of the call in turn, in memory.py
     rows         [INPUT, ANSWER]: the bytes that the call is about, and what the program prints
 
-The calls over the files of tasks.json, lines.json and plans.json are made here. texts.py says what a text is. Each case
-that fails has a line, and the last line is 'N passed, M failed'. The exit status is 0 where none failed.
+The calls over the files of tasks.json, lines.json and plans.json are made here, and those over the tasks of axioms.py.
+texts.py says what a text is. Each case that fails has a line, and the last line is 'N passed, M failed'. The exit status is
+0 where none failed.
 """
 import os
 import subprocess
@@ -19,12 +20,14 @@ import sys
 from concurrent.futures import ThreadPoolExecutor
 
 import report
+from axioms import settled_tasks, spoiled_tasks
 from texts import as_bytes, changed_lines, table
 
 SECONDS = 60
 # the program reads no more than 8,192 bytes
 LONGEST = 8000
 RIGHT = "right\n"
+LAYERED = "layered\nkept\n"
 
 
 def case(call, given, answer, about=""):
@@ -46,6 +49,8 @@ def task_cases():
         whole = ["whole\n", {"file": name}, "\n"]
         yield case("new-task", ["|", {"file": name}], ["kept\n", whole], name)
         yield case("same-parts", ["|", {"file": name}], "equal\nequal tasks\n", name)
+        if task["check"] == "task layered":
+            yield case("layered", {"file": name}, LAYERED, name)
         for ends in ("\n", "\r\n"):
             given, about = {"file": name, "ends": ends}, f"{name} {ends!r}"
             for way in ("task", "task-text"):
@@ -54,7 +59,7 @@ def task_cases():
             for way in ("task", "task-text", "outline"):
                 yield case(f"read-fronts {way}", given, RIGHT, about)
         if len(held) < 600:
-            yield from device_cases("task", ("task", "task-text", "outline"), ("print", "show"), name, held)
+            yield from device_cases("task", ("task", "task-text", "outline"), ("print", "show", "check"), name, held)
 
 
 def device_cases(reader, ways, requests, name, held):
@@ -98,9 +103,30 @@ def plan_cases():
             yield from device_cases("plan", ("plan", "plan-text"), ("steps",), plan["name"], held)
 
 
+def numbers(values):
+    """The values of a state, in a line."""
+    return " ".join(map(str, values))
+
+
+def settled_cases():
+    """States of tasks made at random, settled in turn by each evaluator."""
+    for number, made in enumerate(settled_tasks()):
+        given = [";".join(map(numbers, made["states"])), "|", made["task"]]
+        answer = "".join(f"state {numbers(values)}\n" for values in made["settled"])
+        for way in ("rounds", "worklist"):
+            yield case(f"settle {way}", given, answer, f"random task {number}")
+
+
+def layer_cases():
+    """The layers of tasks made at random."""
+    for number, made in enumerate(spoiled_tasks()):
+        answer = f"kept\n{made['fault']}\n" if made["fault"] else LAYERED
+        yield case("layered", made["task"], answer, f"random task {number}")
+
+
 def cases():
     """All calls."""
-    return [*written_cases(), *task_cases(), *line_cases(), *plan_cases()]
+    return [*written_cases(), *task_cases(), *line_cases(), *plan_cases(), *settled_cases(), *layer_cases()]
 
 
 def faults(program, call):

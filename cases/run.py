@@ -3,15 +3,18 @@
 
     python3 cases/run.py ./sas
 
-tasks.json: task files, and what is said of each. `print` gives each back: as it stands; with CR LF at the end of each
-line, and of one line alone, as it stands; and cut off after any byte it ends early, on its last line.
+tasks.json: task files, and what is said of each, as it stands and with CR LF at the end of each line. `print` gives it
+back as it stands, and does so with CR LF at the end of one line alone. Cut off after any byte it ends early, on its last
+line; that is tried with `print`, and with `check` where the file is small.
 
     file         the file, a path from the top of the repository
+    check        what `check` says of it
     show         the lines of its summary
 
 lines.json: lines of these files, and texts in their place. Rows are [LINE, TEXT, ANSWER]; or each of `texts` stands in
-each of `lines` with the same answer. It is `kept`, where the file is printed as changed; a word, where `print` and `show`
-refuse it on that line; or the line with the word, as `line 15: keyword`. `memory` is as below.
+each of `lines` with the same answer. It is `kept`, where the file is printed as changed; a word, where `print`, `show` and
+`check` refuse it on that line; or the line with the word, as `line 15: keyword`. Behind `kept` may stand the fault of the
+layers for which `check` refuses the task, which is layered where none stands there. `memory` is as below.
 
 plans.json: plan files. Each is given to `steps` twice, as a file and as standard input, and nothing may come on
 standard error. One with `cut_off` ends early wherever it is cut off.
@@ -53,22 +56,30 @@ def refused(what, fault):
     return {"output": f"{what} refused: {fault}\n", "status": 1}
 
 
+def checked(fault):
+    """What `check` says of a task with this fault of its layers, or with none, and its status."""
+    return refused("task", fault) if fault else {"output": "task layered\n", "status": 0}
+
+
 def task_cases():
     """Each task file: as it stands, with other ends of lines, and cut off."""
     for task in table("tasks.json"):
         name, held = task["file"], as_bytes({"file": task["file"]})
         returns = held.replace(b"\n", b"\r\n")
         shown = "".join(f"{line}\n" for line in task["show"]).encode("latin-1")
+        layered = 0 if task["check"] == "task layered" else 1
         for ends, given in (("LF", held), ("CR LF", returns)):
             yield over_task(f"{name}, printed, with {ends}", "print", given, held, 0)
             yield over_task(f"{name}, shown, with {ends}", "show", given, shown, 0)
+            yield over_task(f"{name}, checked, with {ends}", "check", given, f"{task['check']}\n", layered)
         lines = held.splitlines(keepends=True)
         for number, line in enumerate(lines):
             given = b"".join([*lines[:number], line[:-1] + b"\r\n", *lines[number + 1 :]])
             yield over_task(f"{name}, CR LF on line {number + 1}", "print", given, held, 0)
         for length in range(len(held)):
             front = held[:length]
-            yield over_task(f"{name}, {length} bytes", "print", front, **refused("task", early_end(front)))
+            for request in ("print", "check")[: 2 if len(held) < 600 else 1]:
+                yield over_task(f"{name}, {length} bytes, {request}", request, front, **refused("task", early_end(front)))
 
 
 def line_cases():
@@ -78,8 +89,9 @@ def line_cases():
         more = {"memory": case["memory"]} if case["memory"] else {}
         if case["fault"] is None:
             yield over_task(name, "print", task, task, 0, **more)
+            yield over_task(f"{name}, check", "check", task, **checked(case["layers"]), **more)
             continue
-        for request in ("print", "show"):
+        for request in ("print", "show", "check"):
             yield over_task(f"{name}, {request}", request, task, **refused("task", case["fault"]), **more)
 
 

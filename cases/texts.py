@@ -69,16 +69,18 @@ def fault(line, answer):
 
 
 def changed_lines():
-    """Each row of lines.json: the file with its line replaced, and its fault, or None where the text may stand there."""
+    """Each row of lines.json: the file with its line replaced, and its fault, or None where the text may stand there. And
+    the fault of its layers, or None where the task is layered."""
     for group in table("lines.json"):
         rows = group.get("changes") or [
             (line, text, group["answer"]) for line in group["lines"] for text in group["texts"]
         ]
-        for line, text, answer in rows:
+        for line, text, answer, *layers in rows:
             yield {
                 "name": f"{group['file']}, line {line}: {group['about']}",
                 "task": with_line(group["file"], line, text),
                 "fault": None if answer == "kept" else fault(line, answer),
+                "layers": layers[0] if layers else None,
                 "memory": group.get("memory"),
             }
 

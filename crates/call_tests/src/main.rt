@@ -10,6 +10,7 @@
 #![tactic(auto)]
 
 mod asked;
+mod axiom_calls;
 mod changes;
 mod core_calls;
 mod limits;
@@ -22,6 +23,7 @@ mod saying;
 mod task_calls;
 
 use asked::{Asked, asked_by};
+use axiom_calls::call_of_axioms;
 use core_calls::call_of_core;
 use limits::call_within_limits;
 use line_calls::{call_of_lines, call_over_devices};
@@ -39,6 +41,7 @@ fn call<R: AllocGlobal + Print>(rt: &R, asked: &Asked<'_>) -> Result<bool, Alloc
     Ok(
         call_of_core(rt, asked)?
             || call_of_tasks(rt, asked)?
+            || call_of_axioms(rt, asked)?
             || call_of_lines(rt, asked)?
             || call_over_devices(rt, asked)?
             || call_of_readers(rt, asked)?

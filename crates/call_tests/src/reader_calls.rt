@@ -55,11 +55,17 @@ fn say_laws_of_parts() {
     sas_core::task_laws();
 }
 
+/// The laws of what a task means.
+fn say_laws_of_meaning() {
+    sas_axioms::meaning_laws();
+}
+
 /// The laws, each called once. It could show that one can't be called.
 fn say_laws<P: Print>(out: &P) {
     say_plan_laws();
     say_task_laws();
     say_laws_of_parts();
+    say_laws_of_meaning();
     say(out, "laws");
 }
 

@@ -29,6 +29,7 @@ fn request_of(name: &str) -> Request {
     match name {
         "print" => Request::Print,
         "show" => Request::Show,
+        "check" => Request::Check,
         _ => Request::Steps,
     }
 }

@@ -147,7 +147,7 @@ fn say_equal<P: Print>(out: &P, equal: bool, yes: &str, no: &str) {
 }
 
 /// Whether two tasks are equal: exactly if they say the same.
-fn is_same_task(task: &Task, other: &Task) -> bool
+pub fn is_same_task(task: &Task, other: &Task) -> bool
     ensures { IsTrue result ↔ (task.now ≡ other.now) }
 {
     task == other
@@ -195,7 +195,7 @@ fn say_variables<R: AllocGlobal + Print>(rt: &R, file: &[u8]) {
 }
 
 /// The fact of two numbers, as `3 1`.
-fn fact_of(words: &[u8]) -> Option<Fact> {
+pub fn fact_of(words: &[u8]) -> Option<Fact> {
     let (var, value) = cut(words, b' ');
     Some(Fact {
         var: number_in(var)?,

@@ -1,0 +1,179 @@
+"""Small tasks with derived variables, made at random from a fixed seed: what states of them settle to, and what is
+wrong with the layers of others.
+
+A task here is
+
+    ranges     how many values each variable has
+    layers     its layer, None for a basic variable
+    defaults   its value in the state section
+    rules      (CONDITIONS, VARIABLE, OLD, NEW): facts (VARIABLE, VALUE), and what changes; -1 stands for no old value
+
+What a state settles to is computed from the meaning of a task. The basic values stay. Layer after layer, from the
+lowest one on, a derived variable has its default, unless a rule that can fire gives it another value: one whose
+conditions hold in the values so reached. A rule whose new value is the default can't fire.
+
+A rule has to be of a derived variable. If it can fire, its old value is none or the default, rules before it give its
+variable the same value, and its conditions are on no higher layer; one that asks for a default is on a lower layer.
+"""
+import random
+
+SEED = 20
+TASKS = 200
+STATES = 8
+LAYERS = ((0,), (0, 1), (0, 1, 2), (3, 2147483647))
+
+
+def other_value(chance, size, value):
+    """A value of such a range that isn't this one."""
+    return chance.choice([other for other in range(size) if other != value])
+
+
+def random_condition(chance, task, var, news):
+    """A condition that a rule of this variable may have: on a basic variable, on a lower layer, or on its own layer. On
+    that it isn't a default, and most often it is what the rules give."""
+    ranges, layers, defaults = task["ranges"], task["layers"], task["defaults"]
+    basic = [other for other, layer in enumerate(layers) if layer is None]
+    lower = [other for other, layer in enumerate(layers) if layer is not None and layer < layers[var]]
+    same = [other for other, layer in enumerate(layers) if layer == layers[var]]
+    on = chance.choice(chance.choice([places for places in (basic, lower, same, same) if places]))
+    if on not in same:
+        return on, chance.randrange(ranges[on])
+    if chance.random() < 0.9:
+        return on, news[on]
+    return on, other_value(chance, ranges[on], defaults[on])
+
+
+def any_fact(chance, task):
+    """A fact that exists."""
+    on = chance.randrange(len(task["ranges"]))
+    return on, chance.randrange(task["ranges"][on])
+
+
+def any_rule(chance, task, var):
+    """A rule of this variable with any conditions, any old value and any new value."""
+    facts = [any_fact(chance, task) for _ in range(chance.randrange(3))]
+    return facts, var, chance.randrange(-1, task["ranges"][var]), chance.randrange(task["ranges"][var])
+
+
+def random_rule(chance, task, news):
+    """A rule of some derived variable, in a layered task whose rules give these new values. Some can't fire, and these
+    have any old value and any conditions."""
+    var = chance.choice(list(news))
+    if chance.random() < 0.15:
+        facts, _, old, _ = any_rule(chance, task, var)
+        return facts, var, old, task["defaults"][var]
+    facts = [random_condition(chance, task, var, news) for _ in range(chance.choice((0, 1, 1, 1, 2, 2, 3)))]
+    if facts and chance.random() < 0.2:
+        facts.append(chance.choice(facts))
+    return facts, var, chance.choice((-1, task["defaults"][var])), news[var]
+
+
+def random_task(chance):
+    """A layered task. It has a basic variable, and a variable on each of its layers."""
+    layers = chance.choice(LAYERS)
+    size = chance.randint(2 + len(layers), 7)
+    task = {
+        "ranges": [chance.choice((2, 2, 3)) for _ in range(size)],
+        "layers": [None, *layers, *(chance.choice((None, *layers, *layers)) for _ in range(size - 1 - len(layers)))],
+        "rules": [],
+    }
+    chance.shuffle(task["layers"])
+    task["defaults"] = [chance.randrange(most) for most in task["ranges"]]
+    derived = [var for var, layer in enumerate(task["layers"]) if layer is not None]
+    news = {var: other_value(chance, task["ranges"][var], task["defaults"][var]) for var in derived}
+    task["rules"] = [random_rule(chance, task, news) for _ in range(chance.randint(len(derived), 4 * len(derived)))]
+    return task
+
+
+def spoiled_rule(chance, task, rule):
+    """This rule with another old value, another new value or a condition more, or another rule."""
+    facts, var, old, new = rule
+    size, change = task["ranges"][var], chance.randrange(6)
+    if change == 0:
+        return any_rule(chance, task, chance.randrange(len(task["ranges"])))
+    if change == 1:
+        return facts, var, chance.randrange(size), new
+    if change in (2, 3):
+        return facts, var, old, chance.randrange(size)
+    return [*facts, any_fact(chance, task)], var, old, new
+
+
+def spoiled_task(chance):
+    """A task that was layered before some of its rules were changed."""
+    task = random_task(chance)
+    for place in chance.choices(range(len(task["rules"])), k=2):
+        task["rules"][place] = spoiled_rule(chance, task, task["rules"][place])
+    return task
+
+
+def random_state(chance, task):
+    """A value for each variable, the derived ones too."""
+    return [chance.randrange(most) for most in task["ranges"]]
+
+
+def section(name, lines):
+    """Lines between the two words of their section."""
+    return [f"begin_{name}", *lines, f"end_{name}"]
+
+
+def text_of(task):
+    """The file of a task. It has no group, no goal and no operator."""
+    lines = [*section("version", [3]), *section("metric", [0]), len(task["ranges"])]
+    for var, (size, layer) in enumerate(zip(task["ranges"], task["layers"])):
+        values = [f"Atom v{var}({value})" for value in range(size)]
+        lines += section("variable", [f"var{var}", -1 if layer is None else layer, size, *values])
+    lines += [0, *section("state", task["defaults"]), *section("goal", [0]), 0, len(task["rules"])]
+    for facts, var, old, new in task["rules"]:
+        conditions = [f"{on} {value}" for on, value in facts]
+        lines += section("rule", [len(facts), *conditions, f"{var} {old} {new}"])
+    return "".join(f"{line}\n" for line in lines)
+
+
+def settled(task, state):
+    """What a state settles to."""
+    layers, defaults = task["layers"], task["defaults"]
+    values = [value if layer is None else default for value, layer, default in zip(state, layers, defaults)]
+    for layer in sorted({layer for layer in layers if layer is not None}):
+        rules = [rule for rule in task["rules"] if layers[rule[1]] == layer and rule[3] != defaults[rule[1]]]
+        while True:
+            due = {var: new for facts, var, _, new in rules if all(values[on] == value for on, value in facts)}
+            if all(values[var] == new for var, new in due.items()):
+                break
+            values = [due.get(var, value) for var, value in enumerate(values)]
+    return values
+
+
+def layer_fault(task):
+    """What is wrong first with the layers of a task, as the rules stand in its file; None where it is layered."""
+    layers, defaults, news = task["layers"], task["defaults"], {}
+    for rule, (facts, var, old, new) in enumerate(task["rules"]):
+        if layers[var] is None:
+            return f"RuleOnBasic {{ rule: {rule} }}"
+        if new == defaults[var]:
+            continue
+        if old not in (-1, defaults[var]):
+            return f"OldValue {{ rule: {rule} }}"
+        if news.setdefault(var, new) != new:
+            return f"TwoValues {{ rule: {rule} }}"
+        for place, (on, value) in enumerate(facts):
+            highest = layers[var] - 1 if value == defaults[on] else layers[var]
+            if layers[on] is not None and layers[on] > highest:
+                return f"LayerOrder {{ rule: {rule}, condition: {place} }}"
+    return None
+
+
+def settled_tasks():
+    """Layered tasks, as texts, each with states and what they settle to."""
+    chance = random.Random(SEED)
+    for _ in range(TASKS):
+        task = random_task(chance)
+        states = [random_state(chance, task) for _ in range(STATES)]
+        yield {"task": text_of(task), "states": states, "settled": [settled(task, state) for state in states]}
+
+
+def spoiled_tasks():
+    """Tasks, as texts, each with what is wrong with its layers."""
+    chance = random.Random(SEED)
+    for _ in range(TASKS):
+        task = spoiled_task(chance)
+        yield {"task": text_of(task), "fault": layer_fault(task)}
