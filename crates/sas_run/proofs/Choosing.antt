@@ -90,7 +90,7 @@ hold_or_missed value (f ∷ fs) = elim (cases_eq (value f.var) f.value) [
     one_more y index w zero d lt = y
     one_more y index w (suc k) d lt = w.before k d (omega arith)
 
-no_fact : Fact
+pub no_fact : Fact
 no_fact = record { var = 0; value = 0 }
 
 -- the first that fails is one

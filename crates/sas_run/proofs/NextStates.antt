@@ -1,5 +1,5 @@
 -- An applicable operator whose effects agree has a step, and whether one has can be told.
-use Rattle.std.proofs.Common.{◌≡◌, ℕ, zero, suc, ◌<◌, ◌⊎◌, List, [], ◌∷◌, length, get_or, set, slice_index, refl, sym, ◌∙◌, subst, inl, inr, arith}
+use Rattle.std.proofs.Common.{◌≡◌, ℕ, zero, suc, ◌<◌, ◌⊎◌, List, [], ◌∷◌, length, get_or, set, slice_index, None, refl, sym, ◌∙◌, subst, inl, inr, arith}
 use Rattle.std.specs.List.{All}
 use Rattle.std.proofs.lemmas.Bool.{cases_eq}
 use Rattle.std.proofs.lemmas.List.{get_or-set_same, get_or-set_other}
@@ -18,7 +18,10 @@ use Rattle.sas_meaning.proofs.Facts.{hold_or_not, Untouched}
 use Rattle.sas_meaning.proofs.Forced.{state_set, fact_within}
 use Rattle.sas_meaning.proofs.Exists.{settled_exists}
 use Rattle.sas_run.specs.Plans.{IsApplicable}
-use Rattle.sas_run.specs.Running.{Agree, IsApplied}
+use Rattle.sas_run.specs.declared.steps.StepFault.{StepFault}
+use Rattle.sas_run.specs.declared.steps.StepFault.TheVariants.{NotApplicable, Conflict}
+use Rattle.sas_run.specs.Running.{Agree, IsApplied, IsStepFault}
+use Rattle.sas_run.proofs.Choosing.{no_fact}
 
 -- where it can be told of each item, it can be told of all
 all_or_not : {A : Type 0} (P : A → Type 0) → ((x : A) → P x ⊎ (P x → ⊥)) → (xs : List A) → All P xs ⊎ (All P xs → ⊥)
@@ -152,3 +155,13 @@ step_or_none p s operator ranged layered state lt = elim (hold_or_not (slice_ind
     | inl agree ↦ inl (step_exists p s operator ranged layered state lt can agree)
   ]
 ]
+
+abbrev no_effect : Effect
+no_effect = record { conditions = []; var = 0; old = None; new = 0 }
+
+-- an operator that has a step has no fault
+pub fault_has_no_step : (p : Parts) (s : List ℕ) (o : Operator) (fault : StepFault) (next : List ℕ) → IsStepFault s o fault → Step p s o next → ⊥
+fault_has_no_step p s o (NotApplicable fact) next f step = f.1.missed no_fact (step.applicable f.0 no_fact f.1.exists)
+fault_has_no_step p s o (Conflict effect) next f step =
+    let c = f.1 in
+    c.contradicts.new (step.agree c.earlier no_effect (let lt = c.before in let within = c.exists in omega arith) effect no_effect c.exists c.earlier_fires c.fires c.contradicts.var)

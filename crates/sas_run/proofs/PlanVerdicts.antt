@@ -211,9 +211,12 @@ module _ (p : Parts) (ranged : WellRanged p) (layered : IsLayered p) where
       → ((valid : List ℕ) × IsValid p plan valid) ⊎ ((fault : PlanFault) × IsFaultOf p plan fault)
   verdict_from plan initial state starts = elim (went_or_halted initial plan.steps state) [
     | inl w ↦ verdict_at_end plan w.operators w.last (record { initial = initial; starts = starts; goes = w.goes })
-    | inr h ↦ inr ((h.hinders (length h.before + 1)).0, fault_from p plan h.there h.name (length h.before + 1) (h.hinders (length h.before + 1)).0
-        (record { before = h.before; behind = h.behind; whole = h.whole; place = refl; operators = h.operators; leads = record { initial = initial; starts = starts; goes = h.goes } })
-        (h.hinders (length h.before + 1)).1)
+    | inr h ↦ inr (
+      (h.hinders (length h.before + 1)).0,
+      fault_from p plan h.there h.name (length h.before + 1) (h.hinders (length h.before + 1)).0
+          (record { before = h.before; behind = h.behind; whole = h.whole; place = refl; operators = h.operators; leads = record { initial = initial; starts = starts; goes = h.goes } })
+          (h.hinders (length h.before + 1)).1,
+    )
   ]
 
 pub some_verdict : SomeVerdict
