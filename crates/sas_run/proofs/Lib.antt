@@ -1,1 +1,4 @@
-
+pub mod Determined
+pub mod Choosing
+pub mod NextStates
+pub mod PlanVerdicts

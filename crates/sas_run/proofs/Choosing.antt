@@ -1,0 +1,108 @@
+-- Which operator a name means, and which fact fails first, can be told.
+use Rattle.std.proofs.Common.{◌≡◌, ℕ, zero, suc, ◌<◌, ◌⊎◌, List, [], ◌∷◌, length, slice_index, slice_index_or, bytes_eq, subst, inl, inr, arith}
+use Rattle.std.proofs.lemmas.Bool.{cases_eq, cases_lt, cases_Bool}
+use Rattle.std.proofs.lemmas.Slice.Eq.{bytes_eq-Decides}
+use Rattle.std.proofs.lemmas.List.Elements.{All-nil, All-cons}
+use Rattle.sas_core.specs.declared.parts.Fact.{Fact}
+use Rattle.sas_core.specs.declared.parts.Parts.{Parts}
+use Rattle.sas_core.specs.Grounded.{operator_at}
+use Rattle.sas_meaning.specs.States.{Holds, AllHold}
+use Rattle.sas_meaning.specs.Steps.{preconditions}
+use Rattle.sas_meaning.proofs.Facts.{hold_or_not}
+use Rattle.sas_run.specs.Plans.{IsApplicable, IsNamed, IsChosen}
+use Rattle.sas_run.specs.Verdicts.{IsFirstMissed}
+
+-- whether an operator has the name
+pub named_or_not : (p : Parts) (name : List ℕ) (operator : ℕ) → IsNamed p name operator ⊎ (IsNamed p name operator → ⊥)
+named_or_not p name operator = elim (cases_lt operator (length p.operators)) [
+  | inr ge ↦ inr (λ is. let lt = is.exists in omega arith)
+  | inl lt ↦ elim (cases_Bool (bytes_eq (operator_at p operator).name name)) [
+    | inl y ↦ inl (record { exists = lt; named = (bytes_eq-Decides (operator_at p operator).name name).0 y })
+    | inr n ↦ inr (λ is. let e = (bytes_eq-Decides (operator_at p operator).name name).1 is.named in cc)
+  ]
+]
+
+-- whether an operator is applicable
+pub applicable_or_not : (p : Parts) (s : List ℕ) (operator : ℕ) → IsApplicable s (operator_at p operator) ⊎ (IsApplicable s (operator_at p operator) → ⊥)
+applicable_or_not p s operator = hold_or_not (slice_index s) (preconditions (operator_at p operator))
+
+-- the operators below n, of which one has the name, or none
+named_below : (p : Parts) (name : List ℕ) (n : ℕ) → ((operator : ℕ) × IsNamed p name operator) ⊎ ((operator : ℕ) → operator < n → IsNamed p name operator → ⊥)
+named_below p name zero = inr (λ operator lt. absurd (omega arith))
+named_below p name (suc n) = elim (named_below p name n) [
+  | inl w ↦ inl w
+  | inr before ↦ elim (named_or_not p name n) [
+    | inl is ↦ inl (n, is)
+    | inr not_here ↦ inr (λ operator lt is. elim (cases_eq operator n) [
+      | inl e ↦ not_here (subst (λ k. IsNamed p name k) e is)
+      | inr ne ↦ before operator (omega arith) is
+    ])
+  ]
+]
+
+-- some operator has the name, or none
+pub named_or_none : (p : Parts) (name : List ℕ) → ((operator : ℕ) × IsNamed p name operator) ⊎ ((operator : ℕ) → IsNamed p name operator → ⊥)
+named_or_none p name = elim (named_below p name (length p.operators)) [
+  | inl w ↦ inl w
+  | inr none ↦ inr (λ operator is. none operator is.exists is)
+]
+
+-- the operators below n, of which one is chosen, or none has the name and is applicable
+chosen_below : (p : Parts) (s name : List ℕ) (n : ℕ)
+    → ((operator : ℕ) × IsChosen p s name operator) ⊎ ((operator : ℕ) → operator < n → IsNamed p name operator → IsApplicable s (operator_at p operator) → ⊥)
+chosen_below p s name zero = inr (λ operator lt. absurd (omega arith))
+chosen_below p s name (suc n) = elim (chosen_below p s name n) [
+  | inl w ↦ inl w
+  | inr before ↦ elim (named_or_not p name n) [
+    | inr not_here ↦ inr (λ operator lt is can. elim (cases_eq operator n) [
+      | inl e ↦ not_here (subst (λ k. IsNamed p name k) e is)
+      | inr ne ↦ before operator (omega arith) is can
+    ])
+    | inl is_here ↦ elim (applicable_or_not p s n) [
+      | inl can ↦ inl (n, record { of_name = is_here; applicable = can; first = before })
+      | inr cannot ↦ inr (λ operator lt is can. elim (cases_eq operator n) [
+        | inl e ↦ cannot (subst (λ k. IsApplicable s (operator_at p k)) e can)
+        | inr ne ↦ before operator (omega arith) is can
+      ])
+    ]
+  ]
+]
+
+-- an operator is chosen, or none
+pub chosen_or_none : (p : Parts) (s name : List ℕ) → ((operator : ℕ) × IsChosen p s name operator) ⊎ ((operator : ℕ) → IsChosen p s name operator → ⊥)
+chosen_or_none p s name = elim (chosen_below p s name (length p.operators)) [
+  | inl w ↦ inl w
+  | inr none ↦ inr (λ operator c. none operator c.of_name.exists c.of_name c.applicable)
+]
+
+-- all facts hold, or one is the first that fails
+pub hold_or_missed : (value : ℕ → ℕ) (facts : List Fact) → AllHold value facts ⊎ ((index : ℕ) × IsFirstMissed value facts index)
+hold_or_missed value [] = inl (All-nil (Holds value))
+hold_or_missed value (f ∷ fs) = elim (cases_eq (value f.var) f.value) [
+  | inr n ↦ inr (0, record { exists = omega arith; missed = λ d. n; before = λ k d lt. absurd (omega arith) })
+  | inl y ↦ elim (hold_or_missed value fs) [
+    | inl h ↦ inl (All-cons (Holds value) f fs y h)
+    | inr w ↦ inr (suc w.0, record { exists = (let lt = w.1.exists in omega arith); missed = λ d. w.1.missed d; before = one_more y w.0 w.1 })
+  ]
+]
+  where
+    one_more : Holds value f → (index : ℕ) → IsFirstMissed value fs index → (k : ℕ) (d : Fact) → k < suc index → Holds value (slice_index_or (f ∷ fs) k d)
+    one_more y index w zero d lt = y
+    one_more y index w (suc k) d lt = w.before k d (omega arith)
+
+pub no_fact : Fact
+no_fact = record { var = 0; value = 0 }
+
+-- the first that fails is one
+pub first_missed_is_one : (value : ℕ → ℕ) (facts : List Fact) (a b : ℕ) → IsFirstMissed value facts a → IsFirstMissed value facts b → a ≡ b
+first_missed_is_one value facts a b x y = elim (cases_lt a b) [
+  | inl lt ↦ absurd (x.missed no_fact (y.before a no_fact lt))
+  | inr ge ↦ elim (cases_lt b a) [
+    | inl lt ↦ absurd (y.missed no_fact (x.before b no_fact lt))
+    | inr le ↦ omega arith
+  ]
+]
+
+-- where all hold none fails
+pub none_missed : (value : ℕ → ℕ) (facts : List Fact) (index : ℕ) → AllHold value facts → IsFirstMissed value facts index → ⊥
+none_missed value facts index hold missed = missed.missed no_fact (hold index no_fact missed.exists)

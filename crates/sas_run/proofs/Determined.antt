@@ -1,0 +1,125 @@
+-- The same steps go through in one way.
+use Rattle.std.proofs.Common.{◌≡◌, ℕ, ◌+◌, ◌<◌, List, [], ◌∷◌, ◌++◌, length, refl, sym, ◌∙◌, ap, subst, inl, inr, arith}
+use Rattle.std.proofs.lemmas.Bool.{cases_lt}
+use Rattle.sas_core.specs.declared.parts.Parts.{Parts}
+use Rattle.sas_core.specs.Grounded.{operator_at}
+use Rattle.sas_meaning.specs.Layers.{IsLayered}
+use Rattle.sas_meaning.specs.Steps.{Step}
+use Rattle.sas_meaning.specs.Reachable.{IsInitial}
+use Rattle.sas_meaning.proofs.Unique.{settled_is_one, step_is_one}
+use Rattle.sas_run.specs.Plans.{IsChosen, GoThrough, LeadsTo}
+use Rattle.sas_run.specs.Verdicts.{ComesTo}
+
+-- the chosen operator is one
+pub chosen_is_one : (p : Parts) (s name : List ℕ) (a b : ℕ) → IsChosen p s name a → IsChosen p s name b → a ≡ b
+chosen_is_one p s name a b x y = elim (cases_lt a b) [
+  | inl lt ↦ absurd (y.first a lt x.of_name x.applicable)
+  | inr ge ↦ elim (cases_lt b a) [
+    | inl lt ↦ absurd (x.first b lt y.of_name y.applicable)
+    | inr le ↦ omega arith
+  ]
+]
+
+-- in this state the name has a chosen operator with a step
+pub record GoesOn (p : Parts) (s name : List ℕ) : Type 0 where
+  pub operator : ℕ
+  pub chosen : IsChosen p s name operator
+  pub next : List ℕ
+  pub step : Step p s (operator_at p operator) next
+
+-- the steps before this name lead to a state in which it goes on
+pub record Passes (p : Parts) (s : List ℕ) (before : List (List ℕ)) (name : List ℕ) : Type 0 where
+  pub operators : List ℕ
+  pub there : List ℕ
+  pub goes : GoThrough p s before operators there
+  pub on : GoesOn p there name
+
+-- steps that go through go through each of their names
+pub passes : (p : Parts) (s : List ℕ) (before : List (List ℕ)) (name : List ℕ) (behind : List (List ℕ)) (operators last : List ℕ)
+    → GoThrough p s (before ++ name ∷ behind) operators last → Passes p s before name
+passes p s [] name behind [] last g = absurd g
+passes p s [] name behind (o ∷ os) last g =
+    record { operators = []; there = s; goes = refl; on = record { operator = o; chosen = g.1; next = g.0; step = g.2 } }
+passes p s (b ∷ bs) name behind [] last g = absurd g
+passes p s (b ∷ bs) name behind (o ∷ os) last g =
+    let r = passes p g.0 bs name behind os last g.3 in
+    record { operators = o ∷ r.operators; there = r.there; goes = (g.0, g.1, g.2, r.goes); on = r.on }
+
+-- of two places of a list the earlier one is before the later one
+split_earlier : {A : Type 0} (before behind before' behind' : List A) (x x' : A) → before ++ x ∷ behind ≡ before' ++ x' ∷ behind'
+    → length before < length before' → (between : List A) × (before' ≡ before ++ x ∷ between)
+split_earlier before behind [] behind' x x' e lt = absurd (omega arith)
+split_earlier [] behind (y ∷ ys) behind' x x' e lt = let same : x ≡ y = cc in (ys, ap (λ z. z ∷ ys) (sym same))
+split_earlier (b ∷ bs) behind (y ∷ ys) behind' x x' e lt =
+    let same : b ≡ y = cc in
+    let rest : bs ++ x ∷ behind ≡ ys ++ x' ∷ behind' = cc in
+    let r = split_earlier bs behind ys behind' x x' rest (omega arith) in
+    (r.0, ap (λ z. z ∷ ys) (sym same) ∙ ap (λ zs. b ∷ zs) r.1)
+
+split_same : {A : Type 0} (before behind before' behind' : List A) (x x' : A) → before ++ x ∷ behind ≡ before' ++ x' ∷ behind'
+    → length before ≡ length before' → (before ≡ before') × (x ≡ x')
+split_same [] behind [] behind' x x' e same = (refl, cc)
+split_same [] behind (y ∷ ys) behind' x x' e same = absurd (omega arith)
+split_same (b ∷ bs) behind [] behind' x x' e same = absurd (omega arith)
+split_same (b ∷ bs) behind (y ∷ ys) behind' x x' e same =
+    let head : b ≡ y = cc in
+    let rest : bs ++ x ∷ behind ≡ ys ++ x' ∷ behind' = cc in
+    let r = split_same bs behind ys behind' x x' rest (omega arith) in
+    (ap (λ z. z ∷ bs) head ∙ ap (λ zs. y ∷ zs) r.0, r.1)
+
+module _ (p : Parts) (layered : IsLayered p) where
+  -- the same steps from the same state go with the same operators to the same state
+  pub goes_one_way : (s : List ℕ) (names : List (List ℕ)) (a b x y : List ℕ) → GoThrough p s names a x → GoThrough p s names b y → (a ≡ b) × (x ≡ y)
+  goes_one_way s [] [] [] x y g h = (refl, g ∙ sym h)
+  goes_one_way s [] [] (q ∷ b) x y g h = absurd h
+  goes_one_way s [] (o ∷ a) b x y g h = absurd g
+  goes_one_way s (n ∷ ns) [] b x y g h = absurd g
+  goes_one_way s (n ∷ ns) (o ∷ a) [] x y g h = absurd h
+  goes_one_way s (n ∷ ns) (o ∷ a) (q ∷ b) x y g h =
+      let same : o ≡ q = chosen_is_one p s n o q g.1 h.1 in
+      let next : g.0 ≡ h.0 = step_is_one p s (operator_at p o) g.0 h.0 layered g.2 (subst (λ k. Step p s (operator_at p k) h.0) (sym same) h.2) in
+      let r = goes_one_way g.0 ns a b x y g.3 (subst (λ z. GoThrough p z ns b y) (sym next) h.3) in
+      (ap (λ k. k ∷ a) same ∙ ap (λ ks. q ∷ ks) r.0, r.1)
+
+  -- steps that go through go on at each of their names
+  pub goes_on : (s : List ℕ) (before : List (List ℕ)) (name : List ℕ) (behind : List (List ℕ)) (operators last first there : List ℕ)
+      → GoThrough p s (before ++ name ∷ behind) operators last → GoThrough p s before first there → GoesOn p there name
+  goes_on s before name behind operators last first there g h =
+      let r = passes p s before name behind operators last g in
+      subst (λ z. GoesOn p z name) (goes_one_way s before r.operators first r.there there r.goes h).1 r.on
+
+  pub initial_is_one : (a b : List ℕ) → IsInitial p a → IsInitial p b → a ≡ b
+  initial_is_one a b x y = settled_is_one p p.init a b layered x y
+
+  -- the same of steps from the initial state
+  pub leads_one_way : (steps : List (List ℕ)) (a b x y : List ℕ) → LeadsTo p steps a x → LeadsTo p steps b y → (a ≡ b) × (x ≡ y)
+  leads_one_way steps a b x y g h =
+      goes_one_way g.initial steps a b x y g.goes
+      (subst (λ z. GoThrough p z steps b y) (initial_is_one h.initial g.initial h.starts g.starts) h.goes)
+
+  pub leads_on : (before : List (List ℕ)) (name : List ℕ) (behind : List (List ℕ)) (operators last first there : List ℕ)
+      → LeadsTo p (before ++ name ∷ behind) operators last → LeadsTo p before first there → GoesOn p there name
+  leads_on before name behind operators last first there g h =
+      goes_on g.initial before name behind operators last first there g.goes
+      (subst (λ z. GoThrough p z before first there) (initial_is_one h.initial g.initial h.starts g.starts) h.goes)
+
+  -- steps that lead somewhere go on at each place to which they come
+  pub comes_on : (steps : List (List ℕ)) (step : ℕ) (s name operators last : List ℕ) → LeadsTo p steps operators last → ComesTo p steps step s name → GoesOn p s name
+  comes_on steps step s name operators last g c =
+      leads_on c.before name c.behind operators last c.operators s (subst (λ names. LeadsTo p names operators last) c.whole g) c.leads
+
+  -- what comes to a place goes on at each earlier one
+  pub comes_past : (steps : List (List ℕ)) (a b : ℕ) (s s' name name' : List ℕ) → a < b → ComesTo p steps a s name → ComesTo p steps b s' name' → GoesOn p s name
+  comes_past steps a b s s' name name' lt c d =
+      let at_a = c.place in
+      let at_b = d.place in
+      let r = split_earlier c.before c.behind d.before d.behind name name' (sym c.whole ∙ d.whole) (omega arith) in
+      leads_on c.before name r.0 d.operators s' c.operators s (subst (λ names. LeadsTo p names d.operators s') r.1 d.leads) c.leads
+
+  -- the state and the name at a place are one
+  pub comes_one_way : (steps : List (List ℕ)) (a b : ℕ) (s s' name name' : List ℕ) → a ≡ b → ComesTo p steps a s name → ComesTo p steps b s' name' → (s ≡ s') × (name ≡ name')
+  comes_one_way steps a b s s' name name' same c d =
+      let at_a = c.place in
+      let at_b = d.place in
+      let r = split_same c.before c.behind d.before d.behind name name' (sym c.whole ∙ d.whole) (omega arith) in
+      ((leads_one_way d.before c.operators d.operators s s' (subst (λ names. LeadsTo p names c.operators s) r.0 c.leads) d.leads).1, r.1)

@@ -1,0 +1,167 @@
+-- An applicable operator whose effects agree has a step, and whether one has can be told.
+use Rattle.std.proofs.Common.{◌≡◌, ℕ, zero, suc, ◌<◌, ◌⊎◌, List, [], ◌∷◌, length, get_or, set, slice_index, None, refl, sym, ◌∙◌, subst, inl, inr, arith}
+use Rattle.std.specs.List.{All}
+use Rattle.std.proofs.lemmas.Bool.{cases_eq}
+use Rattle.std.proofs.lemmas.List.{get_or-set_same, get_or-set_other}
+use Rattle.std.proofs.lemmas.List.Elements.{All-nil, All-cons, All-head, All-tail}
+use Rattle.sas_core.specs.declared.parts.Effect.{Effect}
+use Rattle.sas_core.specs.declared.parts.Operator.{Operator}
+use Rattle.sas_core.specs.declared.parts.Parts.{Parts}
+use Rattle.sas_core.specs.Grounded.{operator_at}
+use Rattle.sas_core.specs.Variables.{HasValue, IsState}
+use Rattle.sas_core.specs.WellRanged.{EffectFits, OperatorFits, WellRanged}
+use Rattle.sas_core.proofs.Places.{holds_at}
+use Rattle.sas_meaning.specs.Layers.{IsBasic, IsLayered}
+use Rattle.sas_meaning.specs.Settled.{Settles}
+use Rattle.sas_meaning.specs.Steps.{Fires, preconditions, Step}
+use Rattle.sas_meaning.proofs.Facts.{hold_or_not, Untouched}
+use Rattle.sas_meaning.proofs.Forced.{state_set, fact_within}
+use Rattle.sas_meaning.proofs.Exists.{settled_exists}
+use Rattle.sas_run.specs.Plans.{IsApplicable}
+use Rattle.sas_run.specs.declared.steps.StepFault.{StepFault}
+use Rattle.sas_run.specs.declared.steps.StepFault.TheVariants.{NotApplicable, Conflict}
+use Rattle.sas_run.specs.Running.{Agree, IsApplied, IsStepFault}
+use Rattle.sas_run.proofs.Choosing.{no_fact}
+
+-- where it can be told of each item, it can be told of all
+all_or_not : {A : Type 0} (P : A → Type 0) → ((x : A) → P x ⊎ (P x → ⊥)) → (xs : List A) → All P xs ⊎ (All P xs → ⊥)
+all_or_not P each [] = inl (All-nil P)
+all_or_not P each (x ∷ xs) = elim (each x) [
+  | inr n ↦ inr (λ all. n (All-head P x xs all))
+  | inl y ↦ elim (all_or_not P each xs) [
+    | inl h ↦ inl (All-cons P x xs y h)
+    | inr n ↦ inr (λ all. n (All-tail P x xs all))
+  ]
+]
+
+-- two effects set no variable to different values
+abbrev AgreesWith : List ℕ → Effect → Effect → Type 0
+AgreesWith s e f = Fires s e → Fires s f → e.var ≡ f.var → e.new ≡ f.new
+
+agrees_or_not : (s : List ℕ) (e f : Effect) → AgreesWith s e f ⊎ (AgreesWith s e f → ⊥)
+agrees_or_not s e f = elim (hold_or_not (slice_index s) e.conditions) [
+  | inr n ↦ inl (λ a. absurd (n a))
+  | inl a ↦ elim (hold_or_not (slice_index s) f.conditions) [
+    | inr n ↦ inl (λ _ b. absurd (n b))
+    | inl b ↦ elim (cases_eq e.var f.var) [
+      | inr n ↦ inl (λ _ _ same. absurd (n same))
+      | inl same ↦ elim (cases_eq e.new f.new) [
+        | inl is ↦ inl (λ _ _ _. is)
+        | inr n ↦ inr (λ agrees. n (agrees a b same))
+      ]
+    ]
+  ]
+]
+
+-- whether the effects that fire agree
+pub agree_or_not : (s : List ℕ) (effects : List Effect) → Agree s effects ⊎ (Agree s effects → ⊥)
+agree_or_not s effects =
+    all_or_not (λ (e : Effect). All (λ (f : Effect). AgreesWith s e f) effects)
+    (λ e. all_or_not (λ (f : Effect). AgreesWith s e f) (λ f. agrees_or_not s e f) effects) effects
+
+abbrev Sets : List ℕ → List ℕ → Effect → Type 0
+Sets s s' e = Fires s e → get_or s' e.var 0 ≡ e.new
+
+-- a state in which the effects that fire have set their variables, and the others are as they were
+record Written (p : Parts) (s : List ℕ) (effects : List Effect) : Type 0 where
+  result : List ℕ
+  state : IsState p.variables result
+  sets : All (Sets s result) effects
+  kept : (v : ℕ) → All (Untouched s v) effects → get_or result v 0 ≡ get_or s v 0
+
+module _ (p : Parts) (s : List ℕ) (state_s : IsState p.variables s) where
+  -- one more effect, which fires
+  write_one : (e : Effect) (es : List Effect) → HasValue p.variables e.var e.new → Agree s (e ∷ es) → Fires s e → Written p s es → Written p s (e ∷ es)
+  write_one e es fits agree fires r = record {
+    result = set r.result e.var e.new;
+    state = state_set p r.result e.var e.new r.state fits;
+    sets = All-cons (Sets s (set r.result e.var e.new)) e es (λ _. here) others;
+    kept = λ v kept. get_or-set_other r.result e.var v e.new 0 (λ is. All-head (Untouched s v) e es kept fires (sym is)) ∙ r.kept v (All-tail (Untouched s v) e es kept);
+  }
+    where
+      here : get_or (set r.result e.var e.new) e.var 0 ≡ e.new
+      here = get_or-set_same r.result e.var e.new 0 (let within = fact_within p e.var e.new fits in let one_each = r.state.one_each in omega arith)
+
+      others : All (Sets s (set r.result e.var e.new)) es
+      others k d lt fires' = elim (cases_eq (get_or es k d).var e.var) [
+        | inr ne ↦ get_or-set_other r.result e.var (get_or es k d).var e.new 0 ne ∙ r.sets k d lt fires'
+        | inl is ↦
+            (let same : e.new ≡ (get_or es k d).new = agree zero e (omega arith) (suc k) d (omega arith) fires fires' (sym is) in
+            subst (λ v. get_or (set r.result e.var e.new) v 0 ≡ (get_or es k d).new) (sym is) (here ∙ same))
+      ]
+
+  write : (effects : List Effect) → All (λ (e : Effect). HasValue p.variables e.var e.new) effects → Agree s effects → Written p s effects
+  write [] fits agree = record { result = s; state = state_s; sets = All-nil (Sets s s); kept = λ v _. refl }
+  write (e ∷ es) fits agree = more (write es (All-tail (λ (f : Effect). HasValue p.variables f.var f.new) e es fits) behind)
+    where
+      behind : Agree s es
+      behind k d lt j d' lt' = agree (suc k) d (omega arith) (suc j) d' (omega arith)
+
+      more : Written p s es → Written p s (e ∷ es)
+      more r = elim (hold_or_not (slice_index s) e.conditions) [
+        | inl fires ↦ write_one e es (All-head (λ (f : Effect). HasValue p.variables f.var f.new) e es fits) agree fires r
+        | inr n ↦ record {
+          result = r.result;
+          state = r.state;
+          sets = All-cons (Sets s r.result) e es (λ fires. absurd (n fires)) r.sets;
+          kept = λ v kept. r.kept v (All-tail (Untouched s v) e es kept);
+        }
+      ]
+
+-- what the effects of an operator of the task set are values of basic variables
+pub effects_fit : (p : Parts) (operator : ℕ) → WellRanged p → operator < length p.operators
+    → All (λ (e : Effect). HasValue p.variables e.var e.new) (operator_at p operator).effects
+effects_fit p operator ranged lt k d within =
+    (holds_at (EffectFits p.variables) d (operator_at p operator).effects
+    (holds_at (OperatorFits p.variables) (record { name = []; prevail = []; effects = []; cost = 0 }) p.operators ranged.operators.each operator lt).effects.each k within).new
+
+pub effects_basic : (p : Parts) (operator : ℕ) → IsLayered p → operator < length p.operators
+    → All (λ (e : Effect). IsBasic p e.var) (operator_at p operator).effects
+effects_basic p operator layered lt = layered.effects operator (record { name = []; prevail = []; effects = []; cost = 0 }) lt
+
+-- the effects of an applicable operator can be done where they agree
+pub applied_exists : (p : Parts) (s : List ℕ) (o : Operator) → All (λ (e : Effect). HasValue p.variables e.var e.new) o.effects
+    → IsState p.variables s → IsApplicable s o → Agree s o.effects → (s' : List ℕ) × IsApplied p s o s'
+applied_exists p s o fits state applicable agree =
+    let r = write p s state o.effects fits agree in
+    (r.result, record { applicable = applicable; agree = agree; state = r.state; set = r.sets; kept = r.kept })
+
+-- settling what they did makes the step
+pub step_from_applied : (p : Parts) (s : List ℕ) (o : Operator) (s' next : List ℕ) → All (λ (e : Effect). IsBasic p e.var) o.effects
+    → IsApplied p s o s' → Settles p s' next → Step p s o next
+step_from_applied p s o s' next basic a settles = record {
+  applicable = a.applicable;
+  agree = a.agree;
+  state = settles.state;
+  settled = settles.settled;
+  set = λ k d lt fires. sym (settles.basic (get_or o.effects k d).var (basic k d lt)) ∙ a.set k d lt fires;
+  kept = λ v is_basic kept. sym (settles.basic v is_basic) ∙ a.kept v kept;
+}
+
+pub step_exists : (p : Parts) (s : List ℕ) (operator : ℕ) → WellRanged p → IsLayered p → IsState p.variables s → operator < length p.operators
+    → IsApplicable s (operator_at p operator) → Agree s (operator_at p operator).effects → (next : List ℕ) × Step p s (operator_at p operator) next
+step_exists p s operator ranged layered state lt applicable agree =
+    let a = applied_exists p s (operator_at p operator) (effects_fit p operator ranged lt) state applicable agree in
+    let b = settled_exists p a.0 ranged layered a.1.state in
+    (b.0, step_from_applied p s (operator_at p operator) a.0 b.0 (effects_basic p operator layered lt) a.1 b.1)
+
+-- an operator has a step or none
+pub step_or_none : (p : Parts) (s : List ℕ) (operator : ℕ) → WellRanged p → IsLayered p → IsState p.variables s → operator < length p.operators
+    → ((next : List ℕ) × Step p s (operator_at p operator) next) ⊎ ((next : List ℕ) → Step p s (operator_at p operator) next → ⊥)
+step_or_none p s operator ranged layered state lt = elim (hold_or_not (slice_index s) (preconditions (operator_at p operator))) [
+  | inr cannot ↦ inr (λ next step. cannot step.applicable)
+  | inl can ↦ elim (agree_or_not s (operator_at p operator).effects) [
+    | inr conflict ↦ inr (λ next step. conflict step.agree)
+    | inl agree ↦ inl (step_exists p s operator ranged layered state lt can agree)
+  ]
+]
+
+abbrev no_effect : Effect
+no_effect = record { conditions = []; var = 0; old = None; new = 0 }
+
+-- an operator that has a step has no fault
+pub fault_has_no_step : (p : Parts) (s : List ℕ) (o : Operator) (fault : StepFault) (next : List ℕ) → IsStepFault s o fault → Step p s o next → ⊥
+fault_has_no_step p s o (NotApplicable fact) next f step = f.1.missed no_fact (step.applicable f.0 no_fact f.1.exists)
+fault_has_no_step p s o (Conflict effect) next f step =
+    let c = f.1 in
+    c.contradicts.new (step.agree c.earlier no_effect (let lt = c.before in let within = c.exists in omega arith) effect no_effect c.exists c.earlier_fires c.fires c.contradicts.var)

@@ -1,0 +1,15 @@
+-- Each law is a lemma.
+use Rattle.sas_run.proofs.PlanVerdicts.{some_verdict, valid_has_no_fault, valid_is_one, fault_is_one}
+use Rattle.sas_run.proofs.laws.plan_laws.Goals as goal
+
+pub returns-clause-some : goal.returns-clause-some
+returns-clause-some c = some_verdict
+
+pub returns-clause-not_both : goal.returns-clause-not_both
+returns-clause-not_both c = valid_has_no_fault
+
+pub returns-clause-valid_one : goal.returns-clause-valid_one
+returns-clause-valid_one c = valid_is_one
+
+pub returns-clause-fault_one : goal.returns-clause-fault_one
+returns-clause-fault_one c = fault_is_one
