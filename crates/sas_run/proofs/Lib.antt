@@ -1,1 +1,3 @@
 
+pub mod NameKeys
+pub mod NamesFrom
