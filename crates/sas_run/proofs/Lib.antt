@@ -1,3 +1,2 @@
-
 pub mod NameKeys
 pub mod NamesFrom

@@ -18,7 +18,8 @@ pub struct Names {
 }
 
 impl Names {
-    /// The names of the task's operators.
+    /// The names of the task's operators. It goes from the last operator to the first, so that the lowest one of each name
+    /// comes last.
     pub fn new<T: Grounded>(alloc: Global, task: &T) -> Result<Names, AllocError>
         ensures { IfOk result (λ names. AreNames (T.says task.now) names) }
     {
@@ -52,7 +53,7 @@ impl Names {
     }
 }
 
-/// Gives the operator to the name, and returns the one that the name had.
+/// Lets the map tell this operator of the name, and returns the one that it told before. Only a new name is copied.
 fn put(
     alloc: Global,
     first: &mut IndexMap<Vec<u8>, u32>,

@@ -11,9 +11,9 @@ pub returns-in-Some-clause-has : goal.returns-in-Some-clause-has
 returns-in-Some-clause-has c =
     let writes = c.get_mut.follows.holds c.args.operator in
     let there : Some c.in-Some.place.now ≡ get_by (is_called c.args.name.now) c.args.first.now
-        = sym (ap option_copied_mut c.in-Some.is) ∙ c.get_mut.ensures.value in
+    = sym (ap option_copied_mut c.in-Some.is) ∙ c.get_mut.ensures.value in
     Puts-write c.args.first.now (c.get_mut.follows.lender c.args.operator) c.args.operator c.args.name.now
-        (writes.3 (subst IsSome there (search rules)))
+    (writes.3 (subst IsSome there (search rules)))
 
 pub returns-clause-had : goal.returns-clause-had
 returns-clause-had c =
@@ -35,6 +35,6 @@ returns-clause-has c =
     elim c.match-insert.branch [
       | in-Ok w ↦ subst (λ r. OnOk r (Puts name operator first c.insert.new.self)) (sym w.result-is)
           (Puts-insert first c.insert.new.self operator c.in_ok-name.name name c.in_ok-name.ensures.items
-            (subst (λ m. UpdatesBy same_key (same_key c.in_ok-name.name) m c.insert.new.self (Some operator)) same w.in-Ok.ensures.updates))
+          (subst (λ m. UpdatesBy same_key (same_key c.in_ok-name.name) m c.insert.new.self (Some operator)) same w.in-Ok.ensures.updates))
       | in-Err w ↦ subst (λ r. OnOk r (Puts name operator first c.insert.new.self)) (sym w.result-is) tt
     ]
