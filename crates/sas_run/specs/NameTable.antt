@@ -1,12 +1,26 @@
 -- What a table of names holds.
-use Rattle.std.specs.Prelude.{◌≡◌, ℕ, ◌+◌, ◌<◌, List, length, Option, None, slice_index_or}
+use Rattle.std.specs.Prelude.{◌≡◌, ℕ, ◌+◌, ◌<◌, Bool, List, length, None, Some, nat_eq, if◌then◌else◌, slice_index_or}
+use Rattle.std.specs.Global.{Vec}
+use Rattle.std.specs.Cmp.Lexicographic.{pointwise}
+use Rattle.indexmap.specs.IndexMap.{IndexMap, get_by}
 use Rattle.sas_core.specs.declared.parts.Parts.{Parts}
 use Rattle.sas_core.specs.Grounded.{operator_at}
 use Rattle.sas_run.specs.declared.names.Names.{Names}
 use Rattle.sas_run.specs.Names.{IsNextNamed}
 
--- the map tells of each name the lowest operator of it, and the table of each operator the next one of its name
+-- the key of a map is this name
+abbrev pub is_called : List ℕ → Vec ℕ → Bool
+is_called name key = pointwise nat_eq name key.items
+
+-- The map tells of each name the lowest operator of it, or that no operator has it; the table tells of each operator the
+-- next one of its name, or that there is none.
 pub record AreNames (p : Parts) (names : Names) : Type 0 where
+  pub first : (name : List ℕ) → IsNextNamed p name 0 (get_by (is_called name) names.first)
   pub one_each : length names.next.items ≡ length p.operators
   pub next : (operator : ℕ) → operator < length p.operators
       → IsNextNamed p (operator_at p operator).name (operator + 1) (slice_index_or names.next.items operator None)
+
+-- the new map tells this operator of the name, and of each other name what the old one tells
+abbrev pub Puts : {S : Type 0} → List ℕ → ℕ → IndexMap (Vec ℕ) ℕ S → IndexMap (Vec ℕ) ℕ S → Type 0
+Puts name operator old new = (other : List ℕ) → get_by (is_called other) new
+    ≡ (if pointwise nat_eq name other then Some operator else get_by (is_called other) old)

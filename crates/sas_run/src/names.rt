@@ -1,8 +1,9 @@
 // The operators of a task by their names.
-ghost use Rattle.std.specs.Prelude.{◌≡◌, ◌+◌, ◌<◌, length, IfOk};
+ghost use Rattle.std.specs.Prelude.{◌≡◌, ◌+◌, ◌<◌, length, IfOk, OnOk};
+ghost use Rattle.indexmap.specs.IndexMap.{get_by};
 ghost use Rattle.sas_core.specs.declared.parts.Parts.{Parts};
 ghost use Rattle.sas_core.specs.Grounded.{operator_at};
-ghost use Rattle.sas_run.specs.NameTable.{AreNames};
+ghost use Rattle.sas_run.specs.NameTable.{AreNames, Puts, is_called};
 ghost use Rattle.sas_run.specs.Names.{IsNextNamed};
 
 use indexmap::IndexMap;
@@ -17,12 +18,20 @@ pub struct Names {
 }
 
 impl Names {
-    /// The names of the task's operators.
+    /// The names of the task's operators. It goes from the last operator to the first, so that the lowest one of each name
+    /// comes last.
     pub fn new<T: Grounded>(alloc: Global, task: &T) -> Result<Names, AllocError>
         ensures { IfOk result (λ names. AreNames (T.says task.now) names) }
     {
-        let _ = task;
-        Err(AllocError)
+        let operators = task.operators();
+        let mut first = IndexMap::new(alloc);
+        let mut next = vec![in alloc; None; operators as usize]?;
+        let mut operator = operators;
+        while operator > 0 {
+            operator -= 1;
+            next[operator as usize] = put(alloc, &mut first, task.name(operator), operator)?;
+        }
+        Ok(Names { first, next })
     }
 
     /// The lowest operator of this name. It takes no memory.
@@ -41,5 +50,27 @@ impl Names {
             Some(next) => *next,
             None => None,
         }
+    }
+}
+
+/// Lets the map tell this operator of the name, and returns the one that it told before. Only a new name is copied.
+fn put(
+    alloc: Global,
+    first: &mut IndexMap<Vec<u8>, u32>,
+    name: &[u8],
+    operator: u32,
+) -> Result<Option<u32>, AllocError>
+    ensures had { IfOk result (λ had. had ≡ get_by (is_called name.now) first.old) }
+    ensures has { OnOk result (Puts name.now operator first.old first.new) }
+{
+    if let Some(place) = first.get_mut(name) {
+        let had = *place;
+        *place = operator;
+        return Ok(Some(had));
+    }
+    let name = Vec::from_slice(alloc, name)?;
+    match first.insert(name, operator) {
+        Ok(had) => Ok(had),
+        Err(_) => Err(AllocError),
     }
 }
