@@ -1,2 +1,3 @@
 pub mod Ranges
 pub mod Missed
+pub mod Giving
