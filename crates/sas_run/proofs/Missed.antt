@@ -1,6 +1,6 @@
 -- Where the first fact that doesn't hold is, in a list of several parts.
-use Rattle.std.proofs.Common.{◌≡◌, ◌≢◌, ℕ, ◌+◌, ◌-◌, ◌<◌, ◌≤◌, ◌⊎◌, List, [], ◌∷◌, ◌++◌, length, get_or, take, drop, Option, None, Some, refl, sym, ◌∙◌, ap, subst, inl, inr, arith}
-use Rattle.std.specs.Prelude.{slice_index, filter_map}
+use Rattle.std.proofs.Common.{◌≡◌, ◌≢◌, ℕ, ◌+◌, ◌-◌, ◌<◌, List, [], ◌∷◌, ◌++◌, length, get_or, take, drop, Option, None, Some, refl, sym, ◌∙◌, ap, subst, inl, inr, arith}
+use Rattle.std.specs.Prelude.{filter_map}
 use Rattle.std.specs.List.{cons_option}
 use Rattle.std.proofs.lemmas.Bool.{cases_lt}
 use Rattle.std.proofs.lemmas.List.{get_or_append_left, get_or-append-add, length-append, take-append-drop, take_more, drop_more}
@@ -10,7 +10,6 @@ use Rattle.sas_core.specs.declared.parts.Effect.{Effect}
 use Rattle.sas_meaning.specs.States.{Holds, AllHold}
 use Rattle.sas_meaning.specs.Steps.{old_fact}
 use Rattle.sas_run.specs.Running.{IsFirstMissedFact}
-use Rattle.sas_run.specs.Verdicts.{IsFirstMissed}
 
 -- one that is missed in the front part is missed first in the whole
 pub missed_in_front : (value : ℕ → ℕ) (xs ys : List Fact) (fact : Fact) → IsFirstMissedFact value xs fact → IsFirstMissedFact value (xs ++ ys) fact

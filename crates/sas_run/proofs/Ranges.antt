@@ -2,8 +2,6 @@
 use Rattle.std.proofs.Common.{ℕ, ◌<◌, List, [], length, get_or, None, arith}
 use Rattle.std.specs.List.{All, AllByRecursion}
 use Rattle.sas_core.specs.declared.parts.Fact.{Fact}
-use Rattle.sas_core.specs.declared.parts.Effect.{Effect}
-use Rattle.sas_core.specs.declared.parts.Operator.{Operator}
 use Rattle.sas_core.specs.declared.parts.Parts.{Parts}
 use Rattle.sas_core.specs.Grounded.{operator_at, effect_at}
 use Rattle.sas_core.specs.Variables.{FactExists, IsState}

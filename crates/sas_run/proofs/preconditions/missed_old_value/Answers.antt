@@ -1,5 +1,5 @@
 -- The old value of the effect that the loop is at.
-use Rattle.std.proofs.Common.{◌≡◌, ◌<◌, ◌∙◌, ℕ, List, [], None, Some, ap, subst, sym, arith, rules}
+use Rattle.std.proofs.Common.{◌≡◌, ◌∙◌, ℕ, List, [], None, Some, ap, subst, sym, arith, rules}
 use Rattle.std.specs.Prelude.{slice_index, filter_map}
 use Rattle.std.proofs.lemmas.List.{take_all}
 use Rattle.sas_core.specs.declared.grounded.Change.{Change}

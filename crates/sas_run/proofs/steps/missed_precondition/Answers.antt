@@ -1,5 +1,5 @@
 -- The old values are asked where the prevail conditions hold.
-use Rattle.std.proofs.Common.{ℕ, List, Option, None, Some, subst}
+use Rattle.std.proofs.Common.{ℕ, Option, None, Some, subst}
 use Rattle.std.specs.Prelude.{IfSome, IfNone, slice_index, filter_map}
 use Rattle.std.proofs.lemmas.List.Elements.{All-append}
 use Rattle.sas_core.specs.declared.parts.Fact.{Fact}

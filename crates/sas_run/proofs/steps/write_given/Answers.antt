@@ -1,11 +1,10 @@
 -- What is given to one more variable is written and taken back.
-use Rattle.std.proofs.Common.{◌≡◌, ℕ, ◌+◌, ◌<◌, List, length, get_or, set, Option, None, Some, sym, ap, subst, ◌∙◌, inl, inr, arith, rules}
+use Rattle.std.proofs.Common.{◌≡◌, ◌<◌, length, set, None, Some, sym, ap, subst, ◌∙◌, inl, inr, arith}
 use Rattle.std.proofs.lemmas.Bool.{cases_eq}
 use Rattle.sas_core.specs.declared.grounded.Change.{Change}
 use Rattle.sas_core.specs.Grounded.{operator_at, effect_at}
-use Rattle.sas_core.specs.Variables.{IsState}
 use Rattle.sas_meaning.proofs.Forced.{state_set}
-use Rattle.sas_run.specs.Given.{given_to, value_after, IsGivenTo}
+use Rattle.sas_run.specs.Given.{given_to}
 use Rattle.sas_run.proofs.Ranges.{effect_within}
 use Rattle.sas_run.proofs.Giving.{none_there, still_none, fewer_on_effects, written_same}
 use Rattle.sas_run.proofs.steps.write_given.Goals as goal
