@@ -1,5 +1,5 @@
 -- What the effects of a step give, one effect more, and what writing it leads to.
-use Rattle.std.proofs.Common.{◌≡◌, ◌≢◌, ℕ, ◌+◌, ◌<◌, ◌≤◌, List, [], length, get_or, set, Option, None, Some, refl, sym, ◌∙◌, ap, subst, inl, inr, arith}
+use Rattle.std.proofs.Common.{◌≡◌, ◌≢◌, ℕ, ◌+◌, ◌<◌, ◌≤◌, List, length, get_or, set, Option, None, Some, refl, sym, ◌∙◌, ap, subst, inl, inr, arith}
 use Rattle.std.specs.Prelude.{unwrap_or}
 use Rattle.std.proofs.lemmas.Bool.{cases_eq}
 use Rattle.std.proofs.lemmas.List.{get_or_default, get_or-set_same, get_or-set_other, length-set}
@@ -13,9 +13,7 @@ use Rattle.sas_meaning.specs.States.{AllHold}
 use Rattle.sas_meaning.specs.Steps.{preconditions, Fires}
 use Rattle.sas_run.specs.Given.{given_to, value_after, IsGiven, IsGivenTo, Gives}
 use Rattle.sas_run.specs.Running.{IsApplied}
-
-abbrev no_effect : Effect
-no_effect = record { conditions = []; var = 0; old = None; new = 0 }
+use Rattle.sas_run.proofs.Ranges.{no_effect}
 
 same_inside : (a b : ℕ) → Some a ≡ Some b → a ≡ b
 same_inside a b is = cc
@@ -48,10 +46,10 @@ module _ (p : Parts) (s : List ℕ) (o : Operator) (n : ℕ) (given : List (Opti
   pub gives_one_more : (effect_at o n).var < length p.variables → Fires s (effect_at o n) → (given' : List (Option ℕ)) → Gives given (effect_at o n).var (effect_at o n).new given'
       → IsGiven p s o (n + 1) given'
   gives_one_more within fires given' new = subst (λ g. IsGiven p s o (n + 1) g) (sym new.now) record {
-      one_each = length-set given (effect_at o n).var (Some (effect_at o n).new) ∙ is.one_each;
-      gives = gives;
-      giver = giver;
-    }
+    one_each = length-set given (effect_at o n).var (Some (effect_at o n).new) ∙ is.one_each;
+    gives = gives;
+    giver = giver;
+  }
     where
       now : List (Option ℕ)
       now = set given (effect_at o n).var (Some (effect_at o n).new)
@@ -114,13 +112,13 @@ module _ (given : List (Option ℕ)) (v : ℕ) (within : v < length given) where
 pub applied : (p : Parts) (s : List ℕ) (o : Operator) (given : List (Option ℕ)) (s' : List ℕ) → AllHold (λ v. get_or s v 0) (preconditions o)
     → IsGiven p s o (length o.effects) given → IsState p.variables s' → ((var : ℕ) → get_or s' var 0 ≡ value_after given s var) → IsApplied p s o s'
 applied p s o given s' applicable is state written = record {
-    applicable = applicable;
-    agree = λ k d lt j e lt' fires fires' same. same_inside _ _ (sym (gives k d lt fires) ∙ (ap (given_to given) same ∙ gives j e lt' fires'));
-    state = state;
-    set = λ k d lt fires. written (get_or o.effects k d).var ∙ ap (λ x. unwrap_or x (get_or s (get_or o.effects k d).var 0)) (gives k d lt fires);
-    kept = λ var untouched. written var ∙ nothing (given_to given var) (get_or s var 0)
-        (λ value at. (let (k, lt, fires, on, new) = is.giver var value at in untouched k no_effect lt fires on));
-  }
+  applicable = applicable;
+  agree = λ k d lt j e lt' fires fires' same. same_inside _ _ (sym (gives k d lt fires) ∙ (ap (given_to given) same ∙ gives j e lt' fires'));
+  state = state;
+  set = λ k d lt fires. written (get_or o.effects k d).var ∙ ap (λ x. unwrap_or x (get_or s (get_or o.effects k d).var 0)) (gives k d lt fires);
+  kept = λ var untouched. written var ∙ nothing (given_to given var) (get_or s var 0)
+      (λ value at. (let (k, lt, fires, on, new) = is.giver var value at in untouched k no_effect lt fires on));
+}
   where
     gives : (k : ℕ) (d : Effect) → k < length o.effects → Fires s (get_or o.effects k d) → given_to given (get_or o.effects k d).var ≡ Some (get_or o.effects k d).new
     gives k d lt fires = subst (λ (e : Effect). Fires s e → given_to given e.var ≡ Some e.new) (get_or_default o.effects k no_effect d lt) (is.gives k lt) fires

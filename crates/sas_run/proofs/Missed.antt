@@ -11,17 +11,11 @@ use Rattle.sas_meaning.specs.States.{Holds, AllHold}
 use Rattle.sas_meaning.specs.Steps.{old_fact}
 use Rattle.sas_run.specs.Running.{IsFirstMissedFact}
 
--- one that is missed in the front part is missed first in the whole
-pub missed_in_front : (value : ℕ → ℕ) (xs ys : List Fact) (fact : Fact) → IsFirstMissedFact value xs fact → IsFirstMissedFact value (xs ++ ys) fact
-missed_in_front value xs ys fact (index, first, is) = (index, record {
-    exists = let l = length-append xs ys in let e = first.exists in omega arith;
-    missed = λ d h. first.missed d (subst (λ f. Holds value f) (get_or_append_left xs ys d index first.exists) h);
-    before = λ k d lt. subst (λ f. Holds value f) (sym (get_or_append_left xs ys d k (let e = first.exists in omega arith))) (first.before k d lt);
-  }, λ d. get_or_append_left xs ys d index first.exists ∙ is d)
-
 -- one that is missed behind facts that hold is missed first in the whole
 pub missed_behind : (value : ℕ → ℕ) (xs ys : List Fact) (fact : Fact) → AllHold value xs → IsFirstMissedFact value ys fact → IsFirstMissedFact value (xs ++ ys) fact
-missed_behind value xs ys fact hold (index, first, is) = (length xs + index, record {
+missed_behind value xs ys fact hold (index, first, is) = (
+  length xs + index,
+  record {
     exists = let l = length-append xs ys in let e = first.exists in omega arith;
     missed = λ d h. first.missed d (subst (λ f. Holds value f) (get_or-append-add xs ys index d) h);
     before = λ k d lt. elim (cases_lt k (length xs)) [
@@ -30,15 +24,21 @@ missed_behind value xs ys fact hold (index, first, is) = (length xs + index, rec
           (sym (get_or-append-add xs ys (k - length xs) d) ∙ ap (λ i. get_or (xs ++ ys) i d) (let e : length xs + (k - length xs) ≡ k = omega arith in e))
           (first.before (k - length xs) d (omega arith))
     ];
-  }, λ d. get_or-append-add xs ys index d ∙ is d)
+  },
+  λ d. get_or-append-add xs ys index d ∙ is d,
+)
 
 -- the first of a list
 pub missed_head : (value : ℕ → ℕ) (fact : Fact) (facts : List Fact) → (value fact.var ≢ fact.value) → IsFirstMissedFact value (fact ∷ facts) fact
-missed_head value fact facts ne = (0, record {
+missed_head value fact facts ne = (
+  0,
+  record {
     exists = omega arith;
     missed = λ d h. ne h;
     before = λ k d lt. absurd (omega arith);
-  }, λ d. refl)
+  },
+  λ d. refl,
+)
 
 -- the fact that an effect's old value makes
 pub old_fact_is : (e : Effect) (value : ℕ) → e.old ≡ Some value → old_fact e ≡ Some (record { var = e.var; value = value })

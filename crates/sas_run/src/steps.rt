@@ -1,5 +1,5 @@
 // One step: from a state by an operator to the next state, before it is settled.
-ghost use Rattle.std.specs.Prelude.{◌≡◌, ◌≢◌, ℕ, ◌<◌, length, IsTrue, IsFalse, IfSome, IfNone, None, Some, slice_index, slice_index_or, slice_set};
+ghost use Rattle.std.specs.Prelude.{◌≡◌, ℕ, ◌<◌, length, IsTrue, IsFalse, IfSome, IfNone, slice_index};
 ghost use Rattle.sas_core.specs.Grounded.{operator_at};
 ghost use Rattle.sas_core.specs.Variables.{IsState};
 ghost use Rattle.sas_core.specs.WellRanged.{WellRanged};
@@ -28,7 +28,8 @@ pub fn missed_precondition<T: Grounded>(task: &T, operator: u32, state: &State) 
         IsStepFault state.now (operator_at (T.says task.now) operator) (StepFault.NotApplicable fact)) }
     ensures none { IfNone result (IsApplicable state.now (operator_at (T.says task.now) operator)) }
 {
-    let _variables = task.variables();
+    // The contract of this call tells that what the task says is well ranged.
+    let _ = task.variables();
     let prevail = task.prevail(operator);
     match first_missed(state, prevail) {
         Some(index) => Some(prevail[index]),
@@ -50,7 +51,8 @@ pub fn apply<T: Grounded>(
     ensures applies { Applies (T.says task.now) state.old operator state.new result }
     ensures clean { IsClean (T.says task.now) given.new }
 {
-    let _variables = task.variables();
+    // The contract of this call tells that what the task says is well ranged.
+    let _ = task.variables();
     if let Some(fact) = missed_precondition(task, operator, state) {
         return Err(StepFault::NotApplicable { fact });
     }

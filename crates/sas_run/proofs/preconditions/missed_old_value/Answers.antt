@@ -1,5 +1,5 @@
 -- The old value of the effect that the loop is at.
-use Rattle.std.proofs.Common.{◌≡◌, ◌∙◌, ℕ, List, [], None, Some, ap, subst, sym, arith, rules}
+use Rattle.std.proofs.Common.{◌≡◌, ◌∙◌, ℕ, List, None, Some, ap, subst, sym, arith, rules}
 use Rattle.std.specs.Prelude.{slice_index, filter_map}
 use Rattle.std.proofs.lemmas.List.{take_all}
 use Rattle.sas_core.specs.declared.grounded.Change.{Change}
@@ -8,12 +8,10 @@ use Rattle.sas_core.specs.declared.parts.Fact.{Fact}
 use Rattle.sas_core.specs.Grounded.{operator_at, effect_at, effect_change}
 use Rattle.sas_meaning.specs.States.{Holds, AllHold}
 use Rattle.sas_meaning.specs.Steps.{old_fact}
+use Rattle.sas_run.proofs.Ranges.{no_effect}
 use Rattle.sas_run.proofs.Missed.{old_fact_is, no_old_fact, old_missed, old_holds}
 use Rattle.sas_run.proofs.preconditions.missed_old_value.Goals as goal
 use Rattle.sas_run.proofs.preconditions.missed_old_value.Goals.{in-Some+else-value, in_default}
-
-abbrev no_effect : Effect
-no_effect = record { conditions = []; var = 0; old = None; new = 0 }
 
 module _ (e : Effect) (change : Change) (is : change ≡ effect_change e) where
   -- the fact of a change's old value is that of its effect
@@ -39,8 +37,8 @@ returns-then-value-clause-some g c =
     let n = c.loop-effect.effect in
     let change = c.effect_change-change in
     old_missed (slice_index c.args.state.now) o.effects n no_effect (omega arith) c.loop-effect.invariant _
-        (its_old_fact (effect_at o n) change.result change.ensures c.in-Some.value c.in-Some.is)
-        (λ e. c.if-value.true (c.value.ensures ∙ e))
+    (its_old_fact (effect_at o n) change.result change.ensures c.in-Some.value c.in-Some.is)
+    (λ e. c.if-value.true (c.value.ensures ∙ e))
 
 pub loop-effect-preserved : goal.loop-effect-preserved
 loop-effect-preserved g c =

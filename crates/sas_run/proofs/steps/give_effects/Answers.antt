@@ -17,7 +17,7 @@ returns-then-not-give-clause-given_to g c =
     let n = c.loop-effect.effect in
     let same : c.give.new.given ≡ c.loop-effect.given = search rules in
     subst (λ given. IsGivenTo p o given) (sym same)
-        (given_on_effects p c.args.state.now o n c.loop-effect.given c.loop-effect.invariant (omega arith) (effect_fits p c.requires.ranged c.args.operator c.requires.operator))
+    (given_on_effects p c.args.state.now o n c.loop-effect.given c.loop-effect.invariant (omega arith) (effect_fits p c.requires.ranged c.args.operator c.requires.operator))
 
 pub loop-effect-preserved : goal.loop-effect-preserved
 loop-effect-preserved g c =

@@ -25,10 +25,10 @@ pub returns-in-None-clause-some : goal.returns-in-None-clause-some
 returns-in-None-clause-some g c =
     let s = slice_index c.args.state.now in
     some_missed s (operator_at (g.T.Grounded.says c.args.task.now) c.args.operator)
-        (subst (AllHold s) c.prevail-prevail.ensures c.in-None.ensures.none) c.missed_old_value.result c.missed_old_value.ensures.some
+    (subst (AllHold s) c.prevail-prevail.ensures c.in-None.ensures.none) c.missed_old_value.result c.missed_old_value.ensures.some
 
 pub returns-in-None-clause-none : goal.returns-in-None-clause-none
 returns-in-None-clause-none g c =
     let s = slice_index c.args.state.now in
     none_missed s (operator_at (g.T.Grounded.says c.args.task.now) c.args.operator)
-        (subst (AllHold s) c.prevail-prevail.ensures c.in-None.ensures.none) c.missed_old_value.result c.missed_old_value.ensures.none
+    (subst (AllHold s) c.prevail-prevail.ensures c.in-None.ensures.none) c.missed_old_value.result c.missed_old_value.ensures.none
