@@ -4,3 +4,6 @@ pub mod NextStates
 pub mod PlanVerdicts
 pub mod NameKeys
 pub mod NamesFrom
+pub mod Ranges
+pub mod Missed
+pub mod Giving

@@ -40,6 +40,12 @@ pub record IsFirstConflict (s : List ℕ) (o : Operator) (effect : ℕ) : Type 0
   pub contradicts : Contradicts (effect_at o earlier) (effect_at o effect)
   pub first : (e f : ℕ) → e < f → f < effect → Fires s (effect_at o e) → Fires s (effect_at o f) → Contradicts (effect_at o e) (effect_at o f) → ⊥
 
+-- the fact is the first of the facts that doesn't hold
+abbrev pub IsFirstMissedFact : (ℕ → ℕ) → List Fact → Fact → Type 0
+IsFirstMissedFact value facts fact = (index : ℕ)
+    × IsFirstMissed value facts index
+    × ((d : Fact) → slice_index_or facts index d ≡ fact)
+
 -- why an operator has no step: the first of its preconditions that fails, or, where all hold, the first conflict
 abbrev pub IsStepFault : List ℕ → Operator → StepFault → Type 0
 IsStepFault s o (step_fault.NotApplicable fact) = (index : ℕ)

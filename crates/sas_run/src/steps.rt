@@ -1,12 +1,13 @@
 // One step: from a state by an operator to the next state, before it is settled.
-ghost use Rattle.std.specs.Prelude.{◌≡◌, ◌<◌, length, OnOk, OnErr, IfSome, IfNone};
+ghost use Rattle.std.specs.Prelude.{◌≡◌, ℕ, ◌<◌, length, IsTrue, IsFalse, IfSome, IfNone, slice_index};
 ghost use Rattle.sas_core.specs.Grounded.{operator_at};
 ghost use Rattle.sas_core.specs.Variables.{IsState};
 ghost use Rattle.sas_core.specs.WellRanged.{WellRanged};
 ghost use Rattle.sas_run.specs.Plans.{IsApplicable};
-ghost use Rattle.sas_run.specs.Running.{IsStepFault, Applies};
-ghost use Rattle.sas_run.specs.Given.{IsClean};
+ghost use Rattle.sas_run.specs.Running.{IsFirstConflict, IsStepFault, Applies};
+ghost use Rattle.sas_run.specs.Given.{IsClean, IsGiven, IsGivenTo, value_after, Gives, GivesOther};
 
+use crate::preconditions::{all_hold, first_missed, missed_old_value};
 use sas_core::{Fact, Grounded, Items};
 use sas_meaning::State;
 
@@ -27,7 +28,13 @@ pub fn missed_precondition<T: Grounded>(task: &T, operator: u32, state: &State) 
         IsStepFault state.now (operator_at (T.says task.now) operator) (StepFault.NotApplicable fact)) }
     ensures none { IfNone result (IsApplicable state.now (operator_at (T.says task.now) operator)) }
 {
-    None
+    // The contract of this call tells that what the task says is well ranged.
+    let _ = task.variables();
+    let prevail = task.prevail(operator);
+    match first_missed(state, prevail) {
+        Some(index) => Some(prevail[index]),
+        None => missed_old_value(task, operator, state),
+    }
 }
 
 /// Does what the effects that fire do, unless a precondition fails or two of them conflict. What is given to variables
@@ -44,5 +51,95 @@ pub fn apply<T: Grounded>(
     ensures applies { Applies (T.says task.now) state.old operator state.new result }
     ensures clean { IsClean (T.says task.now) given.new }
 {
+    // The contract of this call tells that what the task says is well ranged.
+    let _ = task.variables();
+    if let Some(fact) = missed_precondition(task, operator, state) {
+        return Err(StepFault::NotApplicable { fact });
+    }
+    if let Some(effect) = give_effects(task, operator, state, given) {
+        take_back(task, operator, given);
+        return Err(StepFault::Conflict { effect });
+    }
+    write_given(task, operator, given, state);
     Ok(())
+}
+
+/// Gives each variable what the effects that fire set it to, up to the first that conflicts with an earlier one: that is
+/// the answer.
+fn give_effects<T: Grounded>(
+    task: &T,
+    operator: u32,
+    state: &State,
+    given: &mut Items<Option<u32>>,
+) -> Option<u32>
+    requires ranged { WellRanged (T.says task.now) }
+    requires operator { operator < length (T.says task.now).operators }
+    requires state { IsState (T.says task.now).variables state.now }
+    requires clean { IsClean (T.says task.now) given.old }
+    ensures some { IfSome result (λ effect. IsFirstConflict state.now (operator_at (T.says task.now) operator) effect) }
+    ensures none { IfNone result (IsGiven (T.says task.now) state.now (operator_at (T.says task.now) operator)
+        (length (operator_at (T.says task.now) operator).effects) given.new) }
+    ensures given_to { IsGivenTo (T.says task.now) (operator_at (T.says task.now) operator) given.new }
+{
+    for effect in 0..task.effects(operator) {
+        if all_hold(state, task.effect_conditions(operator, effect)) {
+            let change = task.effect_change(operator, effect);
+            if !give(given, change.var, change.new) {
+                return Some(effect);
+            }
+        }
+    }
+    None
+}
+
+/// Gives the variable the value, unless another one was given to it before. Says whether it was not.
+fn give(given: &mut Items<Option<u32>>, var: u32, value: u32) -> bool
+    requires { var < length given.old }
+    ensures yes { IsTrue result → Gives given.old var value given.new }
+    ensures no { IsFalse result → GivesOther given.old var value given.new }
+{
+    match given.as_slice()[var as usize] {
+        Some(earlier) => earlier == value,
+        None => {
+            given.set(var as usize, Some(value));
+            true
+        }
+    }
+}
+
+/// Takes back what is given to the variables of the effects.
+fn take_back<T: Grounded>(task: &T, operator: u32, given: &mut Items<Option<u32>>)
+    requires ranged { WellRanged (T.says task.now) }
+    requires operator { operator < length (T.says task.now).operators }
+    requires given_to { IsGivenTo (T.says task.now) (operator_at (T.says task.now) operator) given.old }
+    ensures { IsClean (T.says task.now) given.new }
+{
+    for effect in 0..task.effects(operator) {
+        let change = task.effect_change(operator, effect);
+        given.set(change.var as usize, None);
+    }
+}
+
+/// Writes what is given to the variables of the effects into the state, and takes it back.
+fn write_given<T: Grounded>(
+    task: &T,
+    operator: u32,
+    given: &mut Items<Option<u32>>,
+    state: &mut State,
+)
+    requires ranged { WellRanged (T.says task.now) }
+    requires operator { operator < length (T.says task.now).operators }
+    requires state { IsState (T.says task.now).variables state.old }
+    requires given_to { IsGivenTo (T.says task.now) (operator_at (T.says task.now) operator) given.old }
+    ensures state { IsState (T.says task.now).variables state.new }
+    ensures written { (var : ℕ) → slice_index state.new var ≡ value_after given.old state.old var }
+    ensures clean { IsClean (T.says task.now) given.new }
+{
+    for effect in 0..task.effects(operator) {
+        let var = task.effect_change(operator, effect).var;
+        if let Some(value) = given.as_slice()[var as usize] {
+            state.set(Fact { var, value });
+            given.set(var as usize, None);
+        }
+    }
 }

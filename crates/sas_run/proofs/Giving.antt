@@ -1,0 +1,128 @@
+-- What the effects of a step give, one effect more, and what writing it leads to.
+use Rattle.std.proofs.Common.{◌≡◌, ◌≢◌, ℕ, ◌+◌, ◌<◌, ◌≤◌, List, length, get_or, set, Option, None, Some, refl, sym, ◌∙◌, ap, subst, inl, inr, arith}
+use Rattle.std.specs.Prelude.{unwrap_or}
+use Rattle.std.proofs.lemmas.Bool.{cases_eq}
+use Rattle.std.proofs.lemmas.List.{get_or_default, get_or-set_same, get_or-set_other, length-set}
+use Rattle.sas_core.specs.declared.parts.Effect.{Effect}
+use Rattle.sas_core.specs.declared.parts.Operator.{Operator}
+use Rattle.sas_core.specs.declared.parts.Parts.{Parts}
+use Rattle.sas_core.specs.Grounded.{effect_at}
+use Rattle.sas_core.specs.Variables.{HasValue, IsState}
+use Rattle.sas_core.specs.WellRanged.{EffectFits}
+use Rattle.sas_meaning.specs.States.{AllHold}
+use Rattle.sas_meaning.specs.Steps.{preconditions, Fires}
+use Rattle.sas_run.specs.Given.{given_to, value_after, IsGiven, IsGivenTo, Gives}
+use Rattle.sas_run.specs.Running.{IsApplied}
+use Rattle.sas_run.proofs.Ranges.{no_effect}
+
+same_inside : (a b : ℕ) → Some a ≡ Some b → a ≡ b
+same_inside a b is = cc
+
+not_both : (a : ℕ) (given : Option ℕ) → given ≡ None → given ≡ Some a → ⊥
+not_both a given none some = let e : None ≡ Some a = sym none ∙ some in absurd cc
+
+module _ (p : Parts) (s : List ℕ) (o : Operator) (n : ℕ) (given : List (Option ℕ)) (is : IsGiven p s o n given) where
+  -- what the effects give is a value of its variable
+  pub given_on_effects : n ≤ length o.effects → ((k : ℕ) → k < length o.effects → EffectFits p.variables (effect_at o k)) → IsGivenTo p o given
+  given_on_effects within fits = record {
+    one_each = is.one_each;
+    value = λ var value at. (let (k, lt, fires, on, new) = is.giver var value at in
+        subst (λ v. HasValue p.variables v value) on (subst (HasValue p.variables (effect_at o k).var) new (fits k (omega arith)).new));
+    effect = λ var value at. (let (k, lt, fires, on, new) = is.giver var value at in (k, omega arith, on));
+  }
+
+  -- one more effect that doesn't fire gives nothing
+  pub gives_nothing : (Fires s (effect_at o n) → ⊥) → IsGiven p s o (n + 1) given
+  gives_nothing quiet = record {
+    one_each = is.one_each;
+    gives = λ k lt fires. elim (cases_eq k n) [
+      | inl e ↦ absurd (quiet (subst (λ i. Fires s (effect_at o i)) e fires))
+      | inr ne ↦ is.gives k (omega arith) fires
+    ];
+    giver = λ var value at. (let (k, lt, fires, on, new) = is.giver var value at in (k, omega arith, fires, on, new));
+  }
+
+  -- one more effect that fires gives its new value
+  pub gives_one_more : (effect_at o n).var < length p.variables → Fires s (effect_at o n) → (given' : List (Option ℕ)) → Gives given (effect_at o n).var (effect_at o n).new given'
+      → IsGiven p s o (n + 1) given'
+  gives_one_more within fires given' new = subst (λ g. IsGiven p s o (n + 1) g) (sym new.now) record {
+    one_each = length-set given (effect_at o n).var (Some (effect_at o n).new) ∙ is.one_each;
+    gives = gives;
+    giver = giver;
+  }
+    where
+      now : List (Option ℕ)
+      now = set given (effect_at o n).var (Some (effect_at o n).new)
+
+      at_n : given_to now (effect_at o n).var ≡ Some (effect_at o n).new
+      at_n = get_or-set_same given (effect_at o n).var (Some (effect_at o n).new) None (omega (arith, is.one_each, within))
+
+      elsewhere : (var : ℕ) → var ≢ (effect_at o n).var → given_to now var ≡ given_to given var
+      elsewhere var ne = get_or-set_other given (effect_at o n).var var (Some (effect_at o n).new) None ne
+
+      gives : (k : ℕ) → k < n + 1 → Fires s (effect_at o k) → given_to now (effect_at o k).var ≡ Some (effect_at o k).new
+      gives k lt fires' = elim (cases_eq k n) [
+        | inl e ↦ subst (λ i. given_to now (effect_at o i).var ≡ Some (effect_at o i).new) (sym e) at_n
+        | inr ne ↦ (let before : given_to given (effect_at o k).var ≡ Some (effect_at o k).new = is.gives k (omega arith) fires' in
+            elim (cases_eq (effect_at o k).var (effect_at o n).var) [
+              | inl same ↦ ap (given_to now) same ∙ (at_n ∙ ap (λ x. Some x) (sym (new.before (effect_at o k).new (ap (given_to given) (sym same) ∙ before))))
+              | inr other ↦ elsewhere (effect_at o k).var other ∙ before
+            ])
+      ]
+
+      giver : (var value : ℕ) → given_to now var ≡ Some value → (k : ℕ) × (k < n + 1) × Fires s (effect_at o k) × ((effect_at o k).var ≡ var) × ((effect_at o k).new ≡ value)
+      giver var value at = elim (cases_eq var (effect_at o n).var) [
+        | inl e ↦ (n, omega arith, fires, sym e, same_inside (effect_at o n).new value (sym at_n ∙ (ap (given_to now) (sym e) ∙ at)))
+        | inr ne ↦ (let (k, lt, fires', on, same) = is.giver var value (sym (elsewhere var ne) ∙ at) in (k, omega arith, fires', on, same))
+      ]
+
+-- what is given to one variable is taken back
+module _ (given : List (Option ℕ)) (v : ℕ) (within : v < length given) where
+  pub none_there : given_to (set given v None) v ≡ None
+  none_there = get_or-set_same given v None None within
+
+  pub still_none : (w : ℕ) → given_to given w ≡ None → given_to (set given v None) w ≡ None
+  still_none w none = elim (cases_eq w v) [
+    | inl e ↦ ap (given_to (set given v None)) e ∙ none_there
+    | inr ne ↦ get_or-set_other given v w None None ne ∙ none
+  ]
+
+  was_given : (w value : ℕ) → given_to (set given v None) w ≡ Some value → given_to given w ≡ Some value
+  was_given w value at = elim (cases_eq w v) [
+    | inl e ↦ absurd (not_both value (given_to (set given v None) w) (ap (given_to (set given v None)) e ∙ none_there) at)
+    | inr ne ↦ sym (get_or-set_other given v w None None ne) ∙ at
+  ]
+
+  pub fewer_on_effects : (p : Parts) (o : Operator) → IsGivenTo p o given → IsGivenTo p o (set given v None)
+  fewer_on_effects p o on = record {
+    one_each = length-set given v None ∙ on.one_each;
+    value = λ w value at. on.value w value (was_given w value at);
+    effect = λ w value at. on.effect w value (was_given w value at);
+  }
+
+  -- what was given is written instead
+  pub written_same : (s : List ℕ) (value : ℕ) → v < length s → given_to given v ≡ Some value → (w : ℕ) → value_after (set given v None) (set s v value) w ≡ value_after given s w
+  written_same s value exists at w = elim (cases_eq w v) [
+    | inl e ↦ subst (λ x. value_after (set given v None) (set s v value) x ≡ value_after given s x) (sym e)
+        (ap (λ x. unwrap_or x (get_or (set s v value) v 0)) none_there ∙ (get_or-set_same s v value 0 exists ∙ sym (ap (λ x. unwrap_or x (get_or s v 0)) at)))
+    | inr ne ↦ ap (λ x. unwrap_or x (get_or (set s v value) w 0)) (get_or-set_other given v w None None ne) ∙ ap (λ x. unwrap_or (given_to given w) x) (get_or-set_other s v w value 0 ne)
+  ]
+
+-- what all effects give, written into the state, is what they do
+pub applied : (p : Parts) (s : List ℕ) (o : Operator) (given : List (Option ℕ)) (s' : List ℕ) → AllHold (λ v. get_or s v 0) (preconditions o)
+    → IsGiven p s o (length o.effects) given → IsState p.variables s' → ((var : ℕ) → get_or s' var 0 ≡ value_after given s var) → IsApplied p s o s'
+applied p s o given s' applicable is state written = record {
+  applicable = applicable;
+  agree = λ k d lt j e lt' fires fires' same. same_inside _ _ (sym (gives k d lt fires) ∙ (ap (given_to given) same ∙ gives j e lt' fires'));
+  state = state;
+  set = λ k d lt fires. written (get_or o.effects k d).var ∙ ap (λ x. unwrap_or x (get_or s (get_or o.effects k d).var 0)) (gives k d lt fires);
+  kept = λ var untouched. written var ∙ nothing (given_to given var) (get_or s var 0)
+      (λ value at. (let (k, lt, fires, on, new) = is.giver var value at in untouched k no_effect lt fires on));
+}
+  where
+    gives : (k : ℕ) (d : Effect) → k < length o.effects → Fires s (get_or o.effects k d) → given_to given (get_or o.effects k d).var ≡ Some (get_or o.effects k d).new
+    gives k d lt fires = subst (λ (e : Effect). Fires s e → given_to given e.var ≡ Some e.new) (get_or_default o.effects k no_effect d lt) (is.gives k lt) fires
+
+    nothing : (x : Option ℕ) (otherwise : ℕ) → ((value : ℕ) → x ≡ Some value → ⊥) → unwrap_or x otherwise ≡ otherwise
+    nothing None otherwise none = refl
+    nothing (Some value) otherwise none = absurd (none value refl)

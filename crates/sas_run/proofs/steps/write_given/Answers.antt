@@ -1,0 +1,53 @@
+-- What is given to one more variable is written and taken back.
+use Rattle.std.proofs.Common.{◌≡◌, ◌<◌, length, set, None, Some, sym, ap, subst, ◌∙◌, inl, inr, arith}
+use Rattle.std.proofs.lemmas.Bool.{cases_eq}
+use Rattle.sas_core.specs.declared.grounded.Change.{Change}
+use Rattle.sas_core.specs.Grounded.{operator_at, effect_at}
+use Rattle.sas_meaning.proofs.Forced.{state_set}
+use Rattle.sas_run.specs.Given.{given_to}
+use Rattle.sas_run.proofs.Ranges.{effect_within}
+use Rattle.sas_run.proofs.Giving.{none_there, still_none, fewer_on_effects, written_same}
+use Rattle.sas_run.proofs.steps.write_given.Goals as goal
+use Rattle.sas_run.proofs.steps.write_given.Goals.{in-Some, in_default}
+
+pub loop-effect-preserved : goal.loop-effect-preserved
+loop-effect-preserved g c =
+    let p = g.T.Grounded.says c.args.task.now in
+    let o = operator_at p c.args.operator in
+    let n = c.loop-effect.effect in
+    let s = c.loop-effect.state in
+    let given = c.loop-effect.given in
+    let inv = c.loop-effect.invariant in
+    let v = c.effect_change-var.result.var in
+    let on : v ≡ (effect_at o n).var = ap (λ (change : Change). change.var) c.effect_change-var.ensures in
+    let exists : v < length p.variables = subst (λ x. x < length p.variables) (sym on) (effect_within p c.requires.ranged c.args.operator c.requires.operator n (omega arith)) in
+    let read : given_to given v ≡ given_to c.as_slice.result.now v = ap (λ list. given_to list v) (sym c.as_slice.ensures) in
+    elim c.match-as_slice-var.branch [
+      | in-Some w ↦
+          (let value = w.in-Some.value in
+          let at : given_to given v ≡ Some value = read ∙ w.in-Some.is in
+          let given-is : c.match-as_slice-var.given ≡ set given v None = w.given-is ∙ w.set-in-Some.ensures in
+          let state-is : c.match-as_slice-var.state ≡ set s v value = w.state-is ∙ w.set.ensures in
+          let one = inv.on_effects.one_each in
+          let len = inv.state.one_each in
+          rw (given-is, state-is) record {
+            state = state_set p s v value inv.state (inv.on_effects.value v value at);
+            on_effects = fewer_on_effects given v (omega arith) p o inv.on_effects;
+            taken = λ k lt. elim (cases_eq k n) [
+              | inl e ↦ subst (λ x. given_to (set given v None) x ≡ None) (on ∙ ap (λ i. (effect_at o i).var) (sym e)) (none_there given v (omega arith))
+              | inr ne ↦ still_none given v (omega arith) (effect_at o k).var (inv.taken k (omega arith))
+            ];
+            written = λ var. written_same given v (omega arith) s value (omega arith) at var ∙ inv.written var;
+          })
+      | in_default w ↦
+          (let none : given_to given v ≡ None = read ∙ w.in_default.is in
+          rw (w.given-is, w.state-is) record {
+            state = inv.state;
+            on_effects = inv.on_effects;
+            taken = λ k lt. elim (cases_eq k n) [
+              | inl e ↦ subst (λ x. given_to given x ≡ None) (on ∙ ap (λ i. (effect_at o i).var) (sym e)) none
+              | inr ne ↦ inv.taken k (omega arith)
+            ];
+            written = inv.written;
+          })
+    ]
