@@ -55,6 +55,17 @@ impl State {
         })
     }
 
+    /// The state of the state section, in which each derived variable has its default.
+    pub fn of_section<T: Grounded>(alloc: Global, task: &T) -> Result<State, AllocError>
+        ensures { IfOk result (λ s. s ≡ (T.says task.now).init) }
+    {
+        let mut values = Items::new(alloc);
+        for var in 0..task.variables() {
+            values.push(task.initial_value(var))?;
+        }
+        Ok(State { values })
+    }
+
     /// The values of the variables in order.
     pub fn values(&self) -> &[u32]
         ensures { result.now ≡ self.now }

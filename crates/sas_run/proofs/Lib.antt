@@ -7,3 +7,5 @@ pub mod NamesFrom
 pub mod Ranges
 pub mod Missed
 pub mod Giving
+pub mod NamedAlike
+pub mod Going

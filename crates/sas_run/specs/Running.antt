@@ -1,18 +1,20 @@
 -- What the calls of a runner say.
-use Rattle.std.specs.Prelude.{◌≡◌, ◌≢◌, ℕ, ◌<◌, List, length, All, slice_index, slice_index_or, Option, None, Some, Result, Ok, Err}
+use Rattle.std.specs.Prelude.{◌≡◌, ◌≢◌, ℕ, ◌<◌, ◌≤◌, ◌+◌, ◌++◌, ◌∷◌, List, length, All, slice_index, slice_index_or, Option, None, Some, Result, Ok, Err}
 use Rattle.sas_core.specs.declared.parts.Fact.{Fact}
 use Rattle.sas_core.specs.declared.parts.Effect.{Effect}
 use Rattle.sas_core.specs.declared.parts.Operator.{Operator}
 use Rattle.sas_core.specs.declared.parts.Parts.{Parts}
 use Rattle.sas_core.specs.Grounded.{operator_at, effect_at}
 use Rattle.sas_core.specs.Variables.{IsState}
-use Rattle.sas_meaning.specs.States.{Holds, AllHold}
+use Rattle.sas_meaning.specs.States.{AllHold}
 use Rattle.sas_meaning.specs.Steps.{preconditions, Fires, Step}
+use Rattle.sas_run.specs.declared.plan_check.PlanFault.{PlanFault}
+use Rattle.sas_run.specs.declared.plan_check.PlanFault.TheVariants as plan_fault
 use Rattle.sas_run.specs.declared.runner.Choice.{Choice}
 use Rattle.sas_run.specs.declared.runner.Choice.TheVariants.{Unknown, Blocked, Found}
 use Rattle.sas_run.specs.declared.steps.StepFault.{StepFault}
 use Rattle.sas_run.specs.declared.steps.StepFault.TheVariants as step_fault
-use Rattle.sas_run.specs.Plans.{IsNamed, IsChosen}
+use Rattle.sas_run.specs.Plans.{IsApplicable, IsNamed, IsChosen, GoThrough}
 use Rattle.sas_run.specs.Verdicts.{IsFirstMissed}
 
 -- which operator a name means in a state: no operator has the name, none that has it is applicable, or the chosen one
@@ -20,6 +22,16 @@ abbrev pub IsChoice : Parts → List ℕ → List ℕ → Choice → Type 0
 IsChoice p s name Unknown = (operator : ℕ) → IsNamed p name operator → ⊥
 IsChoice p s name Blocked = ((operator : ℕ) × IsNamed p name operator) × ((operator : ℕ) → IsChosen p s name operator → ⊥)
 IsChoice p s name (Found operator) = IsChosen p s name operator
+
+-- the first operator from this one on that has its name and is applicable, if there is one
+abbrev pub IsFirstChosen : Parts → List ℕ → ℕ → Option ℕ → Type 0
+IsFirstChosen p s first None = (operator : ℕ) → first ≤ operator → IsNamed p (operator_at p first).name operator
+    → IsApplicable s (operator_at p operator) → ⊥
+IsFirstChosen p s first (Some operator) = (first ≤ operator)
+    × IsNamed p (operator_at p first).name operator
+    × IsApplicable s (operator_at p operator)
+    × ((lower : ℕ) → first ≤ lower → lower < operator → IsNamed p (operator_at p first).name lower
+    → IsApplicable s (operator_at p lower) → ⊥)
 
 -- two effects set one variable to different values
 pub record Contradicts (e f : Effect) : Type 0 where
@@ -75,3 +87,29 @@ Steps p s operator s' (Err fault) = IsStepFault s (operator_at p operator) fault
 abbrev pub IsGoalAnswer : List ℕ → List Fact → Option ℕ → Type 0
 IsGoalAnswer s goal None = AllHold (slice_index s) goal
 IsGoalAnswer s goal (Some index) = IsFirstMissed (slice_index s) goal index
+
+-- the step of this name is made, by its chosen operator
+pub record GoesOn (p : Parts) (s name : List ℕ) (operator : ℕ) (s' : List ℕ) : Type 0 where
+  pub chosen : IsChosen p s name operator
+  pub step : Step p s (operator_at p operator) s'
+
+-- the step of this name, counted from 1, isn't made, and why
+abbrev pub StopsAt : Parts → List ℕ → List ℕ → ℕ → PlanFault → Type 0
+StopsAt p s name step (plan_fault.NoOperator at) = (at ≡ step) × ((operator : ℕ) → IsNamed p name operator → ⊥)
+StopsAt p s name step (plan_fault.NotApplicable at) = (at ≡ step)
+    × ((operator : ℕ) × IsNamed p name operator)
+    × ((operator : ℕ) → IsChosen p s name operator → ⊥)
+StopsAt p s name step (plan_fault.Conflict at operator) = (at ≡ step)
+    × IsChosen p s name operator
+    × ((next : List ℕ) → Step p s (operator_at p operator) next → ⊥)
+StopsAt p s name step (plan_fault.GoalMissed index) = ⊥
+StopsAt p s name step (plan_fault.CostDiffers sum) = ⊥
+StopsAt p s name step plan_fault.Memory = ⊥
+
+-- all steps go through from the state s, or those before one that stops
+abbrev pub GoesThrough : Parts → List ℕ → List (List ℕ) → List ℕ → List ℕ → Result (Unit {0}) PlanFault → Type 0
+GoesThrough p s steps operators s' (Ok _) = GoThrough p s steps operators s' × IsState p.variables s' × All (λ (o : ℕ). o < length p.operators) operators
+GoesThrough p s steps operators s' (Err fault) = (before behind : List (List ℕ)) × (name mid : List ℕ)
+    × (steps ≡ before ++ name ∷ behind)
+    × GoThrough p s before operators mid
+    × StopsAt p mid name (length before + 1) fault

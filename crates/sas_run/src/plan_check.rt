@@ -1,4 +1,15 @@
 // Whether a plan is valid.
+ghost use Rattle.std.specs.Prelude.{◌≡◌, ◌≢◌, ◌<◌, ◌≤◌, ◌++◌, ◌∷◌, [], length, All, IfOk, IfErr, OnOk, OnErr, vec_capacity};
+ghost use Rattle.sas_core.specs.Grounded.{operator_at};
+ghost use Rattle.sas_core.specs.Variables.{IsState};
+ghost use Rattle.sas_run.specs.Plans.{IsValid, GoThrough, cost_of_all};
+ghost use Rattle.sas_run.specs.Verdicts.{IsFaultOf};
+ghost use Rattle.sas_run.specs.Running.{GoesOn, StopsAt, GoesThrough};
+
+use crate::runner::{Choice, Runner};
+use sas_core::{Grounded, Items, Plan};
+use sas_meaning::{Settle, State};
+use std::alloc::{AllocError, Global};
 
 /// A valid plan: the operators that its steps mean, and its cost.
 #[derive(Debug, Drop)]
@@ -22,4 +33,94 @@ pub enum PlanFault {
     GoalMissed { index: u32 },
     /// All steps go through to the goal, and the costs of their operators add up to this, which isn't the plan's cost.
     CostDiffers { sum: u128 },
+}
+
+impl From<AllocError> for PlanFault {
+    ghost use Rattle.sas_run.specs.declared.plan_check.PlanFault.TheVariants.{Memory};
+
+    ghost from_gives = { λ _ e. e ≡ Memory };
+
+    fn from(_error: AllocError) -> PlanFault {
+        PlanFault::Memory
+    }
+}
+
+impl<'a, E: Settle<T> + Drop, T: Grounded> Runner<'a, E, T> {
+    /// Whether the plan is valid: its operators and its cost, or its fault. A step means the lowest-numbered operator of its
+    /// name that is applicable. All memory is asked for before the first step.
+    pub fn check_plan(&mut self, alloc: Global, plan: &Plan) -> Result<Valid, PlanFault>
+        ensures valid { IfOk result (λ v. IsValid self.old plan.now v.operators.items) }
+        ensures cost { IfOk result (λ v. v.cost ≡ plan.now.cost) }
+        ensures fault { IfErr result (λ f. f ≢ PlanFault.Memory → IsFaultOf self.old plan.now f) }
+        ensures same { self.new ≡ self.old }
+    {
+        let mut operators = Vec::with_capacity(alloc, plan.steps().len())?;
+        let mut state = self.initial(alloc)?;
+        if let Err(fault) = self.go_through(plan.steps().as_slice(), &mut state, &mut operators) {
+            return Err(fault);
+        }
+        if let Some(index) = self.goal(&state) {
+            return Err(PlanFault::GoalMissed { index });
+        }
+        let sum = cost_of(self.layered().task(), operators.as_slice());
+        if sum != u128::from(plan.cost()) {
+            return Err(PlanFault::CostDiffers { sum });
+        }
+        Ok(Valid {
+            operators,
+            cost: plan.cost(),
+        })
+    }
+
+    /// Makes the steps in turn, and adds their operators, for which there is room.
+    fn go_through(
+        &mut self,
+        steps: &[Items<u8>],
+        state: &mut State,
+        operators: &mut Vec<u32>,
+    ) -> Result<(), PlanFault>
+        requires state { IsState self.old.variables state.old }
+        requires room { length steps.now ≤ vec_capacity operators.old }
+        requires empty { operators.old.items ≡ [] }
+        ensures goes { GoesThrough self.old state.old steps.now operators.new.items state.new result }
+        ensures same { self.new ≡ self.old }
+    {
+        for (before, name) in steps.iter().enumerate() {
+            match self.go_on(name.as_slice(), before + 1, state) {
+                Ok(operator) => operators.push(operator).unwrap(),
+                Err(fault) => return Err(fault),
+            }
+        }
+        Ok(())
+    }
+
+    /// Makes the step of this name.
+    fn go_on(&mut self, name: &[u8], step: usize, state: &mut State) -> Result<u32, PlanFault>
+        requires state { IsState self.old.variables state.old }
+        ensures ok { IfOk result (λ operator. GoesOn self.old state.old name.now operator state.new) }
+        ensures err { IfErr result (λ fault. StopsAt self.old state.old name.now step fault) }
+        ensures same { self.new ≡ self.old }
+    {
+        let operator = match self.choose(state, name) {
+            Choice::Unknown => return Err(PlanFault::NoOperator { step }),
+            Choice::Blocked => return Err(PlanFault::NotApplicable { step }),
+            Choice::Found(operator) => operator,
+        };
+        match self.step(state, operator) {
+            Ok(()) => Ok(operator),
+            Err(_) => Err(PlanFault::Conflict { step, operator }),
+        }
+    }
+}
+
+/// What the operators cost together.
+fn cost_of<T: Grounded>(task: &T, operators: &[u32]) -> u128
+    requires exist { All (λ operator. operator < length (T.says task.now).operators) operators.now }
+    ensures { result ≡ cost_of_all (T.says task.now) operators.now }
+{
+    let mut sum = 0u128;
+    for operator in operators {
+        sum += u128::from(task.cost(*operator));
+    }
+    sum
 }

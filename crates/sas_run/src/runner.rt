@@ -1,13 +1,16 @@
 // What goes through the steps of plans.
-ghost use Rattle.std.specs.Prelude.{◌≡◌, ◌<◌, ◌↔◌, length, IfOk, IfErr, IsTrue, option_map};
+ghost use Rattle.std.specs.Prelude.{◌≡◌, ◌<◌, ◌↔◌, length, IfOk, IfErr, IfSome, IfNone, IsTrue, slice_index};
 ghost use Rattle.sas_core.specs.Grounded.{operator_at};
 ghost use Rattle.sas_core.specs.Variables.{IsState};
 ghost use Rattle.sas_meaning.specs.Reachable.{IsInitial};
-ghost use Rattle.sas_run.specs.Plans.{IsApplicable};
-ghost use Rattle.sas_run.specs.Running.{IsChoice, IsGoalAnswer, Steps};
+ghost use Rattle.sas_run.specs.NameTable.{AreNames};
+ghost use Rattle.sas_run.specs.Given.{IsClean};
+ghost use Rattle.sas_run.specs.Plans.{IsApplicable, IsNamed};
+ghost use Rattle.sas_run.specs.Running.{IsChoice, IsFirstChosen, IsGoalAnswer, Steps};
 
+use crate::names::Names;
 use crate::preconditions::first_missed;
-use crate::steps::StepFault;
+use crate::steps::{StepFault, apply, missed_precondition};
 use sas_core::{Grounded, Items, Task};
 use sas_meaning::{Layered, Settle, State};
 use std::alloc::{AllocError, Global};
@@ -30,6 +33,7 @@ pub enum Choice {
 pub struct Runner<'a, E: Settle<T> + Drop, T: Grounded = Task> {
     layered: &'a Layered<T>,
     evaluator: E,
+    names: Names,
     /// What the effects that fire in a step give each variable; between two steps nothing.
     given: Items<Option<u32>>,
 }
@@ -37,15 +41,94 @@ pub struct Runner<'a, E: Settle<T> + Drop, T: Grounded = Task> {
 impl<'a, E: Settle<T> + Drop, T: Grounded> Model for Runner<'a, E, T> {
     ghost use Rattle.sas_core.specs.declared.parts.Parts.{Parts};
     ghost use Rattle.sas_run.specs.Given.{IsClean};
+    ghost use Rattle.sas_run.specs.NameTable.{AreNames};
 
     ghost Value = { Parts };
 
     ghost view = { λ r. r.layered.now };
 
-    ghost invariant = { λ r. E.ready r.evaluator r.layered.now × IsClean r.layered.now r.given };
+    ghost invariant = { λ r. E.ready r.evaluator r.layered.now
+        × AreNames r.layered.now r.names
+        × IsClean r.layered.now r.given };
 }
 
 impl<'a, E: Settle<T> + Drop, T: Grounded> Runner<'a, E, T> {
+    /// A runner for the task, with an evaluator that is ready for it. It reserves what steps need. The evaluator comes back
+    /// where memory is refused.
+    pub fn new(
+        alloc: Global,
+        layered: &'a Layered<T>,
+        evaluator: E,
+    ) -> Result<Runner<'a, E, T>, (E, AllocError)>
+        requires { E.ready evaluator layered.now }
+        ensures task { IfOk result (λ r. r ≡ layered.now) }
+        ensures handed_back { IfErr result (λ e. e.0 ≡ evaluator) }
+    {
+        let names = match Names::new(alloc, layered.task()) {
+            Ok(names) => names,
+            Err(error) => return Err((evaluator, error)),
+        };
+        match nothing_given(alloc, layered.task()) {
+            Ok(given) => Ok(Runner {
+                layered,
+                evaluator,
+                names,
+                given,
+            }),
+            Err(error) => Err((evaluator, error)),
+        }
+    }
+
+    /// The initial state: that of the state section, settled.
+    pub fn initial(&mut self, alloc: Global) -> Result<State, AllocError>
+        ensures initial { IfOk result (λ s. IsInitial self.old s) }
+        ensures same { self.new ≡ self.old }
+    {
+        let mut state = State::of_section(alloc, self.layered.task())?;
+        self.evaluator.settle(self.layered, &mut state);
+        Ok(state)
+    }
+
+    /// Whether the operator's preconditions hold in the state. It takes no memory.
+    pub fn applicable(&self, state: &State, operator: u32) -> bool
+        requires operator { operator < length self.now.operators }
+        requires state { IsState self.now.variables state.now }
+        ensures { IsTrue result ↔ IsApplicable state.now (operator_at self.now operator) }
+    {
+        is_applicable(self.layered.task(), state, operator)
+    }
+
+    /// Which operator the name means in the state: the lowest-numbered one that has exactly this name and is applicable. It
+    /// takes no memory.
+    pub fn choose(&self, state: &State, name: &[u8]) -> Choice
+        requires { IsState self.now.variables state.now }
+        ensures { IsChoice self.now state.now name.now result }
+    {
+        let Some(first) = self.names.first(name) else {
+            return Choice::Unknown;
+        };
+        match first_applicable(self.layered.task(), &self.names, state, first) {
+            Some(operator) => Choice::Found(operator),
+            None => Choice::Blocked,
+        }
+    }
+
+    /// Makes the step of the operator, if there is one; else the state is as it was. It takes no memory.
+    pub fn step(&mut self, state: &mut State, operator: u32) -> Result<(), StepFault>
+        requires operator { operator < length self.old.operators }
+        requires state { IsState self.old.variables state.old }
+        ensures steps { Steps self.old state.old operator state.new result }
+        ensures same { self.new ≡ self.old }
+    {
+        match apply(self.layered.task(), operator, &mut self.given, state) {
+            Ok(()) => {
+                self.evaluator.settle(self.layered, state);
+                Ok(())
+            }
+            Err(fault) => Err(fault),
+        }
+    }
+
     /// The index of the first fact of the goal that doesn't hold. It takes no memory.
     pub fn goal(&self, state: &State) -> Option<u32>
         requires { IsState self.now.variables state.now }
@@ -56,4 +139,47 @@ impl<'a, E: Settle<T> + Drop, T: Grounded> Runner<'a, E, T> {
             None => None,
         }
     }
+
+    /// The task.
+    pub fn layered(&self) -> &'a Layered<T>
+        ensures { result.now ≡ self.now }
+    {
+        self.layered
+    }
+}
+
+/// Nothing given to any variable.
+fn nothing_given<T: Grounded>(alloc: Global, task: &T) -> Result<Items<Option<u32>>, AllocError>
+    ensures { IfOk result (λ given. IsClean (T.says task.now) given) }
+{
+    Ok(Items::from_vec(vec![in alloc; None; task.variables() as usize]?))
+}
+
+/// Whether the operator's preconditions hold.
+fn is_applicable<T: Grounded>(task: &T, state: &State, operator: u32) -> bool
+    requires operator { operator < length (T.says task.now).operators }
+    requires state { IsState (T.says task.now).variables state.now }
+    ensures { IsTrue result ↔ IsApplicable state.now (operator_at (T.says task.now) operator) }
+{
+    match missed_precondition(task, operator, state) {
+        Some(_) => false,
+        None => true,
+    }
+}
+
+/// The first operator that is applicable, of this one and those behind it that have its name.
+fn first_applicable<T: Grounded>(task: &T, names: &Names, state: &State, first: u32) -> Option<u32>
+    requires names { AreNames (T.says task.now) names.now }
+    requires first { first < length (T.says task.now).operators }
+    requires state { IsState (T.says task.now).variables state.now }
+    ensures { IsFirstChosen (T.says task.now) state.now first result }
+{
+    let mut next = Some(first);
+    while let Some(operator) = next {
+        if is_applicable(task, state, operator) {
+            return Some(operator);
+        }
+        next = names.next(operator);
+    }
+    None
 }

@@ -1,0 +1,72 @@
+-- The operators of one name, in order.
+use Rattle.std.proofs.Common.{ℕ, ◌+◌, ◌-◌, ◌<◌, ◌≤◌, List, length, Option, None, Some, sym, subst, refl, ◌∙◌, inl, inr, arith}
+use Rattle.std.proofs.lemmas.Bool.{cases_eq, cases_lt}
+use Rattle.sas_core.specs.declared.parts.Parts.{Parts}
+use Rattle.sas_core.specs.Grounded.{operator_at}
+use Rattle.sas_run.specs.declared.runner.Choice.TheVariants.{Blocked, Found}
+use Rattle.sas_run.specs.Plans.{IsApplicable, IsNamed}
+use Rattle.sas_run.specs.Names.{IsNextNamed}
+use Rattle.sas_run.specs.Running.{IsFirstChosen, IsChoice}
+
+-- of the operators of the first one's name, those before this place aren't applicable
+abbrev pub NoneBefore : Parts → List ℕ → ℕ → ℕ → Type 0
+NoneBefore p s first place = (lower : ℕ) → first ≤ lower → lower < place → IsNamed p (operator_at p first).name lower → IsApplicable s (operator_at p lower) → ⊥
+
+-- how far the search for one that is has come
+abbrev pub SearchedTo : Parts → List ℕ → ℕ → Option ℕ → Type 0
+SearchedTo p s first (Some operator) = (first ≤ operator) × IsNamed p (operator_at p first).name operator × NoneBefore p s first operator
+SearchedTo p s first None = IsFirstChosen p s first None
+
+-- what is left to be searched
+abbrev pub left : Parts → Option ℕ → ℕ
+left p (Some operator) = length p.operators - operator
+left p None = 0
+
+pub search_starts : (p : Parts) (s : List ℕ) (first : ℕ) → first < length p.operators → SearchedTo p s first (Some first)
+search_starts p s first lt = (omega arith, record { exists = lt; named = refl }, λ lower ge below. absurd (omega arith))
+
+pub search_goes_on : (p : Parts) (s : List ℕ) (first operator : ℕ) (next : Option ℕ) → SearchedTo p s first (Some operator) → (IsApplicable s (operator_at p operator) → ⊥)
+    → IsNextNamed p (operator_at p operator).name (operator + 1) next → SearchedTo p s first next
+search_goes_on p s first operator (Some k) (le, named, none) not next = (
+  (let ge = next.from_on in omega arith),
+  record { exists = next.of_name.exists; named = next.of_name.named ∙ named.named },
+  λ lower ge below of_name holds. elim (cases_lt lower operator) [
+    | inl early ↦ none lower ge early of_name holds
+    | inr late ↦ elim (cases_eq lower operator) [
+      | inl e ↦ not (subst (λ n. IsApplicable s (operator_at p n)) e holds)
+      | inr ne ↦ next.first lower (omega arith) below (record { exists = of_name.exists; named = of_name.named ∙ sym named.named })
+    ]
+  ],
+)
+search_goes_on p s first operator None (le, named, none) not next = λ lower ge of_name holds. elim (cases_lt lower operator) [
+  | inl early ↦ none lower ge early of_name holds
+  | inr late ↦ elim (cases_eq lower operator) [
+    | inl e ↦ not (subst (λ n. IsApplicable s (operator_at p n)) e holds)
+    | inr ne ↦ next lower (omega arith) (record { exists = of_name.exists; named = of_name.named ∙ sym named.named })
+  ]
+]
+
+pub less_left : (p : Parts) (s : List ℕ) (first operator : ℕ) (next : Option ℕ) → SearchedTo p s first (Some operator) → IsNextNamed p (operator_at p operator).name (operator + 1) next
+    → left p next < left p (Some operator)
+less_left p s first operator (Some k) (le, named, none) next = let ge = next.from_on in let a = next.of_name.exists in let b = named.exists in omega arith
+less_left p s first operator None (le, named, none) next = let b = named.exists in omega arith
+
+-- what is found of the first operator of a name, is the choice of the name
+pub found_is_choice : (p : Parts) (s name : List ℕ) (first operator : ℕ) → IsNextNamed p name 0 (Some first) → IsFirstChosen p s first (Some operator) → IsChoice p s name (Found operator)
+found_is_choice p s name first operator lowest (le, named, holds, none) = record {
+  of_name = record { exists = named.exists; named = named.named ∙ lowest.of_name.named };
+  applicable = holds;
+  first = λ lower below of_name applicable. elim (cases_lt lower first) [
+    | inl early ↦ lowest.first lower (omega arith) early of_name
+    | inr late ↦ none lower late below (record { exists = of_name.exists; named = of_name.named ∙ sym lowest.of_name.named }) applicable
+  ];
+}
+
+pub none_is_choice : (p : Parts) (s name : List ℕ) (first : ℕ) → IsNextNamed p name 0 (Some first) → IsFirstChosen p s first None → IsChoice p s name Blocked
+none_is_choice p s name first lowest none = (
+  (first, lowest.of_name),
+  λ operator chosen. elim (cases_lt operator first) [
+    | inl early ↦ lowest.first operator (omega arith) early chosen.of_name
+    | inr late ↦ none operator late (record { exists = chosen.of_name.exists; named = chosen.of_name.named ∙ sym lowest.of_name.named }) chosen.applicable
+  ],
+)
