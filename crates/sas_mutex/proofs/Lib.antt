@@ -1,1 +1,2 @@
-
+pub mod Invariance
+pub mod GreatestFamily
