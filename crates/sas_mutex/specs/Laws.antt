@@ -1,4 +1,4 @@
--- What follows: invariance, and that there is one greatest family.
+-- What follows: invariance, and that there is one greatest family at most.
 use Rattle.std.specs.Prelude.{◌≡◌, ◌||◌, ℕ, ◌<◌, Bool, List, length, All, Contains}
 use Rattle.sas_core.specs.declared.parts.Fact.{Fact}
 use Rattle.sas_core.specs.declared.parts.Operator.{Operator}
