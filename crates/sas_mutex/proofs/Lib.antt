@@ -1,2 +1,4 @@
 pub mod Invariance
 pub mod GreatestFamily
+pub mod Turns
+pub mod Effects

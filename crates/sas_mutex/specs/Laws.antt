@@ -1,15 +1,13 @@
 -- What follows: invariance, and that there is one greatest family at most.
-use Rattle.std.specs.Prelude.{◌≡◌, ◌||◌, ℕ, ◌<◌, Bool, List, length, All, Contains}
+use Rattle.std.specs.Prelude.{◌||◌, ℕ, ◌<◌, Bool, List, length}
 use Rattle.sas_core.specs.declared.parts.Fact.{Fact}
-use Rattle.sas_core.specs.declared.parts.Operator.{Operator}
 use Rattle.sas_core.specs.declared.parts.Parts.{Parts}
-use Rattle.sas_core.specs.Grounded.{operator_at, group_at}
+use Rattle.sas_core.specs.Grounded.{group_at}
 use Rattle.sas_meaning.specs.Layers.{IsLayered}
 use Rattle.sas_meaning.specs.Reachable.{Reachable}
 use Rattle.sas_mutex.specs.declared.verdict.Verdict.TheVariants.{Exclusive}
-use Rattle.sas_mutex.specs.Clashes.{Keeps}
 use Rattle.sas_mutex.specs.Groups.{IsExclusiveIn, MayBeExclusive}
-use Rattle.sas_mutex.specs.Families.{IsIn, IsGroupOf, IsGroupOfOr, AllKeep, IsKeptJointly, IsGreatest}
+use Rattle.sas_mutex.specs.Families.{IsIn, IsGroupOfOr, AllKeep, IsKeptJointly, IsGreatest}
 use Rattle.sas_mutex.specs.Verdicts.{IsVerdictAlone, IsJointVerdict}
 
 -- Invariance: in a reachable state of a layered task no group of a family that is kept jointly has two different facts

@@ -3,3 +3,5 @@ pub mod Groups
 pub mod Families
 pub mod Verdicts
 pub mod Laws
+pub mod Lists
+pub mod Checks

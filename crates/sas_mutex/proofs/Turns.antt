@@ -1,0 +1,32 @@
+-- What a loop knows of all items from those that came and those that are left.
+use Rattle.std.proofs.Common.{◌≡◌, ℕ, ◌+◌, ◌<◌, length, get_or, List, [], ◌∷◌, ◌++◌, refl, sym, ◌∙◌, ap, subst, append_assoc, inl, inr, arith}
+use Rattle.std.proofs.lemmas.Bool.{cases_eq}
+use Rattle.std.proofs.lemmas.List.{get_or_default}
+use Rattle.std.specs.List.{All, Contains}
+use Rattle.std.proofs.lemmas.List.Elements.{All-nil, All-cons, All-append, Contains-append_right}
+
+module _ {A : Type 0} (all before left : List A) (is : all ≡ before ++ left) where
+  -- the item that comes is one of them
+  pub turn_has : (x : A) (after : List A) → left ≡ x ∷ after → Contains all x
+  turn_has x after steps = subst (λ (xs : List A). Contains xs x) (sym (is ∙ ap (λ (xs : List A). before ++ xs) steps))
+      (Contains-append_right before (x ∷ after) x (0, omega arith, refl))
+
+  -- it has come then
+  pub turn_left : (x : A) (after : List A) → left ≡ x ∷ after → all ≡ (before ++ x ∷ []) ++ after
+  turn_left x after steps = is ∙ (ap (λ (xs : List A). before ++ xs) steps ∙ sym (append_assoc before (x ∷ []) after))
+
+  -- what each that came has, each has in the end
+  pub turns_end : (P : A → Type 0) → left ≡ [] → All P before → All P all
+  turns_end P steps came = subst (All P) (sym (is ∙ ap (λ (xs : List A). before ++ xs) steps)) (All-append P before [] came (All-nil P))
+
+-- one more came
+pub turn_more : {A : Type 0} (P : A → Type 0) (before : List A) (x : A) → All P before → P x → All P (before ++ x ∷ [])
+turn_more P before x came its = All-append P before (x ∷ []) came (All-cons P x [] its (All-nil P))
+
+-- what the items below a place have, and that at the place, those below the next have
+pub each_more : {A : Type 0} (P : A → Type 0) (items : List A) (n : ℕ) (otherwise : A) → n < length items
+    → ((k : ℕ) (d : A) → k < n → P (get_or items k d)) → P (get_or items n otherwise) → (k : ℕ) (d : A) → k < n + 1 → P (get_or items k d)
+each_more P items n otherwise within before its k d below = elim (cases_eq k n) [
+  | inl e ↦ subst P (get_or_default items n otherwise d within ∙ ap (λ i. get_or items i d) (sym e)) its
+  | inr ne ↦ before k d (omega arith)
+]
