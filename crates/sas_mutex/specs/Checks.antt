@@ -22,26 +22,26 @@ pub record Removes (facts : List Fact) (effect : Effect) (fact : Fact) : Type 0 
   pub var : effect.var ≡ fact.var
   pub other : effect.new ≢ fact.value
 
--- of two effects that set facts of the group on different variables, what holds when both fire clashes
+-- if this effect sets a fact of the group on another variable, what holds when both fire clashes
 abbrev pub NotBoth : Operator → List Fact → Effect → Effect → Type 0
-NotBoth o group e f = Contains group (sets e) → Contains group (sets f) → e.var ≢ f.var
-    → Clash (Alone group) (known o e.conditions f.conditions)
+NotBoth o group e f = Contains group (sets f) → e.var ≢ f.var → Clash (Alone group) (known o e.conditions f.conditions)
 
--- where an effect sets a fact of the group, this fact on another variable can't have held before, or is removed
+-- if this fact is on another variable, it can't have held before, or it is removed
 abbrev pub IsGone : Operator → List Fact → Effect → Fact → Type 0
-IsGone o group e f = Contains group (sets e) → e.var ≢ f.var
+IsGone o group e f = e.var ≢ f.var
     → Clash (Alone group) (known o e.conditions (f ∷ [])) ⊎ IsRemoved o (known o e.conditions (f ∷ [])) f
 
 -- each effect is such
 abbrev pub OfEffects : Operator → (Effect → Type 0) → Type 0
 OfEffects o P = (effect : ℕ) → effect < length o.effects → P (effect_at o effect)
 
--- of an effect
+-- where an effect sets a fact of the group, no other sets another in the same step
 abbrev pub IsSingle : Operator → List Fact → Effect → Type 0
-IsSingle o group e = OfEffects o (NotBoth o group e)
+IsSingle o group e = Contains group (sets e) → OfEffects o (NotBoth o group e)
 
+-- where an effect sets a fact of the group, no other fact of it stays
 abbrev pub RemovesAll : Operator → List Fact → Effect → Type 0
-RemovesAll o group e = All (IsGone o group e) group
+RemovesAll o group e = Contains group (sets e) → All (IsGone o group e) group
 
 -- another fact than this doesn't hold in the state section
 abbrev pub IsOnlyOne : List ℕ → Fact → Fact → Type 0

@@ -53,7 +53,7 @@ fn is_single<T: Grounded>(task: &T, operator: u32, group: &[Fact], effect: u32) 
     true
 }
 
-/// Whether the two effects never set two facts of the group in one step.
+/// Whether the other effect never sets a fact of the group on another variable in the same step as this effect fires.
 fn not_both<T: Grounded>(task: &T, operator: u32, group: &[Fact], effect: u32, other: u32) -> bool
     requires operator { operator < length (T.says task.now).operators }
     requires effect { effect < length (operator_at (T.says task.now) operator).effects }
@@ -66,10 +66,7 @@ fn not_both<T: Grounded>(task: &T, operator: u32, group: &[Fact], effect: u32, o
 {
     let change = task.effect_change(operator, effect);
     let second = task.effect_change(operator, other);
-    if change.var == second.var
-        || !contains(group, sets(change))
-        || !contains(group, sets(second))
-    {
+    if change.var == second.var || !contains(group, sets(second)) {
         return true;
     }
     clash(
@@ -117,7 +114,7 @@ fn removes_all<T: Grounded>(task: &T, operator: u32, group: &[Fact], effect: u32
     true
 }
 
-/// Whether this fact doesn't stay where the effect sets a fact of the group on another variable.
+/// Whether this fact doesn't stay where the effect fires, if that is on another variable.
 fn is_gone<T: Grounded>(task: &T, operator: u32, group: &[Fact], effect: u32, fact: Fact) -> bool
     requires operator { operator < length (T.says task.now).operators }
     requires effect { effect < length (operator_at (T.says task.now) operator).effects }
@@ -127,7 +124,7 @@ fn is_gone<T: Grounded>(task: &T, operator: u32, group: &[Fact], effect: u32, fa
         (effect_at (operator_at (T.says task.now) operator) effect) fact → ⊥ }
 {
     let change = task.effect_change(operator, effect);
-    if change.var == fact.var || !contains(group, sets(change)) {
+    if change.var == fact.var {
         return true;
     }
     let conditions = task.effect_conditions(operator, effect);
