@@ -25,7 +25,7 @@ pub record Solves (b c line : List ℕ) : Type 0 where
   pub valid : IsValid task plan operators
   pub printed : line ≡ valid_line (length plan.steps) (cost_of_all task operators)
 
--- What a run says that judged the bytes c as a plan of the bytes b and ended with this status. `Sent` tells which bytes
+-- What a run says that judged the bytes c as a plan for the task b, and ended with this status. `Sent` tells which bytes
 -- went out.
 pub record Headline (b c : List ℕ) (Sent : List ℕ → Type 0) (status : Status) : Type 0 where
   -- `plan valid: S steps, cost C` went out exactly if the inputs say so

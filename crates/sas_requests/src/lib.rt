@@ -100,7 +100,7 @@ pub fn run<T: Read, P: Read, W: Write>(
         × Ends (Out request b c) (Appends (W.contents out.old.device) (W.contents out.new.device)) result }
     // Before the answer is whole nothing is written.
     ensures nothing { IfErr result (λ e. IsWrite e ⊎ (out.new ≡ out.old)) }
-    // A plan is told as valid exactly if it solves the task.
+    // `plan valid` is printed exactly if the plan solves the task at the printed cost.
     ensures headline { IfOk result (λ status. request ≡ Request.Plan → (b c before : List ℕ)
         → T.remaining task.old.device ≡ Some b → P.remaining plan.old.device ≡ Some c
         → W.contents out.old.device ≡ Some before
@@ -108,7 +108,7 @@ pub fn run<T: Read, P: Read, W: Write>(
     // A device that the request doesn't read stays as it was.
     ensures task_spared { IsFalse (reads_task request) → task.new ≡ task.old }
     ensures plan_spared { IsFalse (reads_plan request) → plan.new ≡ plan.old }
-    // Nor does one that judges a plan read it where the task isn't a text of a layered one.
+    // So does the plan where the task isn't a text of a layered one.
     ensures plan_waits { request ≡ Request.Plan → (b : List ℕ) → T.remaining task.old.device ≡ Some b
         → (IsLayeredText b → ⊥) → plan.new ≡ plan.old }
     ensures reads { IsErrOf result ToolFault.Read ↔ IsTrue (task.new.failed || plan.new.failed) }
