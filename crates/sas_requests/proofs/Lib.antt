@@ -1,3 +1,4 @@
 mod Outputs
 mod CheckAnswers
+mod PlanAnswers
 mod Summaries

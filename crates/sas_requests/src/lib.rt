@@ -4,11 +4,12 @@
 mod answers;
 mod laws;
 mod layers;
+mod plans;
 mod summary;
 
-ghost use Rattle.std.specs.Prelude.{◌≡◌, ◌⊎◌, ◌↔◌, ◌||◌, false, List, ℕ, IfErr, IsErrAnd, IsErrOf, IsFalse, IsTrue};
+ghost use Rattle.std.specs.Prelude.{◌≡◌, ◌⊎◌, ◌↔◌, ◌||◌, false, List, ℕ, Some, IfErr, IsErrAnd, IsErrOf, IsFalse, IsTrue};
 ghost use Rattle.std.specs.Io.KnownBytes.{Appends, Consumes};
-ghost use Rattle.sas_requests.specs.Output.{Out, AreInputs, reads_plan, reads_task};
+ghost use Rattle.sas_requests.specs.Output.{Out, AreInputs, IsLayeredText, reads_plan, reads_task};
 ghost use Rattle.sas_requests.specs.Ending.{Ends, IsDecided, IsWrite};
 
 use answers::answer_to;
@@ -29,6 +30,8 @@ pub enum Request {
     Steps,
     /// Whether a task is layered.
     Check,
+    /// Whether a plan solves a task.
+    Plan,
 }
 
 /// The answer in one word.
@@ -97,6 +100,9 @@ pub fn run<T: Read, P: Read, W: Write>(
     // A device that the request doesn't read stays as it was.
     ensures task_spared { IsFalse (reads_task request) → task.new ≡ task.old }
     ensures plan_spared { IsFalse (reads_plan request) → plan.new ≡ plan.old }
+    // Nor does one that judges a plan read it where the task isn't a text of a layered one.
+    ensures plan_waits { request ≡ Request.Plan → (b : List ℕ) → T.remaining task.old.device ≡ Some b
+        → (IsLayeredText b → ⊥) → plan.new ≡ plan.old }
     ensures reads { IsErrOf result ToolFault.Read ↔ IsTrue (task.new.failed || plan.new.failed) }
     ensures writes { IsErrAnd result IsWrite ↔ IsTrue out.new.failed }
 {
