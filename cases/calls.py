@@ -11,8 +11,8 @@ calls.json: what a call says, in groups of the same call.
     rows         [INPUT, ANSWER]: the bytes that the call is about, and what the program prints
 
 The calls over the files of tasks.json, lines.json, plans.json and verdicts.json are made here, and those over the tasks of
-axioms.py and walks.py. texts.py says what a text is. Each case that fails has a line, and the last line is 'N passed, M failed'. The exit status is
-0 where none failed.
+axioms.py and walks.py. texts.py says what a text is. Each case that fails has a line, and the last line is 'N passed, M
+failed'. The exit status is 0 where none failed.
 """
 import os
 import subprocess
@@ -62,6 +62,7 @@ def task_cases():
                 yield case(f"read-fronts {way}", given, RIGHT, about)
         if len(held) < 600:
             yield from device_cases("task", ("task", "task-text", "outline"), ("print", "show", "check"), name, held)
+            yield case("run-broken-fronts plan", held, RIGHT, name)
 
 
 def device_cases(reader, ways, requests, name, held):
