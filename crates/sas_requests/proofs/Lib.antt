@@ -1,4 +1,5 @@
 mod Outputs
 mod CheckAnswers
 mod PlanAnswers
+mod Headlines
 mod Summaries

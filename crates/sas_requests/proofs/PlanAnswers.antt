@@ -28,7 +28,7 @@ use Rattle.sas_run.proofs.PlanVerdicts.{some_verdict, valid_has_no_fault, fault_
 use Rattle.sas_requests.specs.declared.answers.Answer.{Answer}
 use Rattle.sas_requests.specs.declared.ToolFault.{ToolFault}
 use Rattle.sas_requests.specs.Answering.{Answers, AnswersFile, AnswersFiles, output_of}
-use Rattle.sas_requests.specs.Output.{Output, IsAnswerOrRefusal, FileOut, layers_refusal, layers_verdict, valid_answer, invalid_answer, VerdictAnswer, LayersOut, JudgedOut, PlanOut}
+use Rattle.sas_requests.specs.Output.{Output, IsAnswerOrRefusal, FileOut, layers_refusal, layers_verdict, valid_answer, invalid_answer, VerdictAnswer, VerdictOut, LayersOut, JudgedOut, PlanOut}
 use Rattle.sas_requests.proofs.Outputs.{OneAnswer, SomeAnswer, takes_nothing, one_file_output, some_file_output, no_file_output, plan_worded, task_worded}
 use Rattle.sas_requests.proofs.CheckAnswers.{some_check_answer}
 
@@ -128,7 +128,7 @@ refused_out : (b c : List ℕ) (o : Option Output) → RefusedOut b o → PlanOu
 refused_out b c o out = refused_reading b c o out.0 out.1 out.2
 
 -- the output about the plan of a layered task
-judged_out : (p : Parts) → IsLayered p → (b c : List ℕ) → ReadsAs task_format most_bytes b (Ok p) → (o : Option Output) → FileOut plan_format (codes "plan") (VerdictAnswer p) c o → PlanOut b c o
+judged_out : (p : Parts) → IsLayered p → (b c : List ℕ) → ReadsAs task_format most_bytes b (Ok p) → (o : Option Output) → VerdictOut p c o → PlanOut b c o
 judged_out p layered b c reads o out =
     (Ok p, reads, subst (λ (first : Option LayerFault). LayersOut p first c o) (sym ((checks_are_rules p).1 layered)) out)
 
@@ -165,16 +165,16 @@ module _ {T P : Type 0} (left_task : T → Option (List ℕ)) (left_plan : P →
 
   module _ (old new : Device T) (p : Parts) (read : ReadsAll left_task task_format (ValueOf task_format) old new (Ok p)) where
     -- the plan of a layered task is judged
-    pub judged_files : (plan_old plan_new : Device P) (r : Result Answer ToolFault) → IsLayered p → AnswersFile left_plan (FileOut plan_format (codes "plan") (VerdictAnswer p)) plan_old plan_new r
+    pub judged_files : (plan_old plan_new : Device P) (r : Result Answer ToolFault) → IsLayered p → AnswersFile left_plan (VerdictOut p) plan_old plan_new r
         → AnswersFiles left_task left_plan PlanOut old new plan_old plan_new r
     judged_files plan_old plan_new r layered answer = record {
       output = λ b c known known_plan.
           let reads = known_answer left_task task_format (ValueOf task_format) old new p b read known in
-          answers_by (FileOut plan_format (codes "plan") (VerdictAnswer p) c) (PlanOut b c) (judged_out p layered b c reads) r (answer.output c known_plan);
+          answers_by (VerdictOut p c) (PlanOut b c) (judged_out p layered b c reads) r (answer.output c known_plan);
       taken = λ decided.
           let t = answer.taken decided in
           let got = read.read in
-          (got.0, t.0, got.1.0, t.1, answers_by (FileOut plan_format (codes "plan") (VerdictAnswer p) t.0) (PlanOut got.0 t.0) (judged_out p layered got.0 t.0 got.2) r t.2);
+          (got.0, t.0, got.1.0, t.1, answers_by (VerdictOut p t.0) (PlanOut got.0 t.0) (judged_out p layered got.0 t.0 got.2) r t.2);
       waits = λ b known none. absurd (none (p, known_answer left_task task_format (ValueOf task_format) old new p b read known, layered));
       reads = (
         λ e. (second_alone new.failed plan_new.failed (λ t. read.note.1 t)).1 (answer.reads.0 e),

@@ -2,5 +2,6 @@ pub mod Summary
 pub mod LayerWords
 pub mod PlanWords
 pub mod Output
+pub mod Headline
 pub mod Ending
 pub mod Answering

@@ -115,11 +115,15 @@ VerdictAnswer p plan output =
     (((operators : List ℕ) × IsValid p plan operators) × (output ≡ valid_answer plan))
     ⊎ ((fault : PlanFault) × IsFaultOf p plan fault × (invalid_answer plan.cost fault ≡ Some output))
 
+-- the output about the plan's bytes for a layered task
+abbrev pub VerdictOut : Parts → List ℕ → Option Output → Type 0
+VerdictOut p = FileOut plan_format (codes "plan") (VerdictAnswer p)
+
 -- the output about the plan's bytes for a task, by the first fault of its layers if they have one: the task is refused
 -- for it, and only the plan of a layered task is judged
 abbrev pub LayersOut : Parts → Option LayerFault → List ℕ → Option Output → Type 0
 LayersOut p (Some fault) c output = output ≡ layers_refusal fault
-LayersOut p None c output = FileOut plan_format (codes "plan") (VerdictAnswer p) c output
+LayersOut p None c output = VerdictOut p c output
 
 -- the output about the plan's bytes for what the task's bytes are read as
 abbrev pub JudgedOut : Result Parts Fault → List ℕ → Option Output → Type 0

@@ -1,10 +1,9 @@
 // Whether a plan solves a task, as an answer.
-ghost use Rattle.std.specs.Prelude.{◌≡◌, ◌≢◌, ◌++◌, ℕ, List, length, codes, option_map, Some, IfOk, IfErr, false};
-ghost use Rattle.sas_plan_file.specs.PlanFormat.{plan_format};
+ghost use Rattle.std.specs.Prelude.{◌≡◌, ◌≢◌, option_map, Some, IfOk, IfErr, false};
 ghost use Rattle.sas_run.specs.Plans.{IsValid};
 ghost use Rattle.sas_run.specs.Verdicts.{IsFaultOf};
 ghost use Rattle.sas_requests.specs.Answering.{AnswersFile, AnswersFiles, output_of};
-ghost use Rattle.sas_requests.specs.Output.{FileOut, PlanOut, VerdictAnswer, invalid_answer};
+ghost use Rattle.sas_requests.specs.Output.{PlanOut, VerdictAnswer, VerdictOut, invalid_answer};
 ghost use Rattle.sas_requests.specs.PlanWords.{valid_line, fault_words, step_words, goal_words, cost_words, invalid_line};
 
 use crate::answers::{Answer, refuse};
@@ -46,7 +45,7 @@ fn judge<P: Read>(
     plan: &mut Watched<P>,
 ) -> Result<Answer, ToolFault>
     requires { plan.old.failed ≡ false }
-    ensures { AnswersFile P.remaining (FileOut plan_format (codes "plan") (VerdictAnswer layered.now)) plan.old plan.new result }
+    ensures { AnswersFile P.remaining (VerdictOut layered.now) plan.old plan.new result }
 {
     let read = match read_plan(alloc, plan) {
         Ok(read) => read,

@@ -3,7 +3,7 @@ ghost use Rattle.sas_run.specs.Laws.{SomeVerdict, ValidHasNoFault, ValidIsOne, F
 
 /// What holds of plans of layered tasks: a plan is valid, with one list of operators, or has exactly one fault, and never
 /// both.
-pub fn plan_laws()
+pub fn verdict_laws()
     ensures some { SomeVerdict }
     ensures not_both { ValidHasNoFault }
     ensures valid_one { ValidIsOne }

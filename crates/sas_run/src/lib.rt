@@ -8,7 +8,7 @@ mod preconditions;
 mod runner;
 mod steps;
 
-pub use laws::plan_laws;
+pub use laws::verdict_laws;
 pub use plan_check::{PlanFault, Valid};
 pub use runner::{Choice, Runner};
 pub use steps::StepFault;

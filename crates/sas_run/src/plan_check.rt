@@ -12,7 +12,7 @@ use sas_meaning::{Settle, State};
 use std::alloc::{AllocError, Global};
 
 /// A valid plan: the operators that its steps mean, and its cost.
-#[derive(Debug, Drop)]
+#[derive(Debug, PartialEq, Eq, Drop)]
 pub struct Valid {
     pub operators: Vec<u32>,
     pub cost: u64,

@@ -1,6 +1,6 @@
 -- Each law is a lemma.
 use Rattle.sas_run.proofs.PlanVerdicts.{some_verdict, valid_has_no_fault, valid_is_one, fault_is_one}
-use Rattle.sas_run.proofs.laws.plan_laws.Goals as goal
+use Rattle.sas_run.proofs.laws.verdict_laws.Goals as goal
 
 pub returns-clause-some : goal.returns-clause-some
 returns-clause-some c = some_verdict

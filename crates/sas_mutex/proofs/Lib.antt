@@ -1,0 +1,2 @@
+pub mod Invariance
+pub mod GreatestFamily

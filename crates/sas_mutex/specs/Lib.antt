@@ -1,0 +1,5 @@
+pub mod Clashes
+pub mod Groups
+pub mod Families
+pub mod Verdicts
+pub mod Laws
