@@ -116,16 +116,30 @@ def section(name, lines):
     return [f"begin_{name}", *lines, f"end_{name}"]
 
 
+def facts_lines(facts):
+    """The number of these facts, and a line for each."""
+    return [len(facts), *(f"{var} {value}" for var, value in facts)]
+
+
+def effect_line(facts, var, old, new):
+    """The line of an effect."""
+    return " ".join(map(str, [len(facts), *(number for fact in facts for number in fact), var, old, new]))
+
+
 def text_of(task):
-    """The file of a task. It has no group, no goal and no operator."""
-    lines = [*section("version", [3]), *section("metric", [0]), len(task["ranges"])]
+    """The file of a task. It has no group; and no goal and no operator, and metric 0, where the task says nothing of these."""
+    operators = task.get("operators", [])
+    lines = [*section("version", [3]), *section("metric", [task.get("metric", 0)]), len(task["ranges"])]
     for var, (size, layer) in enumerate(zip(task["ranges"], task["layers"])):
         values = [f"Atom v{var}({value})" for value in range(size)]
         lines += section("variable", [f"var{var}", -1 if layer is None else layer, size, *values])
-    lines += [0, *section("state", task["defaults"]), *section("goal", [0]), 0, len(task["rules"])]
+    lines += [0, *section("state", task["defaults"]), *section("goal", facts_lines(task.get("goal", []))), len(operators)]
+    for name, prevail, effects, cost in operators:
+        changes = [effect_line(*effect) for effect in effects]
+        lines += section("operator", [name, *facts_lines(prevail), len(changes), *changes, cost])
+    lines.append(len(task["rules"]))
     for facts, var, old, new in task["rules"]:
-        conditions = [f"{on} {value}" for on, value in facts]
-        lines += section("rule", [len(facts), *conditions, f"{var} {old} {new}"])
+        lines += section("rule", [*facts_lines(facts), f"{var} {old} {new}"])
     return "".join(f"{line}\n" for line in lines)
 
 

@@ -10,9 +10,9 @@ calls.json: what a call says, in groups of the same call.
     refused      left out, or so many runs are enough to refuse each allocation of the call in turn, in memory.py
     rows         [INPUT, ANSWER]: the bytes that the call is about, and what the program prints
 
-The calls over the files of tasks.json, lines.json and plans.json are made here, and those over the tasks of axioms.py.
-texts.py says what a text is. Each case that fails has a line, and the last line is 'N passed, M failed'. The exit status is
-0 where none failed.
+The calls over the files of tasks.json, lines.json, plans.json and verdicts.json are made here, and those over the tasks of
+axioms.py and walks.py. texts.py says what a text is. Each case that fails has a line, and the last line is 'N passed, M
+failed'. The exit status is 0 where none failed.
 """
 import os
 import subprocess
@@ -22,12 +22,14 @@ from concurrent.futures import ThreadPoolExecutor
 import report
 from axioms import settled_tasks, spoiled_tasks
 from texts import as_bytes, changed_lines, table
+from walks import state_line, walked_calls, walked_plans
 
 SECONDS = 60
 # the program reads no more than 8,192 bytes
 LONGEST = 8000
 RIGHT = "right\n"
 LAYERED = "layered\nkept\n"
+EVALUATORS = ("rounds", "worklist")
 
 
 def case(call, given, answer, about=""):
@@ -60,6 +62,7 @@ def task_cases():
                 yield case(f"read-fronts {way}", given, RIGHT, about)
         if len(held) < 600:
             yield from device_cases("task", ("task", "task-text", "outline"), ("print", "show", "check"), name, held)
+            yield case("run-broken-fronts plan", held, RIGHT, name)
 
 
 def device_cases(reader, ways, requests, name, held):
@@ -103,6 +106,24 @@ def plan_cases():
             yield from device_cases("plan", ("plan", "plan-text"), ("steps",), plan["name"], held)
 
 
+def verdict_cases():
+    """Each plan that isn't too long, of a task of verdicts.json or one made at random, through each evaluator: the initial
+    state, and what is said of the plan. Where a file is refused there is none of that."""
+    for made in (*table("verdicts.json"), *walked_plans()):
+        if "call" not in made:
+            continue
+        answer = f"{state_line(made['initial'])}\n{made['call']}"
+        for way in EVALUATORS:
+            yield case(f"plan {way}", [made["plan"], "|", made["task"]], answer, made["name"])
+
+
+def step_cases():
+    """Calls of runners on tasks made at random, through each evaluator."""
+    for made in walked_calls():
+        for way in EVALUATORS:
+            yield case(f"steps {way}", [made["calls"], "|", made["task"]], made["answers"], made["name"])
+
+
 def numbers(values):
     """The values of a state, in a line."""
     return " ".join(map(str, values))
@@ -113,7 +134,7 @@ def settled_cases():
     for number, made in enumerate(settled_tasks()):
         given = [";".join(map(numbers, made["states"])), "|", made["task"]]
         answer = "".join(f"state {numbers(values)}\n" for values in made["settled"])
-        for way in ("rounds", "worklist"):
+        for way in EVALUATORS:
             yield case(f"settle {way}", given, answer, f"random task {number}")
 
 
@@ -126,7 +147,8 @@ def layer_cases():
 
 def cases():
     """All calls."""
-    return [*written_cases(), *task_cases(), *line_cases(), *plan_cases(), *settled_cases(), *layer_cases()]
+    files = (*task_cases(), *line_cases(), *plan_cases(), *verdict_cases())
+    return [*written_cases(), *files, *settled_cases(), *layer_cases(), *step_cases()]
 
 
 def faults(program, call):

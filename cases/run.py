@@ -19,6 +19,15 @@ layers for which `check` refuses the task, which is layered where none stands th
 plans.json: plan files. Each is given to `steps` twice, as a file and as standard input, and nothing may come on
 standard error. One with `cut_off` ends early wherever it is cut off.
 
+verdicts.json: plans of tasks. Each is given to `plan` as two files, with the task as standard input, and with the plan as
+standard input; those that walks.py makes at random as two files.
+
+    task, plan   the files, as texts
+    output       standard output, exactly
+    status       the exit status
+    initial      the initial state, and
+    call         what the call `check_plan` answers; both for calls.py, and left out where a file is refused or too long
+
 program.json: words and devices, by these names.
 
     words        the words behind the program's name, each character a byte; FOLDER in one stands for an empty folder
@@ -42,6 +51,7 @@ from concurrent.futures import ThreadPoolExecutor
 
 import report
 from texts import TOP, as_bytes, changed_lines, early_end, table
+from walks import walked_plans
 
 SECONDS = 60
 
@@ -108,6 +118,23 @@ def plan_cases(folder):
             front = held[:length]
             answer = refused("plan", early_end(front))
             yield {"name": f"{plan['name']}, {length} bytes", "words": ["steps", "-"], "input": front, **answer}
+
+
+def verdict_case(made, words, **inputs):
+    """A case of `plan` with these words."""
+    name = f"{made['name']}, plan {' '.join(words)}"
+    return {"name": name, "words": ["plan", *words], "output": made["output"], "status": made["status"], **inputs}
+
+
+def verdict_cases():
+    """Each plan of a task, from files, and with either of the two from standard input."""
+    for made in table("verdicts.json"):
+        task, plan = {"t.sas": made["task"]}, {"p.txt": made["plan"]}
+        yield verdict_case(made, ["t.sas", "p.txt"], files={**task, **plan})
+        yield verdict_case(made, ["-", "p.txt"], files=plan, input=made["task"])
+        yield verdict_case(made, ["t.sas", "-"], files=task, input=made["plan"])
+    for made in walked_plans():
+        yield verdict_case(made, ["t.sas", "p.txt"], files={"t.sas": made["task"], "p.txt": made["plan"]})
 
 
 def output_device(case):
@@ -197,7 +224,8 @@ def main():
         sys.exit(__doc__)
     program = os.path.abspath(sys.argv[1])
     with tempfile.TemporaryDirectory() as plans, tempfile.TemporaryDirectory() as folder:
-        cases = [*task_cases(), *line_cases(), *plan_cases(plans), *table("program.json")]
+        files = (*task_cases(), *line_cases(), *plan_cases(plans), *verdict_cases())
+        cases = [*files, *table("program.json")]
         with ThreadPoolExecutor(os.cpu_count()) as pool:
             wrong = list(pool.map(lambda case: faults(program, case, folder), cases))
     report.end(cases, wrong)

@@ -25,7 +25,7 @@ pub fn call_of_axioms<R: AllocGlobal + Print>(
 }
 
 /// The task of a file, made layered: none where it isn't.
-fn layered_of(alloc: Global, file: &[u8]) -> Option<Layered<Task>> {
+pub fn layered_of(alloc: Global, file: &[u8]) -> Option<Layered<Task>> {
     let task = read_task_of(alloc, file).ok()?;
     Layered::new(alloc, task).ok()
 }
@@ -91,7 +91,7 @@ fn numbers_of(alloc: Global, words: &[u8]) -> Result<Vec<u32>, AllocError> {
 }
 
 /// The pieces that have `;` between them.
-fn pieces_of(alloc: Global, bytes: &[u8]) -> Result<Vec<&[u8]>, AllocError> {
+pub fn pieces_of(alloc: Global, bytes: &[u8]) -> Result<Vec<&[u8]>, AllocError> {
     let mut pieces = Vec::new(alloc);
     for piece in bytes.split(|&byte| byte == b';') {
         pieces.push(piece)?;
@@ -99,13 +99,18 @@ fn pieces_of(alloc: Global, bytes: &[u8]) -> Result<Vec<&[u8]>, AllocError> {
     Ok(pieces)
 }
 
-/// Says the values of a state.
-fn say_values<P: Print>(out: &P, values: &[u32]) {
-    let _ = print!(out; "state");
-    for value in values {
-        let _ = print!(out; " {value}");
+/// Says a word, and numbers behind it.
+pub fn say_numbers<P: Print>(out: &P, word: &str, numbers: &[u32]) {
+    let _ = print!(out; "{word}");
+    for number in numbers {
+        let _ = print!(out; " {number}");
     }
     say(out, "");
+}
+
+/// Says the values of a state.
+pub fn say_values<P: Print>(out: &P, values: &[u32]) {
+    say_numbers(out, "state", values);
 }
 
 /// Says a state, or why there is none.

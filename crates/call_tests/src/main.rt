@@ -16,9 +16,11 @@ mod core_calls;
 mod limits;
 mod line_calls;
 mod parts_text;
+mod plan_calls;
 mod reader_calls;
 mod readers;
 mod run_calls;
+mod runner_calls;
 mod saying;
 mod task_calls;
 
@@ -27,8 +29,10 @@ use axiom_calls::call_of_axioms;
 use core_calls::call_of_core;
 use limits::call_within_limits;
 use line_calls::{call_of_lines, call_over_devices};
+use plan_calls::call_of_plans;
 use reader_calls::{call_in_pieces, call_of_readers};
 use run_calls::call_of_tool;
+use runner_calls::call_of_runners;
 use saying::say;
 use std::alloc::AllocError;
 use task_calls::call_of_tasks;
@@ -42,6 +46,8 @@ fn call<R: AllocGlobal + Print>(rt: &R, asked: &Asked<'_>) -> Result<bool, Alloc
         call_of_core(rt, asked)?
             || call_of_tasks(rt, asked)?
             || call_of_axioms(rt, asked)?
+            || call_of_runners(rt, asked)?
+            || call_of_plans(rt, asked)?
             || call_of_lines(rt, asked)?
             || call_over_devices(rt, asked)?
             || call_of_readers(rt, asked)?

@@ -1,5 +1,5 @@
 // Calls of `sas_requests`: `run`, over devices that give all of a file, or fail.
-use crate::asked::{Asked, spend};
+use crate::asked::{Asked, cut, spend};
 use crate::saying::{say, say_bytes, say_right};
 use sas_lines::Watched;
 use sas_lines::trial::{Breaks, Narrow};
@@ -16,6 +16,10 @@ pub fn call_of_tool<R: AllocGlobal + Print>(rt: &R, asked: &Asked<'_>) -> Result
     match asked.call {
         "run" => run_whole(rt, asked.number, request, asked.bytes)?,
         "run-broken" => run_broken(rt, request, asked.bytes)?,
+        "run-broken-plan" => run_broken_plan(rt, request, asked.bytes)?,
+        "run-broken-plan-fronts" => {
+            say_right(rt, wrong_plan_front(rt.alloc(), request, asked.bytes)?)
+        }
         "run-broken-fronts" => say_right(rt, wrong_front(rt.alloc(), request, asked.bytes)?),
         "run-narrow" => say_right(rt, wrong_room(rt.alloc(), request, asked.bytes)?),
         "messages" => say_messages(rt),
@@ -30,7 +34,19 @@ fn request_of(name: &str) -> Request {
         "print" => Request::Print,
         "show" => Request::Show,
         "check" => Request::Check,
+        "plan" => Request::Plan,
         _ => Request::Steps,
+    }
+}
+
+/// The task and the plan that bytes are: a plan, a `|` and a task where a plan is to solve a task, else both are the same
+/// file.
+fn inputs(request: Request, bytes: &[u8]) -> (&[u8], &[u8]) {
+    if request == Request::Plan {
+        let (plan, task) = cut(bytes, b'|');
+        (task, plan)
+    } else {
+        (bytes, bytes)
     }
 }
 
@@ -49,11 +65,11 @@ fn say_messages<P: Print>(out: &P) {
 }
 
 /// The answer to a request, over these devices, and the writer.
-fn answer_over<D: Read + Drop>(
+fn answer_over<T: Read + Drop, P: Read + Drop>(
     alloc: Global,
     request: Request,
-    task: D,
-    plan: D,
+    task: T,
+    plan: P,
     out: Narrow,
 ) -> (Result<Status, ToolFault>, Narrow) {
     let mut task = Watched::new(task);
@@ -77,17 +93,17 @@ fn say_answer<P: Print>(out: &P, answer: &Result<Status, ToolFault>, written: &[
     }
 }
 
-/// `run`, where the file is the task and the plan. It could show that it always wants memory, or writes before its answer is
-/// whole.
+/// `run` over these inputs. It could show that it always wants memory, or writes before its answer is whole.
 fn run_whole<R: AllocGlobal + Print>(
     rt: &R,
     count: usize,
     request: Request,
-    file: &[u8],
+    bytes: &[u8],
 ) -> Result<(), AllocError> {
+    let (task, plan) = inputs(request, bytes);
     let out = Narrow::new(rt.alloc(), ROOM, ROOM, true)?;
     spend(rt.alloc(), count)?;
-    let (result, written) = answer_over(rt.alloc(), request, file, file, out);
+    let (result, written) = answer_over(rt.alloc(), request, task, plan, out);
     say_answer(rt, &result, written.kept());
     Ok(())
 }
@@ -105,6 +121,21 @@ fn run_broken<R: AllocGlobal + Print>(
     Ok(())
 }
 
+/// The same, where the task comes whole, and only the plan's device fails. It could show a plan that is read before the task
+/// was found to be layered.
+fn run_broken_plan<R: AllocGlobal + Print>(
+    rt: &R,
+    request: Request,
+    bytes: &[u8],
+) -> Result<(), AllocError> {
+    let (task, plan) = inputs(request, bytes);
+    let out = Narrow::new(rt.alloc(), ROOM, ROOM, true)?;
+    let plan = Breaks::new(plan, false);
+    let (result, written) = answer_over(rt.alloc(), request, task, plan, out);
+    say_answer(rt, &result, written.kept());
+    Ok(())
+}
+
 /// Whether a failure of the devices behind these bytes is answered so, and nothing is written.
 fn is_failure(
     alloc: Global,
@@ -117,6 +148,39 @@ fn is_failure(
     let plan = Breaks::new(bytes, interrupted);
     let (result, written) = answer_over(alloc, request, task, plan, out);
     Ok(result == Err(ToolFault::Read) && written.kept().is_empty())
+}
+
+/// Whether a failure of the plan's device alone behind these bytes is answered so.
+fn is_plan_failure(
+    alloc: Global,
+    request: Request,
+    task: &[u8],
+    bytes: &[u8],
+    interrupted: bool,
+) -> Result<bool, AllocError> {
+    let out = Narrow::new(alloc, ROOM, ROOM, true)?;
+    let plan = Breaks::new(bytes, interrupted);
+    let (result, written) = answer_over(alloc, request, task, plan, out);
+    Ok(result == Err(ToolFault::Read) && written.kept().is_empty())
+}
+
+/// The length of the first front of a plan with another answer where its device then fails. It could show a failure that is
+/// passed over where the verdict is known before, or is told of the task.
+fn wrong_plan_front(
+    alloc: Global,
+    request: Request,
+    bytes: &[u8],
+) -> Result<Option<usize>, AllocError> {
+    let (task, plan) = inputs(request, bytes);
+    for length in 0..=plan.len() {
+        let front = &plan[..length];
+        let right = is_plan_failure(alloc, request, task, front, false)?
+            && is_plan_failure(alloc, request, task, front, true)?;
+        if !right {
+            return Ok(Some(length));
+        }
+    }
+    Ok(None)
 }
 
 /// The length of the first front of a file with another answer where the devices then fail. It could show a failure that is
@@ -147,28 +211,30 @@ fn is_cut_off(text: &[u8], room: usize, answer: (Result<Status, ToolFault>, Narr
 fn is_right_room(
     alloc: Global,
     request: Request,
-    file: &[u8],
+    files: (&[u8], &[u8]),
     text: &[u8],
     piece: usize,
     room: usize,
 ) -> Result<bool, AllocError> {
+    let (task, plan) = files;
     let fails = Narrow::new(alloc, piece, room, true)?;
     let stops = Narrow::new(alloc, piece, room, false)?;
     Ok(
-        is_cut_off(text, room, answer_over(alloc, request, file, file, fails))
-            && is_cut_off(text, room, answer_over(alloc, request, file, file, stops)),
+        is_cut_off(text, room, answer_over(alloc, request, task, plan, fails))
+            && is_cut_off(text, room, answer_over(alloc, request, task, plan, stops)),
     )
 }
 
 /// The least room, up to that of the answer, with which a writer doesn't get so much of it, or the answer isn't that. It could
 /// show bytes that go out twice or not at all.
-fn wrong_room(alloc: Global, request: Request, file: &[u8]) -> Result<Option<usize>, AllocError> {
+fn wrong_room(alloc: Global, request: Request, bytes: &[u8]) -> Result<Option<usize>, AllocError> {
+    let files = inputs(request, bytes);
     let ample = Narrow::new(alloc, ROOM, ROOM, true)?;
-    let (_, whole) = answer_over(alloc, request, file, file, ample);
+    let (_, whole) = answer_over(alloc, request, files.0, files.1, ample);
     let text = whole.kept();
     for room in 0..=text.len() {
-        let right = is_right_room(alloc, request, file, text, 1, room)?
-            && is_right_room(alloc, request, file, text, 1000, room)?;
+        let right = is_right_room(alloc, request, files, text, 1, room)?
+            && is_right_room(alloc, request, files, text, 1000, room)?;
         if !right {
             return Ok(Some(room));
         }

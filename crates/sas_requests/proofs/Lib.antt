@@ -1,3 +1,5 @@
 mod Outputs
 mod CheckAnswers
+mod PlanAnswers
+mod Headlines
 mod Summaries

@@ -27,7 +27,7 @@ no_word None said e = refl
 no_word (Some word) said e = absurd (none-some (said word) e)
 
 -- a kind that is refused has a word
-refused_kind : (k : Kind) (other : Kind) (said : List ℕ → Output) (o : Output) → word_of other ≡ None → option_map said (word_of k) ≡ Some o → k ≢ other
+pub refused_kind : (k : Kind) (other : Kind) (said : List ℕ → Output) (o : Output) → word_of other ≡ None → option_map said (word_of k) ≡ Some o → k ≢ other
 refused_kind k other said o none e same =
     none-some o (subst (λ (word : Option (List ℕ)). option_map said word ≡ Some o) (ap word_of same ∙ none) e)
 

@@ -1,12 +1,12 @@
 -- What the private steps of a run say.
-use Rattle.std.specs.Prelude.{◌≡◌, ◌↔◌, ℕ, List, Option, Some, None, Result, Ok, Err, IfErr, IsErrOf, IsTrue}
+use Rattle.std.specs.Prelude.{◌≡◌, ◌↔◌, ◌||◌, ℕ, List, Option, Some, None, Result, Ok, Err, IfErr, IsErrOf, IsTrue}
 use Rattle.std.specs.Io.KnownBytes.{Consumes}
 use Rattle.sas_lines.specs.Device.{Device}
 use Rattle.sas_requests.specs.declared.answers.Answer.{Answer}
 use Rattle.sas_requests.specs.declared.ToolFault.{ToolFault}
 use Rattle.sas_requests.specs.declared.ToolFault.TheVariants as fault
 use Rattle.sas_requests.specs.Ending.{IsDecided, IsWrite}
-use Rattle.sas_requests.specs.Output.{Output}
+use Rattle.sas_requests.specs.Output.{Output, IsLayeredText}
 
 abbrev pub output_of : Answer → Output
 output_of answer = record { text = answer.text.items; status = answer.status }
@@ -27,4 +27,22 @@ module _ {D : Type 0} (left : D → Option (List ℕ)) (FileOutput : List ℕ �
         × Consumes (left old.device) (left new.device) bytes
         × Answers (FileOutput bytes) result
     pub reads : IsErrOf result fault.Read ↔ IsTrue new.failed
+    pub writes : IfErr result (λ e. IsWrite e → ⊥)
+
+-- And what it says over two files, of which the plan is read only where the task is known to be layered. `left_task` and
+-- `left_plan` tell the bytes that the devices have left, and `FilesOutput` the output about the bytes of both.
+module _ {T P : Type 0} (left_task : T → Option (List ℕ)) (left_plan : P → Option (List ℕ)) where
+  pub record AnswersFiles (FilesOutput : List ℕ → List ℕ → Option Output → Type 0) (old_task new_task : Device T)
+      (old_plan new_plan : Device P) (result : Result Answer ToolFault) : Type 0 where
+    -- of inputs whose bytes are known, the answer is their output
+    pub output : (b c : List ℕ) → left_task old_task.device ≡ Some b → left_plan old_plan.device ≡ Some c
+        → Answers (FilesOutput b c) result
+    -- and of any inputs, the output for the bytes that were read of them
+    pub taken : IsDecided result → (b c : List ℕ)
+        × Consumes (left_task old_task.device) (left_task new_task.device) b
+        × Consumes (left_plan old_plan.device) (left_plan new_plan.device) c
+        × Answers (FilesOutput b c) result
+    -- the plan stays as it was where the task isn't a text of a layered one
+    pub waits : (b : List ℕ) → left_task old_task.device ≡ Some b → (IsLayeredText b → ⊥) → new_plan ≡ old_plan
+    pub reads : IsErrOf result fault.Read ↔ IsTrue (new_task.failed || new_plan.failed)
     pub writes : IfErr result (λ e. IsWrite e → ⊥)

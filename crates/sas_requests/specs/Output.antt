@@ -2,7 +2,9 @@
 use Rattle.std.specs.Prelude.{◌≡◌, ◌⊎◌, ℕ, ◌<◌, Bool, true, false, IsTrue, List, ◌++◌, length, codes, decimal, Option, Some, None, option_map, Result, Ok, Err}
 use Rattle.sas_core.specs.declared.parts.Parts.{Parts}
 use Rattle.sas_core.specs.Checks.{first_fault}
+use Rattle.sas_core.specs.PlanParts.{PlanParts}
 use Rattle.sas_meaning.specs.declared.layered.LayerFault.{LayerFault}
+use Rattle.sas_meaning.specs.Layers.{IsLayered}
 use Rattle.sas_meaning.specs.LayerChecks.{layer_checks}
 use Rattle.sas_lines.specs.Lines.{text}
 use Rattle.sas_reader.specs.declared.fault.Fault.{Fault}
@@ -12,11 +14,15 @@ use Rattle.sas_reader.specs.Format.{Format, ReadsAs, lines_of}
 use Rattle.sas_reader.specs.Limit.{most_bytes}
 use Rattle.sas_plan_file.specs.PlanFormat.{plan_format}
 use Rattle.sas_task_format.specs.TaskFormat.{task_format}
+use Rattle.sas_run.specs.declared.plan_check.PlanFault.{PlanFault}
+use Rattle.sas_run.specs.Plans.{IsValid}
+use Rattle.sas_run.specs.Verdicts.{IsFaultOf}
 use Rattle.sas_requests.specs.declared.Request.{Request}
-use Rattle.sas_requests.specs.declared.Request.TheVariants.{Show, Print, Steps, Check}
+use Rattle.sas_requests.specs.declared.Request.TheVariants.{Show, Print, Steps, Check, Plan}
 use Rattle.sas_requests.specs.declared.Status.{Status}
 use Rattle.sas_requests.specs.declared.Status.TheVariants.{Yes, No}
 use Rattle.sas_requests.specs.LayerWords.{layer_words, layers_line}
+use Rattle.sas_requests.specs.PlanWords.{valid_line, fault_words, invalid_line}
 use Rattle.sas_requests.specs.Summary.{summary_lines}
 
 -- what is printed, and the status
@@ -92,12 +98,49 @@ StepsOut = FileOut plan_format (codes "plan") (PrintAnswer plan_format)
 abbrev pub CheckOut : List ℕ → Option Output → Type 0
 CheckOut = FileOut task_format (codes "task") CheckAnswer
 
+-- ---- whether a plan solves a task
+
+-- what is said of a valid plan: how many steps it has, and its cost
+abbrev pub valid_answer : PlanParts → Output
+valid_answer plan = record { text = valid_line (length plan.steps) plan.cost; status = Yes }
+
+-- what is said of a plan that says this cost and has this fault; of want of memory nothing
+abbrev pub invalid_answer : ℕ → PlanFault → Option Output
+invalid_answer cost fault =
+    option_map (λ words. record { text = invalid_line words; status = No }) (fault_words cost fault)
+
+-- a plan is answered by whether it is valid for the task: that it is, or else its fault
+abbrev pub VerdictAnswer : Parts → PlanParts → Output → Type 0
+VerdictAnswer p plan output =
+    (((operators : List ℕ) × IsValid p plan operators) × (output ≡ valid_answer plan))
+    ⊎ ((fault : PlanFault) × IsFaultOf p plan fault × (invalid_answer plan.cost fault ≡ Some output))
+
+-- the output about the plan's bytes for a layered task
+abbrev pub VerdictOut : Parts → List ℕ → Option Output → Type 0
+VerdictOut p = FileOut plan_format (codes "plan") (VerdictAnswer p)
+
+-- the output about the plan's bytes for a task, by the first fault of its layers if they have one: the task is refused
+-- for it, and only the plan of a layered task is judged
+abbrev pub LayersOut : Parts → Option LayerFault → List ℕ → Option Output → Type 0
+LayersOut p (Some fault) c output = output ≡ layers_refusal fault
+LayersOut p None c output = VerdictOut p c output
+
+-- the output about the plan's bytes for what the task's bytes are read as
+abbrev pub JudgedOut : Result Parts Fault → List ℕ → Option Output → Type 0
+JudgedOut (Err fault) c output = output ≡ refusal (codes "task") fault
+JudgedOut (Ok p) c output = LayersOut p (first_fault (layer_checks p)) c output
+
+-- the output of `plan` about the bytes b of the task and c of the plan
+abbrev pub PlanOut : List ℕ → List ℕ → Option Output → Type 0
+PlanOut b c output = (read : Result Parts Fault) × ReadsAs task_format most_bytes b read × JudgedOut read c output
+
 -- the output for the bytes b of the task and c of the plan, where a file that decides it isn't too long; else none
 abbrev pub Out : Request → List ℕ → List ℕ → Option Output → Type 0
 Out Show b c output = ShowOut b output
 Out Print b c output = PrintOut b output
 Out Steps b c output = StepsOut c output
 Out Check b c output = CheckOut b output
+Out Plan b c output = PlanOut b c output
 
 -- ---- the inputs that a request reads
 
@@ -107,6 +150,7 @@ reads_task Show = true
 reads_task Print = true
 reads_task Steps = false
 reads_task Check = true
+reads_task Plan = true
 
 -- whether it reads the plan
 abbrev pub reads_plan : Request → Bool
@@ -114,6 +158,11 @@ reads_plan Show = false
 reads_plan Print = false
 reads_plan Steps = true
 reads_plan Check = false
+reads_plan Plan = true
+
+-- the bytes are a text, within the limit, of a layered task
+abbrev pub IsLayeredText : List ℕ → Type 0
+IsLayeredText b = (p : Parts) × ReadsAs task_format most_bytes b (Ok p) × IsLayered p
 
 -- they have these bytes: b the task, c the plan
 abbrev pub AreInputs : Request → Option (List ℕ) → Option (List ℕ) → List ℕ → List ℕ → Type 0

@@ -3,9 +3,10 @@ ghost use Rattle.std.specs.Prelude.{◌≡◌, ◌↔◌, ◌||◌, List, ℕ, f
 ghost use Rattle.std.specs.Io.KnownBytes.{Consumes};
 ghost use Rattle.sas_requests.specs.Answering.{Answers, AnswersFile, output_of};
 ghost use Rattle.sas_requests.specs.Ending.{IsDecided, IsWrite};
-ghost use Rattle.sas_requests.specs.Output.{Out, ShowOut, PrintOut, StepsOut, CheckOut, AreInputs, reads_plan, reads_task, refusal, refusal_line, word_of};
+ghost use Rattle.sas_requests.specs.Output.{Out, ShowOut, PrintOut, StepsOut, CheckOut, AreInputs, IsLayeredText, reads_plan, reads_task, refusal, refusal_line, word_of};
 
 use crate::layers::layers_answer;
+use crate::plans::plan_answer;
 use crate::summary::summary_text;
 use crate::{Request, Status, ToolFault};
 use sas_lines::{Watched, push_line, push_number};
@@ -37,6 +38,8 @@ pub fn answer_to<T: Read, P: Read>(
         × Answers (Out request b c) result }
     ensures task_spared { IsFalse (reads_task request) → task.new ≡ task.old }
     ensures plan_spared { IsFalse (reads_plan request) → plan.new ≡ plan.old }
+    ensures plan_waits { request ≡ Request.Plan → (b : List ℕ) → T.remaining task.old.device ≡ Some b
+        → (IsLayeredText b → ⊥) → plan.new ≡ plan.old }
     ensures reads { IsErrOf result ToolFault.Read ↔ IsTrue (task.new.failed || plan.new.failed) }
     ensures writes { IfErr result (λ e. IsWrite e → ⊥) }
 {
@@ -45,6 +48,7 @@ pub fn answer_to<T: Read, P: Read>(
         Request::Print => print(alloc, task),
         Request::Steps => steps(alloc, plan),
         Request::Check => check(alloc, task),
+        Request::Plan => plan_answer(alloc, task, plan),
     }
 }
 
@@ -125,7 +129,7 @@ fn word(kind: Kind) -> Result<&'static str, ToolFault>
 }
 
 /// The refusal of a file for its fault, or why the run ends at it.
-fn refuse(alloc: Global, name: &str, fault: Fault) -> Result<Answer, ToolFault>
+pub fn refuse(alloc: Global, name: &str, fault: Fault) -> Result<Answer, ToolFault>
     ensures ok { IfOk result (λ a. refusal name.now fault ≡ Some (output_of a)) }
     ensures long { IsErrOf result ToolFault.TooLong ↔ (fault.kind ≡ Kind.TooLong) }
     ensures read { IsErrOf result ToolFault.Read ↔ (fault.kind ≡ Kind.Read) }

@@ -25,7 +25,7 @@ pub fn layers_answer(alloc: Global, task: Task) -> Result<Answer, AllocError>
 }
 
 /// The refusal of a task for a fault of its layers.
-fn refuse_layers(alloc: Global, fault: LayerFault) -> Result<Answer, AllocError>
+pub fn refuse_layers(alloc: Global, fault: LayerFault) -> Result<Answer, AllocError>
     ensures { IfOk result (λ a. layers_refusal fault ≡ Some (output_of a)) }
 {
     Ok(Answer {

@@ -4,11 +4,13 @@
 mod answers;
 mod laws;
 mod layers;
+mod plans;
 mod summary;
 
-ghost use Rattle.std.specs.Prelude.{◌≡◌, ◌⊎◌, ◌↔◌, ◌||◌, false, List, ℕ, IfErr, IsErrAnd, IsErrOf, IsFalse, IsTrue};
+ghost use Rattle.std.specs.Prelude.{◌≡◌, ◌⊎◌, ◌↔◌, ◌||◌, false, List, ℕ, Some, IfErr, IfOk, IsErrAnd, IsErrOf, IsFalse, IsTrue};
 ghost use Rattle.std.specs.Io.KnownBytes.{Appends, Consumes};
-ghost use Rattle.sas_requests.specs.Output.{Out, AreInputs, reads_plan, reads_task};
+ghost use Rattle.sas_requests.specs.Output.{Out, AreInputs, IsLayeredText, reads_plan, reads_task};
+ghost use Rattle.sas_requests.specs.Headline.{Headline};
 ghost use Rattle.sas_requests.specs.Ending.{Ends, IsDecided, IsWrite};
 
 use answers::answer_to;
@@ -29,14 +31,17 @@ pub enum Request {
     Steps,
     /// Whether a task is layered.
     Check,
+    /// Whether a plan solves a task.
+    Plan,
 }
 
 /// The answer in one word.
 #[derive(Clone, Copy, Debug, PartialEq, Eq)]
 pub enum Status {
-    /// The file is a text of its format, and layered where that was asked; its answer was written.
+    /// The file is a text of its format; the task is layered where that was asked, and the plan valid. The answer was
+    /// written.
     Yes,
-    /// The file is refused, and that was written.
+    /// A file is refused, or the plan isn't valid, and that was written.
     No,
 }
 
@@ -67,10 +72,11 @@ impl From<AllocError> for ToolFault {
     }
 }
 
-/// Answers the request about the inputs. `Show`, `Print` and `Check` read the task alone, and `Steps` the plan. Nothing is
-/// written before the answer is whole, so at any fault but `Write` nothing was written, and at `Write` the first bytes of
-/// the answer. A fault of a file's content is no fault of the run: the answer then is a refusal, and the status `No`; so it
-/// is where `Check` finds that the task isn't layered. Not to be called with a device that has failed.
+/// Answers the request about the inputs. `Show`, `Print` and `Check` read the task alone, and `Steps` the plan; `Plan`
+/// reads the task, and then the plan if the task is layered. Nothing is written before the answer is whole, so at any fault
+/// but `Write` nothing was written, and at `Write` the first bytes of the answer. A fault of a file's content is no fault of
+/// the run: the answer then is a refusal, and the status `No`; so it is where `Check` or `Plan` finds that the task isn't
+/// layered, and where the plan isn't valid. Not to be called with a device that has failed.
 ///
 /// The theorem, `output`, holds for every reader that tells its bytes, such as one over memory. The code is generic, and so
 /// the same for a file, which tells none; that a file gives what the disk holds is trusted.
@@ -94,9 +100,17 @@ pub fn run<T: Read, P: Read, W: Write>(
         × Ends (Out request b c) (Appends (W.contents out.old.device) (W.contents out.new.device)) result }
     // Before the answer is whole nothing is written.
     ensures nothing { IfErr result (λ e. IsWrite e ⊎ (out.new ≡ out.old)) }
+    // `plan valid` is printed exactly if the plan solves the task at the printed cost.
+    ensures headline { IfOk result (λ status. request ≡ Request.Plan → (b c before : List ℕ)
+        → T.remaining task.old.device ≡ Some b → P.remaining plan.old.device ≡ Some c
+        → W.contents out.old.device ≡ Some before
+        → Headline b c (Appends (W.contents out.old.device) (W.contents out.new.device)) status) }
     // A device that the request doesn't read stays as it was.
     ensures task_spared { IsFalse (reads_task request) → task.new ≡ task.old }
     ensures plan_spared { IsFalse (reads_plan request) → plan.new ≡ plan.old }
+    // So does the plan where the task isn't a text of a layered one.
+    ensures plan_waits { request ≡ Request.Plan → (b : List ℕ) → T.remaining task.old.device ≡ Some b
+        → (IsLayeredText b → ⊥) → plan.new ≡ plan.old }
     ensures reads { IsErrOf result ToolFault.Read ↔ IsTrue (task.new.failed || plan.new.failed) }
     ensures writes { IsErrAnd result IsWrite ↔ IsTrue out.new.failed }
 {

@@ -60,9 +60,7 @@ IsFirstMissedFact value facts fact = (index : ℕ)
 
 -- why an operator has no step: the first of its preconditions that fails, or, where all hold, the first conflict
 abbrev pub IsStepFault : List ℕ → Operator → StepFault → Type 0
-IsStepFault s o (step_fault.NotApplicable fact) = (index : ℕ)
-    × IsFirstMissed (slice_index s) (preconditions o) index
-    × ((d : Fact) → slice_index_or (preconditions o) index d ≡ fact)
+IsStepFault s o (step_fault.NotApplicable fact) = IsFirstMissedFact (slice_index s) (preconditions o) fact
 IsStepFault s o (step_fault.Conflict effect) = AllHold (slice_index s) (preconditions o) × IsFirstConflict s o effect
 
 -- what the operator's effects that fire do to a state, before it is settled

@@ -65,6 +65,9 @@ fn job_of_words<R: AllocGlobal + Env + Eprint>(rt: &R) -> Result<Job, ExitCode> 
             let _ = rt.eprint(error);
             Err(ExitCode::from(NOT_UNDERSTOOD))
         }
+        Err(WordsFault::InputTwice) => {
+            Err(stop(rt, NOT_UNDERSTOOD, "sas: standard input used twice"))
+        }
         Err(WordsFault::Memory) => Err(stop(rt, FAULT, OUT_OF_MEMORY)),
     }
 }

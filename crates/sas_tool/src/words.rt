@@ -29,6 +29,8 @@ pub struct Job {
 pub enum WordsFault {
     /// They aren't understood, or ask for help; the error has the text for the user.
     Refused(Error),
+    /// Standard input is asked for twice.
+    InputTwice,
     /// Memory was refused.
     Memory,
 }
@@ -42,8 +44,18 @@ impl From<AllocError> for WordsFault {
 /// The job that the words ask for. The first word is the program's name.
 pub fn command(alloc: Global, words: Vec<String>) -> Result<Job, WordsFault> {
     match grammar(alloc)?.try_get_matches_from(words.as_slice()) {
-        Ok(matches) => Ok(job_of(alloc, &matches)?),
+        Ok(matches) => job_of(alloc, &matches)?.with_one_input(),
         Err(error) => Err(refused(error)),
+    }
+}
+
+impl Job {
+    /// The job, unless both of its sources are standard input.
+    fn with_one_input(self) -> Result<Job, WordsFault> {
+        match (&self.task, &self.plan) {
+            (Some(Source::Input), Some(Source::Input)) => Err(WordsFault::InputTwice),
+            _ => Ok(self),
+        }
     }
 }
 
@@ -64,14 +76,20 @@ fn grammar<'a>(alloc: Global) -> Result<Command<'a>, AllocError> {
         "print",
         "Prints a task file again, in its one canonical form",
     )?;
+    let plan = over_task_and_plan(
+        alloc,
+        "plan",
+        "Says whether a plan solves a task, or why it doesn't",
+    )?;
     let steps = over_plan(
         alloc,
         "steps",
         "Prints a plan file again; with no words, that on standard input",
     )?;
     Command::new(alloc, "sas")
-        .about("Reads, checks and prints task files and plan files of Fast Downward")
+        .about("Reads, checks and validates task files and plan files of Fast Downward")
         .version(VERSION)
+        .subcommand(plan)?
         .subcommand(show)?
         .subcommand(check)?
         .subcommand(print)?
@@ -80,18 +98,36 @@ fn grammar<'a>(alloc: Global) -> Result<Command<'a>, AllocError> {
 
 /// The words of a request over a task alone.
 fn over_task<'a>(alloc: Global, name: &'a str, about: &'a str) -> Result<Command<'a>, AllocError> {
-    let task = Arg::new(alloc, "TASK")
-        .required(true)
-        .help("The task file, or - for standard input");
-    Command::new(alloc, name).about(about).arg(task)
+    Command::new(alloc, name).about(about).arg(the_task(alloc))
 }
 
 /// The words of a request over a plan alone.
 fn over_plan<'a>(alloc: Global, name: &'a str, about: &'a str) -> Result<Command<'a>, AllocError> {
-    let plan = Arg::new(alloc, "PLAN")
+    Command::new(alloc, name).about(about).arg(the_plan(alloc))
+}
+
+/// The words of a request over a task and a plan.
+fn over_task_and_plan<'a>(
+    alloc: Global,
+    name: &'a str,
+    about: &'a str,
+) -> Result<Command<'a>, AllocError> {
+    Command::new(alloc, name)
+        .about(about)
+        .arg(the_task(alloc))?
+        .arg(the_plan(alloc))
+}
+
+fn the_task<'a>(alloc: Global) -> Arg<'a> {
+    Arg::new(alloc, "TASK")
         .required(true)
-        .help("The plan file, or - for standard input");
-    Command::new(alloc, name).about(about).arg(plan)
+        .help("The task file, or - for standard input")
+}
+
+fn the_plan<'a>(alloc: Global) -> Arg<'a> {
+    Arg::new(alloc, "PLAN")
+        .required(true)
+        .help("The plan file, or - for standard input")
 }
 
 /// The job of words that were understood: without a request, the steps of the plan on standard input.
@@ -100,6 +136,11 @@ fn job_of(alloc: Global, matches: &ArgMatches<'_>) -> Result<Job, AllocError> {
         Some(("show", inner)) => job_over_task(alloc, Request::Show, inner),
         Some(("check", inner)) => job_over_task(alloc, Request::Check, inner),
         Some(("print", inner)) => job_over_task(alloc, Request::Print, inner),
+        Some(("plan", inner)) => Ok(Job {
+            request: Request::Plan,
+            task: named(alloc, inner, "TASK")?,
+            plan: named(alloc, inner, "PLAN")?,
+        }),
         Some((_steps, inner)) => Ok(Job {
             request: Request::Steps,
             task: None,

@@ -1,4 +1,4 @@
-use Rattle.std.proofs.Common.{[]}
+use Rattle.std.proofs.Common.{[], refl}
 use Rattle.sas_requests.proofs.Outputs.{takes_nothing}
 use Rattle.sas_requests.proofs.answers.answer_to.Goals as goal
 
@@ -21,3 +21,7 @@ pub returns-in-Check-clause-taken : goal.returns-in-Check-clause-taken
 returns-in-Check-clause-taken g c = λ decided.
     let (bytes, consumed, is) = c.check.ensures.taken decided in
     (bytes, [], consumed, takes_nothing _, rw c.in-Check.is is)
+
+pub returns-in-Plan-clause-output : goal.returns-in-Plan-clause-output
+returns-in-Plan-clause-output g c = λ b c' inputs.
+    rw c.in-Plan.is (c.plan_answer.ensures.output b c' (inputs.0 (rw c.in-Plan.is refl)) (inputs.1 (rw c.in-Plan.is refl)))

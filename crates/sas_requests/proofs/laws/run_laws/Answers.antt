@@ -4,9 +4,10 @@ use Rattle.sas_task_format.specs.TaskFormat.{task_format}
 use Rattle.sas_plan_file.proofs.PlanLaws.{plan_laws_hold}
 use Rattle.sas_task_format.proofs.TaskLaws.{task_laws_hold}
 use Rattle.sas_requests.specs.Output.{OneOutput, SomeOutput, NoneIsLong, ShowAnswer, PrintAnswer, CheckAnswer}
-use Rattle.sas_requests.specs.declared.Request.TheVariants.{Show, Print, Steps, Check}
+use Rattle.sas_requests.specs.declared.Request.TheVariants.{Show, Print, Steps, Check, Plan}
 use Rattle.sas_requests.proofs.Outputs.{one_file_output, some_file_output, no_file_output, plan_worded, task_worded}
 use Rattle.sas_requests.proofs.CheckAnswers.{one_check_answer, some_check_answer}
+use Rattle.sas_requests.proofs.PlanAnswers.{one_plan_output, some_plan_output, no_plan_output}
 use Rattle.sas_requests.proofs.laws.run_laws.Goals as goal
 
 one : OneOutput
@@ -14,18 +15,24 @@ one Show b c o p = one_file_output task_format (codes "task") ShowAnswer b task_
 one Print b c o p = one_file_output task_format (codes "task") (PrintAnswer task_format) b task_laws_hold (λ v o p a b. a ∙ sym b) o p
 one Steps b c o p = one_file_output plan_format (codes "plan") (PrintAnswer plan_format) c plan_laws_hold (λ v o p a b. a ∙ sym b) o p
 one Check b c o p = one_file_output task_format (codes "task") CheckAnswer b task_laws_hold one_check_answer o p
+one Plan b c o p = one_plan_output b c o p
 
 some : SomeOutput
 some Show b c = some_file_output task_format (codes "task") ShowAnswer b task_laws_hold (λ v none. none _ refl)
 some Print b c = some_file_output task_format (codes "task") (PrintAnswer task_format) b task_laws_hold (λ v none. none _ refl)
 some Steps b c = some_file_output plan_format (codes "plan") (PrintAnswer plan_format) c plan_laws_hold (λ v none. none _ refl)
 some Check b c = some_file_output task_format (codes "task") CheckAnswer b task_laws_hold some_check_answer
+some Plan b c = some_plan_output b c
 
 long : NoneIsLong
 long Show b c out = inl (refl, no_file_output task_format (codes "task") ShowAnswer b task_worded out)
 long Print b c out = inl (refl, no_file_output task_format (codes "task") (PrintAnswer task_format) b task_worded out)
 long Steps b c out = inr (refl, no_file_output plan_format (codes "plan") (PrintAnswer plan_format) c (λ s line k. plan_worded line k) out)
 long Check b c out = inl (refl, no_file_output task_format (codes "task") CheckAnswer b task_worded out)
+long Plan b c out = elim (no_plan_output b c out) [
+  | inl task ↦ inl (refl, task)
+  | inr plan ↦ inr (refl, plan)
+]
 
 pub returns-clause-one : goal.returns-clause-one
 returns-clause-one c = one

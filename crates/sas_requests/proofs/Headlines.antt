@@ -1,0 +1,166 @@
+-- A plan is told as valid exactly where it is.
+use Rattle.std.proofs.Common.{◌≡◌, ◌≢◌, ℕ, ◌<◌, ◌⊎◌, List, [], length, codes, get_or, arith, refl, sym, ap, subst, ◌∙◌, inl, inr, Option, Some, None, Result, Ok, Err}
+use Rattle.std.specs.Prelude.{option_map}
+use Rattle.std.specs.Io.KnownBytes.{Appends}
+use Rattle.std.proofs.lemmas.Option.{none-some}
+use Rattle.std.proofs.lemmas.List.{append-nil, append_cancel_left}
+use Rattle.sas_core.specs.declared.parts.Parts.{Parts}
+use Rattle.sas_core.specs.Checks.{first_fault}
+use Rattle.sas_core.specs.PlanParts.{PlanParts}
+use Rattle.sas_meaning.specs.declared.layered.LayerFault.{LayerFault}
+use Rattle.sas_meaning.specs.Layers.{IsLayered}
+use Rattle.sas_meaning.specs.LayerChecks.{layer_checks}
+use Rattle.sas_meaning.proofs.LayerChecksAreRules.{checks_are_rules}
+use Rattle.sas_reader.specs.declared.fault.Fault.{Fault}
+use Rattle.sas_reader.specs.declared.fault.Kind.TheVariants.{TooLong}
+use Rattle.sas_reader.specs.Limit.{most_bytes}
+use Rattle.sas_reader.specs.Format.{Format, Reads, ReadsAs}
+use Rattle.sas_reader.specs.Laws.{Laws}
+use Rattle.sas_plan_file.specs.PlanFormat.{plan_format}
+use Rattle.sas_plan_file.proofs.PlanLaws.{plan_laws_hold}
+use Rattle.sas_task_format.specs.TaskFormat.{task_format}
+use Rattle.sas_task_format.proofs.TaskLaws.{task_laws_hold}
+use Rattle.sas_run.specs.Plans.{cost_of_all}
+use Rattle.sas_requests.specs.declared.Status.{Status}
+use Rattle.sas_requests.specs.declared.Status.TheVariants.{Yes, No}
+use Rattle.sas_requests.specs.Headline.{Solves, Headline}
+use Rattle.sas_requests.specs.LayerWords.{layer_words, layers_line}
+use Rattle.sas_requests.specs.Output.{Output, word_of, refusal, refusal_line, IsAnswerOrRefusal, valid_answer, VerdictAnswer, LayersOut, JudgedOut, PlanOut}
+use Rattle.sas_requests.specs.PlanWords.{valid_line, fault_words, invalid_line}
+use Rattle.sas_requests.proofs.Outputs.{refused_kind}
+use Rattle.sas_requests.proofs.PlanAnswers.{one_verdict_answer}
+
+-- ---- what any output about a plan says
+
+-- the answer is no, and not by the line of a valid plan
+record IsOther (o : Output) : Type 0 where
+  status : o.status ≡ No
+  text : (steps cost : ℕ) → o.text ≡ valid_line steps cost → ⊥
+
+-- the answer is yes, by the line of a valid plan
+record IsSolved (b c : List ℕ) (o : Output) : Type 0 where
+  status : o.status ≡ Yes
+  solves : Solves b c o.text
+
+-- no line with words of its own is that of a valid plan
+other_words : (words : Option (List ℕ)) (line_of : List ℕ → List ℕ) (o : Output) → ((w : List ℕ) (steps cost : ℕ) → line_of w ≡ valid_line steps cost → ⊥)
+    → option_map (λ w. record { text = line_of w; status = No }) words ≡ Some o → IsOther o
+other_words None line_of o apart is = absurd (none-some o is)
+other_words (Some w) line_of o apart is =
+    let same : (record { text = line_of w; status = No }) ≡ o = cc in
+    record { status = sym (ap (λ (x : Output). x.status) same); text = λ steps cost e. apart w steps cost (ap (λ (x : Output). x.text) same ∙ e) }
+
+not_same : (m n : ℕ) → m < n → n ≡ m → ⊥
+not_same m n less same = omega arith
+
+task_refusal_apart : (line steps cost : ℕ) (w : List ℕ) → refusal_line (codes "task") line w ≡ valid_line steps cost → ⊥
+task_refusal_apart line steps cost w e = not_same 112 116 (omega arith) (ap (λ (t : List ℕ). get_or t 0 0) e)
+
+layers_line_apart : (steps cost : ℕ) (w : List ℕ) → layers_line w ≡ valid_line steps cost → ⊥
+layers_line_apart steps cost w e = not_same 112 116 (omega arith) (ap (λ (t : List ℕ). get_or t 0 0) e)
+
+plan_refusal_apart : (line steps cost : ℕ) (w : List ℕ) → refusal_line (codes "plan") line w ≡ valid_line steps cost → ⊥
+plan_refusal_apart line steps cost w e = not_same 114 118 (omega arith) (sym (ap (λ (t : List ℕ). get_or t 5 0) e))
+
+invalid_line_apart : (steps cost : ℕ) (w : List ℕ) → invalid_line w ≡ valid_line steps cost → ⊥
+invalid_line_apart steps cost w e = not_same 105 118 (omega arith) (sym (ap (λ (t : List ℕ). get_or t 5 0) e))
+
+module _ (b c : List ℕ) (o : Output) where
+  verdict_told : (p : Parts) (plan : PlanParts) → Reads task_format b p → IsLayered p → Reads plan_format c plan → VerdictAnswer p plan o → IsSolved b c o ⊎ IsOther o
+  verdict_told p plan is_task layered is_plan (inl x) = inl (record {
+    status = ap (λ (y : Output). y.status) x.1;
+    solves = record {
+      task = p;
+      plan = plan;
+      operators = x.0.0;
+      is_task = is_task;
+      layered = layered;
+      is_plan = is_plan;
+      valid = x.0.1;
+      printed = ap (λ (y : Output). y.text) x.1 ∙ ap (valid_line (length plan.steps)) (sym x.0.1.cost);
+    };
+  })
+  verdict_told p plan is_task layered is_plan (inr x) = inr (other_words (fault_words plan.cost x.0) invalid_line o (λ w steps cost. invalid_line_apart steps cost w) x.2)
+
+  plan_told : (p : Parts) (r : Result PlanParts Fault) → Reads task_format b p → IsLayered p → ReadsAs plan_format most_bytes c r → IsAnswerOrRefusal (codes "plan") (VerdictAnswer p) r (Some o) → IsSolved b c o ⊎ IsOther o
+  plan_told p (Ok plan) is_task layered reads answer =
+      let same : answer.0 ≡ o = (let e : Some o ≡ Some answer.0 = answer.2 in cc) in
+      verdict_told p plan is_task layered reads.0 (subst (λ (x : Output). VerdictAnswer p plan x) same answer.1)
+  plan_told p (Err fault) is_task layered reads is =
+      inr (other_words (word_of fault.kind) (refusal_line (codes "plan") fault.line) o (λ w steps cost. plan_refusal_apart fault.line steps cost w) (sym is))
+
+  layers_told : (p : Parts) (first : Option LayerFault) → Reads task_format b p → (first ≡ None → IsLayered p) → LayersOut p first c (Some o) → IsSolved b c o ⊎ IsOther o
+  layers_told p (Some fault) is_task layered is = inr (other_words (layer_words fault) layers_line o (λ w steps cost. layers_line_apart steps cost w) (sym is))
+  layers_told p None is_task layered out = plan_told p out.0 is_task (layered refl) out.1 out.2
+
+  judged_told : (r : Result Parts Fault) → ReadsAs task_format most_bytes b r → JudgedOut r c (Some o) → IsSolved b c o ⊎ IsOther o
+  judged_told (Err fault) reads is =
+      inr (other_words (word_of fault.kind) (refusal_line (codes "task") fault.line) o (λ w steps cost. task_refusal_apart fault.line steps cost w) (sym is))
+  judged_told (Ok p) reads out = layers_told p (first_fault (layer_checks p)) reads.0 (checks_are_rules p).0 out
+
+-- ---- what the output is where a plan solves a task
+
+-- a text is read as its value, unless it is too long
+text_read : {V I S : Type 0} (F : Format V I S) → Laws F → (bytes : List ℕ) (v : V) (r : Result V Fault) → Reads F bytes v → ((f : Fault) → r ≡ Err f → f.kind ≢ TooLong) → ReadsAs F most_bytes bytes r → r ≡ Ok v
+text_read F laws bytes v (Ok w) is short reads = ap Ok (laws.one_value bytes w v reads.0 is)
+text_read F laws bytes v (Err f) is short (inl fault) = absurd (laws.fault_is_no_text most_bytes bytes [] f v fault (short f refl) (subst (λ (x : List ℕ). Reads F x v) (sym (append-nil bytes)) is))
+text_read F laws bytes v (Err f) is short (inr early) = absurd (early.none v is)
+
+-- the refusal of a file is none for its length
+not_long : (name : List ℕ) (f : Fault) (o : Output) → Some o ≡ refusal name f → f.kind ≢ TooLong
+not_long name f o is = refused_kind f.kind TooLong _ o refl (sym is)
+
+module _ (b c line : List ℕ) (o : Output) (s : Solves b c line) where
+  plan_answered : (r : Result PlanParts Fault) → r ≡ Ok s.plan → IsAnswerOrRefusal (codes "plan") (VerdictAnswer s.task) r (Some o) → o ≡ valid_answer s.plan
+  plan_answered r e out =
+      let (answer, verdict, is) = subst (λ (x : Result PlanParts Fault). IsAnswerOrRefusal (codes "plan") (VerdictAnswer s.task) x (Some o)) e out in
+      let same : o ≡ answer = cc in
+      same ∙ one_verdict_answer s.task s.layered s.plan answer (valid_answer s.plan) verdict (inl ((s.operators, s.valid), refl))
+
+  layered_answered : LayersOut s.task None c (Some o) → o ≡ valid_answer s.plan
+  layered_answered out =
+      plan_answered out.0
+      (text_read plan_format plan_laws_hold c s.plan out.0 s.is_plan
+      (λ f e. not_long (codes "plan") f o (subst (λ (x : Result PlanParts Fault). IsAnswerOrRefusal (codes "plan") (VerdictAnswer s.task) x (Some o)) e out.2)) out.1)
+      out.2
+
+  solved_answered : PlanOut b c (Some o) → o ≡ valid_answer s.plan
+  solved_answered out =
+      let read = text_read task_format task_laws_hold b s.task out.0 s.is_task (λ f e. not_long (codes "task") f o (subst (λ (x : Result Parts Fault). JudgedOut x c (Some o)) e out.2)) out.1 in
+      let judged = subst (λ (x : Result Parts Fault). JudgedOut x c (Some o)) read out.2 in
+      layered_answered (subst (λ (first : Option LayerFault). LayersOut s.task first c (Some o)) ((checks_are_rules s.task).1 s.layered) judged)
+
+  solved_status : PlanOut b c (Some o) → o.status ≡ Yes
+  solved_status out = ap (λ (x : Output). x.status) (solved_answered out)
+
+  solved_text : PlanOut b c (Some o) → o.text ≡ line
+  solved_text out = ap (λ (x : Output). x.text) (solved_answered out) ∙ ap (valid_line (length s.plan.steps)) (sym s.valid.cost) ∙ sym s.printed
+
+-- ---- both
+
+-- where a device tells its bytes, one text went out
+sent_same : (old new : Option (List ℕ)) (before x y : List ℕ) → old ≡ Some before → Appends old new x → Appends old new y → x ≡ y
+sent_same None new before x y e f g = absurd (none-some before e)
+sent_same (Some xs) None before x y e f g = absurd f
+sent_same (Some xs) (Some ys) before x y e f g = append_cancel_left xs x y (sym f ∙ g)
+
+module _ (b c : List ℕ) (o : Output) (out : PlanOut b c (Some o)) where
+  line_solves : (steps cost : ℕ) → o.text ≡ valid_line steps cost → IsSolved b c o ⊎ IsOther o → Solves b c (valid_line steps cost)
+  line_solves steps cost e (inl solved) = subst (λ (x : List ℕ). Solves b c x) e solved.solves
+  line_solves steps cost e (inr other) = absurd (other.text steps cost e)
+
+  yes_solves : o.status ≡ Yes → IsSolved b c o ⊎ IsOther o → (steps cost : ℕ) × Solves b c (valid_line steps cost)
+  yes_solves e (inl solved) =
+      (length solved.solves.plan.steps, cost_of_all solved.solves.task solved.solves.operators, subst (λ (x : List ℕ). Solves b c x) solved.solves.printed solved.solves)
+  yes_solves e (inr other) = let apart : Yes ≡ No = sym e ∙ other.status in absurd cc
+
+  pub headline_of : (old new : Option (List ℕ)) (before : List ℕ) (status : Status) → old ≡ Some before → status ≡ o.status → Appends old new o.text → Headline b c (Appends old new) status
+  headline_of old new before status known is sent =
+      let told = judged_told b c o out.0 out.1 out.2 in
+      record {
+        line = λ steps cost. (
+          λ line. line_solves steps cost (sent_same old new before o.text (valid_line steps cost) known sent line) told,
+          λ solves. subst (Appends old new) (solved_text b c (valid_line steps cost) o solves out) sent,
+        );
+        yes = (λ e. yes_solves (sym is ∙ e) told, λ s. is ∙ solved_status b c (valid_line s.0 s.1) o s.2 out);
+      }

@@ -1,0 +1,199 @@
+-- What is said of a task and a plan: one thing, and always something.
+use Rattle.std.proofs.Common.{◌≡◌, ◌≢◌, ℕ, ◌<◌, ◌⊎◌, Bool, true, false, List, [], length, codes, refl, sym, ap, subst, ◌∙◌, inl, inr, Option, Some, None, Result, Ok, Err}
+use Rattle.std.specs.Prelude.{◌↔◌, ◌||◌, IsTrue}
+use Rattle.std.proofs.lemmas.Option.{none-some}
+use Rattle.sas_core.specs.declared.parts.Parts.{Parts}
+use Rattle.sas_core.specs.Checks.{first_fault}
+use Rattle.sas_core.specs.PlanParts.{PlanParts}
+use Rattle.sas_core.specs.WellRanged.{WellRanged}
+use Rattle.sas_meaning.specs.declared.layered.LayerFault.{LayerFault}
+use Rattle.sas_meaning.specs.declared.layered.LayerFault.TheVariants as layer_fault
+use Rattle.sas_meaning.specs.Layers.{IsLayered}
+use Rattle.sas_meaning.specs.LayerChecks.{layer_checks}
+use Rattle.sas_meaning.proofs.LayerChecksAreRules.{checks_are_rules}
+use Rattle.sas_lines.specs.Device.{Device}
+use Rattle.sas_reader.specs.declared.fault.Fault.{Fault}
+use Rattle.sas_reader.specs.Limit.{most_bytes}
+use Rattle.sas_reader.specs.Format.{ReadsAs}
+use Rattle.sas_reader.specs.Devices.{ValueOf, ReadsAll}
+use Rattle.sas_reader.proofs.Known.{known_answer}
+use Rattle.sas_plan_file.specs.PlanFormat.{plan_format}
+use Rattle.sas_plan_file.proofs.PlanLaws.{plan_laws_hold}
+use Rattle.sas_task_format.specs.TaskFormat.{task_format}
+use Rattle.sas_task_format.proofs.TaskLaws.{task_laws_hold}
+use Rattle.sas_run.specs.declared.plan_check.PlanFault.{PlanFault}
+use Rattle.sas_run.specs.declared.plan_check.PlanFault.TheVariants.{Memory, NoOperator, NotApplicable, Conflict, GoalMissed, CostDiffers}
+use Rattle.sas_run.specs.Verdicts.{IsFaultOf}
+use Rattle.sas_run.proofs.PlanVerdicts.{some_verdict, valid_has_no_fault, fault_is_one}
+use Rattle.sas_requests.specs.declared.answers.Answer.{Answer}
+use Rattle.sas_requests.specs.declared.ToolFault.{ToolFault}
+use Rattle.sas_requests.specs.Answering.{Answers, AnswersFile, AnswersFiles, output_of}
+use Rattle.sas_requests.specs.Output.{Output, IsAnswerOrRefusal, FileOut, layers_refusal, layers_verdict, valid_answer, invalid_answer, VerdictAnswer, VerdictOut, LayersOut, JudgedOut, PlanOut}
+use Rattle.sas_requests.proofs.Outputs.{OneAnswer, SomeAnswer, takes_nothing, one_file_output, some_file_output, no_file_output, plan_worded, task_worded}
+use Rattle.sas_requests.proofs.CheckAnswers.{some_check_answer}
+
+-- ---- a plan has one verdict
+
+pub one_verdict_answer : (p : Parts) → IsLayered p → OneAnswer (VerdictAnswer p)
+one_verdict_answer p layered plan o q a b = elim a [
+  | inl x ↦ elim b [
+    | inl y ↦ x.1 ∙ sym y.1
+    | inr y ↦ absurd (valid_has_no_fault p plan x.0.0 y.0 layered x.0.1 y.1)
+  ]
+  | inr x ↦ elim b [
+    | inl y ↦ absurd (valid_has_no_fault p plan y.0.0 x.0 layered y.0.1 x.1)
+    | inr y ↦
+        (let same : Some o ≡ Some q = sym x.2 ∙ ap (invalid_answer plan.cost) (fault_is_one p plan x.0 y.0 layered x.1 y.1) ∙ y.2 in
+        let it : o ≡ q = cc in
+        it)
+  ]
+]
+
+module _ (p : Parts) (plan : PlanParts) (none : (o : Output) → VerdictAnswer p plan o → ⊥) where
+  -- each fault is told
+  fault_told : (fault : PlanFault) → IsFaultOf p plan fault → ⊥
+  fault_told Memory f = f
+  fault_told (NoOperator step) f = none _ (inr (NoOperator step, f, refl))
+  fault_told (NotApplicable step) f = none _ (inr (NotApplicable step, f, refl))
+  fault_told (Conflict step operator) f = none _ (inr (Conflict step operator, f, refl))
+  fault_told (GoalMissed index) f = none _ (inr (GoalMissed index, f, refl))
+  fault_told (CostDiffers sum) f = none _ (inr (CostDiffers sum, f, refl))
+
+pub some_verdict_answer : (p : Parts) → WellRanged p → IsLayered p → SomeAnswer (VerdictAnswer p)
+some_verdict_answer p ranged layered plan none = elim (some_verdict p plan ranged layered) [
+  | inl valid ↦ none (valid_answer plan) (inl (valid, refl))
+  | inr fault ↦ fault_told p plan none fault.0 fault.1
+]
+
+-- ---- so a task and a plan have one output
+
+one_layers_output : (p : Parts) (first : Option LayerFault) (c : List ℕ) (o q : Option Output) → (first ≡ None → IsLayered p) → LayersOut p first c o → LayersOut p first c q → o ≡ q
+one_layers_output p (Some fault) c o q layered a b = a ∙ sym b
+one_layers_output p None c o q layered a b = one_file_output plan_format (codes "plan") (VerdictAnswer p) c plan_laws_hold (one_verdict_answer p (layered refl)) o q a b
+
+one_judged_output : (r : Result Parts Fault) (c : List ℕ) (o q : Option Output) → JudgedOut r c o → JudgedOut r c q → o ≡ q
+one_judged_output (Err fault) c o q a b = a ∙ sym b
+one_judged_output (Ok p) c o q a b = one_layers_output p (first_fault (layer_checks p)) c o q (checks_are_rules p).0 a b
+
+pub one_plan_output : (b c : List ℕ) (o q : Option Output) → PlanOut b c o → PlanOut b c q → o ≡ q
+one_plan_output b c o q x y =
+    let same = task_laws_hold.one_reading most_bytes b y.0 x.0 y.1 x.1 in
+    one_judged_output x.0 c o q x.2 (subst (λ (r : Result Parts Fault). JudgedOut r c q) same y.2)
+
+some_layers_output : (p : Parts) (first : Option LayerFault) (c : List ℕ) → WellRanged p → (first ≡ None → IsLayered p) → ((o : Option Output) → LayersOut p first c o → ⊥) → ⊥
+some_layers_output p (Some fault) c ranged layered none = none (layers_refusal fault) refl
+some_layers_output p None c ranged layered none = some_file_output plan_format (codes "plan") (VerdictAnswer p) c plan_laws_hold (some_verdict_answer p ranged (layered refl)) none
+
+some_judged_output : (r : Result Parts Fault) (b c : List ℕ) → ReadsAs task_format most_bytes b r → ((o : Option Output) → JudgedOut r c o → ⊥) → ⊥
+some_judged_output (Err fault) b c reads none = none _ refl
+some_judged_output (Ok p) b c reads none = some_layers_output p (first_fault (layer_checks p)) c reads.0.good (checks_are_rules p).0 none
+
+pub some_plan_output : (b c : List ℕ) → ((o : Option Output) → PlanOut b c o → ⊥) → ⊥
+some_plan_output b c none =
+    task_laws_hold.some_reading most_bytes b (λ r reads. some_judged_output r b c reads (λ o is. none o (r, reads, is)))
+
+-- no task is answered by reading it alone
+abbrev pub NoAnswer : Parts → Output → Type 0
+NoAnswer p output = ⊥
+
+-- ---- and none only where one of them is too long
+
+long_layers : (p : Parts) (first : Option LayerFault) (c : List ℕ) → (((o : Output) → layers_verdict first ≡ Some o → ⊥) → ⊥) → LayersOut p first c None → most_bytes < length c
+long_layers p (Some fault) c told out = absurd (told (λ o is. none-some o (out ∙ is)))
+long_layers p None c told out = no_file_output plan_format (codes "plan") (VerdictAnswer p) c (λ s line k. plan_worded line k) out
+
+long_judged : (r : Result Parts Fault) (b c : List ℕ) → ReadsAs task_format most_bytes b r → JudgedOut r c None → (most_bytes < length b) ⊎ (most_bytes < length c)
+long_judged (Err fault) b c reads out = inl (no_file_output task_format (codes "task") NoAnswer b task_worded (Err fault, reads, out))
+long_judged (Ok p) b c reads out = inr (long_layers p (first_fault (layer_checks p)) c (some_check_answer p) out)
+
+pub no_plan_output : (b c : List ℕ) → PlanOut b c None → (most_bytes < length b) ⊎ (most_bytes < length c)
+no_plan_output b c out = long_judged out.0 b c out.1 out.2
+
+-- ---- how the answer comes about
+
+-- an answer of one output is one of another that follows from it
+answers_by : (A B : Option Output → Type 0) → ((o : Option Output) → A o → B o) → (r : Result Answer ToolFault) → Answers A r → Answers B r
+answers_by A B to (Ok answer) is = to (Some (output_of answer)) is
+answers_by A B to (Err why) is = λ long. to None (is long)
+
+-- the refusal of a file that is read as no task
+abbrev pub RefusedOut : List ℕ → Option Output → Type 0
+RefusedOut = FileOut task_format (codes "task") NoAnswer
+
+refused_reading : (b c : List ℕ) (o : Option Output) (r : Result Parts Fault) → ReadsAs task_format most_bytes b r → IsAnswerOrRefusal (codes "task") NoAnswer r o → PlanOut b c o
+refused_reading b c o (Ok p) reads answer = absurd answer.1
+refused_reading b c o (Err fault) reads refused = (Err fault, reads, refused)
+
+refused_out : (b c : List ℕ) (o : Option Output) → RefusedOut b o → PlanOut b c o
+refused_out b c o out = refused_reading b c o out.0 out.1 out.2
+
+-- the output about the plan of a layered task
+judged_out : (p : Parts) → IsLayered p → (b c : List ℕ) → ReadsAs task_format most_bytes b (Ok p) → (o : Option Output) → VerdictOut p c o → PlanOut b c o
+judged_out p layered b c reads o out =
+    (Ok p, reads, subst (λ (first : Option LayerFault). LayersOut p first c o) (sym ((checks_are_rules p).1 layered)) out)
+
+-- the refusal of a task that isn't layered
+unlayered_out : (p : Parts) (fault : LayerFault) (b c : List ℕ) (o : Output) → ReadsAs task_format most_bytes b (Ok p) → first_fault (layer_checks p) ≡ Some fault → layers_refusal fault ≡ Some o → PlanOut b c (Some o)
+unlayered_out p fault b c o reads first told =
+    (Ok p, reads, subst (λ (first : Option LayerFault). LayersOut p first c (Some o)) (sym first) (sym told))
+
+-- such a fault is one of the task
+told_fault : (fault : LayerFault) (o : Output) → layers_refusal fault ≡ Some o → fault ≢ layer_fault.Memory
+told_fault fault o told is = none-some o (subst (λ (f : LayerFault). layers_refusal f ≡ Some o) is told)
+
+-- one of two is true, where the other is false
+first_alone : (a b : Bool) → b ≡ false → IsTrue (a || b) ↔ IsTrue a
+first_alone true b e = (λ t. refl, λ t. refl)
+first_alone false b e = (λ t. sym e ∙ t, λ t. e ∙ t)
+
+second_alone : (a b : Bool) → (IsTrue a → ⊥) → IsTrue (a || b) ↔ IsTrue b
+second_alone true b e = absurd (e refl)
+second_alone false b e = (λ t. t, λ t. t)
+
+module _ {T P : Type 0} (left_task : T → Option (List ℕ)) (left_plan : P → Option (List ℕ)) where
+  -- a file that is no task is refused, and the plan waits
+  pub refused_files : (old new : Device T) (plan : Device P) (r : Result Answer ToolFault) → plan.failed ≡ false → AnswersFile left_task RefusedOut old new r → AnswersFiles left_task left_plan PlanOut old new plan plan r
+  refused_files old new plan r working answer = record {
+    output = λ b c known known_plan. answers_by (RefusedOut b) (PlanOut b c) (refused_out b c) r (answer.output b known);
+    taken = λ decided.
+        let t = answer.taken decided in
+        (t.0, [], t.1, takes_nothing _, answers_by (RefusedOut t.0) (PlanOut t.0 []) (refused_out t.0 []) r t.2);
+    waits = λ b known none. refl;
+    reads = (λ e. (first_alone new.failed plan.failed working).1 (answer.reads.0 e), λ t. answer.reads.1 ((first_alone new.failed plan.failed working).0 t));
+    writes = answer.writes;
+  }
+
+  module _ (old new : Device T) (p : Parts) (read : ReadsAll left_task task_format (ValueOf task_format) old new (Ok p)) where
+    -- the plan of a layered task is judged
+    pub judged_files : (plan_old plan_new : Device P) (r : Result Answer ToolFault) → IsLayered p → AnswersFile left_plan (VerdictOut p) plan_old plan_new r
+        → AnswersFiles left_task left_plan PlanOut old new plan_old plan_new r
+    judged_files plan_old plan_new r layered answer = record {
+      output = λ b c known known_plan.
+          let reads = known_answer left_task task_format (ValueOf task_format) old new p b read known in
+          answers_by (VerdictOut p c) (PlanOut b c) (judged_out p layered b c reads) r (answer.output c known_plan);
+      taken = λ decided.
+          let t = answer.taken decided in
+          let got = read.read in
+          (got.0, t.0, got.1.0, t.1, answers_by (VerdictOut p t.0) (PlanOut got.0 t.0) (judged_out p layered got.0 t.0 got.2) r t.2);
+      waits = λ b known none. absurd (none (p, known_answer left_task task_format (ValueOf task_format) old new p b read known, layered));
+      reads = (
+        λ e. (second_alone new.failed plan_new.failed (λ t. read.note.1 t)).1 (answer.reads.0 e),
+        λ t. answer.reads.1 ((second_alone new.failed plan_new.failed (λ f. read.note.1 f)).0 t),
+      );
+      writes = answer.writes;
+    }
+
+    -- a task that isn't layered is refused, and the plan waits
+    pub unlayered_files : (plan : Device P) (fault : LayerFault) (a : Answer) → plan.failed ≡ false → (fault ≢ layer_fault.Memory → first_fault (layer_checks p) ≡ Some fault)
+        → layers_refusal fault ≡ Some (output_of a) → AnswersFiles left_task left_plan PlanOut old new plan plan (Ok a)
+    unlayered_files plan fault a working first told =
+        let is_first = first (told_fault fault (output_of a) told) in
+        record {
+          output = λ b c known known_plan. unlayered_out p fault b c (output_of a) (known_answer left_task task_format (ValueOf task_format) old new p b read known) is_first told;
+          taken = λ decided.
+              let got = read.read in
+              (got.0, [], got.1.0, takes_nothing _, unlayered_out p fault got.0 [] (output_of a) got.2 is_first told);
+          waits = λ b known none. refl;
+          reads = (λ e. absurd cc, λ t. absurd (read.note.1 ((first_alone new.failed plan.failed working).0 t)));
+          writes = tt;
+        }
