@@ -141,7 +141,7 @@ impl<'a, E: Settle<T> + Drop, T: Grounded> Runner<'a, E, T> {
     }
 
     /// The task.
-    pub(crate) fn layered(&self) -> &'a Layered<T>
+    pub fn layered(&self) -> &'a Layered<T>
         ensures { result.now ≡ self.now }
     {
         self.layered
