@@ -21,8 +21,9 @@ from concurrent.futures import ThreadPoolExecutor
 
 import report
 from axioms import settled_tasks, spoiled_tasks
+from steps import state_line
 from texts import as_bytes, changed_lines, table
-from walks import state_line, walked_calls, walked_plans
+from walks import walked_calls, walked_plans
 
 SECONDS = 60
 # the program reads no more than 8,192 bytes

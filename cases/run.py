@@ -137,15 +137,24 @@ def verdict_cases():
         yield verdict_case(made, ["t.sas", "p.txt"], files={"t.sas": made["task"], "p.txt": made["plan"]})
 
 
+def closed_pipe():
+    """The end for writing of a pipe whose other end is closed."""
+    reading, writing = os.pipe()
+    os.close(reading)
+    return writing
+
+
+# made before any other process is: one that was begun while both ends were open would hold the other end for a while
+CLOSED_PIPE = closed_pipe()
+
+
 def output_device(case):
     """What standard output is: a pipe to be read, unless the case says where it goes."""
     if "output_to" not in case:
         return subprocess.PIPE
     if case["output_to"] == "full device":
         return os.open("/dev/full", os.O_WRONLY)
-    reading, writing = os.pipe()
-    os.close(reading)
-    return writing
+    return os.dup(CLOSED_PIPE)
 
 
 def command_of(program, case, folder):

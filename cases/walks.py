@@ -1,5 +1,5 @@
-"""Small tasks with operators, made at random from a fixed seed, with plans: what the steps of an operator do, and what is
-said of each plan.
+"""Small tasks with operators, made at random from a fixed seed, with plans and with calls of a runner, and what is said of
+these.
 
 A task here is one of axioms.py, or one without derived variables, and has
 
@@ -7,16 +7,12 @@ A task here is one of axioms.py, or one without derived variables, and has
     goal        facts (VARIABLE, VALUE)
     operators   (NAME, PREVAIL, EFFECTS, COST), an effect as (CONDITIONS, VARIABLE, OLD, NEW); -1 stands for no old value
 
-A plan is the names of its steps, and its cost. What is said of it is computed from the meaning of a task. The steps go from
-the state of the state section, settled. An operator is applicable where its prevail conditions hold and each of its effects
-that asks for an old value finds it, whether it fires or not. A step means the first operator of its name that is
-applicable. Each effect fires whose conditions hold before the step; where two that fire give one variable different values
-there is no step. Else all take place at once, and the rules settle the state. The goal has to hold behind the last step, and
-the cost has to be the sum of the operators' costs: of their cost lines under metric 1, of 1 for each under metric 0.
+A plan is the names of its steps, and its cost. steps.py says what comes of it.
 """
 import random
 
-from axioms import any_fact, random_task, settled, text_of
+from axioms import any_fact, random_task, text_of
+from steps import call_answer, conflict, cost_of, holds, initial, meant, next_state, state_line, verdict
 
 SEED = 60
 TASKS = 150
@@ -57,103 +53,13 @@ def random_operator(chance, task):
     return chance.choice(NAMES), random_facts(chance, task, (0, 0, 0, 1, 1, 2)), effects, chance.choice((0, 1, 2, 7))
 
 
-def holds(state, facts):
-    """Whether all these facts hold."""
-    return all(state[var] == value for var, value in facts)
-
-
-def preconditions(operator):
-    """The facts that have to hold for the operator: its prevail conditions, then the old values of its effects."""
-    _, prevail, effects, _ = operator
-    return [*prevail, *((var, old) for _, var, old, _ in effects if old != -1)]
-
-
-def meant(task, state, name):
-    """The first applicable operator of this name; None where none is applicable; -1 where none has it."""
-    named = [place for place, operator in enumerate(task["operators"]) if operator[0] == name]
-    if not named:
-        return -1
-    return next((place for place in named if holds(state, preconditions(task["operators"][place]))), None)
-
-
-def conflict(state, operator):
-    """The first effect that fires and gives a variable another value than one before it that fires; None where none does."""
-    given = {}
-    for place, (facts, var, _, new) in enumerate(operator[2]):
-        if holds(state, facts) and given.setdefault(var, new) != new:
-            return place
-    return None
-
-
-def next_state(task, state, operator):
-    """The state behind a step of an applicable operator without a conflict."""
-    values = list(state)
-    for facts, var, _, new in operator[2]:
-        if holds(state, facts):
-            values[var] = new
-    return settled(task, values)
-
-
-def initial(task):
-    """The initial state."""
-    return settled(task, task["defaults"])
-
-
-def cost_of(task, operator):
-    """What an operator costs."""
-    return task["operators"][operator][3] if task["metric"] else 1
-
-
-def verdict(task, names, cost):
-    """What the program says of a plan, and what the call `check_plan` answers."""
-    state, chosen = initial(task), []
-    for step, name in enumerate(names, 1):
-        operator = meant(task, state, name)
-        if operator == -1:
-            return f"plan invalid: step {step}: no operator of that name", f"NoOperator {{ step: {step} }}"
-        if operator is None:
-            return f"plan invalid: step {step}: not applicable", f"NotApplicable {{ step: {step} }}"
-        if conflict(state, task["operators"][operator]) is not None:
-            fault = f"Conflict {{ step: {step}, operator: {operator} }}"
-            return f"plan invalid: step {step}: conflicting effects", fault
-        state = next_state(task, state, task["operators"][operator])
-        chosen.append(operator)
-    for place, fact in enumerate(task["goal"]):
-        if not holds(state, [fact]):
-            return f"plan invalid: goal fact {place} not reached", f"GoalMissed {{ index: {place} }}"
-    total = sum(cost_of(task, operator) for operator in chosen)
-    if total != cost:
-        return f"plan invalid: cost is {total}, not {cost}", f"CostDiffers {{ sum: {total} }}"
-    operators = " ".join(["operators", *map(str, chosen)])
-    return f"plan valid: {len(names)} steps, cost {cost}", f"{operators}\ncost {cost}"
-
-
-def call_answer(task, state, call, word):
-    """What a call of a runner answers in a state, and the state behind it."""
-    if call == "applicable":
-        return str(holds(state, preconditions(task["operators"][word]))).lower(), state
-    if call == "choose":
-        operator = meant(task, state, word)
-        return "Unknown" if operator == -1 else "Blocked" if operator is None else f"Found({operator})", state
-    if call == "goal":
-        missed = [place for place, fact in enumerate(task["goal"]) if not holds(state, [fact])]
-        return f"Some({missed[0]})" if missed else "None", state
-    for var, value in preconditions(task["operators"][word]):
-        if state[var] != value:
-            return f"NotApplicable {{ fact: Fact {{ var: {var}, value: {value} }} }}", state
-    effect = conflict(state, task["operators"][word])
-    if effect is not None:
-        return f"Conflict {{ effect: {effect} }}", state
-    return "made", next_state(task, state, task["operators"][word])
-
-
 def walk(chance, task):
-    """A plan that goes from state to state by applicable operators while there are some, its cost, and the last state. Where
-    the operator that its name means has a conflict, it ends with that, now and then."""
+    """A plan that goes from state to state while there are applicable operators, its cost, and the last state. Where effects
+    of one of these conflict, it ends with that one, now and then."""
     state, names, cost = initial(task), [], 0
     for _ in range(chance.choice((0, 1, 2, 3, 4, 6, 8))):
         named = {name: meant(task, state, name) for name in NAMES}
-        able = {name: operator for name, operator in named.items() if operator not in (-1, None)}
+        able = {name: operator for name, operator in named.items() if not isinstance(operator, str)}
         agree = [name for name in able if conflict(state, task["operators"][able[name]]) is None]
         if len(agree) < len(able) and chance.random() < 0.3:
             return [*names, chance.choice([name for name in able if name not in agree])], cost, state
@@ -260,8 +166,3 @@ def walked_calls():
             "calls": ";".join(f"{call} {word}" for call, word in calls),
             "answers": "".join(f"{line}\n" for line in said),
         }
-
-
-def state_line(state):
-    """The line that shows a state."""
-    return " ".join(["state", *map(str, state)])

@@ -60,12 +60,18 @@ fn say_laws_of_meaning() {
     sas_axioms::meaning_laws();
 }
 
+/// The laws of verdicts on plans.
+fn say_laws_of_verdicts() {
+    sas_run::verdict_laws();
+}
+
 /// The laws, each called once. It could show that one can't be called.
 fn say_laws<P: Print>(out: &P) {
     say_plan_laws();
     say_task_laws();
     say_laws_of_parts();
     say_laws_of_meaning();
+    say_laws_of_verdicts();
     say(out, "laws");
 }
 

@@ -1,0 +1,111 @@
+"""What operators do and plans are worth, computed from the meaning of a task: a task here is as in walks.py.
+
+The initial state is that of the state section, settled. An operator is applicable where its prevail conditions hold, and
+each of its effects that asks for an old value finds it, whether it fires or not. A step means the first operator of its
+name that is applicable. Each effect fires whose conditions hold before the step. Where two that fire give one variable
+different values there is no step; else all take place at once, and the rules settle the state.
+
+The goal has to hold behind the last step of a plan, and its cost has to be the sum of its operators' costs: of their cost
+lines under metric 1, of 1 for each under metric 0.
+"""
+from axioms import settled
+
+
+def holds(state, facts):
+    """Whether all these facts hold."""
+    return all(state[var] == value for var, value in facts)
+
+
+def preconditions(operator):
+    """The facts that have to hold for the operator: its prevail conditions, then the old values of its effects."""
+    _, prevail, effects, _ = operator
+    return [*prevail, *((var, old) for _, var, old, _ in effects if old != -1)]
+
+
+def meant(task, state, name):
+    """The place of the first applicable operator of this name, or a word for why there is none."""
+    named = [place for place, operator in enumerate(task["operators"]) if operator[0] == name]
+    if not named:
+        return "Unknown"
+    return next((place for place in named if holds(state, preconditions(task["operators"][place]))), "Blocked")
+
+
+def conflict(state, operator):
+    """The first effect that fires and gives a variable another value than one before it that fires; None where none does."""
+    given = {}
+    for place, (facts, var, _, new) in enumerate(operator[2]):
+        if holds(state, facts) and given.setdefault(var, new) != new:
+            return place
+    return None
+
+
+def next_state(task, state, operator):
+    """The state behind a step of an applicable operator without a conflict."""
+    values = list(state)
+    for facts, var, _, new in operator[2]:
+        if holds(state, facts):
+            values[var] = new
+    return settled(task, values)
+
+
+def initial(task):
+    """The initial state."""
+    return settled(task, task["defaults"])
+
+
+def cost_of(task, operator):
+    """What an operator costs."""
+    return task["operators"][operator][3] if task["metric"] else 1
+
+
+def verdict(task, names, cost):
+    """What the program says of a plan, and what the call `check_plan` answers."""
+    state, chosen = initial(task), []
+    for step, name in enumerate(names, 1):
+        operator = meant(task, state, name)
+        if operator == "Unknown":
+            return f"plan invalid: step {step}: no operator of that name", f"NoOperator {{ step: {step} }}"
+        if operator == "Blocked":
+            return f"plan invalid: step {step}: not applicable", f"NotApplicable {{ step: {step} }}"
+        if conflict(state, task["operators"][operator]) is not None:
+            fault = f"Conflict {{ step: {step}, operator: {operator} }}"
+            return f"plan invalid: step {step}: conflicting effects", fault
+        state = next_state(task, state, task["operators"][operator])
+        chosen.append(operator)
+    for place, fact in enumerate(task["goal"]):
+        if not holds(state, [fact]):
+            return f"plan invalid: goal fact {place} not reached", f"GoalMissed {{ index: {place} }}"
+    total = sum(cost_of(task, operator) for operator in chosen)
+    if total != cost:
+        return f"plan invalid: cost is {total}, not {cost}", f"CostDiffers {{ sum: {total} }}"
+    operators = " ".join(["operators", *map(str, chosen)])
+    return f"plan valid: {len(names)} steps, cost {cost}", f"{operators}\ncost {cost}"
+
+
+def step_answer(task, state, operator):
+    """What comes of the step of an operator in a state, and the state behind it."""
+    for var, value in preconditions(operator):
+        if state[var] != value:
+            return f"NotApplicable {{ fact: Fact {{ var: {var}, value: {value} }} }}", state
+    effect = conflict(state, operator)
+    if effect is not None:
+        return f"Conflict {{ effect: {effect} }}", state
+    return "made", next_state(task, state, operator)
+
+
+def call_answer(task, state, call, word):
+    """What a call of a runner answers in a state, and the state behind it."""
+    if call == "applicable":
+        return str(holds(state, preconditions(task["operators"][word]))).lower(), state
+    if call == "choose":
+        operator = meant(task, state, word)
+        return operator if isinstance(operator, str) else f"Found({operator})", state
+    if call == "goal":
+        missed = [place for place, fact in enumerate(task["goal"]) if not holds(state, [fact])]
+        return f"Some({missed[0]})" if missed else "None", state
+    return step_answer(task, state, task["operators"][word])
+
+
+def state_line(state):
+    """The line that shows a state."""
+    return " ".join(["state", *map(str, state)])
