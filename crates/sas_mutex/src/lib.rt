@@ -1,16 +1,14 @@
-//! Mutex groups: whether a group of facts is an invariant, by itself or jointly with others.
+//! Mutex groups judged jointly: which groups of a task are invariants, where each may rest on others. The definitions, the laws
+//! and the check of one group stand in `sas_groups`, whose calls this crate passes on.
 #![tactic(auto)]
 
-mod clashes;
-mod facts;
-mod group;
-mod keeping;
-mod known;
-mod laws;
-mod removal;
-mod verdict;
+mod directory;
+mod effects;
+mod family;
+mod index;
+mod joint;
+mod marks;
+mod mentions;
 
-pub use facts::Facts;
-pub use group::check_group;
-pub use laws::group_laws;
-pub use verdict::Verdict;
+pub use joint::check_groups;
+pub use sas_groups::{Facts, Verdict, check_group, group_laws};

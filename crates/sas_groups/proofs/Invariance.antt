@@ -1,0 +1,129 @@
+-- Groups that every operator keeps stay exclusive: one induction over the reachable states, for any condition on groups.
+use Rattle.std.proofs.Common.{◌≡◌, ◌≢◌, ℕ, Bool, List, [], ◌∷◌, ◌++◌, get_or, refl, sym, ◌∙◌, ap, subst, inl, inr}
+use Rattle.std.proofs.lemmas.Bool.{cases_eq}
+use Rattle.std.proofs.lemmas.List.Elements.{All-nil, All-cons, All-append, All-contains}
+use Rattle.std.specs.List.{All, Contains}
+use Rattle.sas_core.specs.declared.parts.Fact.{Fact}
+use Rattle.sas_core.specs.declared.parts.Effect.{Effect}
+use Rattle.sas_core.specs.declared.parts.Operator.{Operator}
+use Rattle.sas_core.specs.declared.parts.Parts.{Parts}
+use Rattle.sas_core.specs.Grounded.{group_at}
+use Rattle.sas_meaning.specs.States.{Holds, AllHold}
+use Rattle.sas_meaning.specs.Layers.{IsBasic}
+use Rattle.sas_meaning.specs.Steps.{preconditions, Fires, Step}
+use Rattle.sas_meaning.specs.Reachable.{IsInitial, Reachable, Initial, Next}
+use Rattle.sas_meaning.proofs.Facts.{SetBy, Untouched, set_or_kept}
+use Rattle.sas_groups.specs.Clashes.{Clash, sets, Keeps}
+use Rattle.sas_groups.specs.Groups.{IsExclusiveIn, MayBeExclusive}
+use Rattle.sas_groups.specs.Families.{IsGroupOf, AllKeep, IsKeptJointly}
+use Rattle.sas_groups.specs.Laws.{JointlyKeptIsExclusive, ExclusiveAloneIsInvariant, ExclusiveJointlyIsInvariant}
+
+fact : ℕ → ℕ → Fact
+fact var value = record { var = var; value = value }
+
+pub fact_same : (f g : Fact) → f.var ≡ g.var → f.value ≡ g.value → f ≡ g
+unfolding fact
+fact_same f g e e' = ap (λ (var : ℕ). fact var f.value) e ∙ ap (λ (value : ℕ). fact g.var value) e'
+
+-- each group that counts may be exclusive, and every operator keeps it under those that count
+pub record AreKept (p : Parts) (Counts : List Fact → Type 0) : Type 0 where
+  pub may : (group : List Fact) → Counts group → MayBeExclusive p group
+  pub kept : (group : List Fact) → Counts group → AllKeep p Counts group
+
+module _ (p : Parts) (Counts : List Fact → Type 0) (are_kept : AreKept p Counts) where
+  abbrev Exclusive : List ℕ → Type 0
+  Exclusive s = (group : List Fact) → Counts group → IsExclusiveIn s group
+
+  -- facts that all hold don't clash
+  no_clash : (s : List ℕ) (facts : List Fact) → Exclusive s → AllHold (λ v. get_or s v 0) facts → Clash Counts facts → ⊥
+  no_clash s facts exclusive hold (f, g, in_f, in_g, why) = elim why [
+    | inl w ↦ w.1 (sym (holds f in_f) ∙ (ap (λ v. get_or s v 0) w.0 ∙ holds g in_g))
+    | inr w ↦ w.differ (exclusive w.group w.counts f g w.first w.second (holds f in_f) (holds g in_g))
+  ]
+    where
+      holds : (f : Fact) → Contains facts f → get_or s f.var 0 ≡ f.value
+      holds f among = All-contains (λ (x : Fact). get_or s x.var 0 ≡ x.value) facts f hold among
+
+  basic_of : (group : List Fact) (f : Fact) → Counts group → Contains group f → IsBasic p f.var
+  basic_of group f counts here = All-contains (λ (x : Fact). IsBasic p x.var) group f (are_kept.may group counts).basic here
+
+  initially : (s : List ℕ) → IsInitial p s → Exclusive s
+  initially s start group counts f g in_f in_g hf hg = (are_kept.may group counts).initial f g in_f in_g
+      (start.basic f.var (basic_of group f counts in_f) ∙ hf) (start.basic g.var (basic_of group g counts in_g) ∙ hg)
+
+  module _ (s s' : List ℕ) (o : Operator) (is : Contains p.operators o) (step : Step p s o s') (before : Exclusive s) (group : List Fact) (counts : Counts group) where
+    keeps : Keeps Counts o group
+    keeps = All-contains (λ (x : Operator). Keeps Counts x group) p.operators o (are_kept.kept group counts) is
+
+    -- the effect that sets a variable sets the fact on it that holds afterwards
+    sets_it : (f : Fact) (e : Effect) → Contains o.effects e → Fires s e → e.var ≡ f.var → get_or s' f.var 0 ≡ f.value → sets e ≡ f
+    sets_it f e in_e fires on hf = fact_same (sets e) f on (sym (All-contains (λ (x : Effect). Fires s x → get_or s' x.var 0 ≡ x.new) o.effects e step.set in_e fires) ∙ (ap (λ v. get_or s' v 0) on ∙ hf))
+
+    -- no fact of the group stays while an effect sets another
+    no_mix : (f g : Fact) → Contains group f → Contains group g → f.var ≢ g.var → get_or s f.var 0 ≡ f.value → get_or s' f.var 0 ≡ f.value → get_or s' g.var 0 ≡ g.value → SetBy s o.effects g.var → ⊥
+    no_mix f g in_f in_g ne was hf hg w = elim (keeps.others w.effect f w.among (subst (λ x. Contains group x) (sym (sets_it g w.effect w.among w.fires w.on hg)) in_g) in_f (λ e. ne (sym e ∙ w.on))) [
+      | inl clash ↦ no_clash s (preconditions o ++ w.effect.conditions ++ f ∷ []) before all clash
+      | inr d ↦ d.other (sym (All-contains (λ (x : Effect). Fires s x → get_or s' x.var 0 ≡ x.new) o.effects d.effect step.set d.among (fires d.effect d.fires)) ∙ (ap (λ v. get_or s' v 0) d.var ∙ hf))
+    ]
+      where
+        all : AllHold (λ v. get_or s v 0) (preconditions o ++ w.effect.conditions ++ f ∷ [])
+        all = All-append (Holds (λ v. get_or s v 0)) (preconditions o ++ w.effect.conditions) (f ∷ [])
+            (All-append (Holds (λ v. get_or s v 0)) (preconditions o) w.effect.conditions step.applicable w.fires)
+            (All-cons (Holds (λ v. get_or s v 0)) f [] was (All-nil (Holds (λ v. get_or s v 0))))
+
+        fires : (d : Effect) → All (Contains (preconditions o ++ w.effect.conditions ++ f ∷ [])) d.conditions → Fires s d
+        fires d within j e lt = All-contains (Holds (λ v. get_or s v 0)) (preconditions o ++ w.effect.conditions ++ f ∷ []) (get_or d.conditions j e) all (within j e lt)
+
+    after : IsExclusiveIn s' group
+    after f g in_f in_g hf hg = elim (cases_eq f.var g.var) [
+      | inl e ↦ fact_same f g e (sym hf ∙ (ap (λ v. get_or s' v 0) e ∙ hg))
+      | inr ne ↦ elim (set_or_kept s o.effects f.var) [
+        | inl a ↦ elim (set_or_kept s o.effects g.var) [
+          | inl b ↦ absurd (no_clash s (preconditions o ++ a.effect.conditions ++ b.effect.conditions) before
+              (All-append (Holds (λ v. get_or s v 0)) (preconditions o ++ a.effect.conditions) b.effect.conditions
+              (All-append (Holds (λ v. get_or s v 0)) (preconditions o) a.effect.conditions step.applicable a.fires) b.fires)
+              (keeps.two a.effect b.effect a.among b.among
+              (subst (λ x. Contains group x) (sym (sets_it f a.effect a.among a.fires a.on hf)) in_f)
+              (subst (λ x. Contains group x) (sym (sets_it g b.effect b.among b.fires b.on hg)) in_g)
+              (λ e. ne (sym a.on ∙ (e ∙ b.on)))))
+          | inr kept ↦ absurd (no_mix g f in_g in_f (λ e. ne (sym e)) (stayed g in_g kept hg) hg hf a)
+        ]
+        | inr kept ↦ elim (set_or_kept s o.effects g.var) [
+          | inl b ↦ absurd (no_mix f g in_f in_g ne (stayed f in_f kept hf) hf hg b)
+          | inr kept' ↦ before group counts f g in_f in_g (stayed f in_f kept hf) (stayed g in_g kept' hg)
+        ]
+      ]
+    ]
+      where
+        stayed : (f : Fact) → Contains group f → All (Untouched s f.var) o.effects → get_or s' f.var 0 ≡ f.value → get_or s f.var 0 ≡ f.value
+        stayed f in_f kept h = sym (step.kept f.var (basic_of group f counts in_f) kept) ∙ h
+
+  pub always : {s : List ℕ} → Reachable p s → Exclusive s
+  always (Initial {s} start) = initially s start
+  always (Next {s} {s'} o before is step) = λ group counts. after s s' o is step (always before) group counts
+
+-- the groups of a family that is kept jointly are kept
+pub family_is_kept : (p : Parts) (family : ℕ → Bool) → IsKeptJointly p family → AreKept p (IsGroupOf p family)
+family_is_kept p family jointly = record {
+  may = λ group counts. subst (MayBeExclusive p) (sym counts.2) (jointly.may counts.0 counts.1);
+  kept = λ group counts. subst (AllKeep p (IsGroupOf p family)) (sym counts.2) (jointly.kept counts.0 counts.1);
+}
+
+-- so is a group alone
+pub group_is_kept : (p : Parts) (group : List Fact) → MayBeExclusive p group → AllKeep p (λ g. g ≡ group) group → AreKept p (λ g. g ≡ group)
+group_is_kept p group may kept = record {
+  may = λ g is. subst (MayBeExclusive p) (sym is) may;
+  kept = λ g is. subst (AllKeep p (λ x. x ≡ group)) (sym is) kept;
+}
+
+pub jointly_kept_is_exclusive : JointlyKeptIsExclusive
+jointly_kept_is_exclusive p family place s layered jointly among reach =
+    always p (IsGroupOf p family) (family_is_kept p family jointly) reach (group_at p place) (place, among, refl)
+
+pub exclusive_alone_is_invariant : ExclusiveAloneIsInvariant
+exclusive_alone_is_invariant p group s layered verdict reach =
+    always p (λ g. g ≡ group) (group_is_kept p group (record { basic = verdict.0; initial = verdict.1 }) verdict.2) reach group refl
+
+pub exclusive_jointly_is_invariant : ExclusiveJointlyIsInvariant
+exclusive_jointly_is_invariant p place s layered verdict reach =
+    jointly_kept_is_exclusive p verdict.0 place s layered verdict.1.jointly verdict.2 reach

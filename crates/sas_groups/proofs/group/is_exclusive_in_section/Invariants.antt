@@ -1,0 +1,12 @@
+-- No other fact holds with those so far.
+use Rattle.std.proofs.Common.{ℕ, ◌<◌, get_or}
+use Rattle.std.specs.Prelude.{slice_index}
+use Rattle.std.specs.List.{All}
+use Rattle.sas_core.specs.declared.parts.Fact.{Fact}
+use Rattle.sas_meaning.specs.States.{Holds}
+use Rattle.sas_groups.specs.Checks.{IsOnlyOne}
+use Rattle.sas_groups.proofs.group.is_exclusive_in_section.Given as goal
+
+abbrev pub invariant-loop-fact : goal.invariant-loop-fact
+invariant-loop-fact g l = (k : ℕ) (d : Fact) → k < l.fact-index → Holds (slice_index (g.T.Grounded.says l.task).init) (get_or l.group k d)
+    → All (IsOnlyOne (g.T.Grounded.says l.task).init (get_or l.group k d)) l.group

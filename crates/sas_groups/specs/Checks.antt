@@ -1,0 +1,48 @@
+-- What the parts of the check of a group decide. The group alone counts.
+use Rattle.std.specs.Prelude.{◌≡◌, ◌≢◌, ◌⊎◌, ℕ, ◌<◌, length, List, [], ◌∷◌, All, Contains, slice_index}
+use Rattle.sas_core.specs.declared.parts.Fact.{Fact}
+use Rattle.sas_core.specs.declared.parts.Effect.{Effect}
+use Rattle.sas_core.specs.declared.parts.Operator.{Operator}
+use Rattle.sas_core.specs.Grounded.{effect_at}
+use Rattle.sas_meaning.specs.States.{Holds}
+use Rattle.sas_groups.specs.Clashes.{Clash, IsRemoved, sets}
+use Rattle.sas_groups.specs.Lists.{known}
+
+-- only this group counts
+abbrev pub Alone : List Fact → List Fact → Type 0
+Alone group = λ (g : List Fact). g ≡ group
+
+-- one of the facts is such
+abbrev pub Has : (Fact → Type 0) → List Fact → Type 0
+Has P facts = (f : Fact) × Contains facts f × P f
+
+-- an effect whose conditions all lie in the facts sets the variable of this fact to another value
+pub record Removes (facts : List Fact) (effect : Effect) (fact : Fact) : Type 0 where
+  pub fires : All (Contains facts) effect.conditions
+  pub var : effect.var ≡ fact.var
+  pub other : effect.new ≢ fact.value
+
+-- if this effect sets a fact of the group on another variable, what holds when both fire clashes
+abbrev pub NotBoth : Operator → List Fact → Effect → Effect → Type 0
+NotBoth o group e f = Contains group (sets f) → e.var ≢ f.var → Clash (Alone group) (known o e.conditions f.conditions)
+
+-- if this fact is on another variable, it can't have held before, or it is removed
+abbrev pub IsGone : Operator → List Fact → Effect → Fact → Type 0
+IsGone o group e f = e.var ≢ f.var
+    → Clash (Alone group) (known o e.conditions (f ∷ [])) ⊎ IsRemoved o (known o e.conditions (f ∷ [])) f
+
+-- each effect is such
+abbrev pub OfEffects : Operator → (Effect → Type 0) → Type 0
+OfEffects o P = (effect : ℕ) → effect < length o.effects → P (effect_at o effect)
+
+-- where an effect sets a fact of the group, no other sets another in the same step
+abbrev pub IsSingle : Operator → List Fact → Effect → Type 0
+IsSingle o group e = Contains group (sets e) → OfEffects o (NotBoth o group e)
+
+-- where an effect sets a fact of the group, no other fact of it stays
+abbrev pub RemovesAll : Operator → List Fact → Effect → Type 0
+RemovesAll o group e = Contains group (sets e) → All (IsGone o group e) group
+
+-- another fact than this doesn't hold in the state section
+abbrev pub IsOnlyOne : List ℕ → Fact → Fact → Type 0
+IsOnlyOne init f g = Holds (slice_index init) g → f ≡ g

@@ -1,0 +1,7 @@
+pub mod Clashes
+pub mod Groups
+pub mod Families
+pub mod Verdicts
+pub mod Laws
+pub mod Lists
+pub mod Checks

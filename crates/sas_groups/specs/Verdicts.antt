@@ -1,0 +1,40 @@
+-- The verdicts on groups.
+use Rattle.std.specs.Prelude.{◌≡◌, ℕ, ◌<◌, Bool, List, length}
+use Rattle.sas_core.specs.declared.parts.Fact.{Fact}
+use Rattle.sas_core.specs.declared.parts.Parts.{Parts}
+use Rattle.sas_core.specs.Grounded.{operator_at, group_at}
+use Rattle.sas_groups.specs.declared.verdict.Verdict.{Verdict}
+use Rattle.sas_groups.specs.declared.verdict.Verdict.TheVariants.{Exclusive, Derived, Initial, Broken}
+use Rattle.sas_groups.specs.Clashes.{Keeps}
+use Rattle.sas_groups.specs.Groups.{IsExclusiveIn, IsOnBasic}
+use Rattle.sas_groups.specs.Families.{IsIn, AllKeep, IsGreatest, IsGroupOfOr}
+
+-- the lowest-numbered operator that doesn't keep the group
+pub record IsFirstBreaking (p : Parts) (Counts : List Fact → Type 0) (group : List Fact) (operator : ℕ) : Type 0 where
+  pub exists : operator < length p.operators
+  pub breaks : Keeps Counts (operator_at p operator) group → ⊥
+  pub first : (lower : ℕ) → lower < operator → Keeps Counts (operator_at p lower) group
+
+-- the verdict on a group by itself: the group alone counts
+abbrev pub IsVerdictAlone : Parts → List Fact → Verdict → Type 0
+IsVerdictAlone p group Derived = IsOnBasic p group → ⊥
+IsVerdictAlone p group Initial = IsOnBasic p group × (IsExclusiveIn p.init group → ⊥)
+IsVerdictAlone p group (Broken operator) = IsOnBasic p group
+    × IsExclusiveIn p.init group
+    × IsFirstBreaking p (λ g. g ≡ group) group operator
+IsVerdictAlone p group Exclusive = IsOnBasic p group
+    × IsExclusiveIn p.init group
+    × AllKeep p (λ g. g ≡ group) group
+
+-- the joint verdict on the group at this place: the groups of the greatest family that is kept jointly are exclusive; of the
+-- others each is broken by the lowest operator that doesn't keep it under that family and the group itself
+abbrev pub IsJointVerdict : Parts → ℕ → Verdict → Type 0
+IsJointVerdict p place Derived = IsOnBasic p (group_at p place) → ⊥
+IsJointVerdict p place Initial = IsOnBasic p (group_at p place) × (IsExclusiveIn p.init (group_at p place) → ⊥)
+IsJointVerdict p place (Broken operator) = (family : ℕ → Bool)
+    × IsGreatest p family
+    × (IsIn p family place → ⊥)
+    × IsOnBasic p (group_at p place)
+    × IsExclusiveIn p.init (group_at p place)
+    × IsFirstBreaking p (IsGroupOfOr p family (group_at p place)) (group_at p place) operator
+IsJointVerdict p place Exclusive = (family : ℕ → Bool) × IsGreatest p family × IsIn p family place

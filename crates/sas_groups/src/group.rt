@@ -1,0 +1,97 @@
+// The check of one group by itself.
+ghost use Rattle.std.specs.Prelude.{◌<◌, ◌↔◌, length, All, IsTrue, IsFalse, IfSome, IfNone, slice_index};
+ghost use Rattle.sas_core.specs.Variables.{FactExists};
+ghost use Rattle.sas_meaning.specs.States.{Holds};
+ghost use Rattle.sas_groups.specs.Groups.{IsExclusiveIn, IsOnBasic};
+ghost use Rattle.sas_groups.specs.Families.{AllKeep};
+ghost use Rattle.sas_groups.specs.Verdicts.{IsVerdictAlone, IsFirstBreaking};
+ghost use Rattle.sas_groups.specs.Checks.{Alone, IsOnlyOne};
+
+use crate::keeping::keeps;
+use crate::verdict::Verdict;
+use sas_core::{Fact, Grounded};
+use sas_meaning::Layered;
+
+/// Whether the group is exclusive by itself, its facts alone being known to exclude each other. It takes no memory.
+///
+/// The order is: a fact on a derived variable; two different facts that hold in the state section; the first operator that
+/// doesn't keep the group.
+pub fn check_group<T: Grounded>(layered: &Layered<T>, group: &[Fact]) -> Verdict
+    requires { All (FactExists layered.now.variables) group.now }
+    ensures { IsVerdictAlone layered.now group.now result }
+{
+    let task = layered.task();
+    if !is_on_basic(task, group) {
+        return Verdict::Derived;
+    }
+    if !is_exclusive_in_section(task, group) {
+        return Verdict::Initial;
+    }
+    match first_breaking(task, group) {
+        Some(operator) => Verdict::Broken { operator },
+        None => Verdict::Exclusive,
+    }
+}
+
+/// Whether all the facts are on basic variables.
+fn is_on_basic<T: Grounded>(task: &T, group: &[Fact]) -> bool
+    requires { All (λ f. f.var < length (T.says task.now).variables) group.now }
+    ensures yes { IsTrue result → IsOnBasic (T.says task.now) group.now }
+    ensures no { IsFalse result → IsOnBasic (T.says task.now) group.now → ⊥ }
+{
+    for fact in group {
+        if task.layer(fact.var).is_some() {
+            return false;
+        }
+    }
+    true
+}
+
+/// Whether no two different facts hold in the state section.
+fn is_exclusive_in_section<T: Grounded>(task: &T, group: &[Fact]) -> bool
+    requires { All (λ f. f.var < length (T.says task.now).variables) group.now }
+    ensures yes { IsTrue result → IsExclusiveIn (T.says task.now).init group.now }
+    ensures no { IsFalse result → IsExclusiveIn (T.says task.now).init group.now → ⊥ }
+{
+    for fact in group {
+        if holds(task, *fact) && !is_only_one(task, group, *fact) {
+            return false;
+        }
+    }
+    true
+}
+
+/// Whether no other fact holds in the state section.
+fn is_only_one<T: Grounded>(task: &T, group: &[Fact], fact: Fact) -> bool
+    requires { All (λ f. f.var < length (T.says task.now).variables) group.now }
+    ensures yes { IsTrue result → All (IsOnlyOne (T.says task.now).init fact) group.now }
+    ensures no { IsFalse result → All (IsOnlyOne (T.says task.now).init fact) group.now → ⊥ }
+{
+    for other in group {
+        if *other != fact && holds(task, *other) {
+            return false;
+        }
+    }
+    true
+}
+
+/// Whether the fact holds in the state section.
+fn holds<T: Grounded>(task: &T, fact: Fact) -> bool
+    requires { fact.var < length (T.says task.now).variables }
+    ensures { IsTrue result ↔ Holds (slice_index (T.says task.now).init) fact }
+{
+    task.initial_value(fact.var) == fact.value
+}
+
+/// The first operator that doesn't keep the group.
+fn first_breaking<T: Grounded>(task: &T, group: &[Fact]) -> Option<u32>
+    ensures some { IfSome result (λ operator. IsFirstBreaking (T.says task.now) (Alone group.now) group.now operator) }
+    ensures none { IfNone result (AllKeep (T.says task.now) (Alone group.now) group.now) }
+{
+    for operator in 0..task.operators() {
+        if !keeps(task, operator, group) {
+            return Some(operator);
+        }
+    }
+    None
+}

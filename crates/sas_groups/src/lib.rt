@@ -1,0 +1,16 @@
+//! Mutex groups: whether a group of facts is an invariant, by itself or jointly with others.
+#![tactic(auto)]
+
+mod clashes;
+mod facts;
+mod group;
+mod keeping;
+mod known;
+mod laws;
+mod removal;
+mod verdict;
+
+pub use facts::Facts;
+pub use group::check_group;
+pub use laws::group_laws;
+pub use verdict::Verdict;

@@ -1,8 +1,0 @@
--- None of the facts so far is another one that holds.
-use Rattle.std.proofs.Common.{ℕ, ◌<◌, get_or}
-use Rattle.sas_core.specs.declared.parts.Fact.{Fact}
-use Rattle.sas_mutex.specs.Checks.{IsOnlyOne}
-use Rattle.sas_mutex.proofs.group.is_only_one.Given as goal
-
-abbrev pub invariant-loop-other : goal.invariant-loop-other
-invariant-loop-other g l = (k : ℕ) (d : Fact) → k < l.other-index → IsOnlyOne (g.T.Grounded.says l.task).init l.fact (get_or l.group k d)

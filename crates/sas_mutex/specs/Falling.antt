@@ -1,0 +1,60 @@
+-- How groups fall out of the family of those that may be kept jointly.
+use Rattle.std.specs.Prelude.{◌≡◌, ℕ, ◌+◌, ◌<◌, ◌≤◌, ◌↔◌, Bool, if◌then◌else◌, IsTrue, List, [], ◌∷◌, ◌++◌, length, drop, All, Contains, vec_capacity}
+use Rattle.sas_core.specs.declared.parts.Parts.{Parts}
+use Rattle.sas_core.specs.Grounded.{operator_at, effect_at, group_at}
+use Rattle.sas_groups.specs.Clashes.{sets}
+use Rattle.sas_groups.specs.Families.{IsIn, IsKeptJointly}
+use Rattle.sas_groups.specs.Groups.{MayBeExclusive}
+use Rattle.sas_mutex.specs.declared.family.Family.{Family}
+use Rattle.sas_mutex.specs.Effects.{family_of, IsKept, EffectKeeps}
+use Rattle.sas_mutex.specs.Index.{MentionsGroup}
+
+-- the effect at this place of this operator keeps each group of the family that has the fact which it sets
+abbrev pub EffectKeepsAll : Parts → List Bool → ℕ → ℕ → Type 0
+EffectKeepsAll p kept operator effect = (place : ℕ) → IsIn p (family_of kept) place
+    → Contains (group_at p place) (sets (effect_at (operator_at p operator) effect))
+    → EffectKeeps (IsKept p kept) (operator_at p operator) (group_at p place) (effect_at (operator_at p operator) effect)
+
+-- the operator mentions no fact of the groups at these places
+abbrev pub MentionsNone : Parts → ℕ → List ℕ → Type 0
+MentionsNone p operator places = (place : ℕ) → Contains places place → MentionsGroup p operator place → ⊥
+
+-- an effect is at rest: unless its operator mentions a fact of a group that waits, it keeps the groups of the family
+abbrev pub IsEffectAtRest : Parts → List Bool → List ℕ → ℕ → ℕ → Type 0
+IsEffectAtRest p kept waiting operator effect = MentionsNone p operator waiting → EffectKeepsAll p kept operator effect
+
+-- and so an operator, if its effects are
+abbrev pub IsAtRest : Parts → List Bool → List ℕ → ℕ → Type 0
+IsAtRest p kept waiting operator = (effect : ℕ) → effect < length (operator_at p operator).effects
+    → IsEffectAtRest p kept waiting operator effect
+
+-- how many groups the list keeps
+abbrev pub count : List Bool → ℕ
+count [] = 0
+count (kept ∷ rest) = (if kept then 1 else 0) + count rest
+
+-- a place in the list for each group, and in the queue room for all that may still fall
+pub record HasRoom (p : Parts) (family : Family) : Type 0 where
+  pub one_each : length family.kept ≡ length p.groups
+  pub room : count family.kept + length family.fallen.items ≤ vec_capacity family.fallen
+  pub few : count family.kept + length family.fallen.items ≤ length p.groups
+
+-- the family has the groups that may be exclusive
+abbrev pub AreCandidates : Parts → List Bool → Type 0
+AreCandidates p kept = (place : ℕ) → place < length p.groups → IsTrue (family_of kept place) ↔ MayBeExclusive p (group_at p place)
+
+-- the groups that fell since
+abbrev pub newly : Family → Family → List ℕ
+newly before after = drop (length before.fallen.items) after.fallen.items
+
+-- some groups of the family fell: these are noted, and no family that is kept jointly has one of them
+pub record Falls (p : Parts) (before after : Family) : Type 0 where
+  pub one_each : length after.kept ≡ length before.kept
+  pub behind : after.fallen.items ≡ before.fallen.items ++ newly before after
+  pub exist : All (λ place. place < length p.groups) (newly before after)
+  pub less : (place : ℕ) → IsIn p (family_of after.kept) place → IsIn p (family_of before.kept) place
+  pub noted : (place : ℕ) → IsIn p (family_of before.kept) place → (IsIn p (family_of after.kept) place → ⊥)
+      → Contains (newly before after) place
+  pub none_lost : (other : ℕ → Bool) → IsKeptJointly p other
+      → ((place : ℕ) → IsIn p other place → IsIn p (family_of before.kept) place)
+      → (place : ℕ) → IsIn p other place → IsIn p (family_of after.kept) place

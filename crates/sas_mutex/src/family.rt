@@ -1,0 +1,183 @@
+// The greatest family of groups that is kept jointly.
+ghost use Rattle.std.specs.Prelude.{◌≡◌, ◌<◌, ◌≤◌, ℕ, [], length, All, Contains, IsTrue, slice_set, vec_capacity};
+ghost use Rattle.sas_core.specs.Grounded.{operator_at, effect_at, group_at};
+ghost use Rattle.sas_groups.specs.Families.{IsIn, IsGreatest};
+ghost use Rattle.sas_mutex.specs.Effects.{family_of};
+ghost use Rattle.sas_mutex.specs.Index.{IsIndexOf, AreMentions};
+ghost use Rattle.sas_mutex.specs.Marks.{IsClean};
+ghost use Rattle.sas_mutex.specs.Falling.{HasRoom, AreCandidates, newly, Falls, IsAtRest, IsEffectAtRest};
+
+use crate::directory::Directory;
+use crate::effects::effect_keeps;
+use crate::index::Index;
+use crate::marks::Marks;
+use sas_core::{Fact, Grounded, Items};
+
+/// The groups that may still be kept jointly, and those that fell out of them.
+#[derive(Drop)]
+pub struct Family {
+    /// Whether the group is of the family.
+    pub kept: Items<bool>,
+    /// Those that fell, in their order.
+    pub fallen: Vec<u32>,
+}
+
+/// Takes from the family, which has the groups that may be exclusive, each that some operator doesn't keep, until every
+/// operator keeps each that is left. After a group fell only those operators are looked at again that mention a fact of it.
+pub fn find_greatest<T: Grounded>(
+    task: &T,
+    index: &Index,
+    mentions: &Directory,
+    family: &mut Family,
+    marks: &mut Marks,
+)
+    requires index { IsIndexOf (T.says task.now) index.now }
+    requires mentions { AreMentions (T.says task.now) mentions.now }
+    requires candidates { AreCandidates (T.says task.now) family.old.kept }
+    requires none { family.old.fallen.items ≡ [] }
+    requires room { HasRoom (T.says task.now) family.old }
+    requires clean { IsClean (T.says task.now) marks.old }
+    ensures greatest { IsGreatest (T.says task.now) (family_of family.new.kept) }
+    ensures one_each { length family.new.kept ≡ length (T.says task.now).groups }
+    ensures clean { IsClean (T.says task.now) marks.new }
+{
+    look_at_all(task, index, family, marks);
+    look_again(task, index, mentions, family, marks);
+}
+
+/// Looks at each operator once.
+fn look_at_all<T: Grounded>(task: &T, index: &Index, family: &mut Family, marks: &mut Marks)
+    requires index { IsIndexOf (T.says task.now) index.now }
+    requires room { HasRoom (T.says task.now) family.old }
+    requires clean { IsClean (T.says task.now) marks.old }
+    ensures falls { Falls (T.says task.now) family.old family.new }
+    ensures rest { (operator : ℕ) → operator < length (T.says task.now).operators
+        → IsAtRest (T.says task.now) family.new.kept (newly family.old family.new) operator }
+    ensures room { HasRoom (T.says task.now) family.new }
+    ensures clean { IsClean (T.says task.now) marks.new }
+{
+    for operator in 0..task.operators() {
+        look_at(task, index, operator, family, marks);
+    }
+}
+
+/// Looks again at the operators that mention a fact of a group that fell, until no more falls.
+fn look_again<T: Grounded>(
+    task: &T,
+    index: &Index,
+    mentions: &Directory,
+    family: &mut Family,
+    marks: &mut Marks,
+)
+    requires index { IsIndexOf (T.says task.now) index.now }
+    requires mentions { AreMentions (T.says task.now) mentions.now }
+    requires room { HasRoom (T.says task.now) family.old }
+    requires exist { All (λ (place : ℕ). place < length (T.says task.now).groups) family.old.fallen.items }
+    requires rest { (operator : ℕ) → operator < length (T.says task.now).operators
+        → IsAtRest (T.says task.now) family.old.kept family.old.fallen.items operator }
+    requires clean { IsClean (T.says task.now) marks.old }
+    ensures falls { Falls (T.says task.now) family.old family.new }
+    ensures rest { (operator : ℕ) → operator < length (T.says task.now).operators
+        → IsAtRest (T.says task.now) family.new.kept [] operator }
+    ensures clean { IsClean (T.says task.now) marks.new }
+{
+    let mut next = 0;
+    while next < family.fallen.len() {
+        let group = family.fallen[next];
+        next += 1;
+        look_at_each(task, index, mentions.under(group as usize), family, marks);
+    }
+}
+
+/// Looks at these operators.
+fn look_at_each<T: Grounded>(
+    task: &T,
+    index: &Index,
+    operators: &[u32],
+    family: &mut Family,
+    marks: &mut Marks,
+)
+    requires index { IsIndexOf (T.says task.now) index.now }
+    requires exist { All (λ (operator : ℕ). operator < length (T.says task.now).operators) operators.now }
+    requires room { HasRoom (T.says task.now) family.old }
+    requires clean { IsClean (T.says task.now) marks.old }
+    ensures falls { Falls (T.says task.now) family.old family.new }
+    ensures rest { All (IsAtRest (T.says task.now) family.new.kept (newly family.old family.new)) operators.now }
+    ensures room { HasRoom (T.says task.now) family.new }
+    ensures clean { IsClean (T.says task.now) marks.new }
+{
+    for operator in operators {
+        look_at(task, index, *operator, family, marks);
+    }
+}
+
+/// Takes from the family the groups that the operator doesn't keep.
+fn look_at<T: Grounded>(task: &T, index: &Index, operator: u32, family: &mut Family, marks: &mut Marks)
+    requires index { IsIndexOf (T.says task.now) index.now }
+    requires operator { operator < length (T.says task.now).operators }
+    requires room { HasRoom (T.says task.now) family.old }
+    requires clean { IsClean (T.says task.now) marks.old }
+    ensures falls { Falls (T.says task.now) family.old family.new }
+    ensures rest { IsAtRest (T.says task.now) family.new.kept (newly family.old family.new) operator }
+    ensures room { HasRoom (T.says task.now) family.new }
+    ensures clean { IsClean (T.says task.now) marks.new }
+{
+    for effect in 0..task.effects(operator) {
+        look_at_effect(task, index, operator, effect, family, marks);
+    }
+}
+
+/// Takes from the family the groups that the effect doesn't keep.
+fn look_at_effect<T: Grounded>(
+    task: &T,
+    index: &Index,
+    operator: u32,
+    effect: u32,
+    family: &mut Family,
+    marks: &mut Marks,
+)
+    requires index { IsIndexOf (T.says task.now) index.now }
+    requires operator { operator < length (T.says task.now).operators }
+    requires effect { effect < length (operator_at (T.says task.now) operator).effects }
+    requires room { HasRoom (T.says task.now) family.old }
+    requires clean { IsClean (T.says task.now) marks.old }
+    ensures falls { Falls (T.says task.now) family.old family.new }
+    ensures rest { IsEffectAtRest (T.says task.now) family.new.kept (newly family.old family.new) operator effect }
+    ensures room { HasRoom (T.says task.now) family.new }
+    ensures clean { IsClean (T.says task.now) marks.new }
+{
+    let change = task.effect_change(operator, effect);
+    let set = Fact {
+        var: change.var,
+        value: change.new,
+    };
+    for group in index.groups_of(set) {
+        if family.kept.as_slice()[*group as usize]
+            && !effect_keeps(
+                task,
+                index,
+                family.kept.as_slice(),
+                operator,
+                effect,
+                *group,
+                marks,
+            )
+        {
+            family.take_away(*group);
+        }
+    }
+}
+
+impl Family {
+    /// The group falls.
+    fn take_away(&mut self, group: u32)
+        requires kept { IsTrue (family_of self.old.kept group) }
+        requires room { count self.old.kept + length self.old.fallen.items ≤ vec_capacity self.old.fallen }
+        ensures kept { self.new.kept ≡ slice_set self.old.kept group false }
+        ensures fallen { self.new.fallen.items ≡ self.old.fallen.items ++ group ∷ [] }
+        ensures room { vec_capacity self.old.fallen ≤ vec_capacity self.new.fallen }
+    {
+        self.kept.set(group as usize, false);
+        self.fallen.push(group).unwrap();
+    }
+}
