@@ -1,10 +1,10 @@
 // The check of one group by itself.
-ghost use Rattle.std.specs.Prelude.{◌<◌, ◌↔◌, length, All, IsTrue, IsFalse, IfSome, IfNone, slice_index};
+ghost use Rattle.std.specs.Prelude.{◌<◌, ◌↔◌, length, All, Contains, IsTrue, IsFalse, IfSome, IfNone, slice_index};
 ghost use Rattle.sas_core.specs.Variables.{FactExists};
 ghost use Rattle.sas_meaning.specs.States.{Holds};
 ghost use Rattle.sas_groups.specs.Groups.{IsExclusiveIn, IsOnBasic};
 ghost use Rattle.sas_groups.specs.Families.{AllKeep};
-ghost use Rattle.sas_groups.specs.Verdicts.{IsVerdictAlone, IsFirstBreaking};
+ghost use Rattle.sas_groups.specs.Verdicts.{IsFirstVerdict, IsVerdictAlone, IsFirstBreaking};
 ghost use Rattle.sas_groups.specs.Checks.{Alone, IsOnlyOne};
 
 use crate::keeping::keeps;
@@ -21,16 +21,27 @@ pub fn check_group<T: Grounded>(layered: &Layered<T>, group: &[Fact]) -> Verdict
     ensures { IsVerdictAlone layered.now group.now result }
 {
     let task = layered.task();
+    match before_operators(task, group) {
+        Verdict::Exclusive => match first_breaking(task, group) {
+            Some(operator) => Verdict::Broken { operator },
+            None => Verdict::Exclusive,
+        },
+        verdict => verdict,
+    }
+}
+
+/// What is said of a group before operators are asked: that it is exclusive so far, or what speaks against that.
+pub fn before_operators<T: Grounded>(task: &T, group: &[Fact]) -> Verdict
+    requires { All (λ f. f.var < length (T.says task.now).variables) group.now }
+    ensures { IsFirstVerdict (T.says task.now) group.now result }
+{
     if !is_on_basic(task, group) {
         return Verdict::Derived;
     }
     if !is_exclusive_in_section(task, group) {
         return Verdict::Initial;
     }
-    match first_breaking(task, group) {
-        Some(operator) => Verdict::Broken { operator },
-        None => Verdict::Exclusive,
-    }
+    Verdict::Exclusive
 }
 
 /// Whether all the facts are on basic variables.
@@ -53,12 +64,24 @@ fn is_exclusive_in_section<T: Grounded>(task: &T, group: &[Fact]) -> bool
     ensures yes { IsTrue result → IsExclusiveIn (T.says task.now).init group.now }
     ensures no { IsFalse result → IsExclusiveIn (T.says task.now).init group.now → ⊥ }
 {
+    match first_holding(task, group) {
+        Some(fact) => is_only_one(task, group, fact),
+        None => true,
+    }
+}
+
+/// The first fact that holds in the state section.
+fn first_holding<T: Grounded>(task: &T, group: &[Fact]) -> Option<Fact>
+    requires { All (λ f. f.var < length (T.says task.now).variables) group.now }
+    ensures some { IfSome result (λ fact. Contains group.now fact × Holds (slice_index (T.says task.now).init) fact) }
+    ensures none { IfNone result (All (λ fact. Holds (slice_index (T.says task.now).init) fact → ⊥) group.now) }
+{
     for fact in group {
-        if holds(task, *fact) && !is_only_one(task, group, *fact) {
-            return false;
+        if holds(task, *fact) {
+            return Some(*fact);
         }
     }
-    true
+    None
 }
 
 /// Whether no other fact holds in the state section.

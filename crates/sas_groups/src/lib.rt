@@ -11,6 +11,7 @@ mod removal;
 mod verdict;
 
 pub use facts::Facts;
-pub use group::check_group;
+pub use group::{before_operators, check_group};
+pub use known::Known;
 pub use laws::group_laws;
 pub use verdict::Verdict;

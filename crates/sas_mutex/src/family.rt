@@ -1,11 +1,11 @@
 // The greatest family of groups that is kept jointly.
-ghost use Rattle.std.specs.Prelude.{◌≡◌, ◌<◌, ◌≤◌, ℕ, [], length, All, Contains, IsTrue, slice_set, vec_capacity};
+ghost use Rattle.std.specs.Prelude.{◌≡◌, ◌<◌, ◌≤◌, ℕ, ◌+◌, ◌++◌, [], ◌∷◌, false, length, All, Contains, IsTrue, slice_set, vec_capacity};
 ghost use Rattle.sas_core.specs.Grounded.{operator_at, effect_at, group_at};
 ghost use Rattle.sas_groups.specs.Families.{IsIn, IsGreatest};
 ghost use Rattle.sas_mutex.specs.Effects.{family_of};
 ghost use Rattle.sas_mutex.specs.Index.{IsIndexOf, AreMentions};
 ghost use Rattle.sas_mutex.specs.Marks.{IsClean};
-ghost use Rattle.sas_mutex.specs.Falling.{HasRoom, AreCandidates, newly, Falls, IsAtRest, IsEffectAtRest};
+ghost use Rattle.sas_mutex.specs.Falling.{count, HasRoom, AreCandidates, newly, Falls, IsAtRest, IsEffectAtRest};
 
 use crate::directory::Directory;
 use crate::effects::effect_keeps;

@@ -1,28 +1,19 @@
 // Which groups have which facts.
-ghost use Rattle.std.specs.Prelude.{◌≡◌, IfOk};
-ghost use Rattle.sas_mutex.specs.Index.{IsIndexOf, AreFirstNumbers};
+ghost use Rattle.std.specs.Prelude.{◌≡◌, ◌≤◌, ◌^◌, ◌↔◌, ℕ, IsTrue, IfOk, All, Contains};
+ghost use Rattle.sas_mutex.specs.Index as spec;
+ghost use Rattle.sas_mutex.specs.Index.{IsIndexOf};
 
 use crate::directory::{Directory, Entry};
 use sas_core::{Fact, Grounded};
 use std::alloc::{AllocError, Global};
-use std::marker::Model;
 
-/// Which groups have which fact. In a contract it is the places of the groups of each fact. Facts are numbered, variable
-/// after variable, so that a look at one takes a fixed time.
+/// Which groups have which fact. Facts are numbered, variable after variable, so that a look at one takes a fixed time.
 #[derive(Drop)]
 pub struct Index {
     /// The number of each variable's first fact.
-    firsts: Vec<usize>,
+    pub firsts: Vec<usize>,
     /// The groups under the number of each fact of theirs.
-    groups: Directory,
-}
-
-impl Model for Index {
-    ghost Value = { Fact → List ℕ };
-
-    ghost view = { λ index fact. index.groups (slice_index_or index.firsts.items fact.var 0 + fact.value) };
-
-    // a bound on firsts, so that the number of a fact fits
+    pub groups: Directory,
 }
 
 impl Index {
@@ -30,18 +21,60 @@ impl Index {
     pub fn new<T: Grounded>(alloc: Global, task: &T) -> Result<Index, AllocError>
         ensures { IfOk result (λ index. IsIndexOf (T.says task.now) index) }
     {
+        let mut firsts = Vec::with_capacity(alloc, task.variables() as usize)?;
+        let facts = number_facts(task, &mut firsts)?;
+        let mut entries = Vec::new(alloc);
+        for group in 0..task.groups() {
+            enter_group(task, firsts.as_slice(), group, &mut entries)?;
+        }
+        let groups = Directory::new(alloc, entries, facts)?;
+        Ok(Index { firsts, groups })
     }
 
     /// The groups that have the fact.
     pub fn groups_of(&self, fact: Fact) -> &[u32]
-        ensures { result.now ≡ self.now fact }
+        requires { All (λ (first : ℕ). first ≤ 2 ^ 62) self.now.firsts.items }
+        ensures { result.now ≡ spec.groups_of self.now fact }
     {
+        match self.firsts.as_slice().get(fact.var as usize) {
+            Some(first) => self.groups.under(*first + fact.value as usize),
+            None => &[],
+        }
     }
 
     /// Whether the group has the fact.
     pub fn has(&self, group: u32, fact: Fact) -> bool
-        ensures { IsTrue result ↔ Contains (self.now fact) group }
+        requires { All (λ (first : ℕ). first ≤ 2 ^ 62) self.now.firsts.items }
+        ensures { IsTrue result ↔ Contains (spec.groups_of self.now fact) group }
     {
         self.groups_of(fact).iter().any(|place| *place == group)
     }
+}
+
+/// Adds the number of each variable's first fact. Says how many facts there are.
+fn number_facts<T: Grounded>(task: &T, firsts: &mut Vec<usize>) -> Result<usize, AllocError>
+{
+    let mut facts = 0;
+    for var in 0..task.variables() {
+        firsts.push(facts)?;
+        facts += task.range(var) as usize;
+    }
+    Ok(facts)
+}
+
+/// Adds an entry for each fact of the group, under the fact's number.
+fn enter_group<T: Grounded>(
+    task: &T,
+    firsts: &[usize],
+    group: u32,
+    entries: &mut Vec<Entry>,
+) -> Result<(), AllocError>
+{
+    for fact in task.group(group) {
+        entries.push(Entry {
+            key: firsts[fact.var as usize] + fact.value as usize,
+            item: group,
+        })?;
+    }
+    Ok(())
 }

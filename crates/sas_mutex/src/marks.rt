@@ -10,6 +10,7 @@ ghost use Rattle.sas_mutex.specs.Marks.{IsWide, IsClean, IsNotedFrom, IsNoted};
 
 use crate::index::Index;
 use sas_core::{Fact, Grounded, Items};
+use sas_groups::Known;
 use std::alloc::{AllocError, Global};
 
 /// Some facts, noted by variable and by group.
@@ -83,10 +84,11 @@ fn note_in_groups(groups: &[u32], kept: &[bool], fact: Fact, facts: &mut Items<O
 {
     for group in groups {
         if kept[*group as usize] {
-            match facts.as_slice()[*group as usize] {
-                Some(noted) if noted != fact => return false,
-                _ => facts.set(*group as usize, Some(fact)),
+            let noted = facts.as_slice()[*group as usize];
+            if noted.is_some() && noted != Some(fact) {
+                return false;
             }
+            facts.set(*group as usize, Some(fact));
         }
     }
     true

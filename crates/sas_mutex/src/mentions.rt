@@ -12,4 +12,63 @@ pub fn mentions_of<T: Grounded>(alloc: Global, task: &T, index: &Index) -> Resul
     requires index { IsIndexOf (T.says task.now) index.now }
     ensures { IfOk result (λ mentions. AreMentions (T.says task.now) mentions) }
 {
+    let mut entries = Vec::new(alloc);
+    for operator in 0..task.operators() {
+        enter_operator(task, index, operator, &mut entries)?;
+    }
+    Directory::new(alloc, entries, task.groups() as usize)
+}
+
+/// Adds an entry for each fact that the operator mentions and each group that has it.
+fn enter_operator<T: Grounded>(
+    task: &T,
+    index: &Index,
+    operator: u32,
+    entries: &mut Vec<Entry>,
+) -> Result<(), AllocError>
+{
+    enter_facts(index, operator, task.prevail(operator), entries)?;
+    for effect in 0..task.effects(operator) {
+        let change = task.effect_change(operator, effect);
+        if let Some(value) = change.old {
+            let old = Fact {
+                var: change.var,
+                value,
+            };
+            enter_fact(index, operator, old, entries)?;
+        }
+        enter_facts(index, operator, task.effect_conditions(operator, effect), entries)?;
+    }
+    Ok(())
+}
+
+/// Adds an entry for each of the facts and each group that has it.
+fn enter_facts(
+    index: &Index,
+    operator: u32,
+    facts: &[Fact],
+    entries: &mut Vec<Entry>,
+) -> Result<(), AllocError>
+{
+    for fact in facts {
+        enter_fact(index, operator, *fact, entries)?;
+    }
+    Ok(())
+}
+
+/// Adds an entry for each group that has the fact.
+fn enter_fact(
+    index: &Index,
+    operator: u32,
+    fact: Fact,
+    entries: &mut Vec<Entry>,
+) -> Result<(), AllocError>
+{
+    for group in index.groups_of(fact) {
+        entries.push(Entry {
+            key: *group as usize,
+            item: operator,
+        })?;
+    }
+    Ok(())
 }

@@ -1,26 +1,41 @@
 -- What is found of the task is found of what it says.
-use Rattle.std.proofs.Common.{subst}
+use Rattle.std.proofs.Common.{◌≡◌, List, refl, subst}
+use Rattle.sas_core.specs.declared.parts.Fact.{Fact}
 use Rattle.sas_core.specs.declared.parts.Parts.{Parts}
-use Rattle.sas_groups.specs.Groups.{IsExclusiveIn, IsOnBasic}
+use Rattle.sas_groups.specs.declared.verdict.Verdict.{Verdict}
+use Rattle.sas_groups.specs.declared.verdict.Verdict.TheVariants.{Exclusive, Derived, Initial, Broken}
 use Rattle.sas_groups.specs.Families.{AllKeep}
-use Rattle.sas_groups.specs.Verdicts.{IsFirstBreaking}
+use Rattle.sas_groups.specs.Verdicts.{IsFirstVerdict, IsVerdictAlone, IsFirstBreaking}
 use Rattle.sas_groups.specs.Checks.{Alone}
 use Rattle.sas_groups.proofs.group.check_group.Goals as goal
+
+-- what speaks against a group before operators are asked is the verdict on it
+first_is_last : (p : Parts) (group : List Fact) (verdict : Verdict) → (verdict ≡ Exclusive → ⊥) → IsFirstVerdict p group verdict → IsVerdictAlone p group verdict
+first_is_last p group Exclusive not h = elim (not refl) [ ]
+first_is_last p group Derived not h = h
+first_is_last p group Initial not h = h
+first_is_last p group (Broken operator) not h = elim h [ ]
 
 pub returns-in-Some : goal.returns-in-Some
 returns-in-Some g c =
     let is = c.task-task.ensures.task in
-    let group = c.args.group.now in (
-      subst (λ (p : Parts). IsOnBasic p group) is (c.is_on_basic.ensures.yes c.if-not-is_on_basic.false),
-      subst (λ (p : Parts). IsExclusiveIn p.init group) is (c.is_exclusive_in_section.ensures.yes c.if-not-is_exclusive_in_section.false),
+    let group = c.args.group.now in
+    let may = subst (λ (p : Parts). IsFirstVerdict p group Exclusive) is c.in-Exclusive.ensures in (
+      may.basic,
+      may.initial,
       subst (λ (p : Parts). IsFirstBreaking p (Alone group) group c.in-Some.operator) is c.in-Some.ensures.some,
     )
 
 pub returns-in-None : goal.returns-in-None
 returns-in-None g c =
     let is = c.task-task.ensures.task in
-    let group = c.args.group.now in (
-      subst (λ (p : Parts). IsOnBasic p group) is (c.is_on_basic.ensures.yes c.if-not-is_on_basic.false),
-      subst (λ (p : Parts). IsExclusiveIn p.init group) is (c.is_exclusive_in_section.ensures.yes c.if-not-is_exclusive_in_section.false),
+    let group = c.args.group.now in
+    let may = subst (λ (p : Parts). IsFirstVerdict p group Exclusive) is c.in-Exclusive.ensures in (
+      may.basic,
+      may.initial,
       subst (λ (p : Parts). AllKeep p (Alone group) group) is c.in-None.ensures.none,
     )
+
+pub returns-in_default : goal.returns-in_default
+returns-in_default g c = first_is_last c.args.layered.now c.args.group.now c.before_operators.result c.in_default.not-Exclusive
+    (subst (λ (p : Parts). IsFirstVerdict p c.args.group.now c.before_operators.result) c.task-task.ensures.task c.before_operators.ensures)
