@@ -1,0 +1,2 @@
+pub mod KeyCuts
+pub mod Filed
