@@ -1,2 +1,3 @@
 pub mod KeyCuts
 pub mod Filed
+pub mod Numbering

@@ -1,12 +1,15 @@
 -- Which groups have a fact, and which operators mention a fact of a group.
-use Rattle.std.specs.Prelude.{◌≡◌, ℕ, zero, suc, ◌+◌, ◌<◌, ◌≤◌, ◌^◌, ◌⊎◌, ◌↔◌, List, length, slice_index, slice_index_or, All, Contains}
+use Rattle.std.specs.Prelude.{◌≡◌, ℕ, zero, suc, ◌+◌, ◌<◌, ◌≤◌, ◌^◌, ◌⊎◌, ◌↔◌, List, [], ◌++◌, length, map, slice_index, slice_index_or, All, Contains, Option, None, Some}
+use Rattle.std.specs.List.{flat_map}
+use Rattle.std.specs.Option.{option_to_list}
 use Rattle.sas_core.specs.declared.parts.Fact.{Fact}
 use Rattle.sas_core.specs.declared.parts.Effect.{Effect}
 use Rattle.sas_core.specs.declared.parts.Operator.{Operator}
 use Rattle.sas_core.specs.declared.parts.Parts.{Parts}
 use Rattle.sas_core.specs.Grounded.{operator_at, group_at}
 use Rattle.sas_core.specs.Variables.{FactExists, range_of}
-use Rattle.sas_meaning.specs.Steps.{preconditions}
+use Rattle.sas_meaning.specs.Steps.{preconditions, old_fact}
+use Rattle.sas_mutex.specs.declared.directory.Entry.{Entry}
 use Rattle.sas_mutex.specs.declared.index.Index.{Index}
 use Rattle.sas_mutex.specs.Directories.{under}
 
@@ -51,3 +54,26 @@ pub record MentionsGroup (p : Parts) (operator place : ℕ) : Type 0 where
 abbrev pub AreMentions : Parts → List (List ℕ) → Type 0
 AreMentions p mentions = (place : ℕ) → place < length p.groups
     → (operator : ℕ) → Contains (under mentions place) operator ↔ MentionsGroup p operator place
+
+-- the number of the fact
+abbrev pub number : Parts → Fact → ℕ
+number p fact = facts_below p fact.var + fact.value
+
+-- an entry for each of the group's facts, under the fact's number
+abbrev pub entries_of_group : Parts → ℕ → List Fact → List Entry
+entries_of_group p group facts = map (λ (fact : Fact). record { key = number p fact; item = group }) facts
+
+-- an entry of the operator for each group that has the fact
+abbrev pub entries_of_fact : Index → ℕ → Fact → List Entry
+entries_of_fact index operator fact = map (λ (group : ℕ). record { key = group; item = operator }) (groups_of index fact)
+
+abbrev pub entries_of_facts : Index → ℕ → List Fact → List Entry
+entries_of_facts index operator facts = flat_map (entries_of_fact index operator) facts
+
+-- the facts that the effect mentions: its variable's old value, if it asks for one, and its conditions
+abbrev pub facts_of_effect : Effect → List Fact
+facts_of_effect e = option_to_list (old_fact e) ++ e.conditions
+
+-- the facts that the operator mentions
+abbrev pub facts_of_operator : Operator → List Fact
+facts_of_operator o = o.prevail ++ flat_map facts_of_effect o.effects

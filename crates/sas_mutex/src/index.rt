@@ -1,7 +1,9 @@
 // Which groups have which facts.
-ghost use Rattle.std.specs.Prelude.{◌≡◌, ◌≤◌, ◌^◌, ◌↔◌, ℕ, IsTrue, IfOk, All, Contains};
+ghost use Rattle.std.specs.Prelude.{◌≡◌, ◌<◌, ◌≤◌, ◌^◌, ◌↔◌, ◌++◌, ℕ, [], length, IsTrue, IfOk, OnOk, All, Contains};
+ghost use Rattle.sas_core.specs.Grounded.{group_at};
+ghost use Rattle.sas_core.specs.WellRanged.{WellRanged};
 ghost use Rattle.sas_mutex.specs.Index as spec;
-ghost use Rattle.sas_mutex.specs.Index.{IsIndexOf};
+ghost use Rattle.sas_mutex.specs.Index.{IsIndexOf, AreFirstNumbers, facts_below, entries_of_group};
 
 use crate::directory::{Directory, Entry};
 use sas_core::{Fact, Grounded};
@@ -36,10 +38,11 @@ impl Index {
         requires { All (λ (first : ℕ). first ≤ 2 ^ 62) self.now.firsts.items }
         ensures { result.now ≡ spec.groups_of self.now fact }
     {
-        match self.firsts.as_slice().get(fact.var as usize) {
-            Some(first) => self.groups.under(*first + fact.value as usize),
-            None => &[],
-        }
+        let first = match self.firsts.as_slice().get(fact.var as usize) {
+            Some(first) => *first,
+            None => 0,
+        };
+        self.groups.under(first + fact.value as usize)
     }
 
     /// Whether the group has the fact.
@@ -51,8 +54,12 @@ impl Index {
     }
 }
 
-/// Adds the number of each variable's first fact. Says how many facts there are.
+/// Adds the number of each variable's first fact to the empty list. Says how many facts there are.
 fn number_facts<T: Grounded>(task: &T, firsts: &mut Vec<usize>) -> Result<usize, AllocError>
+    requires empty { firsts.old.items ≡ [] }
+    ensures firsts { OnOk result (AreFirstNumbers (T.says task.now) firsts.new.items) }
+    ensures low { OnOk result (All (λ (first : ℕ). first ≤ 2 ^ 62) firsts.new.items) }
+    ensures all { IfOk result (λ facts. facts ≡ facts_below (T.says task.now) (length (T.says task.now).variables)) }
 {
     let mut facts = 0;
     for var in 0..task.variables() {
@@ -69,6 +76,14 @@ fn enter_group<T: Grounded>(
     group: u32,
     entries: &mut Vec<Entry>,
 ) -> Result<(), AllocError>
+    requires ranged { WellRanged (T.says task.now) }
+    requires group { group < length (T.says task.now).groups }
+    requires firsts { AreFirstNumbers (T.says task.now) firsts.now }
+    requires low { All (λ (first : ℕ). first ≤ 2 ^ 62) firsts.now }
+    ensures {
+        let p = T.says task.now in
+        OnOk result (entries.new.items ≡ entries.old.items ++ entries_of_group p group (group_at p group))
+    }
 {
     for fact in task.group(group) {
         entries.push(Entry {

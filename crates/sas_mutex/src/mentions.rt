@@ -1,6 +1,7 @@
 // Which operators mention facts of a group.
-ghost use Rattle.std.specs.Prelude.{IfOk};
-ghost use Rattle.sas_mutex.specs.Index.{IsIndexOf, AreMentions};
+ghost use Rattle.std.specs.Prelude.{◌≡◌, ◌<◌, ◌≤◌, ◌^◌, ◌++◌, ℕ, length, IfOk, OnOk, All};
+ghost use Rattle.sas_core.specs.Grounded.{operator_at, effect_at};
+ghost use Rattle.sas_mutex.specs.Index.{IsIndexOf, AreMentions, entries_of_fact, entries_of_facts, facts_of_effect, facts_of_operator};
 
 use crate::directory::{Directory, Entry};
 use crate::index::Index;
@@ -26,20 +27,45 @@ fn enter_operator<T: Grounded>(
     operator: u32,
     entries: &mut Vec<Entry>,
 ) -> Result<(), AllocError>
+    requires operator { operator < length (T.says task.now).operators }
+    requires low { All (λ (first : ℕ). first ≤ 2 ^ 62) index.now.firsts.items }
+    ensures {
+        let facts = facts_of_operator (operator_at (T.says task.now) operator) in
+        OnOk result (entries.new.items ≡ entries.old.items ++ entries_of_facts index.now operator facts)
+    }
 {
     enter_facts(index, operator, task.prevail(operator), entries)?;
     for effect in 0..task.effects(operator) {
-        let change = task.effect_change(operator, effect);
-        if let Some(value) = change.old {
-            let old = Fact {
-                var: change.var,
-                value,
-            };
-            enter_fact(index, operator, old, entries)?;
-        }
-        enter_facts(index, operator, task.effect_conditions(operator, effect), entries)?;
+        enter_effect(task, index, operator, effect, entries)?;
     }
     Ok(())
+}
+
+/// Adds an entry for each fact that the operator's effect mentions and each group that has it.
+fn enter_effect<T: Grounded>(
+    task: &T,
+    index: &Index,
+    operator: u32,
+    effect: u32,
+    entries: &mut Vec<Entry>,
+) -> Result<(), AllocError>
+    requires operator { operator < length (T.says task.now).operators }
+    requires effect { effect < length (operator_at (T.says task.now) operator).effects }
+    requires low { All (λ (first : ℕ). first ≤ 2 ^ 62) index.now.firsts.items }
+    ensures {
+        let facts = facts_of_effect (effect_at (operator_at (T.says task.now) operator) effect) in
+        OnOk result (entries.new.items ≡ entries.old.items ++ entries_of_facts index.now operator facts)
+    }
+{
+    let change = task.effect_change(operator, effect);
+    if let Some(value) = change.old {
+        let old = Fact {
+            var: change.var,
+            value,
+        };
+        enter_fact(index, operator, old, entries)?;
+    }
+    enter_facts(index, operator, task.effect_conditions(operator, effect), entries)
 }
 
 /// Adds an entry for each of the facts and each group that has it.
@@ -49,6 +75,10 @@ fn enter_facts(
     facts: &[Fact],
     entries: &mut Vec<Entry>,
 ) -> Result<(), AllocError>
+    requires { All (λ (first : ℕ). first ≤ 2 ^ 62) index.now.firsts.items }
+    ensures {
+        OnOk result (entries.new.items ≡ entries.old.items ++ entries_of_facts index.now operator facts.now)
+    }
 {
     for fact in facts {
         enter_fact(index, operator, *fact, entries)?;
@@ -63,6 +93,10 @@ fn enter_fact(
     fact: Fact,
     entries: &mut Vec<Entry>,
 ) -> Result<(), AllocError>
+    requires { All (λ (first : ℕ). first ≤ 2 ^ 62) index.now.firsts.items }
+    ensures {
+        OnOk result (entries.new.items ≡ entries.old.items ++ entries_of_fact index.now operator fact)
+    }
 {
     for group in index.groups_of(fact) {
         entries.push(Entry {
