@@ -13,6 +13,8 @@ pub fn mentions_of<T: Grounded>(alloc: Global, task: &T, index: &Index) -> Resul
     requires index { IsIndexOf (T.says task.now) index.now }
     ensures { IfOk result (λ mentions. AreMentions (T.says task.now) mentions) }
 {
+    // The number of variables isn't of use here, but what is told with it is: that the task's facts exist.
+    let _ = task.variables();
     let mut entries = Vec::new(alloc);
     for operator in 0..task.operators() {
         enter_operator(task, index, operator, &mut entries)?;

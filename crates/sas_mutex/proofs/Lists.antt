@@ -1,0 +1,47 @@
+-- What stands in lists that are made of others.
+use Rattle.std.proofs.Common.{◌≡◌, ℕ, ◌+◌, ◌<◌, List, [], ◌∷◌, ◌++◌, length, get_or, map, Option, None, Some, refl, sym, ◌∙◌, ap, subst, inl, inr, arith}
+use Rattle.std.specs.List.{Contains, cons_option, filter_map, flat_map}
+use Rattle.std.specs.Option.{option_to_list}
+use Rattle.std.proofs.lemmas.List.{get_or-map, length-map}
+use Rattle.std.proofs.lemmas.List.Elements.{Contains-get_or, Contains-append_left, Contains-append_right, Contains-append_cases}
+
+-- nothing stands in the empty list
+pub in_none : {X : Type 0} (x : X) → Contains [] x → ⊥
+in_none x there = let lt = there.1 in omega arith
+
+-- what is made of each item stands in the list of what is made
+pub in_map : {X Y : Type 0} (f : X → Y) (xs : List X) (x : X) → Contains xs x → Contains (map f xs) (f x)
+in_map f xs x there =
+    (there.0, (let len = length-map xs f in let lt = there.1 in omega arith), get_or-map f xs there.0 x (f x) there.1 ∙ ap f there.2)
+
+pub from_map : {X Y : Type 0} (f : X → Y) (xs : List X) (y : Y) (d : X) → Contains (map f xs) y → (x : X) × Contains xs x × (f x ≡ y)
+from_map f xs y d there =
+    let within : there.0 < length xs = let len = length-map xs f in let lt = there.1 in omega arith in
+    (get_or xs there.0 d, Contains-get_or xs there.0 d within, sym (get_or-map f xs there.0 d y within) ∙ there.2)
+
+-- what stands in a list made of an item stands in the joined lists
+pub in_flat : {X Y : Type 0} (f : X → List Y) (xs : List X) (x : X) (y : Y) → Contains xs x → Contains (f x) y → Contains (flat_map f xs) y
+in_flat f [] x y there its = absurd (in_none x there)
+in_flat f (z ∷ zs) x y there its = elim (Contains-append_cases (z ∷ []) zs x there) [
+  | inl here ↦ Contains-append_left (f z) (flat_map f zs) y (subst (λ w. Contains (f w) y) (sym (only_one z x here)) its)
+  | inr later ↦ Contains-append_right (f z) (flat_map f zs) y (in_flat f zs x y later its)
+]
+  where
+    only_one : {Z : Type 0} (z x : Z) → Contains (z ∷ []) x → z ≡ x
+    only_one z x here = let first : here.0 ≡ 0 = let lt = here.1 in omega arith in subst (λ k. get_or (z ∷ []) k x ≡ x) first here.2
+
+pub from_flat : {X Y : Type 0} (f : X → List Y) (xs : List X) (y : Y) → Contains (flat_map f xs) y → (x : X) × Contains xs x × Contains (f x) y
+from_flat f [] y there = absurd (in_none y there)
+from_flat f (z ∷ zs) y there = elim (Contains-append_cases (f z) (flat_map f zs) y there) [
+  | inl here ↦ (z, Contains-append_left (z ∷ []) zs z (0, omega arith, refl), here)
+  | inr later ↦ (let h = from_flat f zs y later in (h.0, Contains-append_right (z ∷ []) zs h.0 h.1, h.2))
+]
+
+-- what is given of some items is the lists of at most one item each, joined
+pub given_is : {X Y : Type 0} (h : X → Option Y) (xs : List X) → filter_map h xs ≡ flat_map (λ x. option_to_list (h x)) xs
+given_is h [] = refl
+given_is {X} {Y} h (x ∷ xs) = joined (h x) (given_is h xs)
+  where
+    joined : {front back : List Y} (o : Option Y) → front ≡ back → cons_option o front ≡ option_to_list o ++ back
+    joined None e = e
+    joined (Some y) e = ap (λ (ys : List Y). y ∷ ys) e
