@@ -1,5 +1,5 @@
 -- The entries of groups under the numbers of their facts.
-use Rattle.std.proofs.Common.{◌≡◌, ℕ, ◌+◌, ◌<◌, ◌≤◌, ◌↔◌, List, [], ◌∷◌, ◌++◌, length, get_or, append_assoc, take, refl, sym, ◌∙◌, ap, subst, inl, inr, arith}
+use Rattle.std.proofs.Common.{◌≡◌, ℕ, ◌+◌, ◌<◌, ◌↔◌, List, [], ◌∷◌, ◌++◌, length, get_or, append_assoc, take, sym, ap, subst, inl, inr, arith}
 use Rattle.std.specs.List.{All, Contains}
 use Rattle.std.proofs.lemmas.Bool.{cases_eq}
 use Rattle.std.proofs.lemmas.List.{map_more}
@@ -68,11 +68,12 @@ entered_low p entries ranged up k d lt =
 pub entered_index : (p : Parts) (entries : List Entry) (index : Index) → WellRanged p → EnteredUpTo p (length p.groups) entries → AreFirstNumbers p index.firsts.items
     → IsDirectoryOf entries index.groups → (fact : Fact) → FactExists p.variables fact → (place : ℕ) → Contains (groups_of index fact) place ↔ HasFact p place fact
 entered_index p entries index ranged up firsts is fact exists place = (
-    (λ there. (let h = up.only (entry_of p place fact) ((is (number p fact) place).0 (subst (λ k. Contains (under index.groups k) place) key there)) in
-        let other = group_fact_exists p place h.1.0 ranged h.0 h.1.1 in
-        let same = one_number p h.1.0 fact other exists h.1.2 in
-        record { exists = h.0; among = subst (λ f. Contains (group_at p place) f) same h.1.1 })),
-    (λ has. subst (λ k. Contains (under index.groups k) place) (sym key) ((is (number p fact) place).1 (up.each place fact has.exists has.among))))
+  (λ there. (let h = up.only (entry_of p place fact) ((is (number p fact) place).0 (subst (λ k. Contains (under index.groups k) place) key there)) in
+      let other = group_fact_exists p place h.1.0 ranged h.0 h.1.1 in
+      let same = one_number p h.1.0 fact other exists h.1.2 in
+      record { exists = h.0; among = subst (λ f. Contains (group_at p place) f) same h.1.1 })),
+  (λ has. subst (λ k. Contains (under index.groups k) place) (sym key) ((is (number p fact) place).1 (up.each place fact has.exists has.among))),
+)
   where
     key : get_or index.firsts.items fact.var 0 + fact.value ≡ number p fact
     key = ap (λ first. first + fact.value) (firsts.are fact.var (fact_within p fact.var fact.value exists))
@@ -81,7 +82,7 @@ entered_index p entries index ranged up firsts is fact exists place = (
 pub entered_fact : (p : Parts) (firsts : List ℕ) (group place : ℕ) (d : Fact) (before entries : List Entry) (facts : List Fact) → AreFirstNumbers p firsts
     → place < length facts → FactExists p.variables (get_or facts place d) → entries ≡ before ++ entries_of_group p group (take place facts)
     → entries ++ record { key = get_or firsts (get_or facts place d).var 0 + (get_or facts place d).value; item = group } ∷ []
-      ≡ before ++ entries_of_group p group (take (place + 1) facts)
+    ≡ before ++ entries_of_group p group (take (place + 1) facts)
 entered_fact p firsts group place d before entries facts are lt exists so_far =
     let fact = get_or facts place d in
     let first : get_or firsts fact.var 0 ≡ facts_below p fact.var = are.are fact.var (fact_within p fact.var fact.value exists) in

@@ -1,5 +1,5 @@
 -- The entries of operators under the groups whose facts they mention.
-use Rattle.std.proofs.Common.{◌≡◌, ℕ, ◌+◌, ◌<◌, ◌≤◌, ◌↔◌, ◌⊎◌, List, [], ◌∷◌, ◌++◌, length, get_or, Option, None, Some, refl, sym, ◌∙◌, ap, subst, inl, inr, arith}
+use Rattle.std.proofs.Common.{◌≡◌, ℕ, ◌+◌, ◌<◌, List, [], ◌∷◌, ◌++◌, length, get_or, Option, None, Some, sym, ap, subst, inl, inr, arith}
 use Rattle.std.specs.List.{All, Contains, filter_map, flat_map}
 use Rattle.std.specs.Option.{option_to_list}
 use Rattle.std.proofs.lemmas.Bool.{cases_eq}
@@ -9,15 +9,15 @@ use Rattle.sas_core.specs.declared.parts.Fact.{Fact}
 use Rattle.sas_core.specs.declared.parts.Operator.{Operator}
 use Rattle.sas_core.specs.declared.parts.Parts.{Parts}
 use Rattle.sas_core.specs.declared.parts.Variable.{Variable}
-use Rattle.sas_core.specs.Grounded.{operator_at, group_at}
+use Rattle.sas_core.specs.Grounded.{operator_at}
 use Rattle.sas_core.specs.Variables.{FactExists, MayHaveValue}
 use Rattle.sas_core.specs.WellRanged.{WellRanged, OperatorFits, EffectFits}
 use Rattle.sas_core.proofs.Places.{holds_at}
-use Rattle.sas_meaning.specs.Steps.{old_fact, preconditions}
+use Rattle.sas_meaning.specs.Steps.{old_fact}
 use Rattle.sas_mutex.specs.declared.directory.Entry.{Entry}
 use Rattle.sas_mutex.specs.declared.index.Index.{Index}
 use Rattle.sas_mutex.specs.Directories.{IsDirectoryOf, under}
-use Rattle.sas_mutex.specs.Index.{IsIndexOf, HasFact, groups_of, Mentions, MentionsGroup, AreMentions, entries_of_fact, entries_of_facts, facts_of_effect, facts_of_operator}
+use Rattle.sas_mutex.specs.Index.{IsIndexOf, HasFact, groups_of, Mentions, AreMentions, entries_of_fact, entries_of_facts, facts_of_effect, facts_of_operator}
 use Rattle.sas_mutex.proofs.Lists.{in_none, in_map, from_map, in_flat, from_flat, given_is}
 use Rattle.sas_mutex.proofs.Entering.{group_fact_exists}
 
@@ -128,9 +128,10 @@ mentioned_low p index entries ranged is up k d lt =
 pub mentioned_all : (p : Parts) (index : Index) (entries : List Entry) (mentions : List (List ℕ)) → WellRanged p → IsIndexOf p index
     → MentionedUpTo p index (length p.operators) entries → IsDirectoryOf entries mentions → AreMentions p mentions
 mentioned_all p index entries mentions ranged is up filed place exists operator = (
-    (λ there. (let h = up.only (entry_of operator place) ((filed place operator).0 there) in
-        let has : HasFact p place h.1.0 = (is.groups h.1.0 (mentioned_exists p operator h.1.0 ranged h.0 h.1.1) place).0 h.1.2 in
-        record { exists = h.0; fact = h.1.0; mentions = facts_only (operator_at p operator) h.1.0 h.1.1; among = has.among })),
-    (λ m. (let has : HasFact p place m.fact = record { exists = exists; among = m.among } in
-        (filed place operator).1 (up.each operator place m.fact m.exists (facts_all (operator_at p operator) m.fact m.mentions)
-        ((is.groups m.fact (group_fact_exists p place m.fact ranged exists m.among) place).1 has)))))
+  (λ there. (let h = up.only (entry_of operator place) ((filed place operator).0 there) in
+      let has : HasFact p place h.1.0 = (is.groups h.1.0 (mentioned_exists p operator h.1.0 ranged h.0 h.1.1) place).0 h.1.2 in
+      record { exists = h.0; fact = h.1.0; mentions = facts_only (operator_at p operator) h.1.0 h.1.1; among = has.among })),
+  (λ m. (let has : HasFact p place m.fact = record { exists = exists; among = m.among } in
+      (filed place operator).1 (up.each operator place m.fact m.exists (facts_all (operator_at p operator) m.fact m.mentions)
+      ((is.groups m.fact (group_fact_exists p place m.fact ranged exists m.among) place).1 has)))),
+)

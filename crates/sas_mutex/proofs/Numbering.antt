@@ -1,6 +1,6 @@
 -- The numbers of facts: those of different facts differ.
-use Rattle.std.proofs.Common.{◌≡◌, ℕ, zero, suc, ◌+◌, ◌*◌, ◌^◌, ◌<◌, ◌≤◌, List, [], ◌∷◌, length, get_or, refl, sym, ◌∙◌, ap, subst, inl, inr, arith}
-use Rattle.std.specs.List.{All, AllByRecursion}
+use Rattle.std.proofs.Common.{◌≡◌, ℕ, zero, suc, ◌+◌, ◌*◌, ◌^◌, ◌<◌, ◌≤◌, List, [], ◌∷◌, length, ◌∙◌, ap, subst, inl, inr, arith}
+use Rattle.std.specs.List.{AllByRecursion}
 use Rattle.std.proofs.lemmas.Bool.{cases_lt}
 use Rattle.sas_core.specs.declared.parts.Fact.{Fact}
 use Rattle.sas_core.specs.declared.parts.Parts.{Parts}
@@ -8,17 +8,13 @@ use Rattle.sas_core.specs.declared.parts.Variable.{Variable}
 use Rattle.sas_core.specs.Variables.{FactExists, range_of}
 use Rattle.sas_core.specs.WellRanged.{WellRanged, VariableFits}
 use Rattle.sas_meaning.proofs.Forced.{fact_within}
-use Rattle.sas_mutex.specs.Index.{facts_below, number, AreFirstNumbers}
+use Rattle.sas_mutex.specs.Index.{facts_below, number}
 
 -- a variable has fewer than 2^31 values
 range_low : (variables : List Variable) (var : ℕ) → AllByRecursion VariableFits variables → range_of variables var < 2 ^ 31
 range_low [] var fits = omega arith
 range_low (v ∷ vs) zero fits = fits.0.values.count
 range_low (v ∷ vs) (suc var) fits = range_low vs var fits.1
-
--- no facts stand below the first variable
-pub below_none : (p : Parts) → facts_below p 0 ≡ 0
-below_none p = refl
 
 -- a variable's facts come before those of the next one
 pub below_more : (p : Parts) (var : ℕ) → facts_below p (var + 1) ≡ facts_below p var + range_of p.variables var

@@ -38,6 +38,7 @@ impl Index {
         requires { All (λ (first : ℕ). first ≤ 2 ^ 62) self.now.firsts.items }
         ensures { result.now ≡ spec.groups_of self.now fact }
     {
+        // A variable that isn't there has no first number. Its facts are looked up as if that were 0.
         let first = match self.firsts.as_slice().get(fact.var as usize) {
             Some(first) => *first,
             None => 0,
@@ -80,10 +81,8 @@ fn enter_group<T: Grounded>(
     requires group { group < length (T.says task.now).groups }
     requires firsts { AreFirstNumbers (T.says task.now) firsts.now }
     requires low { All (λ (first : ℕ). first ≤ 2 ^ 62) firsts.now }
-    ensures {
-        let p = T.says task.now in
-        OnOk result (entries.new.items ≡ entries.old.items ++ entries_of_group p group (group_at p group))
-    }
+    ensures { let p = T.says task.now in
+        OnOk result (entries.new.items ≡ entries.old.items ++ entries_of_group p group (group_at p group)) }
 {
     for fact in task.group(group) {
         entries.push(Entry {

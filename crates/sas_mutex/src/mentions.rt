@@ -9,7 +9,11 @@ use sas_core::{Fact, Grounded};
 use std::alloc::{AllocError, Global};
 
 /// For each group, the operators that mention a fact of it, as a precondition or as a condition of an effect.
-pub fn mentions_of<T: Grounded>(alloc: Global, task: &T, index: &Index) -> Result<Directory, AllocError>
+pub fn mentions_of<T: Grounded>(
+    alloc: Global,
+    task: &T,
+    index: &Index,
+) -> Result<Directory, AllocError>
     requires index { IsIndexOf (T.says task.now) index.now }
     ensures { IfOk result (λ mentions. AreMentions (T.says task.now) mentions) }
 {
@@ -31,10 +35,8 @@ fn enter_operator<T: Grounded>(
 ) -> Result<(), AllocError>
     requires operator { operator < length (T.says task.now).operators }
     requires low { All (λ (first : ℕ). first ≤ 2 ^ 62) index.now.firsts.items }
-    ensures {
-        let facts = facts_of_operator (operator_at (T.says task.now) operator) in
-        OnOk result (entries.new.items ≡ entries.old.items ++ entries_of_facts index.now operator facts)
-    }
+    ensures { let facts = facts_of_operator (operator_at (T.says task.now) operator) in
+        OnOk result (entries.new.items ≡ entries.old.items ++ entries_of_facts index.now operator facts) }
 {
     enter_facts(index, operator, task.prevail(operator), entries)?;
     for effect in 0..task.effects(operator) {
@@ -54,10 +56,8 @@ fn enter_effect<T: Grounded>(
     requires operator { operator < length (T.says task.now).operators }
     requires effect { effect < length (operator_at (T.says task.now) operator).effects }
     requires low { All (λ (first : ℕ). first ≤ 2 ^ 62) index.now.firsts.items }
-    ensures {
-        let facts = facts_of_effect (effect_at (operator_at (T.says task.now) operator) effect) in
-        OnOk result (entries.new.items ≡ entries.old.items ++ entries_of_facts index.now operator facts)
-    }
+    ensures { let facts = facts_of_effect (effect_at (operator_at (T.says task.now) operator) effect) in
+        OnOk result (entries.new.items ≡ entries.old.items ++ entries_of_facts index.now operator facts) }
 {
     let change = task.effect_change(operator, effect);
     if let Some(value) = change.old {
@@ -67,7 +67,12 @@ fn enter_effect<T: Grounded>(
         };
         enter_fact(index, operator, old, entries)?;
     }
-    enter_facts(index, operator, task.effect_conditions(operator, effect), entries)
+    enter_facts(
+        index,
+        operator,
+        task.effect_conditions(operator, effect),
+        entries,
+    )
 }
 
 /// Adds an entry for each of the facts and each group that has it.
@@ -78,9 +83,7 @@ fn enter_facts(
     entries: &mut Vec<Entry>,
 ) -> Result<(), AllocError>
     requires { All (λ (first : ℕ). first ≤ 2 ^ 62) index.now.firsts.items }
-    ensures {
-        OnOk result (entries.new.items ≡ entries.old.items ++ entries_of_facts index.now operator facts.now)
-    }
+    ensures { OnOk result (entries.new.items ≡ entries.old.items ++ entries_of_facts index.now operator facts.now) }
 {
     for fact in facts {
         enter_fact(index, operator, *fact, entries)?;
@@ -96,9 +99,7 @@ fn enter_fact(
     entries: &mut Vec<Entry>,
 ) -> Result<(), AllocError>
     requires { All (λ (first : ℕ). first ≤ 2 ^ 62) index.now.firsts.items }
-    ensures {
-        OnOk result (entries.new.items ≡ entries.old.items ++ entries_of_fact index.now operator fact)
-    }
+    ensures { OnOk result (entries.new.items ≡ entries.old.items ++ entries_of_fact index.now operator fact) }
 {
     for group in index.groups_of(fact) {
         entries.push(Entry {

@@ -1,7 +1,6 @@
 -- Facts are so few that their numbers fit.
-use Rattle.std.proofs.Common.{◌≡◌, ℕ, ◌+◌, ◌^◌, ◌<◌, ◌≤◌, length, get_or, sym, ◌∙◌, subst, arith}
+use Rattle.std.proofs.Common.{◌≡◌, ◌+◌, ◌^◌, ◌<◌, ◌≤◌, get_or, sym, ◌∙◌, subst, arith}
 use Rattle.std.proofs.lemmas.List.{get_or_default}
-use Rattle.std.specs.List.{All}
 use Rattle.sas_mutex.specs.Index.{facts_below}
 use Rattle.sas_mutex.proofs.Numbering.{below_more, below_low}
 use Rattle.sas_mutex.proofs.index.number_facts.Goals as goal

@@ -1,7 +1,6 @@
 -- The first numbers of the variables so far.
 use Rattle.std.proofs.Common.{◌≡◌, ℕ, ◌<◌, length, get_or}
 use Rattle.sas_mutex.specs.Index.{facts_below}
-use Rattle.sas_mutex.proofs.Numbering.{below_none, below_more, below_low}
 use Rattle.sas_mutex.proofs.index.number_facts.Given as goal
 
 abbrev pub invariant-loop-var : goal.invariant-loop-var

@@ -1,5 +1,5 @@
 -- Each turn enters an operator. The keys are groups that have facts.
-use Rattle.std.proofs.Common.{◌≡◌, ◌<◌, ◌+◌, ◌++◌, length, sym, ◌∙◌, subst, arith}
+use Rattle.std.proofs.Common.{◌≡◌, length, arith}
 use Rattle.std.proofs.lemmas.Result.{IfOk-weaker}
 use Rattle.sas_mutex.specs.Directories.{IsDirectoryOf}
 use Rattle.sas_mutex.specs.Index.{AreMentions}

@@ -1,10 +1,6 @@
 -- Each turn enters a group. The numbers of facts are below how many there are, and so are the keys.
-use Rattle.std.proofs.Common.{◌≡◌, ◌<◌, ◌+◌, ◌++◌, length, sym, ◌∙◌, subst, arith}
-use Rattle.std.specs.List.{All}
-use Rattle.sas_core.specs.Grounded.{group_at}
+use Rattle.std.proofs.Common.{◌≡◌, length, arith}
 use Rattle.sas_core.specs.WellRanged.{WellRanged}
-use Rattle.sas_mutex.specs.declared.directory.Entry.{Entry}
-use Rattle.sas_mutex.specs.Index.{facts_below, entries_of_group}
 use Rattle.sas_mutex.proofs.Entering.{EnteredUpTo, entered_more, entered_low, entered_index}
 use Rattle.sas_mutex.proofs.index.Index.new.Goals as goal
 
