@@ -97,8 +97,11 @@ fn not_both<T: Grounded>(
         (group_at (T.says task.now) group) (effect_at (operator_at (T.says task.now) operator) effect)
         (effect_at (operator_at (T.says task.now) operator) other) → ⊥ }
 {
-    let second = task.effect_change(operator, other);
-    if task.effect_change(operator, effect).var == second.var || !index.has(group, sets(second)) {
+    let change = task.effect_change(operator, other);
+    if task.effect_change(operator, effect).var == change.var {
+        return true;
+    }
+    if !index.has(group, sets(change)) {
         return true;
     }
     let first = task.effect_conditions(operator, effect);
@@ -190,9 +193,10 @@ fn is_gone<T: Grounded>(
     ensures no { IsFalse result → IsGone (IsKept (T.says task.now) kept.now) (operator_at (T.says task.now) operator)
         (effect_at (operator_at (T.says task.now) operator) effect) fact → ⊥ }
 {
-    task.effect_change(operator, effect).var == fact.var
-        || contradicts(index, kept, fact, marks)
-        || is_removed(task, operator, fact, marks)
+    if task.effect_change(operator, effect).var == fact.var {
+        return true;
+    }
+    contradicts(index, kept, fact, marks) || is_removed(task, operator, fact, marks)
 }
 
 /// Whether the fact contradicts one that is noted.

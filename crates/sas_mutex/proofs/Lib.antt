@@ -1,0 +1,3 @@
+pub mod TaskFacts
+pub mod NotesOfFacts
+pub mod ToldByNotes
