@@ -127,7 +127,7 @@ module _ (p : Parts) (index : Index) (kept : List Bool) (before : List Fact) (ol
           (λ none f in_all. no_value_note_tells before var (value_note old.values var) (known.noted.values var lt) none f (was_in f in_all));
       facts = λ place lt in_family. fact_note_of p (before ++ fact ∷ []) place (fact_note old.facts place)
           (λ f at. (let (in_before, has) = fact_note_tells p before place f (fact_note old.facts place) (known.noted.facts place lt in_family) at in
-            (Contains-append_left before (fact ∷ []) f in_before, has)))
+          (Contains-append_left before (fact ∷ []) f in_before, has)))
           (λ none f in_all. no_fact_note_tells p before place (fact_note old.facts place) (known.noted.facts place lt in_family) none f (was_in f in_all));
     };
     apart = λ clash. known.apart (clash.0, clash.1, was_in clash.0 clash.2, was_in clash.1 clash.3, clash.4);
@@ -153,8 +153,7 @@ module _ (p : Parts) (index : Index) (kept : List Bool) (before : List Fact) (ol
   refused (inr is) =
       let has : HasFact p is.place fact = (indexed.groups fact exists is.place).0 is.among in
       let (other, at, differs) = is.other in
-      let (in_before, has_other) = fact_note_tells p before is.place other (fact_note old.facts is.place) (known.noted.facts is.place has.exists is.kept_there) at in
-      (
+      let (in_before, has_other) = fact_note_tells p before is.place other (fact_note old.facts is.place) (known.noted.facts is.place has.exists is.kept_there) at in (
         other,
         in_before,
         inr (record {
@@ -202,7 +201,7 @@ module _ (p : Parts) (index : Index) (kept : List Bool) (before : List Fact) (ol
           (λ none. absurd (none_or_some fact.value (value_note new.values fact.var) none value_here)))
       | inr ne ↦ value_note_of (before ++ fact ∷ []) var (value_note new.values var)
           (λ value at. Contains-append_left before (fact ∷ []) (record { var = var; value = value })
-            (value_note_tells before var value (value_note old.values var) (known.noted.values var lt) (sym (value_elsewhere var ne) ∙ at)))
+          (value_note_tells before var value (value_note old.values var) (known.noted.values var lt) (sym (value_elsewhere var ne) ∙ at)))
           (λ none f in_all on. elim (Contains-push_cases before fact f in_all) [
             | inl in_before ↦ no_value_note_tells before var (value_note old.values var) (known.noted.values var lt) (sym (value_elsewhere var ne) ∙ none) f in_before on
             | inr e ↦ ne (sym on ∙ ap (λ (x : Fact). x.var) (sym e))

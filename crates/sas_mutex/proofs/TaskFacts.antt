@@ -53,10 +53,10 @@ module _ (p : Parts) (ranged : WellRanged p) where
         let E = FactExists p.variables in
         All-append E (preconditions o ++ first) second
         (All-append E (preconditions o) first
-          (All-append E o.prevail (filter_map old_fact o.effects)
-            (All-from_recursion E o.prevail fits.prevail.each)
-            (olds_exist o.effects (All-from_recursion (EffectFits p.variables) o.effects fits.effects.each)))
-          its)
+        (All-append E o.prevail (filter_map old_fact o.effects)
+        (All-from_recursion E o.prevail fits.prevail.each)
+        (olds_exist o.effects (All-from_recursion (EffectFits p.variables) o.effects fits.effects.each)))
+        its)
         theirs
 
 -- the variable of a fact that exists, and the groups that have it

@@ -65,7 +65,7 @@ module _ (p : Parts) (index : Index) (kept : List Bool) (marks : Marks) (o : Ope
     record { var = fact.var; value = value },
     itself,
     also (record { var = fact.var; value = value })
-      (value_note_tells before fact.var value (value_note marks.values fact.var) (are.noted.values fact.var on_variable) at),
+        (value_note_tells before fact.var value (value_note marks.values fact.var) (are.noted.values fact.var on_variable) at),
     inl (refl, λ e. differs (sym e)),
   )
   against_clashes (inr bar) =
@@ -73,8 +73,7 @@ module _ (p : Parts) (index : Index) (kept : List Bool) (marks : Marks) (o : Ope
       elim (a_note (fact_note marks.facts bar.group.place)) [
         | inl none ↦ absurd (bar.group.noted none)
         | inr w ↦ (let (in_before, has_other) = fact_note_tells p before bar.group.place w.0 (fact_note marks.facts bar.group.place)
-              (are.noted.facts bar.group.place has.exists bar.group.kept_there) w.1 in
-            (
+            (are.noted.facts bar.group.place has.exists bar.group.kept_there) w.1 in (
               fact,
               w.0,
               itself,
@@ -176,8 +175,7 @@ module _ (p : Parts) (index : Index) (kept : List Bool) (marks : Marks) (o : Ope
     pub removed_is_removes : IsRemoved o with fact → SomeRemoves o marks fact
     removed_is_removes is =
         let (effect, lt, at) = is.among in
-        let same : effect_at o effect ≡ is.effect = get_or_default o.effects effect (record { conditions = []; var = 0; old = None; new = 0 }) is.effect lt ∙ at in
-        (
+        let same : effect_at o effect ≡ is.effect = get_or_default o.effects effect (record { conditions = []; var = 0; old = None; new = 0 }) is.effect lt ∙ at in (
           effect,
           lt,
           subst (λ (e : Effect). Removes marks fact e) (sym same) (record {

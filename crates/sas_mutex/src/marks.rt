@@ -94,7 +94,12 @@ fn note(index: &Index, kept: &[bool], fact: Fact, marks: &mut Marks) -> bool
 }
 
 /// Notes the fact for the groups that are kept. Says whether no other fact is noted for one of them.
-fn note_in_groups(groups: &[u32], kept: &[bool], fact: Fact, facts: &mut Items<Option<Fact>>) -> bool
+fn note_in_groups(
+    groups: &[u32],
+    kept: &[bool],
+    fact: Fact,
+    facts: &mut Items<Option<Fact>>,
+) -> bool
     requires kept { AreBelow (length kept.now) groups.now }
     requires facts { AreBelow (length facts.old) groups.now }
     ensures yes { IsTrue result → TakenByAll groups.now kept.now fact facts.old facts.new }

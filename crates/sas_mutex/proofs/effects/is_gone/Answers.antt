@@ -19,14 +19,14 @@ returns-then-contradicts-clause-yes g c =
     let p = g.T.Grounded.says c.args.task.now in
     let o = operator_at p c.args.operator in
     λ t ne. inl (against_clashes p c.args.index.now c.args.kept.now c.args.marks.now o (effect_at o c.args.effect).conditions c.requires.fit.indexed c.requires.known c.args.fact
-        c.requires.fact (c.contradicts.ensures.yes c.if-contradicts.true))
+    c.requires.fact (c.contradicts.ensures.yes c.if-contradicts.true))
 
 pub returns-else-contradicts-clause-yes : goal.returns-else-contradicts-clause-yes
 returns-else-contradicts-clause-yes g c =
     let p = g.T.Grounded.says c.args.task.now in
     let o = operator_at p c.args.operator in
     λ t ne. inr (removes_is_removed p c.args.index.now c.args.kept.now c.args.marks.now o (effect_at o c.args.effect).conditions c.requires.fit.indexed c.requires.known c.args.fact
-        c.requires.fact (conditions_exist p c.requires.fit.ranged c.args.operator c.requires.operator) (c.is_removed.ensures.yes t))
+    c.requires.fact (conditions_exist p c.requires.fit.ranged c.args.operator c.requires.operator) (c.is_removed.ensures.yes t))
 
 pub returns-else-contradicts-clause-no : goal.returns-else-contradicts-clause-no
 returns-else-contradicts-clause-no g c =

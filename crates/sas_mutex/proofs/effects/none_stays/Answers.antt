@@ -21,7 +21,7 @@ returns-in-Some-clause-yes g c =
     let facts = c.args.marks.now.facts in
     let at : fact_note facts place ≡ Some c.in-Some.fact = ap (λ list. fact_note list place) (sym c.as_slice.ensures) ∙ c.in-Some.is in
     let (here, has) = fact_note_tells p (known o e.conditions []) place c.in-Some.fact (fact_note facts place)
-        (c.requires.known.noted.facts place c.requires.group.exists c.requires.group.chosen) at in
+    (c.requires.known.noted.facts place c.requires.group.exists c.requires.group.chosen) at in
     λ t. known_one_is_all p c.args.kept.now o place e c.in-Some.fact c.requires.group here has.among (c.is_gone.ensures.yes t)
 
 pub loop-fact-preserved : goal.loop-fact-preserved
@@ -43,4 +43,4 @@ returns-clause-yes g c =
     let group = group_at p c.args.group in
     let end : length group ≤ c.loop-fact.fact-index = subst (λ (facts : List Fact). length facts ≤ c.loop-fact.fact-index) c.group-fact-items.ensures c.loop-fact-test.false in
     λ t f in_group. All-contains (IsGone (IsKept p c.args.kept.now) o (effect_at o c.args.effect)) group f
-        (λ k d lt. c.loop-fact.invariant k d (omega arith)) in_group
+    (λ k d lt. c.loop-fact.invariant k d (omega arith)) in_group

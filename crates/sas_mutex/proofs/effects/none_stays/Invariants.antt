@@ -8,4 +8,4 @@ use Rattle.sas_mutex.proofs.effects.none_stays.Given as goal
 abbrev pub invariant-loop-fact : goal.invariant-loop-fact
 invariant-loop-fact g l = (k : ℕ) (d : Fact) → k < l.fact-index
     → IsGone (IsKept (g.T.Grounded.says l.task) l.kept) (operator_at (g.T.Grounded.says l.task) l.operator)
-        (effect_at (operator_at (g.T.Grounded.says l.task) l.operator) l.effect) (get_or (group_at (g.T.Grounded.says l.task) l.group) k d)
+    (effect_at (operator_at (g.T.Grounded.says l.task) l.operator) l.effect) (get_or (group_at (g.T.Grounded.says l.task) l.group) k d)

@@ -19,7 +19,7 @@ forget-requires-clause-value g c =
     let all = known (operator_at p c.args.operator) c.args.first.now c.args.second.now in
     let within = turn_has all c.loop-fact.yielded (known_left says c.loop-fact.fact-iterator) c.loop-fact.invariant.left c.in-Some.fact _ c.in-Some.ensures.steps in
     let below = variable_below p c.in-Some.fact (All-contains (FactExists p.variables) all c.in-Some.fact
-        (known_exist p c.requires.ranged c.args.operator c.requires.operator c.args.first.now c.args.second.now c.requires.first c.requires.second) within) in
+    (known_exist p c.requires.ranged c.args.operator c.requires.operator c.args.first.now c.args.second.now c.requires.first c.requires.second) within) in
     let wide = c.loop-fact.invariant.from.wide.variables in
     omega arith
 
@@ -30,8 +30,8 @@ forget-requires-clause-facts g c =
     let all = known (operator_at p c.args.operator) c.args.first.now c.args.second.now in
     let within = turn_has all c.loop-fact.yielded (known_left says c.loop-fact.fact-iterator) c.loop-fact.invariant.left c.in-Some.fact _ c.in-Some.ensures.steps in
     groups_below p c.args.index.now c.in-Some.fact (length c.loop-fact.marks.facts) c.requires.index (All-contains (FactExists p.variables) all c.in-Some.fact
-        (known_exist p c.requires.ranged c.args.operator c.requires.operator c.args.first.now c.args.second.now c.requires.first c.requires.second) within)
-        c.loop-fact.invariant.from.wide.groups
+    (known_exist p c.requires.ranged c.args.operator c.requires.operator c.args.first.now c.args.second.now c.requires.first c.requires.second) within)
+    c.loop-fact.invariant.from.wide.groups
 
 pub loop-fact-preserved : goal.loop-fact-preserved
 loop-fact-preserved g c =
@@ -45,7 +45,7 @@ loop-fact-preserved g c =
     let new = c.forget.new.marks in
     let within = turn_has all c.loop-fact.yielded left inv.left fact _ c.in-Some.ensures.steps in
     let exists = All-contains (FactExists p.variables) all fact
-        (known_exist p c.requires.ranged c.args.operator c.requires.operator c.args.first.now c.args.second.now c.requires.first c.requires.second) within in
+    (known_exist p c.requires.ranged c.args.operator c.requires.operator c.args.first.now c.args.second.now c.requires.first c.requires.second) within in
     record {
       left = turn_left all c.loop-fact.yielded left inv.left fact _ c.in-Some.ensures.steps;
       came = turn_more (IsForgotten p new) c.loop-fact.yielded fact

@@ -24,7 +24,7 @@ loop-group-preserved c =
       | then-kept-group+else-is_other w ↦
           (let in_family : IsTrue (family_of kept place) = w.if-kept-group.true in
           let free : IsFree (fact_note now place) fact =
-              subst (λ facts. IsFree (fact_note facts place) fact) w.as_slice.ensures (w.is_other.ensures.no w.if-is_other.false) in
+          subst (λ facts. IsFree (fact_note facts place) fact) w.as_slice.ensures (w.is_other.ensures.no w.if-is_other.false) in
           let is : c.if-kept-group.facts ≡ set now place (Some fact) = w.facts-is ∙ w.set.ensures in
           rw is record {
             some = taken_more groups kept fact c.args.facts.now now inv.some place below among in_family free;

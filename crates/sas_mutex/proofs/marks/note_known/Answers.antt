@@ -20,7 +20,7 @@ note-requires-clause-value g c =
     let all = known (operator_at p c.args.operator) c.args.first.now c.args.second.now in
     let within = turn_has all c.loop-fact.yielded (known_left says c.loop-fact.fact-iterator) c.loop-fact.invariant.left c.in-Some.fact _ c.in-Some.ensures.steps in
     let below = variable_below p c.in-Some.fact (All-contains (FactExists p.variables) all c.in-Some.fact
-        (known_exist p c.requires.ranged c.args.operator c.requires.operator c.args.first.now c.args.second.now c.requires.first c.requires.second) within) in
+    (known_exist p c.requires.ranged c.args.operator c.requires.operator c.args.first.now c.args.second.now c.requires.first c.requires.second) within) in
     let wide = c.loop-fact.invariant.from.wide.variables in
     omega arith
 
@@ -31,7 +31,7 @@ note-requires-clause-kept g c =
     let all = known (operator_at p c.args.operator) c.args.first.now c.args.second.now in
     let within = turn_has all c.loop-fact.yielded (known_left says c.loop-fact.fact-iterator) c.loop-fact.invariant.left c.in-Some.fact _ c.in-Some.ensures.steps in
     groups_below p c.args.index.now c.in-Some.fact (length c.args.kept.now) c.requires.index (All-contains (FactExists p.variables) all c.in-Some.fact
-        (known_exist p c.requires.ranged c.args.operator c.requires.operator c.args.first.now c.args.second.now c.requires.first c.requires.second) within) c.requires.one_each
+    (known_exist p c.requires.ranged c.args.operator c.requires.operator c.args.first.now c.args.second.now c.requires.first c.requires.second) within) c.requires.one_each
 
 pub note-requires-clause-facts : goal.note-requires-clause-facts
 note-requires-clause-facts g c =
@@ -40,8 +40,8 @@ note-requires-clause-facts g c =
     let all = known (operator_at p c.args.operator) c.args.first.now c.args.second.now in
     let within = turn_has all c.loop-fact.yielded (known_left says c.loop-fact.fact-iterator) c.loop-fact.invariant.left c.in-Some.fact _ c.in-Some.ensures.steps in
     groups_below p c.args.index.now c.in-Some.fact (length c.loop-fact.marks.facts) c.requires.index (All-contains (FactExists p.variables) all c.in-Some.fact
-        (known_exist p c.requires.ranged c.args.operator c.requires.operator c.args.first.now c.args.second.now c.requires.first c.requires.second) within)
-        c.loop-fact.invariant.from.wide.groups
+    (known_exist p c.requires.ranged c.args.operator c.requires.operator c.args.first.now c.args.second.now c.requires.first c.requires.second) within)
+    c.loop-fact.invariant.from.wide.groups
 
 pub returns-then-not-note-clause-yes : goal.returns-then-not-note-clause-yes
 returns-then-not-note-clause-yes g c =
@@ -51,9 +51,9 @@ returns-then-not-note-clause-yes g c =
     let left = known_left says c.loop-fact.fact-iterator in
     let within = turn_has all c.loop-fact.yielded left c.loop-fact.invariant.left c.in-Some.fact _ c.in-Some.ensures.steps in
     let exists = All-contains (FactExists p.variables) all c.in-Some.fact
-        (known_exist p c.requires.ranged c.args.operator c.requires.operator c.args.first.now c.args.second.now c.requires.first c.requires.second) within in
+    (known_exist p c.requires.ranged c.args.operator c.requires.operator c.args.first.now c.args.second.now c.requires.first c.requires.second) within in
     let other = refused p c.args.index.now c.args.kept.now c.loop-fact.yielded c.loop-fact.marks c.requires.index c.loop-fact.invariant.from.wide
-        c.loop-fact.invariant.came c.in-Some.fact exists (c.note.ensures.no c.if-not-note.true) in
+    c.loop-fact.invariant.came c.in-Some.fact exists (c.note.ensures.no c.if-not-note.true) in
     λ t. (
       c.in-Some.fact,
       other.0,
@@ -69,7 +69,7 @@ returns-then-not-note-clause-from g c =
     let all = known (operator_at p c.args.operator) c.args.first.now c.args.second.now in
     let within = turn_has all c.loop-fact.yielded (known_left says c.loop-fact.fact-iterator) c.loop-fact.invariant.left c.in-Some.fact _ c.in-Some.ensures.steps in
     let exists = All-contains (FactExists p.variables) all c.in-Some.fact
-        (known_exist p c.requires.ranged c.args.operator c.requires.operator c.args.first.now c.args.second.now c.requires.first c.requires.second) within in
+    (known_exist p c.requires.ranged c.args.operator c.requires.operator c.args.first.now c.args.second.now c.requires.first c.requires.second) within in
     noted_still p c.args.index.now all c.loop-fact.marks c.note.new.marks c.requires.index c.loop-fact.invariant.from c.in-Some.fact exists within c.note.ensures.changes
 
 pub loop-fact-preserved : goal.loop-fact-preserved
@@ -81,7 +81,7 @@ loop-fact-preserved g c =
     let inv = c.loop-fact.invariant in
     let within = turn_has all c.loop-fact.yielded left inv.left c.in-Some.fact _ c.in-Some.ensures.steps in
     let exists = All-contains (FactExists p.variables) all c.in-Some.fact
-        (known_exist p c.requires.ranged c.args.operator c.requires.operator c.args.first.now c.args.second.now c.requires.first c.requires.second) within in
+    (known_exist p c.requires.ranged c.args.operator c.requires.operator c.args.first.now c.args.second.now c.requires.first c.requires.second) within in
     record {
       left = turn_left all c.loop-fact.yielded left inv.left c.in-Some.fact _ c.in-Some.ensures.steps;
       came = known_one_more p c.args.index.now c.args.kept.now c.loop-fact.yielded c.loop-fact.marks c.requires.index inv.from.wide inv.came
