@@ -4,3 +4,6 @@ pub mod Numbering
 pub mod Lists
 pub mod Entering
 pub mod Mentioning
+pub mod TaskFacts
+pub mod NotesOfFacts
+pub mod ToldByNotes

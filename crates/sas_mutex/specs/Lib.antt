@@ -9,4 +9,5 @@ pub mod Directories
 pub mod Index
 pub mod Marks
 pub mod Effects
+pub mod Noting
 pub mod Falling

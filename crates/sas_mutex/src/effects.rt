@@ -1,14 +1,19 @@
 // Which effects keep a group.
-ghost use Rattle.std.specs.Prelude.{◌≡◌, ◌<◌, length, IsTrue, IsFalse};
+ghost use Rattle.std.specs.Prelude.{◌≡◌, ◌<◌, ◌≤◌, ◌^◌, ℕ, [], length, IsTrue, IsFalse, All};
 ghost use Rattle.sas_core.specs.Grounded.{operator_at, effect_at, group_at};
+ghost use Rattle.sas_core.specs.Variables.{FactExists};
+ghost use Rattle.sas_core.specs.WellRanged.{WellRanged};
 ghost use Rattle.sas_groups.specs.Families.{IsIn};
-ghost use Rattle.sas_mutex.specs.Effects.{family_of, IsKept, EffectKeeps};
-ghost use Rattle.sas_mutex.specs.Index.{IsIndexOf};
-ghost use Rattle.sas_mutex.specs.Marks.{IsClean};
+ghost use Rattle.sas_groups.specs.Lists.{known};
+ghost use Rattle.sas_mutex.specs.Effects.{family_of, IsKept, NotBoth, IsGone, EffectKeeps};
+ghost use Rattle.sas_mutex.specs.Index.{IsIndexOf, groups_of};
+ghost use Rattle.sas_mutex.specs.Marks.{IsWide, IsClean};
+ghost use Rattle.sas_mutex.specs.Noting.{AreBelow, HasNotedGroup, IsAgainst, IsMet, SomeRemoves, Removes};
+ghost use Rattle.sas_mutex.specs.Noting.{AreOf, AreKnown, IsSingle, AreGone};
 
 use crate::index::Index;
 use crate::marks::{Marks, forget_known, note_known};
-use sas_core::{Change, Fact, Grounded};
+use sas_core::{Change, Fact, Grounded, Items};
 
 /// Whether the effect keeps the group, which is in the family, where the groups of the family count.
 pub fn effect_keeps<T: Grounded>(
@@ -32,6 +37,8 @@ pub fn effect_keeps<T: Grounded>(
     ensures no { IsFalse result → EffectKeeps (IsKept (T.says task.now) kept.now) (operator_at (T.says task.now) operator)
         (group_at (T.says task.now) group) (effect_at (operator_at (T.says task.now) operator) effect) → ⊥ }
 {
+    // The contract of this call tells that what the task says is well ranged.
+    let _ = task.variables();
     is_single(task, index, kept, operator, effect, group, marks)
         && removes_others(task, index, kept, operator, effect, group, marks)
 }
@@ -46,6 +53,16 @@ fn is_single<T: Grounded>(
     group: u32,
     marks: &mut Marks,
 ) -> bool
+    requires fit { AreOf (T.says task.now) index.now kept.now marks.old }
+    requires operator { operator < length (T.says task.now).operators }
+    requires effect { effect < length (operator_at (T.says task.now) operator).effects }
+    requires group { IsIn (T.says task.now) (family_of kept.now) group }
+    requires clean { IsClean (T.says task.now) marks.old }
+    ensures clean { IsClean (T.says task.now) marks.new }
+    ensures yes { IsTrue result → IsSingle (IsKept (T.says task.now) kept.now) (operator_at (T.says task.now) operator)
+        (group_at (T.says task.now) group) (effect_at (operator_at (T.says task.now) operator) effect) }
+    ensures no { IsFalse result → IsSingle (IsKept (T.says task.now) kept.now) (operator_at (T.says task.now) operator)
+        (group_at (T.says task.now) group) (effect_at (operator_at (T.says task.now) operator) effect) → ⊥ }
 {
     for other in 0..task.effects(operator) {
         if !not_both(task, index, kept, operator, effect, other, group, marks) {
@@ -66,9 +83,25 @@ fn not_both<T: Grounded>(
     group: u32,
     marks: &mut Marks,
 ) -> bool
+    requires fit { AreOf (T.says task.now) index.now kept.now marks.old }
+    requires operator { operator < length (T.says task.now).operators }
+    requires effect { effect < length (operator_at (T.says task.now) operator).effects }
+    requires other { other < length (operator_at (T.says task.now) operator).effects }
+    requires group { IsIn (T.says task.now) (family_of kept.now) group }
+    requires clean { IsClean (T.says task.now) marks.old }
+    ensures clean { IsClean (T.says task.now) marks.new }
+    ensures yes { IsTrue result → NotBoth (IsKept (T.says task.now) kept.now) (operator_at (T.says task.now) operator)
+        (group_at (T.says task.now) group) (effect_at (operator_at (T.says task.now) operator) effect)
+        (effect_at (operator_at (T.says task.now) operator) other) }
+    ensures no { IsFalse result → NotBoth (IsKept (T.says task.now) kept.now) (operator_at (T.says task.now) operator)
+        (group_at (T.says task.now) group) (effect_at (operator_at (T.says task.now) operator) effect)
+        (effect_at (operator_at (T.says task.now) operator) other) → ⊥ }
 {
-    let second = task.effect_change(operator, other);
-    if task.effect_change(operator, effect).var == second.var || !index.has(group, sets(second)) {
+    let change = task.effect_change(operator, other);
+    if task.effect_change(operator, effect).var == change.var {
+        return true;
+    }
+    if !index.has(group, sets(change)) {
         return true;
     }
     let first = task.effect_conditions(operator, effect);
@@ -88,6 +121,16 @@ fn removes_others<T: Grounded>(
     group: u32,
     marks: &mut Marks,
 ) -> bool
+    requires fit { AreOf (T.says task.now) index.now kept.now marks.old }
+    requires operator { operator < length (T.says task.now).operators }
+    requires effect { effect < length (operator_at (T.says task.now) operator).effects }
+    requires group { IsIn (T.says task.now) (family_of kept.now) group }
+    requires clean { IsClean (T.says task.now) marks.old }
+    ensures clean { IsClean (T.says task.now) marks.new }
+    ensures yes { IsTrue result → AreGone (IsKept (T.says task.now) kept.now) (operator_at (T.says task.now) operator)
+        (group_at (T.says task.now) group) (effect_at (operator_at (T.says task.now) operator) effect) }
+    ensures no { IsFalse result → AreGone (IsKept (T.says task.now) kept.now) (operator_at (T.says task.now) operator)
+        (group_at (T.says task.now) group) (effect_at (operator_at (T.says task.now) operator) effect) → ⊥ }
 {
     let conditions = task.effect_conditions(operator, effect);
     let keeps = note_known(task, index, kept, operator, conditions, &[], marks)
@@ -106,54 +149,140 @@ fn none_stays<T: Grounded>(
     group: u32,
     marks: &Marks,
 ) -> bool
+    requires fit { AreOf (T.says task.now) index.now kept.now marks.now }
+    requires operator { operator < length (T.says task.now).operators }
+    requires effect { effect < length (operator_at (T.says task.now) operator).effects }
+    requires group { IsIn (T.says task.now) (family_of kept.now) group }
+    requires known { AreKnown (T.says task.now) kept.now (known (operator_at (T.says task.now) operator)
+        (effect_at (operator_at (T.says task.now) operator) effect).conditions []) marks.now }
+    ensures yes { IsTrue result → AreGone (IsKept (T.says task.now) kept.now) (operator_at (T.says task.now) operator)
+        (group_at (T.says task.now) group) (effect_at (operator_at (T.says task.now) operator) effect) }
+    ensures no { IsFalse result → AreGone (IsKept (T.says task.now) kept.now) (operator_at (T.says task.now) operator)
+        (group_at (T.says task.now) group) (effect_at (operator_at (T.says task.now) operator) effect) → ⊥ }
 {
-    let var = task.effect_change(operator, effect).var;
     // Where a fact of the group is known, it contradicts all the others.
     if let Some(fact) = marks.facts.as_slice()[group as usize] {
-        return fact.var == var || is_removed(task, operator, fact, marks);
+        return is_gone(task, index, kept, operator, effect, fact, marks);
     }
     for fact in task.group(group) {
-        if !(fact.var == var || contradicts(index, kept, *fact, marks) || is_removed(task, operator, *fact, marks)) {
+        if !is_gone(task, index, kept, operator, effect, *fact, marks) {
             return false;
         }
     }
     true
 }
 
+/// Whether the fact is on the effect's variable, or doesn't stay where the effect fires.
+fn is_gone<T: Grounded>(
+    task: &T,
+    index: &Index,
+    kept: &[bool],
+    operator: u32,
+    effect: u32,
+    fact: Fact,
+    marks: &Marks,
+) -> bool
+    requires fit { AreOf (T.says task.now) index.now kept.now marks.now }
+    requires operator { operator < length (T.says task.now).operators }
+    requires effect { effect < length (operator_at (T.says task.now) operator).effects }
+    requires fact { FactExists (T.says task.now).variables fact }
+    requires known { AreKnown (T.says task.now) kept.now (known (operator_at (T.says task.now) operator)
+        (effect_at (operator_at (T.says task.now) operator) effect).conditions []) marks.now }
+    ensures yes { IsTrue result → IsGone (IsKept (T.says task.now) kept.now) (operator_at (T.says task.now) operator)
+        (effect_at (operator_at (T.says task.now) operator) effect) fact }
+    ensures no { IsFalse result → IsGone (IsKept (T.says task.now) kept.now) (operator_at (T.says task.now) operator)
+        (effect_at (operator_at (T.says task.now) operator) effect) fact → ⊥ }
+{
+    if task.effect_change(operator, effect).var == fact.var {
+        return true;
+    }
+    contradicts(index, kept, fact, marks) || is_removed(task, operator, fact, marks)
+}
+
 /// Whether the fact contradicts one that is noted.
 fn contradicts(index: &Index, kept: &[bool], fact: Fact, marks: &Marks) -> bool
+    requires low { All (λ (first : ℕ). first ≤ 2 ^ 62) index.now.firsts.items }
+    requires value { fact.var < length marks.now.values }
+    requires kept { AreBelow (length kept.now) (groups_of index.now fact) }
+    requires facts { AreBelow (length marks.now.facts) (groups_of index.now fact) }
+    ensures yes { IsTrue result → IsAgainst (groups_of index.now fact) kept.now fact marks.now }
+    ensures no { IsFalse result → IsAgainst (groups_of index.now fact) kept.now fact marks.now → ⊥ }
 {
     match marks.values.as_slice()[fact.var as usize] {
         Some(value) => value != fact.value,
-        None => index
-            .groups_of(fact)
-            .iter()
-            .any(|group| kept[*group as usize] && marks.facts.as_slice()[*group as usize].is_some()),
+        None => has_noted(index.groups_of(fact), kept, &marks.facts),
     }
 }
 
-/// Whether an effect of the operator whose conditions all are this fact or noted sets the variable of the fact to another
-/// value.
-fn is_removed<T: Grounded>(task: &T, operator: u32, fact: Fact, marks: &Marks) -> bool
+/// Whether a fact is noted for one of these groups that is kept.
+fn has_noted(groups: &[u32], kept: &[bool], facts: &Items<Option<Fact>>) -> bool
+    requires kept { AreBelow (length kept.now) groups.now }
+    requires facts { AreBelow (length facts.now) groups.now }
+    ensures yes { IsTrue result → HasNotedGroup groups.now kept.now facts.now }
+    ensures no { IsFalse result → HasNotedGroup groups.now kept.now facts.now → ⊥ }
 {
-    for effect in 0..task.effects(operator) {
-        let change = task.effect_change(operator, effect);
-        if change.var == fact.var
-            && change.new != fact.value
-            && all_known(task.effect_conditions(operator, effect), fact, marks)
-        {
+    for group in groups {
+        if kept[*group as usize] && facts.as_slice()[*group as usize].is_some() {
             return true;
         }
     }
     false
 }
 
-/// Whether all the conditions are this fact or noted.
-fn all_known(conditions: &[Fact], fact: Fact, marks: &Marks) -> bool
+/// Whether an effect of the operator whose conditions all are this fact or noted sets the variable of the fact to another
+/// value.
+fn is_removed<T: Grounded>(task: &T, operator: u32, fact: Fact, marks: &Marks) -> bool
+    requires ranged { WellRanged (T.says task.now) }
+    requires wide { IsWide (T.says task.now) marks.now }
+    requires operator { operator < length (T.says task.now).operators }
+    ensures yes { IsTrue result → SomeRemoves (operator_at (T.says task.now) operator) marks.now fact }
+    ensures no { IsFalse result → SomeRemoves (operator_at (T.says task.now) operator) marks.now fact → ⊥ }
 {
-    conditions
-        .iter()
-        .all(|condition| *condition == fact || marks.values.as_slice()[condition.var as usize] == Some(condition.value))
+    for effect in 0..task.effects(operator) {
+        if removes(task, operator, effect, fact, marks) {
+            return true;
+        }
+    }
+    false
+}
+
+/// Whether the effect's conditions all are this fact or noted, and it sets the variable of the fact to another value.
+fn removes<T: Grounded>(task: &T, operator: u32, effect: u32, fact: Fact, marks: &Marks) -> bool
+    requires ranged { WellRanged (T.says task.now) }
+    requires wide { IsWide (T.says task.now) marks.now }
+    requires operator { operator < length (T.says task.now).operators }
+    requires effect { effect < length (operator_at (T.says task.now) operator).effects }
+    ensures yes { IsTrue result → Removes marks.now fact (effect_at (operator_at (T.says task.now) operator) effect) }
+    ensures no { IsFalse result → Removes marks.now fact (effect_at (operator_at (T.says task.now) operator) effect) → ⊥ }
+{
+    let change = task.effect_change(operator, effect);
+    if change.var != fact.var || change.new == fact.value {
+        return false;
+    }
+    all_met(task.effect_conditions(operator, effect), fact, marks)
+}
+
+/// Whether all the conditions are this fact or noted.
+fn all_met(conditions: &[Fact], fact: Fact, marks: &Marks) -> bool
+    requires { All (λ (c : Fact). c.var < length marks.now.values) conditions.now }
+    ensures yes { IsTrue result → All (IsMet marks.now fact) conditions.now }
+    ensures no { IsFalse result → All (IsMet marks.now fact) conditions.now → ⊥ }
+{
+    for condition in conditions {
+        if !is_met(*condition, fact, marks) {
+            return false;
+        }
+    }
+    true
+}
+
+/// Whether the condition is this fact or noted.
+fn is_met(condition: Fact, fact: Fact, marks: &Marks) -> bool
+    requires { condition.var < length marks.now.values }
+    ensures yes { IsTrue result → IsMet marks.now fact condition }
+    ensures no { IsFalse result → IsMet marks.now fact condition → ⊥ }
+{
+    condition == fact || marks.values.as_slice()[condition.var as usize] == Some(condition.value)
 }
 
 /// The fact that the change sets.

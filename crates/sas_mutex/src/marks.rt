@@ -1,12 +1,15 @@
 // Facts noted by variable and by group, so that each further one is compared with all in a fixed time.
-ghost use Rattle.std.specs.Prelude.{◌≡◌, ◌<◌, ◌↔◌, length, IsTrue, IsFalse, IfOk, All, Contains};
+ghost use Rattle.std.specs.Prelude.{◌≡◌, ◌<◌, ◌≤◌, ◌^◌, ◌⊎◌, ℕ, length, IsTrue, IsFalse, IfOk, All};
 ghost use Rattle.sas_core.specs.Grounded.{operator_at};
 ghost use Rattle.sas_core.specs.Variables.{FactExists};
 ghost use Rattle.sas_groups.specs.Clashes.{Clash};
 ghost use Rattle.sas_groups.specs.Lists.{known};
 ghost use Rattle.sas_mutex.specs.Effects.{IsKept};
-ghost use Rattle.sas_mutex.specs.Index.{IsIndexOf};
-ghost use Rattle.sas_mutex.specs.Marks.{IsWide, IsClean, IsNotedFrom, IsNoted};
+ghost use Rattle.sas_core.specs.WellRanged.{WellRanged};
+ghost use Rattle.sas_mutex.specs.Index.{IsIndexOf, groups_of};
+ghost use Rattle.sas_mutex.specs.Marks.{IsClean, IsNotedFrom, IsNoted};
+ghost use Rattle.sas_mutex.specs.Noting.{AreBelow, IsOther, IsFree, IsRefused, TakenBySome, TakenByAll, HasOtherValue};
+ghost use Rattle.sas_mutex.specs.Noting.{ChangesAt, IsThere, IsNew, ForgetsGroups, Forgets};
 
 use crate::index::Index;
 use sas_core::{Fact, Grounded, Items};
@@ -45,7 +48,9 @@ pub fn note_known<T: Grounded>(
     second: &[Fact],
     marks: &mut Marks,
 ) -> bool
+    requires ranged { WellRanged (T.says task.now) }
     requires index { IsIndexOf (T.says task.now) index.now }
+    requires one_each { length kept.now ≡ length (T.says task.now).groups }
     requires operator { operator < length (T.says task.now).operators }
     requires first { All (FactExists (T.says task.now).variables) first.now }
     requires second { All (FactExists (T.says task.now).variables) second.now }
@@ -69,6 +74,15 @@ pub fn note_known<T: Grounded>(
 
 /// Notes the fact. Says whether it contradicts none that is noted; if it does, it may be noted in part.
 fn note(index: &Index, kept: &[bool], fact: Fact, marks: &mut Marks) -> bool
+    requires low { All (λ (first : ℕ). first ≤ 2 ^ 62) index.now.firsts.items }
+    requires value { fact.var < length marks.old.values }
+    requires kept { AreBelow (length kept.now) (groups_of index.now fact) }
+    requires facts { AreBelow (length marks.old.facts) (groups_of index.now fact) }
+    ensures yes { IsTrue result → IsThere fact marks.old marks.new
+        ⊎ IsNew (groups_of index.now fact) kept.now fact marks.old marks.new }
+    ensures no { IsFalse result → HasOtherValue marks.old.values fact
+        ⊎ IsRefused (groups_of index.now fact) kept.now fact marks.old.facts }
+    ensures changes { ChangesAt (groups_of index.now fact) fact marks.old marks.new }
 {
     match marks.values.as_slice()[fact.var as usize] {
         Some(value) => value == fact.value,
@@ -80,18 +94,38 @@ fn note(index: &Index, kept: &[bool], fact: Fact, marks: &mut Marks) -> bool
 }
 
 /// Notes the fact for the groups that are kept. Says whether no other fact is noted for one of them.
-fn note_in_groups(groups: &[u32], kept: &[bool], fact: Fact, facts: &mut Items<Option<Fact>>) -> bool
+fn note_in_groups(
+    groups: &[u32],
+    kept: &[bool],
+    fact: Fact,
+    facts: &mut Items<Option<Fact>>,
+) -> bool
+    requires kept { AreBelow (length kept.now) groups.now }
+    requires facts { AreBelow (length facts.old) groups.now }
+    ensures yes { IsTrue result → TakenByAll groups.now kept.now fact facts.old facts.new }
+    ensures no { IsFalse result → IsRefused groups.now kept.now fact facts.old }
+    ensures some { TakenBySome groups.now kept.now fact facts.old facts.new }
 {
     for group in groups {
         if kept[*group as usize] {
-            let noted = facts.as_slice()[*group as usize];
-            if noted.is_some() && noted != Some(fact) {
+            if is_other(facts.as_slice()[*group as usize], fact) {
                 return false;
             }
             facts.set(*group as usize, Some(fact));
         }
     }
     true
+}
+
+/// Whether what is noted for a group is another fact than this.
+fn is_other(noted: Option<Fact>, fact: Fact) -> bool
+    ensures yes { IsTrue result → IsOther noted fact }
+    ensures no { IsFalse result → IsFree noted fact }
+{
+    match noted {
+        Some(noted) => noted != fact,
+        None => false,
+    }
 }
 
 /// Takes back what is noted of these facts.
@@ -103,6 +137,7 @@ pub fn forget_known<T: Grounded>(
     second: &[Fact],
     marks: &mut Marks,
 )
+    requires ranged { WellRanged (T.says task.now) }
     requires index { IsIndexOf (T.says task.now) index.now }
     requires operator { operator < length (T.says task.now).operators }
     requires first { All (FactExists (T.says task.now).variables) first.now }
@@ -112,9 +147,27 @@ pub fn forget_known<T: Grounded>(
     ensures { IsClean (T.says task.now) marks.new }
 {
     for fact in Known::new(task, operator, first, second) {
-        marks.values.set(fact.var as usize, None);
-        for group in index.groups_of(fact) {
-            marks.facts.set(*group as usize, None);
-        }
+        forget(index, fact, marks);
+    }
+}
+
+/// Takes back what is noted of the fact.
+fn forget(index: &Index, fact: Fact, marks: &mut Marks)
+    requires low { All (λ (first : ℕ). first ≤ 2 ^ 62) index.now.firsts.items }
+    requires value { fact.var < length marks.old.values }
+    requires facts { AreBelow (length marks.old.facts) (groups_of index.now fact) }
+    ensures { Forgets (groups_of index.now fact) fact marks.old marks.new }
+{
+    marks.values.set(fact.var as usize, None);
+    forget_groups(index.groups_of(fact), &mut marks.facts);
+}
+
+/// Takes back what is noted for these groups.
+fn forget_groups(groups: &[u32], facts: &mut Items<Option<Fact>>)
+    requires { AreBelow (length facts.old) groups.now }
+    ensures { ForgetsGroups groups.now facts.old facts.new }
+{
+    for group in groups {
+        facts.set(*group as usize, None);
     }
 }

@@ -1,0 +1,70 @@
+-- The facts that a task mentions exist, and the groups that have one are groups of the task.
+use Rattle.std.proofs.Common.{◌≡◌, ℕ, ◌<◌, [], length, get_or, List, ◌∷◌, ◌++◌, Option, None, Some, subst, sym}
+use Rattle.std.specs.Prelude.{filter_map}
+use Rattle.std.specs.List.{All, Contains, cons_option}
+use Rattle.std.proofs.lemmas.List.Elements.{All-nil, All-cons, All-append, All-from_recursion, All-head, All-tail, Contains-get_or}
+use Rattle.sas_core.specs.declared.parts.Fact.{Fact}
+use Rattle.sas_core.specs.declared.parts.Effect.{Effect}
+use Rattle.sas_core.specs.declared.parts.Parts.{Parts}
+use Rattle.sas_core.specs.Grounded.{operator_at, effect_at, group_at}
+use Rattle.sas_core.specs.Variables.{FactExists, MayHaveValue}
+use Rattle.sas_core.specs.WellRanged.{WellRanged, OperatorFits, EffectFits, Listed}
+use Rattle.sas_core.proofs.Places.{holds_at}
+use Rattle.sas_meaning.specs.Steps.{old_fact, preconditions}
+use Rattle.sas_meaning.proofs.Forced.{fact_within}
+use Rattle.sas_groups.specs.Lists.{known}
+use Rattle.sas_mutex.specs.declared.index.Index.{Index}
+use Rattle.sas_mutex.specs.Index.{IsIndexOf, groups_of}
+use Rattle.sas_mutex.specs.Noting.{AreBelow}
+
+module _ (p : Parts) (ranged : WellRanged p) where
+  -- the facts of a group exist
+  pub group_facts : (group : ℕ) → group < length p.groups → All (FactExists p.variables) (group_at p group)
+  group_facts group lt = All-from_recursion (FactExists p.variables) (group_at p group)
+      (holds_at (Listed (FactExists p.variables)) [] p.groups ranged.groups.each group lt).each
+
+  module _ (operator : ℕ) (lt : operator < length p.operators) where
+    fits : OperatorFits p.variables (operator_at p operator)
+    fits = holds_at (OperatorFits p.variables) (record { name = []; prevail = []; effects = []; cost = 0 }) p.operators ranged.operators.each operator lt
+
+    pub effect_fits : (effect : ℕ) → effect < length (operator_at p operator).effects → EffectFits p.variables (effect_at (operator_at p operator) effect)
+    effect_fits = holds_at (EffectFits p.variables) (record { conditions = []; var = 0; old = None; new = 0 }) (operator_at p operator).effects fits.effects.each
+
+    -- the conditions of an effect exist
+    pub conditions_exist : (effect : ℕ) → effect < length (operator_at p operator).effects
+        → All (FactExists p.variables) (effect_at (operator_at p operator) effect).conditions
+    conditions_exist effect below = All-from_recursion (FactExists p.variables) (effect_at (operator_at p operator) effect).conditions (effect_fits effect below).conditions.each
+
+    old_exists : (var : ℕ) (old : Option ℕ) (conditions : List Fact) (new : ℕ) (rest : List Fact) → MayHaveValue p.variables var old → All (FactExists p.variables) rest
+        → All (FactExists p.variables) (cons_option (old_fact (record { conditions = conditions; var = var; old = old; new = new })) rest)
+    old_exists var None conditions new rest may all = all
+    old_exists var (Some value) conditions new rest may all = All-cons (FactExists p.variables) (record { var = var; value = value }) rest may all
+
+    olds_exist : (effects : List Effect) → All (EffectFits p.variables) effects → All (FactExists p.variables) (filter_map old_fact effects)
+    olds_exist [] fit = All-nil (FactExists p.variables)
+    olds_exist (e ∷ effects) fit = old_exists e.var e.old e.conditions e.new (filter_map old_fact effects) (All-head (EffectFits p.variables) e effects fit).old
+        (olds_exist effects (All-tail (EffectFits p.variables) e effects fit))
+
+    -- what is known exists
+    pub known_exist : (first second : List Fact) → All (FactExists p.variables) first → All (FactExists p.variables) second
+        → All (FactExists p.variables) (known (operator_at p operator) first second)
+    known_exist first second its theirs =
+        let o = operator_at p operator in
+        let E = FactExists p.variables in
+        All-append E (preconditions o ++ first) second
+        (All-append E (preconditions o) first
+        (All-append E o.prevail (filter_map old_fact o.effects)
+        (All-from_recursion E o.prevail fits.prevail.each)
+        (olds_exist o.effects (All-from_recursion (EffectFits p.variables) o.effects fits.effects.each)))
+        its)
+        theirs
+
+-- the variable of a fact that exists, and the groups that have it
+pub variable_below : (p : Parts) (fact : Fact) → FactExists p.variables fact → fact.var < length p.variables
+variable_below p fact exists = fact_within p fact.var fact.value exists
+
+pub groups_below : (p : Parts) (index : Index) (fact : Fact) (n : ℕ) → IsIndexOf p index → FactExists p.variables fact → n ≡ length p.groups
+    → AreBelow n (groups_of index fact)
+groups_below p index fact n indexed exists same k d lt =
+    subst (λ m. get_or (groups_of index fact) k d < m) (sym same)
+    ((indexed.groups fact exists (get_or (groups_of index fact) k d)).0 (Contains-get_or (groups_of index fact) k d lt)).exists

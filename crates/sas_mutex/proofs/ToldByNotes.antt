@@ -1,0 +1,219 @@
+-- What the notes of facts that don't clash tell of one fact more.
+use Rattle.std.proofs.Common.{◌≡◌, ◌≢◌, ◌⊎◌, ℕ, ◌+◌, ◌<◌, Bool, IsTrue, [], length, get_or, List, ◌∷◌, ◌++◌, Option, None, Some, subst, refl, sym, ap, ◌∙◌, inl, inr, append-nil, arith}
+use Rattle.std.specs.List.{All, Contains}
+use Rattle.std.proofs.lemmas.Bool.{cases_eq}
+use Rattle.std.proofs.lemmas.List.{get_or_default}
+use Rattle.std.proofs.lemmas.List.Elements.{All-weaker, All-contains, Contains-append_left, Contains-push, Contains-push_cases, Contains-get_or}
+use Rattle.sas_core.specs.declared.parts.Fact.{Fact}
+use Rattle.sas_core.specs.declared.parts.Effect.{Effect}
+use Rattle.sas_core.specs.declared.parts.Operator.{Operator}
+use Rattle.sas_core.specs.declared.parts.Parts.{Parts}
+use Rattle.sas_core.specs.Grounded.{effect_at, group_at}
+use Rattle.sas_core.specs.Variables.{FactExists}
+use Rattle.sas_meaning.specs.Steps.{preconditions}
+use Rattle.sas_groups.specs.Clashes.{Contradict, Clash, AreOfOneGroup, IsRemoved}
+use Rattle.sas_groups.specs.Families.{IsIn}
+use Rattle.sas_groups.specs.Lists.{known}
+use Rattle.sas_mutex.specs.declared.index.Index.{Index}
+use Rattle.sas_mutex.specs.declared.marks.Marks.{Marks}
+use Rattle.sas_mutex.specs.Effects.{family_of, IsKept, IsGone}
+use Rattle.sas_mutex.specs.Index.{IsIndexOf, HasFact, groups_of}
+use Rattle.sas_mutex.specs.Noting.{value_note, fact_note, HasOtherValue, HasNotedGroup, IsBarred, IsAgainst, IsMet, Removes, SomeRemoves, AreKnown, AreGone}
+use Rattle.sas_mutex.proofs.TaskFacts.{variable_below}
+use Rattle.sas_mutex.proofs.NotesOfFacts.{a_note, value_note_tells, no_value_note_tells, fact_note_tells, no_fact_note_tells, contradict_turned, not_itself}
+
+-- two facts are one, or they aren't
+pub one_or_two : (f g : Fact) → (f ≡ g) ⊎ (f ≢ g)
+one_or_two f g = elim (cases_eq f.var g.var) [
+  | inr ne ↦ inr (λ e. ne (ap (λ (x : Fact). x.var) e))
+  | inl var ↦ elim (cases_eq f.value g.value) [
+    | inr ne ↦ inr (λ e. ne (ap (λ (x : Fact). x.value) e))
+    | inl value ↦ inl (same f.var f.value g.var g.value var value)
+  ]
+]
+  where
+    same : (v a w b : ℕ) → v ≡ w → a ≡ b → (let x : Fact = record { var = v; value = a } in x) ≡ record { var = w; value = b }
+    same v a w b var value = rw (var, value) refl
+
+module _ (p : Parts) (index : Index) (kept : List Bool) (marks : Marks) (o : Operator) (conditions : List Fact) (indexed : IsIndexOf p index)
+    (are : AreKnown p kept (known o conditions []) marks) (fact : Fact) (exists : FactExists p.variables fact) where
+  abbrev before : List Fact
+  before = known o conditions []
+
+  abbrev with : List Fact
+  with = known o conditions (fact ∷ [])
+
+  more : with ≡ before ++ fact ∷ []
+  more = ap (λ (xs : List Fact). xs ++ fact ∷ []) (sym (append-nil (preconditions o ++ conditions)))
+
+  pub also : (f : Fact) → Contains before f → Contains with f
+  also f in_before = subst (λ (xs : List Fact). Contains xs f) (sym more) (Contains-append_left before (fact ∷ []) f in_before)
+
+  pub itself : Contains with fact
+  itself = subst (λ (xs : List Fact). Contains xs fact) (sym more) (Contains-push before fact)
+
+  either : (f : Fact) → Contains with f → Contains before f ⊎ (fact ≡ f)
+  either f in_all = Contains-push_cases before fact f (subst (λ (xs : List Fact). Contains xs f) more in_all)
+
+  on_variable : fact.var < length p.variables
+  on_variable = variable_below p fact exists
+
+  -- where the notes speak against the fact, it clashes with what is known
+  pub against_clashes : IsAgainst (groups_of index fact) kept fact marks → Clash (IsKept p kept) with
+  against_clashes (inl (value, at, differs)) = (
+    fact,
+    record { var = fact.var; value = value },
+    itself,
+    also (record { var = fact.var; value = value })
+        (value_note_tells before fact.var value (value_note marks.values fact.var) (are.noted.values fact.var on_variable) at),
+    inl (refl, λ e. differs (sym e)),
+  )
+  against_clashes (inr bar) =
+      let has : HasFact p bar.group.place fact = (indexed.groups fact exists bar.group.place).0 bar.group.among in
+      elim (a_note (fact_note marks.facts bar.group.place)) [
+        | inl none ↦ absurd (bar.group.noted none)
+        | inr w ↦ (let (in_before, has_other) = fact_note_tells p before bar.group.place w.0 (fact_note marks.facts bar.group.place)
+            (are.noted.facts bar.group.place has.exists bar.group.kept_there) w.1 in (
+              fact,
+              w.0,
+              itself,
+              also w.0 in_before,
+              inr (record {
+                differ = λ e. no_value_note_tells before fact.var (value_note marks.values fact.var) (are.noted.values fact.var on_variable) bar.none w.0 in_before
+                    (ap (λ (x : Fact). x.var) (sym e));
+                group = group_at p bar.group.place;
+                counts = (bar.group.place, record { exists = has.exists; chosen = bar.group.kept_there }, refl);
+                first = has.among;
+                second = has_other.among;
+              }),
+            ))
+      ]
+
+  -- a fact that is noted doesn't clash with what is known, which doesn't clash by itself
+  there_no_clash : Contains before fact → Clash (IsKept p kept) with → ⊥
+  there_no_clash here clash = are.apart (clash.0, clash.1, was_in clash.0 clash.2, was_in clash.1 clash.3, clash.4)
+    where
+      was_in : (f : Fact) → Contains with f → Contains before f
+      was_in f in_all = elim (either f in_all) [
+        | inl in_before ↦ in_before
+        | inr e ↦ subst (λ (x : Fact). Contains before x) e here
+      ]
+
+  -- where the fact clashes with one that is known, the notes speak against it
+  contradicted : (f : Fact) → Contains before f → Contradict (IsKept p kept) f fact → value_note marks.values fact.var ≡ None
+      → IsAgainst (groups_of index fact) kept fact marks
+  contradicted f in_before (inl (var, value)) none =
+      absurd (no_value_note_tells before fact.var (value_note marks.values fact.var) (are.noted.values fact.var on_variable) none f in_before var)
+  contradicted f in_before (inr one) none =
+      let (place, in_family, same) = one.counts in
+      let among : Contains (group_at p place) fact = subst (λ (g : List Fact). Contains g fact) same one.second in
+      let among_f : Contains (group_at p place) f = subst (λ (g : List Fact). Contains g f) same one.first in
+      inr (record {
+        none = none;
+        group = record {
+          place = place;
+          among = (indexed.groups fact exists place).1 (record { exists = in_family.exists; among = among });
+          kept_there = in_family.chosen;
+          noted = λ no_note. no_fact_note_tells p before place (fact_note marks.facts place) (are.noted.facts place in_family.exists in_family.chosen) no_note
+              f in_before (record { exists = in_family.exists; among = among_f });
+        };
+      })
+
+  pub clash_is_against : Clash (IsKept p kept) with → IsAgainst (groups_of index fact) kept fact marks
+  clash_is_against clash = elim (a_note (value_note marks.values fact.var)) [
+    | inr w ↦ elim (cases_eq w.0 fact.value) [
+      | inr differs ↦ inl (w.0, w.1, differs)
+      | inl e ↦ absurd (there_no_clash (value_note_tells before fact.var fact.value (value_note marks.values fact.var) (are.noted.values fact.var on_variable)
+          (w.1 ∙ ap (λ v. Some v) e)) clash)
+    ]
+    | inl none ↦ elim (either clash.0 clash.2) [
+      | inl f_in ↦ elim (either clash.1 clash.3) [
+        | inl g_in ↦ absurd (are.apart (clash.0, clash.1, f_in, g_in, clash.4))
+        | inr e ↦ contradicted clash.0 f_in (subst (λ (x : Fact). Contradict (IsKept p kept) clash.0 x) (sym e) clash.4) none
+      ]
+      | inr e ↦ elim (either clash.1 clash.3) [
+        | inl g_in ↦ contradicted clash.1 g_in (contradict_turned (IsKept p kept) fact clash.1 (subst (λ (x : Fact). Contradict (IsKept p kept) x clash.1) (sym e) clash.4)) none
+        | inr e' ↦ absurd (not_itself (IsKept p kept) fact (subst (λ (x : Fact). Contradict (IsKept p kept) x fact) (sym e)
+            (subst (λ (x : Fact). Contradict (IsKept p kept) clash.0 x) (sym e') clash.4)))
+      ]
+    ]
+  ]
+
+  -- a condition that exists is met if it is one of the facts that are known then
+  met_is_in : (c : Fact) → FactExists p.variables c → IsMet marks fact c → Contains with c
+  met_is_in c there (inl e) = subst (λ (x : Fact). Contains with x) (sym e) itself
+  met_is_in c there (inr at) = also c (value_note_tells before c.var c.value (value_note marks.values c.var) (are.noted.values c.var (variable_below p c there)) at)
+
+  in_is_met : (c : Fact) → FactExists p.variables c → Contains with c → IsMet marks fact c
+  in_is_met c there in_all = elim (either c in_all) [
+    | inr e ↦ inl (sym e)
+    | inl in_before ↦ inr (elim (a_note (value_note marks.values c.var)) [
+      | inl none ↦ absurd (no_value_note_tells before c.var (value_note marks.values c.var) (are.noted.values c.var (variable_below p c there)) none c in_before refl)
+      | inr w ↦ elim (cases_eq w.0 c.value) [
+        | inl e ↦ w.1 ∙ ap (λ v. Some v) e
+        | inr differs ↦ absurd (are.apart (
+          record { var = c.var; value = w.0 },
+          c,
+          value_note_tells before c.var w.0 (value_note marks.values c.var) (are.noted.values c.var (variable_below p c there)) w.1,
+          in_before,
+          inl (refl, differs),
+        ))
+      ]
+    ])
+  ]
+
+  module _ (conditions_there : (effect : ℕ) → effect < length o.effects → All (FactExists p.variables) (effect_at o effect).conditions) where
+    pub removes_is_removed : SomeRemoves o marks fact → IsRemoved o with fact
+    removes_is_removed (effect, lt, removes) = record {
+      effect = effect_at o effect;
+      among = Contains-get_or o.effects effect (record { conditions = []; var = 0; old = None; new = 0 }) lt;
+      fires = λ k d below. met_is_in (get_or (effect_at o effect).conditions k d) (conditions_there effect lt k d below) (removes.fires k d below);
+      var = removes.var;
+      other = removes.other;
+    }
+
+    pub removed_is_removes : IsRemoved o with fact → SomeRemoves o marks fact
+    removed_is_removes is =
+        let (effect, lt, at) = is.among in
+        let same : effect_at o effect ≡ is.effect = get_or_default o.effects effect (record { conditions = []; var = 0; old = None; new = 0 }) is.effect lt ∙ at in (
+          effect,
+          lt,
+          subst (λ (e : Effect). Removes marks fact e) (sym same) (record {
+            fires = λ k d below. in_is_met (get_or is.effect.conditions k d)
+                (subst (λ (e : Effect). All (FactExists p.variables) e.conditions) same (conditions_there effect lt) k d below) (is.fires k d below);
+            var = is.var;
+            other = is.other;
+          }),
+        )
+
+-- what clashes clashes with one fact more
+pub clash_stays : (p : Parts) (kept : List Bool) (o : Operator) (conditions : List Fact) (f : Fact) → Clash (IsKept p kept) (known o conditions [])
+    → Clash (IsKept p kept) (known o conditions (f ∷ []))
+clash_stays p kept o conditions f clash = (clash.0, clash.1, also_there clash.0 clash.2, also_there clash.1 clash.3, clash.4)
+  where
+    also_there : (x : Fact) → Contains (known o conditions []) x → Contains (known o conditions (f ∷ [])) x
+    also_there x here = subst (λ (xs : List Fact). Contains (xs ++ f ∷ []) x) (append-nil (preconditions o ++ conditions))
+        (Contains-append_left (known o conditions []) (f ∷ []) x here)
+
+-- where a fact of a group that counts is known, and is gone, all of the group are
+pub known_one_is_all : (p : Parts) (kept : List Bool) (o : Operator) (place : ℕ) (e : Effect) (h : Fact) → IsIn p (family_of kept) place
+    → Contains (known o e.conditions []) h → Contains (group_at p place) h → IsGone (IsKept p kept) o e h → AreGone (IsKept p kept) o (group_at p place) e
+known_one_is_all p kept o place e h in_family known_h among gone f in_group = elim (one_or_two h f) [
+  | inl same ↦ subst (λ (x : Fact). IsGone (IsKept p kept) o e x) same gone
+  | inr differ ↦ λ on_other. inl (
+    h,
+    f,
+    subst (λ (xs : List Fact). Contains xs h) (sym (one_more f)) (Contains-append_left (known o e.conditions []) (f ∷ []) h known_h),
+    subst (λ (xs : List Fact). Contains xs f) (sym (one_more f)) (Contains-push (known o e.conditions []) f),
+    inr (record {
+      differ = differ;
+      group = group_at p place;
+      counts = (place, in_family, refl);
+      first = among;
+      second = in_group;
+    }),
+  )
+]
+  where
+    one_more : (x : Fact) → known o e.conditions (x ∷ []) ≡ known o e.conditions [] ++ x ∷ []
+    one_more x = ap (λ (xs : List Fact). xs ++ x ∷ []) (sym (append-nil (preconditions o ++ e.conditions)))

@@ -1,0 +1,11 @@
+-- The facts so far are gone.
+use Rattle.std.proofs.Common.{ℕ, ◌<◌, get_or}
+use Rattle.sas_core.specs.declared.parts.Fact.{Fact}
+use Rattle.sas_core.specs.Grounded.{operator_at, effect_at, group_at}
+use Rattle.sas_mutex.specs.Effects.{IsKept, IsGone}
+use Rattle.sas_mutex.proofs.effects.none_stays.Given as goal
+
+abbrev pub invariant-loop-fact : goal.invariant-loop-fact
+invariant-loop-fact g l = (k : ℕ) (d : Fact) → k < l.fact-index
+    → IsGone (IsKept (g.T.Grounded.says l.task) l.kept) (operator_at (g.T.Grounded.says l.task) l.operator)
+    (effect_at (operator_at (g.T.Grounded.says l.task) l.operator) l.effect) (get_or (group_at (g.T.Grounded.says l.task) l.group) k d)

@@ -1,0 +1,146 @@
+-- What one fact changes of what is noted, and what the notes tell of one fact.
+use Rattle.std.specs.Prelude.{◌≡◌, ◌≢◌, ◌⊎◌, ℕ, ◌<◌, Bool, IsTrue, List, [], length, slice_index_or, slice_set, All, Contains, Option, None, Some}
+use Rattle.sas_core.specs.declared.parts.Fact.{Fact}
+use Rattle.sas_core.specs.declared.parts.Effect.{Effect}
+use Rattle.sas_core.specs.declared.parts.Operator.{Operator}
+use Rattle.sas_core.specs.declared.parts.Parts.{Parts}
+use Rattle.sas_core.specs.Grounded.{operator_at, effect_at}
+use Rattle.sas_core.specs.WellRanged.{WellRanged}
+use Rattle.sas_groups.specs.Clashes.{Clash}
+use Rattle.sas_groups.specs.Lists.{known}
+use Rattle.sas_mutex.specs.declared.index.Index.{Index}
+use Rattle.sas_mutex.specs.declared.marks.Marks.{Marks}
+use Rattle.sas_mutex.specs.Effects.{family_of, IsKept, NotBoth, IsGone}
+use Rattle.sas_mutex.specs.Index.{IsIndexOf, HasFact, groups_of}
+use Rattle.sas_mutex.specs.Marks.{IsWide, IsNoted}
+
+-- the value noted for a variable, and the fact noted for a group
+abbrev pub value_note : List (Option ℕ) → ℕ → Option ℕ
+value_note values var = slice_index_or values var None
+
+abbrev pub fact_note : List (Option Fact) → ℕ → Option Fact
+fact_note facts place = slice_index_or facts place None
+
+-- places below a number
+abbrev pub AreBelow : ℕ → List ℕ → Type 0
+AreBelow n places = All (λ (place : ℕ). place < n) places
+
+-- what is noted for a group is another fact than this
+abbrev pub IsOther : Option Fact → Fact → Type 0
+IsOther note fact = (other : Fact) × (note ≡ Some other) × (other ≢ fact)
+
+-- what is noted for a group is this fact or nothing
+abbrev pub IsFree : Option Fact → Fact → Type 0
+IsFree note fact = (other : Fact) → note ≡ Some other → other ≡ fact
+
+-- for one of these groups that is kept another fact is noted
+pub record IsRefused (groups : List ℕ) (kept : List Bool) (fact : Fact) (facts : List (Option Fact)) : Type 0 where
+  pub place : ℕ
+  pub among : Contains groups place
+  pub kept_there : IsTrue (family_of kept place)
+  pub other : IsOther (fact_note facts place) fact
+
+-- the group is one of these, kept, and the fact is noted for it now, where no other was
+pub record Takes (groups : List ℕ) (kept : List Bool) (fact : Fact) (before after : List (Option Fact)) (place : ℕ) : Type 0 where
+  pub among : Contains groups place
+  pub kept_there : IsTrue (family_of kept place)
+  pub free : IsFree (fact_note before place) fact
+  pub now : fact_note after place ≡ Some fact
+
+-- some of these groups take the fact, and the others keep what is noted for them
+pub record TakenBySome (groups : List ℕ) (kept : List Bool) (fact : Fact) (before after : List (Option Fact)) : Type 0 where
+  pub as_many : length after ≡ length before
+  pub each : (place : ℕ) → (fact_note after place ≡ fact_note before place) ⊎ Takes groups kept fact before after place
+
+-- all of these that are kept take it
+abbrev pub TakenByAll : List ℕ → List Bool → Fact → List (Option Fact) → List (Option Fact) → Type 0
+TakenByAll groups kept fact before after = (place : ℕ) → Contains groups place → IsTrue (family_of kept place) → Takes groups kept fact before after place
+
+-- another value is noted for the variable of the fact
+abbrev pub HasOtherValue : List (Option ℕ) → Fact → Type 0
+HasOtherValue values fact = (value : ℕ) × (value_note values fact.var ≡ Some value) × (value ≢ fact.value)
+
+-- what changes is the note for the fact's variable, and those for these groups
+pub record ChangesAt (groups : List ℕ) (fact : Fact) (before after : Marks) : Type 0 where
+  pub as_many_values : length after.values ≡ length before.values
+  pub as_many_facts : length after.facts ≡ length before.facts
+  pub values : (var : ℕ) → (value_note after.values var ≡ value_note before.values var) ⊎ (var ≡ fact.var)
+  pub facts : (place : ℕ) → (fact_note after.facts place ≡ fact_note before.facts place) ⊎ Contains groups place
+
+-- the fact was noted before
+pub record IsThere (fact : Fact) (before after : Marks) : Type 0 where
+  pub noted : value_note before.values fact.var ≡ Some fact.value
+  pub same : after ≡ before
+
+-- no fact was noted on the variable, and this one is noted now
+pub record IsNew (groups : List ℕ) (kept : List Bool) (fact : Fact) (before after : Marks) : Type 0 where
+  pub none : value_note before.values fact.var ≡ None
+  pub values : after.values ≡ slice_set before.values fact.var (Some fact.value)
+  pub some : TakenBySome groups kept fact before.facts after.facts
+  pub all : TakenByAll groups kept fact before.facts after.facts
+
+-- nothing is noted for these groups, and for the others what was, or nothing
+pub record ForgetsGroups (groups : List ℕ) (before after : List (Option Fact)) : Type 0 where
+  pub as_many : length after ≡ length before
+  pub none : All (λ (place : ℕ). fact_note after place ≡ None) groups
+  pub each : (place : ℕ) → (fact_note after place ≡ fact_note before place) ⊎ (fact_note after place ≡ None)
+
+-- nothing is noted of the fact
+pub record Forgets (groups : List ℕ) (fact : Fact) (before after : Marks) : Type 0 where
+  pub values : after.values ≡ slice_set before.values fact.var None
+  pub facts : ForgetsGroups groups before.facts after.facts
+
+-- for no variable and no group of the fact is anything noted
+pub record IsForgotten (p : Parts) (marks : Marks) (fact : Fact) : Type 0 where
+  pub value : value_note marks.values fact.var ≡ None
+  pub groups : (place : ℕ) → HasFact p place fact → fact_note marks.facts place ≡ None
+
+-- a fact is noted for one of these groups that is kept
+pub record HasNotedGroup (groups : List ℕ) (kept : List Bool) (facts : List (Option Fact)) : Type 0 where
+  pub place : ℕ
+  pub among : Contains groups place
+  pub kept_there : IsTrue (family_of kept place)
+  pub noted : fact_note facts place ≢ None
+
+-- no fact is noted on the variable, and one is noted for a group that is kept
+pub record IsBarred (groups : List ℕ) (kept : List Bool) (fact : Fact) (marks : Marks) : Type 0 where
+  pub none : value_note marks.values fact.var ≡ None
+  pub group : HasNotedGroup groups kept marks.facts
+
+-- the notes speak against the fact
+abbrev pub IsAgainst : List ℕ → List Bool → Fact → Marks → Type 0
+IsAgainst groups kept fact marks = HasOtherValue marks.values fact ⊎ IsBarred groups kept fact marks
+
+-- the condition is this fact, or noted
+abbrev pub IsMet : Marks → Fact → Fact → Type 0
+IsMet marks fact condition = (condition ≡ fact) ⊎ (value_note marks.values condition.var ≡ Some condition.value)
+
+-- an effect whose conditions are all met sets the variable of the fact to another value
+pub record Removes (marks : Marks) (fact : Fact) (e : Effect) : Type 0 where
+  pub fires : All (IsMet marks fact) e.conditions
+  pub var : e.var ≡ fact.var
+  pub other : e.new ≢ fact.value
+
+-- some effect of the operator removes the fact
+abbrev pub SomeRemoves : Operator → Marks → Fact → Type 0
+SomeRemoves o marks fact = (effect : ℕ) × (effect < length o.effects) × Removes marks fact (effect_at o effect)
+
+-- the index is that of the task, and there are as many places in the lists as the task has variables and groups
+pub record AreOf (p : Parts) (index : Index) (kept : List Bool) (marks : Marks) : Type 0 where
+  pub ranged : WellRanged p
+  pub indexed : IsIndexOf p index
+  pub one_each : length kept ≡ length p.groups
+  pub wide : IsWide p marks
+
+-- the facts are noted and don't clash
+pub record AreKnown (p : Parts) (kept : List Bool) (facts : List Fact) (marks : Marks) : Type 0 where
+  pub noted : IsNoted p kept facts marks
+  pub apart : Clash (IsKept p kept) facts → ⊥
+
+-- no effect that may fire together with this one sets a fact of the group too, on another variable
+abbrev pub IsSingle : (List Fact → Type 0) → Operator → List Fact → Effect → Type 0
+IsSingle Counts o group e = (other : ℕ) → other < length o.effects → NotBoth Counts o group e (effect_at o other)
+
+-- no other fact of the group stays where the effect fires
+abbrev pub AreGone : (List Fact → Type 0) → Operator → List Fact → Effect → Type 0
+AreGone Counts o group e = (f : Fact) → Contains group f → IsGone Counts o e f
