@@ -7,3 +7,4 @@ pub mod Mentioning
 pub mod TaskFacts
 pub mod NotesOfFacts
 pub mod ToldByNotes
+pub mod JointLists
