@@ -2,3 +2,4 @@ pub mod Invariance
 pub mod GreatestFamily
 pub mod Turns
 pub mod Effects
+pub mod JointVerdicts

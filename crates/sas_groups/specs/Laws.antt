@@ -1,10 +1,11 @@
--- What follows: invariance, and that there is one greatest family at most.
-use Rattle.std.specs.Prelude.{◌||◌, ℕ, ◌<◌, Bool, List, length}
+-- What follows: invariance, that there is one greatest family, and one joint verdict on each group.
+use Rattle.std.specs.Prelude.{◌≡◌, ◌||◌, ℕ, ◌<◌, Bool, List, length}
 use Rattle.sas_core.specs.declared.parts.Fact.{Fact}
 use Rattle.sas_core.specs.declared.parts.Parts.{Parts}
 use Rattle.sas_core.specs.Grounded.{group_at}
 use Rattle.sas_meaning.specs.Layers.{IsLayered}
 use Rattle.sas_meaning.specs.Reachable.{Reachable}
+use Rattle.sas_groups.specs.declared.verdict.Verdict.{Verdict}
 use Rattle.sas_groups.specs.declared.verdict.Verdict.TheVariants.{Exclusive}
 use Rattle.sas_groups.specs.Groups.{IsExclusiveIn, MayBeExclusive}
 use Rattle.sas_groups.specs.Families.{IsIn, IsGroupOfOr, AllKeep, IsKeptJointly, IsGreatest}
@@ -28,7 +29,11 @@ ExclusiveJointlyIsInvariant = (p : Parts) (place : ℕ) (s : List ℕ) → IsLay
 abbrev pub FamiliesUnite : Type 0
 FamiliesUnite = (p : Parts) (a b : ℕ → Bool) → IsKeptJointly p a → IsKeptJointly p b → IsKeptJointly p (λ place. a place || b place)
 
--- there is one greatest family: two have the same groups
+-- there is a greatest family; no test is given for it, so it is only said that there can't be none
+abbrev pub GreatestExists : Type 0
+GreatestExists = (p : Parts) → ((family : ℕ → Bool) → IsGreatest p family → ⊥) → ⊥
+
+-- and one only: two have the same groups
 abbrev pub GreatestIsOne : Type 0
 GreatestIsOne = (p : Parts) (a b : ℕ → Bool) → IsGreatest p a → IsGreatest p b → (place : ℕ) → IsIn p a place → IsIn p b place
 
@@ -42,3 +47,13 @@ abbrev pub OutsideIsBroken : Type 0
 OutsideIsBroken = (p : Parts) (family : ℕ → Bool) (place : ℕ) → place < length p.groups → IsGreatest p family
     → (IsIn p family place → ⊥) → MayBeExclusive p (group_at p place)
     → AllKeep p (IsGroupOfOr p family (group_at p place)) (group_at p place) → ⊥
+
+-- Each group has one joint verdict at most
+abbrev pub JointVerdictIsOne : Type 0
+JointVerdictIsOne = (p : Parts) (place : ℕ) (a b : Verdict) → place < length p.groups
+    → IsJointVerdict p place a → IsJointVerdict p place b → a ≡ b
+
+-- and can't have none
+abbrev pub SomeJointVerdict : Type 0
+SomeJointVerdict = (p : Parts) (place : ℕ) → place < length p.groups
+    → ((verdict : Verdict) → IsJointVerdict p place verdict → ⊥) → ⊥

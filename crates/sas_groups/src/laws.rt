@@ -1,16 +1,19 @@
 // Laws of groups.
-ghost use Rattle.sas_groups.specs.Laws.{JointlyKeptIsExclusive, ExclusiveAloneIsInvariant, ExclusiveJointlyIsInvariant, FamiliesUnite, GreatestIsOne, GreatestHasAlone, OutsideIsBroken};
+ghost use Rattle.sas_groups.specs.Laws.{JointlyKeptIsExclusive, ExclusiveAloneIsInvariant, ExclusiveJointlyIsInvariant, FamiliesUnite, GreatestExists, GreatestIsOne, GreatestHasAlone, OutsideIsBroken, JointVerdictIsOne, SomeJointVerdict};
 
 /// What holds of groups. Invariance: no reachable state of a layered task holds two different facts of a group that is
 /// exclusive, alone or jointly, or of any family that is kept jointly. Two such families are one together, and there is one
-/// greatest at most; it has every group that is exclusive alone, and a group outside it that may be exclusive isn't kept by all
-/// operators under it and itself.
+/// greatest; it has every group that is exclusive alone, and a group outside it that may be exclusive isn't kept by all
+/// operators under it and itself. Each group has exactly one joint verdict.
 pub fn group_laws()
     ensures invariance { JointlyKeptIsExclusive }
     ensures alone { ExclusiveAloneIsInvariant }
     ensures jointly { ExclusiveJointlyIsInvariant }
     ensures unite { FamiliesUnite }
+    ensures greatest_exists { GreatestExists }
     ensures greatest_one { GreatestIsOne }
     ensures has_alone { GreatestHasAlone }
     ensures outside { OutsideIsBroken }
+    ensures verdict_one { JointVerdictIsOne }
+    ensures some_verdict { SomeJointVerdict }
 {}

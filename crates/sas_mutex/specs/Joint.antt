@@ -4,10 +4,7 @@ use Rattle.sas_core.specs.declared.parts.Parts.{Parts}
 use Rattle.sas_core.specs.Grounded.{operator_at, effect_at, group_at}
 use Rattle.sas_groups.specs.declared.verdict.Verdict.{Verdict}
 use Rattle.sas_groups.specs.declared.verdict.Verdict.TheVariants.{Exclusive}
-use Rattle.sas_groups.specs.Clashes.{sets}
-use Rattle.sas_groups.specs.Families.{IsGroupOfOr}
 use Rattle.sas_groups.specs.Verdicts.{IsFirstVerdict, IsJointVerdict}
-use Rattle.sas_mutex.specs.Effects.{family_of, EffectKeeps}
 
 -- the verdict on the group at this place
 abbrev pub verdict_at : List Verdict → ℕ → Verdict
@@ -23,7 +20,3 @@ pub record AreFirstVerdicts (p : Parts) (verdicts : List Verdict) : Type 0 where
   pub one_each : length verdicts ≡ length p.groups
   pub are : (place : ℕ) → place < length p.groups → IsFirstVerdict p (group_at p place) (verdict_at verdicts place)
 
--- an effect keeps the group at this place, under the family and the group itself
-abbrev pub KeepsWithItself : Parts → List Bool → ℕ → ℕ → ℕ → Type 0
-KeepsWithItself p kept operator effect place = EffectKeeps (IsGroupOfOr p (family_of kept) (group_at p place))
-    (operator_at p operator) (group_at p place) (effect_at (operator_at p operator) effect)

@@ -1,12 +1,6 @@
--- What the public clauses cite.
 pub use Rattle.sas_groups.specs.Clashes
 pub use Rattle.sas_groups.specs.Groups
 pub use Rattle.sas_groups.specs.Families
 pub use Rattle.sas_groups.specs.Verdicts
 pub use Rattle.sas_groups.specs.Laws
 pub mod Joint
-pub mod Directories
-pub mod Index
-pub mod Marks
-pub mod Effects
-pub mod Falling

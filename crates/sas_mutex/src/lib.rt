@@ -1,14 +1,5 @@
-//! Mutex groups judged jointly: which groups of a task are invariants, where each may rest on others. The definitions, the laws
-//! and the check of one group stand in `sas_groups`, whose calls this crate passes on.
+//! stub
 #![tactic(auto)]
-
-mod directory;
-mod effects;
-mod family;
-mod index;
 mod joint;
-mod marks;
-mod mentions;
-
 pub use joint::check_groups;
 pub use sas_groups::{Facts, Verdict, check_group, group_laws};
