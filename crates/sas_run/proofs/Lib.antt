@@ -9,3 +9,4 @@ pub mod Missed
 pub mod Giving
 pub mod NamedAlike
 pub mod Going
+pub mod PlanStates

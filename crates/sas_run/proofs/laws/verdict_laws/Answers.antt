@@ -1,5 +1,6 @@
 -- Each law is a lemma.
 use Rattle.sas_run.proofs.PlanVerdicts.{some_verdict, valid_has_no_fault, valid_is_one, fault_is_one}
+use Rattle.sas_run.proofs.PlanStates.{leads_to_reachable, last_is_reachable}
 use Rattle.sas_run.proofs.laws.verdict_laws.Goals as goal
 
 pub returns-clause-some : goal.returns-clause-some
@@ -13,3 +14,9 @@ returns-clause-valid_one c = valid_is_one
 
 pub returns-clause-fault_one : goal.returns-clause-fault_one
 returns-clause-fault_one c = fault_is_one
+
+pub returns-clause-leads : goal.returns-clause-leads
+returns-clause-leads c = leads_to_reachable
+
+pub returns-clause-reached : goal.returns-clause-reached
+returns-clause-reached c = last_is_reachable
