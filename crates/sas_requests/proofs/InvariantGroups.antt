@@ -1,5 +1,5 @@
 -- A group that is told to be exclusive is an invariant.
-use Rattle.std.proofs.Common.{◌≡◌, ℕ, ◌+◌, ◌<◌, ◌^◌, List, [], ◌∷◌, ◌++◌, length, get_or, drop, codes, refl, sym, ap, subst, ◌∙◌, arith, Option, Some, None, Result, Ok, Err, inl, inr}
+use Rattle.std.proofs.Common.{◌≡◌, ℕ, suc, ◌+◌, ◌<◌, ◌^◌, List, [], ◌∷◌, ◌++◌, length, get_or, drop, codes, append_assoc, refl, sym, ap, subst, ◌∙◌, arith, Option, Some, None, Result, Ok, Err, inl, inr}
 use Rattle.std.specs.Fmt.{decimal}
 use Rattle.std.specs.List.{AllByRecursion, Contains, All}
 use Rattle.std.specs.Io.KnownBytes.{Appends}
@@ -50,9 +50,10 @@ plain_words (Broken operator) low = plain-append (codes "not shown: operator ") 
 
 plain_line : (place : ℕ) (verdict : Verdict) → place < 2 ^ 64 → IsLow verdict → IsPlain (group_line place verdict)
 plain_line place verdict few low =
-    plain-append (codes "group ") (decimal place ++ codes " " ++ verdict_words verdict) (plain_bytes (codes "group ") refl)
-    (plain-append (decimal place) (codes " " ++ verdict_words verdict) (plain-decimal place few)
-    (plain-append (codes " ") (verdict_words verdict) (plain_bytes (codes " ") refl) (plain_words verdict low)))
+    plain-append (codes "group " ++ decimal place ++ codes " ") (verdict_words verdict)
+    (plain-append (codes "group " ++ decimal place) (codes " ")
+    (plain-append (codes "group ") (decimal place) (plain_bytes (codes "group ") refl) (plain-decimal place few)) (plain_bytes (codes " ") refl))
+    (plain_words verdict low)
 
 no_end : (bytes : List ℕ) → IsPlain bytes → AllByRecursion (λ b. b ≡ 10 → ⊥) bytes
 no_end [] h = tt
@@ -82,7 +83,8 @@ words_exclusive (Broken operator) e = absurd (apart_at 0 (codes "exclusive") (co
 
 same_line : (m n : ℕ) (verdict : Verdict) → m < 2 ^ 64 → n < 2 ^ 64 → group_line m verdict ≡ group_line n Exclusive → (m ≡ n) × (verdict ≡ Exclusive)
 same_line m n verdict few_m few_n e =
-    let behind : decimal m ++ 32 ∷ verdict_words verdict ≡ decimal n ++ 32 ∷ codes "exclusive" = ap (drop 6) e in
+    let behind : decimal m ++ 32 ∷ verdict_words verdict ≡ decimal n ++ 32 ∷ codes "exclusive" =
+        sym (append_assoc (decimal m) (32 ∷ []) (verdict_words verdict)) ∙ ap (drop 6) e ∙ append_assoc (decimal n) (32 ∷ []) (codes "exclusive") in
     let first = same_first (decimal m) (decimal n) (verdict_words verdict) (codes "exclusive") (NoSpace-decimal m few_m) (NoSpace-decimal n few_n) behind in
     let same : m ≡ n = decimal_injective m n few_m few_n first.0 in
     let here : decimal n ++ 32 ∷ verdict_words verdict ≡ decimal n ++ 32 ∷ codes "exclusive" = ap (λ (x : List ℕ). x ++ 32 ∷ verdict_words verdict) (sym first.0) ∙ behind in
@@ -99,7 +101,7 @@ record IsSaid (n place : ℕ) (verdicts : List Verdict) : Type 0 where
   pub exclusive : get_or verdicts behind Exclusive ≡ Exclusive
 
 said_later : (n place : ℕ) (v : Verdict) (verdicts : List Verdict) → IsSaid (n + 1) place verdicts → IsSaid n place (v ∷ verdicts)
-said_later n place v verdicts s = record { behind = s.behind + 1; is = omega (arith, s.is); exclusive = s.exclusive }
+said_later n place v verdicts s = record { behind = suc s.behind; is = omega (arith, s.is); exclusive = s.exclusive }
 
 line_said : (n place : ℕ) (verdicts : List Verdict) → n + length verdicts < 2 ^ 64 → place < 2 ^ 64 → Contains (group_lines_from n verdicts) (group_line place Exclusive) → IsSaid n place verdicts
 line_said n place [] few few_place h = absurd (omega (arith, h.1))
@@ -137,7 +139,7 @@ low_verdict p place (Broken operator) few h = let breaking = h.5 in omega (arith
 
 all_low : (verdicts : List Verdict) → ((k : ℕ) → k < length verdicts → IsLow (get_or verdicts k Exclusive)) → AllByRecursion IsLow verdicts
 all_low [] each = tt
-all_low (v ∷ verdicts) each = (each 0 (omega arith), all_low verdicts (λ k less. each (k + 1) (omega arith)))
+all_low (v ∷ verdicts) each = (each 0 (omega arith), all_low verdicts (λ k less. each (suc k) (omega arith)))
 
 told_invariant : (b : List ℕ) (p : Parts) (o : Output) → Reads task_format b p → IsLayered p → GroupsAnswer p o
     → (place : ℕ) → place < length p.groups → Contains (lines o.text) (group_line place Exclusive) → IsInvariant p place

@@ -2,7 +2,8 @@
 use Rattle.std.proofs.Common.{◌≡◌, ◌≢◌, ℕ, ◌+◌, ◌<◌, ◌≤◌, ◌^◌, List, [], ◌∷◌, ◌++◌, length, take, get_or, codes, refl, sym, ap, subst, ◌∙◌, arith, append-nil, append_assoc, Option, Some, None, Result, Ok, Err, inl, inr}
 use Rattle.std.specs.Fmt.{decimal}
 use Rattle.std.specs.List.{AllByRecursion, Contains}
-use Rattle.std.proofs.lemmas.List.{take_more, length-take, flat_map-append}
+use Rattle.std.proofs.lemmas.List.{take_more, length-take}
+use Rattle.std.proofs.lemmas.Grind.{flat_map-append}
 use Rattle.std.proofs.lemmas.Option.{none-some}
 use Rattle.sas_core.specs.declared.parts.Parts.{Parts}
 use Rattle.sas_core.specs.Checks.{first_fault}
@@ -15,6 +16,7 @@ use Rattle.sas_groups.specs.declared.verdict.Verdict.{Verdict}
 use Rattle.sas_groups.specs.declared.verdict.Verdict.TheVariants.{Exclusive, Derived, Initial, Broken}
 use Rattle.sas_mutex.specs.Joint.{AreJointVerdicts, verdict_at}
 use Rattle.sas_mutex.proofs.JointLists.{one_list, some_list}
+use Rattle.sas_requests.specs.declared.Status.{Status}
 use Rattle.sas_requests.specs.declared.Status.TheVariants.{No}
 use Rattle.sas_requests.specs.GroupWords.{group_line, group_lines_from, group_lines, groups_status}
 use Rattle.sas_requests.specs.Output.{Output, CheckAnswer, LayeredGroupsAnswer, MutexAnswer}
@@ -72,3 +74,14 @@ some_of p None is none = some_list p (λ verdicts are. none _ (verdicts, are, re
 
 pub some_mutex_answer : SomeAnswer MutexAnswer
 some_mutex_answer p = some_of p (first_fault (layer_checks p)) refl
+
+-- ---- how the answer comes about
+
+same_output : (o : Output) (bytes : List ℕ) (status : Status) → o.text ≡ bytes → o.status ≡ status → o ≡ record { text = bytes; status = status }
+same_output o bytes status e f =
+    ap (λ (x : List ℕ). record { text = x; status = o.status }) e ∙ ap (λ (x : Status). record { text = bytes; status = x }) f
+
+pub groups_answered : (p : Parts) (verdicts : List Verdict) (o : Output) → IsLayered p → AreJointVerdicts p verdicts
+    → o.text ≡ text (group_lines verdicts) → o.status ≡ groups_status verdicts → MutexAnswer p o
+groups_answered p verdicts o layered are e f =
+    subst (λ (first : Option LayerFault). LayeredGroupsAnswer p first o) (sym ((checks_are_rules p).1 layered)) (verdicts, are, same_output o (text (group_lines verdicts)) (groups_status verdicts) e f)

@@ -1,4 +1,4 @@
-use Rattle.std.proofs.Common.{refl}
+use Rattle.std.proofs.Common.{[], refl}
 use Rattle.sas_requests.specs.Answering.{output_of}
 use Rattle.sas_requests.proofs.Headlines.{headline_of}
 use Rattle.sas_requests.proofs.InvariantGroups.{invariants_of}
@@ -23,5 +23,5 @@ returns-in-Ok-clause-headline g c = λ plan b c' before known_b known_c known.
 pub returns-in-Ok-clause-invariants : goal.returns-in-Ok-clause-invariants
 returns-in-Ok-clause-invariants g c = λ mutex b before known_b known.
     let sent = rw c.as_slice.ensures.value at c.in-Ok.ensures.ok in
-    let answer = c.in_ok-answer.ensures.output b _ (rw mutex (λ _. known_b, λ e. absurd cc)) in
+    let answer = c.in_ok-answer.ensures.output b [] (rw mutex (λ _. known_b, λ e. absurd cc)) in
     invariants_of b (output_of c.in_ok-answer.answer) (rw mutex at answer) _ _ before known sent
