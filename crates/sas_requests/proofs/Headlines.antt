@@ -101,13 +101,13 @@ module _ (b c : List ℕ) (o : Output) where
 -- ---- what the output is where a plan solves a task
 
 -- a text is read as its value, unless it is too long
-text_read : {V I S : Type 0} (F : Format V I S) → Laws F → (bytes : List ℕ) (v : V) (r : Result V Fault) → Reads F bytes v → ((f : Fault) → r ≡ Err f → f.kind ≢ TooLong) → ReadsAs F most_bytes bytes r → r ≡ Ok v
+pub text_read : {V I S : Type 0} (F : Format V I S) → Laws F → (bytes : List ℕ) (v : V) (r : Result V Fault) → Reads F bytes v → ((f : Fault) → r ≡ Err f → f.kind ≢ TooLong) → ReadsAs F most_bytes bytes r → r ≡ Ok v
 text_read F laws bytes v (Ok w) is short reads = ap Ok (laws.one_value bytes w v reads.0 is)
 text_read F laws bytes v (Err f) is short (inl fault) = absurd (laws.fault_is_no_text most_bytes bytes [] f v fault (short f refl) (subst (λ (x : List ℕ). Reads F x v) (sym (append-nil bytes)) is))
 text_read F laws bytes v (Err f) is short (inr early) = absurd (early.none v is)
 
 -- the refusal of a file is none for its length
-not_long : (name : List ℕ) (f : Fault) (o : Output) → Some o ≡ refusal name f → f.kind ≢ TooLong
+pub not_long : (name : List ℕ) (f : Fault) (o : Output) → Some o ≡ refusal name f → f.kind ≢ TooLong
 not_long name f o is = refused_kind f.kind TooLong _ o refl (sym is)
 
 module _ (b c line : List ℕ) (o : Output) (s : Solves b c line) where
@@ -139,7 +139,7 @@ module _ (b c line : List ℕ) (o : Output) (s : Solves b c line) where
 -- ---- both
 
 -- where a device tells its bytes, one text went out
-sent_same : (old new : Option (List ℕ)) (before x y : List ℕ) → old ≡ Some before → Appends old new x → Appends old new y → x ≡ y
+pub sent_same : (old new : Option (List ℕ)) (before x y : List ℕ) → old ≡ Some before → Appends old new x → Appends old new y → x ≡ y
 sent_same None new before x y e f g = absurd (none-some before e)
 sent_same (Some xs) None before x y e f g = absurd f
 sent_same (Some xs) (Some ys) before x y e f g = append_cancel_left xs x y (sym f ∙ g)

@@ -3,3 +3,5 @@ mod CheckAnswers
 mod PlanAnswers
 mod Headlines
 mod Summaries
+mod MutexAnswers
+mod InvariantGroups

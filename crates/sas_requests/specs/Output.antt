@@ -14,13 +14,16 @@ use Rattle.sas_reader.specs.Format.{Format, ReadsAs, lines_of}
 use Rattle.sas_reader.specs.Limit.{most_bytes}
 use Rattle.sas_plan_file.specs.PlanFormat.{plan_format}
 use Rattle.sas_task_format.specs.TaskFormat.{task_format}
+use Rattle.sas_groups.specs.declared.verdict.Verdict.{Verdict}
+use Rattle.sas_mutex.specs.Joint.{AreJointVerdicts}
 use Rattle.sas_run.specs.declared.plan_check.PlanFault.{PlanFault}
 use Rattle.sas_run.specs.Plans.{IsValid}
 use Rattle.sas_run.specs.Verdicts.{IsFaultOf}
 use Rattle.sas_requests.specs.declared.Request.{Request}
-use Rattle.sas_requests.specs.declared.Request.TheVariants.{Show, Print, Steps, Check, Plan}
+use Rattle.sas_requests.specs.declared.Request.TheVariants.{Show, Print, Steps, Check, Plan, Mutex}
 use Rattle.sas_requests.specs.declared.Status.{Status}
 use Rattle.sas_requests.specs.declared.Status.TheVariants.{Yes, No}
+use Rattle.sas_requests.specs.GroupWords.{group_lines, groups_status}
 use Rattle.sas_requests.specs.LayerWords.{layer_words, layers_line}
 use Rattle.sas_requests.specs.PlanWords.{valid_line, fault_words, invalid_line}
 use Rattle.sas_requests.specs.Summary.{summary_lines}
@@ -74,6 +77,20 @@ layers_verdict (Some fault) = layers_refusal fault
 abbrev pub CheckAnswer : Parts → Output → Type 0
 CheckAnswer p output = layers_verdict (first_fault (layer_checks p)) ≡ Some output
 
+-- the mutex groups of a task are answered by a line for each, with the joint verdict on it
+abbrev pub GroupsAnswer : Parts → Output → Type 0
+GroupsAnswer p output = (verdicts : List Verdict)
+    × AreJointVerdicts p verdicts
+    × (output ≡ record { text = text (group_lines verdicts); status = groups_status verdicts })
+
+-- so those of a layered task; another is refused for the first fault of its layers
+abbrev pub LayeredGroupsAnswer : Parts → Option LayerFault → Output → Type 0
+LayeredGroupsAnswer p (Some fault) output = layers_refusal fault ≡ Some output
+LayeredGroupsAnswer p None output = GroupsAnswer p output
+
+abbrev pub MutexAnswer : Parts → Output → Type 0
+MutexAnswer p output = LayeredGroupsAnswer p (first_fault (layer_checks p)) output
+
 module _ {V I S : Type 0} (F : Format V I S) where
   -- a value is printed as its lines, each ended by LF
   abbrev pub PrintAnswer : V → Output → Type 0
@@ -85,7 +102,7 @@ module _ {V I S : Type 0} (F : Format V I S) where
       × ReadsAs F most_bytes bytes read
       × IsAnswerOrRefusal name IsAnswer read output
 
--- the output of `show`, `print`, `steps` and `check` about the bytes of their file
+-- the output of `show`, `print`, `steps`, `check` and `mutex` about the bytes of their file
 abbrev pub ShowOut : List ℕ → Option Output → Type 0
 ShowOut = FileOut task_format (codes "task") ShowAnswer
 
@@ -97,6 +114,9 @@ StepsOut = FileOut plan_format (codes "plan") (PrintAnswer plan_format)
 
 abbrev pub CheckOut : List ℕ → Option Output → Type 0
 CheckOut = FileOut task_format (codes "task") CheckAnswer
+
+abbrev pub MutexOut : List ℕ → Option Output → Type 0
+MutexOut = FileOut task_format (codes "task") MutexAnswer
 
 -- ---- whether a plan solves a task
 
@@ -141,6 +161,7 @@ Out Print b c output = PrintOut b output
 Out Steps b c output = StepsOut c output
 Out Check b c output = CheckOut b output
 Out Plan b c output = PlanOut b c output
+Out Mutex b c output = MutexOut b output
 
 -- ---- the inputs that a request reads
 
@@ -151,6 +172,7 @@ reads_task Print = true
 reads_task Steps = false
 reads_task Check = true
 reads_task Plan = true
+reads_task Mutex = true
 
 -- whether it reads the plan
 abbrev pub reads_plan : Request → Bool
@@ -159,6 +181,7 @@ reads_plan Print = false
 reads_plan Steps = true
 reads_plan Check = false
 reads_plan Plan = true
+reads_plan Mutex = false
 
 -- the bytes are a text, within the limit, of a layered task
 abbrev pub IsLayeredText : List ℕ → Type 0

@@ -3,8 +3,9 @@ ghost use Rattle.std.specs.Prelude.{◌≡◌, ◌↔◌, ◌||◌, List, ℕ, f
 ghost use Rattle.std.specs.Io.KnownBytes.{Consumes};
 ghost use Rattle.sas_requests.specs.Answering.{Answers, AnswersFile, output_of};
 ghost use Rattle.sas_requests.specs.Ending.{IsDecided, IsWrite};
-ghost use Rattle.sas_requests.specs.Output.{Out, ShowOut, PrintOut, StepsOut, CheckOut, AreInputs, IsLayeredText, reads_plan, reads_task, refusal, refusal_line, word_of};
+ghost use Rattle.sas_requests.specs.Output.{Out, ShowOut, PrintOut, StepsOut, CheckOut, MutexOut, AreInputs, IsLayeredText, reads_plan, reads_task, refusal, refusal_line, word_of};
 
+use crate::groups::groups_answer;
 use crate::layers::layers_answer;
 use crate::plans::plan_answer;
 use crate::summary::summary_text;
@@ -49,6 +50,7 @@ pub fn answer_to<T: Read, P: Read>(
         Request::Steps => steps(alloc, plan),
         Request::Check => check(alloc, task),
         Request::Plan => plan_answer(alloc, task, plan),
+        Request::Mutex => mutex(alloc, task),
     }
 }
 
@@ -105,6 +107,18 @@ fn check<R: Read>(alloc: Global, reader: &mut Watched<R>) -> Result<Answer, Tool
         Err(fault) => return refuse(alloc, "task", fault),
     };
     Ok(layers_answer(alloc, task)?)
+}
+
+/// Which mutex groups of a task are exclusive.
+fn mutex<R: Read>(alloc: Global, reader: &mut Watched<R>) -> Result<Answer, ToolFault>
+    requires { reader.old.failed ≡ false }
+    ensures { AnswersFile R.remaining MutexOut reader.old reader.new result }
+{
+    let task = match read_task(alloc, reader) {
+        Ok(task) => task,
+        Err(fault) => return refuse(alloc, "task", fault),
+    };
+    Ok(groups_answer(alloc, task)?)
 }
 
 /// The word for what is wrong with a file, or why the run ends at this kind.

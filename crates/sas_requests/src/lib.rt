@@ -2,6 +2,7 @@
 #![tactic(auto)]
 
 mod answers;
+mod groups;
 mod laws;
 mod layers;
 mod plans;
@@ -10,7 +11,7 @@ mod summary;
 ghost use Rattle.std.specs.Prelude.{◌≡◌, ◌⊎◌, ◌↔◌, ◌||◌, false, List, ℕ, Some, IfErr, IfOk, IsErrAnd, IsErrOf, IsFalse, IsTrue};
 ghost use Rattle.std.specs.Io.KnownBytes.{Appends, Consumes};
 ghost use Rattle.sas_requests.specs.Output.{Out, AreInputs, IsLayeredText, reads_plan, reads_task};
-ghost use Rattle.sas_requests.specs.Headline.{Headline};
+ghost use Rattle.sas_requests.specs.Headline.{Headline, Invariants};
 ghost use Rattle.sas_requests.specs.Ending.{Ends, IsDecided, IsWrite};
 
 use answers::answer_to;
@@ -33,15 +34,17 @@ pub enum Request {
     Check,
     /// Whether a plan solves a task.
     Plan,
+    /// Which mutex groups of a task are exclusive.
+    Mutex,
 }
 
 /// The answer in one word.
 #[derive(Clone, Copy, Debug, PartialEq, Eq)]
 pub enum Status {
-    /// The file is a text of its format; the task is layered where that was asked, and the plan valid. The answer was
-    /// written.
+    /// The file is a text of its format; the task is layered where that was asked, the plan valid, and all groups
+    /// exclusive. The answer was written.
     Yes,
-    /// A file is refused, or the plan isn't valid, and that was written.
+    /// A file is refused, or the plan isn't valid, or a group isn't shown to be exclusive, and that was written.
     No,
 }
 
@@ -72,11 +75,11 @@ impl From<AllocError> for ToolFault {
     }
 }
 
-/// Answers the request about the inputs. `Show`, `Print` and `Check` read the task alone, and `Steps` the plan; `Plan`
+/// Answers the request about the inputs. `Show`, `Print`, `Check` and `Mutex` read the task alone, and `Steps` the plan; `Plan`
 /// reads the task, and then the plan if the task is layered. Nothing is written before the answer is whole, so at any fault
 /// but `Write` nothing was written, and at `Write` the first bytes of the answer. A fault of a file's content is no fault of
-/// the run: the answer then is a refusal, and the status `No`; so it is where `Check` or `Plan` finds that the task isn't
-/// layered, and where the plan isn't valid. Not to be called with a device that has failed.
+/// the run: the answer then is a refusal, and the status `No`; so it is where `Check`, `Plan` or `Mutex` finds that the
+/// task isn't layered, where the plan isn't valid, and where a group isn't shown to be exclusive. Not to be called with a device that has failed.
 ///
 /// The theorem, `output`, holds for every reader that tells its bytes, such as one over memory. The code is generic, and so
 /// the same for a file, which tells none; that a file gives what the disk holds is trusted.
@@ -105,6 +108,10 @@ pub fn run<T: Read, P: Read, W: Write>(
         → T.remaining task.old.device ≡ Some b → P.remaining plan.old.device ≡ Some c
         → W.contents out.old.device ≡ Some before
         → Headline b c (Appends (W.contents out.old.device) (W.contents out.new.device)) status) }
+    // `group K exclusive` is printed only where group K is an invariant of the task.
+    ensures invariants { IfOk result (λ status. request ≡ Request.Mutex → (b before : List ℕ)
+        → T.remaining task.old.device ≡ Some b → W.contents out.old.device ≡ Some before
+        → Invariants b (Appends (W.contents out.old.device) (W.contents out.new.device))) }
     // A device that the request doesn't read stays as it was.
     ensures task_spared { IsFalse (reads_task request) → task.new ≡ task.old }
     ensures plan_spared { IsFalse (reads_plan request) → plan.new ≡ plan.old }

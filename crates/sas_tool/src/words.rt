@@ -81,6 +81,11 @@ fn grammar<'a>(alloc: Global) -> Result<Command<'a>, AllocError> {
         "plan",
         "Says whether a plan solves a task, or why it doesn't",
     )?;
+    let mutex = over_task(
+        alloc,
+        "mutex",
+        "Says for each mutex group of a task whether it is shown to be exclusive",
+    )?;
     let steps = over_plan(
         alloc,
         "steps",
@@ -90,6 +95,7 @@ fn grammar<'a>(alloc: Global) -> Result<Command<'a>, AllocError> {
         .about("Reads, checks and validates task files and plan files of Fast Downward")
         .version(VERSION)
         .subcommand(plan)?
+        .subcommand(mutex)?
         .subcommand(show)?
         .subcommand(check)?
         .subcommand(print)?
@@ -136,6 +142,7 @@ fn job_of(alloc: Global, matches: &ArgMatches<'_>) -> Result<Job, AllocError> {
         Some(("show", inner)) => job_over_task(alloc, Request::Show, inner),
         Some(("check", inner)) => job_over_task(alloc, Request::Check, inner),
         Some(("print", inner)) => job_over_task(alloc, Request::Print, inner),
+        Some(("mutex", inner)) => job_over_task(alloc, Request::Mutex, inner),
         Some(("plan", inner)) => Ok(Job {
             request: Request::Plan,
             task: named(alloc, inner, "TASK")?,

@@ -25,3 +25,8 @@ returns-in-Check-clause-taken g c = λ decided.
 pub returns-in-Plan-clause-output : goal.returns-in-Plan-clause-output
 returns-in-Plan-clause-output g c = λ b c' inputs.
     rw c.in-Plan.is (c.plan_answer.ensures.output b c' (inputs.0 (rw c.in-Plan.is refl)) (inputs.1 (rw c.in-Plan.is refl)))
+
+pub returns-in-Mutex-clause-taken : goal.returns-in-Mutex-clause-taken
+returns-in-Mutex-clause-taken g c = λ decided.
+    let (bytes, consumed, is) = c.mutex.ensures.taken decided in
+    (bytes, [], consumed, takes_nothing _, rw c.in-Mutex.is is)

@@ -3,10 +3,11 @@ use Rattle.sas_plan_file.specs.PlanFormat.{plan_format}
 use Rattle.sas_task_format.specs.TaskFormat.{task_format}
 use Rattle.sas_plan_file.proofs.PlanLaws.{plan_laws_hold}
 use Rattle.sas_task_format.proofs.TaskLaws.{task_laws_hold}
-use Rattle.sas_requests.specs.Output.{OneOutput, SomeOutput, NoneIsLong, ShowAnswer, PrintAnswer, CheckAnswer}
-use Rattle.sas_requests.specs.declared.Request.TheVariants.{Show, Print, Steps, Check, Plan}
+use Rattle.sas_requests.specs.Output.{OneOutput, SomeOutput, NoneIsLong, ShowAnswer, PrintAnswer, CheckAnswer, MutexAnswer}
+use Rattle.sas_requests.specs.declared.Request.TheVariants.{Show, Print, Steps, Check, Plan, Mutex}
 use Rattle.sas_requests.proofs.Outputs.{one_file_output, some_file_output, no_file_output, plan_worded, task_worded}
 use Rattle.sas_requests.proofs.CheckAnswers.{one_check_answer, some_check_answer}
+use Rattle.sas_requests.proofs.MutexAnswers.{one_mutex_answer, some_mutex_answer}
 use Rattle.sas_requests.proofs.PlanAnswers.{one_plan_output, some_plan_output, no_plan_output}
 use Rattle.sas_requests.proofs.laws.run_laws.Goals as goal
 
@@ -16,6 +17,7 @@ one Print b c o p = one_file_output task_format (codes "task") (PrintAnswer task
 one Steps b c o p = one_file_output plan_format (codes "plan") (PrintAnswer plan_format) c plan_laws_hold (λ v o p a b. a ∙ sym b) o p
 one Check b c o p = one_file_output task_format (codes "task") CheckAnswer b task_laws_hold one_check_answer o p
 one Plan b c o p = one_plan_output b c o p
+one Mutex b c o p = one_file_output task_format (codes "task") MutexAnswer b task_laws_hold one_mutex_answer o p
 
 some : SomeOutput
 some Show b c = some_file_output task_format (codes "task") ShowAnswer b task_laws_hold (λ v none. none _ refl)
@@ -23,6 +25,7 @@ some Print b c = some_file_output task_format (codes "task") (PrintAnswer task_f
 some Steps b c = some_file_output plan_format (codes "plan") (PrintAnswer plan_format) c plan_laws_hold (λ v none. none _ refl)
 some Check b c = some_file_output task_format (codes "task") CheckAnswer b task_laws_hold some_check_answer
 some Plan b c = some_plan_output b c
+some Mutex b c = some_file_output task_format (codes "task") MutexAnswer b task_laws_hold some_mutex_answer
 
 long : NoneIsLong
 long Show b c out = inl (refl, no_file_output task_format (codes "task") ShowAnswer b task_worded out)
@@ -33,6 +36,7 @@ long Plan b c out = elim (no_plan_output b c out) [
   | inl task ↦ inl (refl, task)
   | inr plan ↦ inr (refl, plan)
 ]
+long Mutex b c out = inl (refl, no_file_output task_format (codes "task") MutexAnswer b task_worded out)
 
 pub returns-clause-one : goal.returns-clause-one
 returns-clause-one c = one

@@ -1,0 +1,81 @@
+// Which mutex groups of a task are exclusive, as an answer.
+ghost use Rattle.std.specs.Prelude.{◌≡◌, [], ◌∷◌, ◌++◌, IfOk, OnOk};
+ghost use Rattle.sas_lines.specs.Lines.{text};
+ghost use Rattle.sas_requests.specs.Answering.{output_of};
+ghost use Rattle.sas_requests.specs.GroupWords as spec;
+ghost use Rattle.sas_requests.specs.GroupWords.{group_lines};
+ghost use Rattle.sas_requests.specs.Output.{MutexAnswer};
+
+use crate::Status;
+use crate::answers::Answer;
+use crate::layers::refuse_layers;
+use sas_core::Task;
+use sas_lines::{push_line, push_number};
+use sas_meaning::Layered;
+use sas_mutex::{Verdict, check_groups};
+use std::alloc::{AllocError, Global};
+
+/// The answer about the mutex groups of a task.
+pub fn groups_answer(alloc: Global, task: Task) -> Result<Answer, AllocError>
+    ensures { IfOk result (λ a. MutexAnswer task (output_of a)) }
+{
+    match Layered::new(alloc, task) {
+        Ok(layered) => {
+            let verdicts = check_groups(alloc, &layered)?;
+            Ok(Answer {
+                text: groups_text(alloc, verdicts.as_slice())?,
+                status: groups_status(verdicts.as_slice()),
+            })
+        }
+        Err((_, fault)) => refuse_layers(alloc, fault),
+    }
+}
+
+/// The lines of the verdicts, each ended by LF.
+fn groups_text(alloc: Global, verdicts: &[Verdict]) -> Result<Vec<u8>, AllocError>
+    ensures { IfOk result (λ t. t.items ≡ text (group_lines verdicts.now)) }
+{
+    let mut out = Vec::new(alloc);
+    for (place, verdict) in verdicts.iter().enumerate() {
+        push_group(&mut out, place, *verdict)?;
+    }
+    Ok(out)
+}
+
+/// Appends the line of the group at this place.
+fn push_group(out: &mut Vec<u8>, place: usize, verdict: Verdict) -> Result<(), AllocError>
+    ensures { OnOk result (out.new.items ≡ out.old.items ++ (spec.group_line place verdict ++ 10 ∷ [])) }
+{
+    out.extend_from_slice(b"group ")?;
+    push_number(out, place as u128)?;
+    out.push(b' ')?;
+    match verdict {
+        Verdict::Exclusive => push_line(out, b"exclusive"),
+        Verdict::Derived => push_line(out, b"derived"),
+        Verdict::Initial => push_line(out, b"not shown: initial state"),
+        Verdict::Broken { operator } => push_broken(out, operator),
+    }
+}
+
+/// Appends that the operator doesn't keep the group, and the line's end.
+fn push_broken(out: &mut Vec<u8>, operator: u32) -> Result<(), AllocError>
+    ensures { OnOk result
+        (out.new.items ≡ out.old.items ++ (spec.verdict_words (Verdict.Broken operator) ++ 10 ∷ [])) }
+{
+    out.extend_from_slice(b"not shown: operator ")?;
+    push_number(out, u128::from(operator))?;
+    out.push(b'\n')?;
+    Ok(())
+}
+
+/// Yes if all groups are exclusive.
+fn groups_status(verdicts: &[Verdict]) -> Status
+    ensures { result ≡ spec.groups_status verdicts.now }
+{
+    for verdict in verdicts {
+        if *verdict != Verdict::Exclusive {
+            return Status::No;
+        }
+    }
+    Status::Yes
+}
