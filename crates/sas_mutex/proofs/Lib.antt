@@ -1,0 +1,5 @@
+pub mod Keeping
+pub mod FallingGroups
+pub mod Counting
+pub mod SetFacts
+pub mod Telling
