@@ -21,7 +21,7 @@ use Rattle.sas_mutex.specs.Index.{Mentions}
 -- what clashes where some groups count clashes where others do
 module _ (Counts Others : List Fact → Type 0) (o : Operator) (group : List Fact) (e : Effect) where
   pub effect_keeps_by : ((other : ℕ) → other < length o.effects
-          → Clash Counts (known o e.conditions (effect_at o other).conditions) → Clash Others (known o e.conditions (effect_at o other).conditions))
+      → Clash Counts (known o e.conditions (effect_at o other).conditions) → Clash Others (known o e.conditions (effect_at o other).conditions))
       → ((f : Fact) → Clash Counts (known o e.conditions (f ∷ [])) → Clash Others (known o e.conditions (f ∷ [])))
       → EffectKeeps Counts o group e → EffectKeeps Others o group e
   effect_keeps_by both one keeps = record {
@@ -67,7 +67,6 @@ module _ (p : Parts) (kept kept' : List Bool) (operator : ℕ) (fell : List ℕ)
     (exists : operator < length p.operators)
     (noted : (place : ℕ) → IsIn p (family_of kept) place → (IsIn p (family_of kept') place → ⊥) → Contains fell place)
     (none : MentionsNone p operator fell) where
-
   still_kept : (f : Fact) (g : List Fact) → Mentions (operator_at p operator) f → IsKept p kept g → Contains g f → IsKept p kept' g
   still_kept f g mentions (place, among, is) within = elim (cases_Bool (family_of kept' place)) [
     | inl here ↦ (place, record { exists = among.exists; chosen = here }, is)

@@ -183,18 +183,25 @@ module _ (p : Parts) (kept : List Bool) where
         (λ out. one_operator_more operator effects place all) (so_far.are place lt);
   }
 
-  -- the effect told of each group that has the fact it sets
+  -- the effect told of each group that has the fact which it sets
+  one_effect_told : (operator effect place : ℕ) (verdict : Verdict)
+      → (Contains (group_at p place) (sets (effect_at (operator_at p operator) effect)) → IsVerdictSoFar p kept operator (effect + 1) place verdict)
+      → IsVerdictSoFar p kept operator effect place verdict → IsVerdictSoFar p kept operator (effect + 1) place verdict
+  one_effect_told operator effect place Exclusive told is = (
+    is.0,
+    λ out. one_effect_more operator effect place
+        (λ has. ((told has).1 out).effects effect (omega arith) has) (is.1 out),
+  )
+  one_effect_told operator effect place Derived told is = is
+  one_effect_told operator effect place Initial told is = is
+  one_effect_told operator effect place (Broken breaking) told is = is
+
   pub next_effect : (operator effect : ℕ) (verdicts : List Verdict)
       → ((place : ℕ) → HasFact p place (sets (effect_at (operator_at p operator) effect)) → IsVerdictSoFar p kept operator (effect + 1) place (verdict_at verdicts place))
-      → ((place : ℕ) → Contains (group_at p place) (sets (effect_at (operator_at p operator) effect)) ⊎ (Contains (group_at p place) (sets (effect_at (operator_at p operator) effect)) → ⊥))
       → AreVerdictsSoFar p kept operator effect verdicts → AreVerdictsSoFar p kept operator (effect + 1) verdicts
-  next_effect operator effect verdicts told decide so_far = record {
+  next_effect operator effect verdicts told so_far = record {
     one_each = so_far.one_each;
-    are = λ place lt. elim (decide place) [
-      | inl has ↦ told place (record { exists = lt; among = has })
-      | inr not ↦ so_far_by operator effect operator (effect + 1) place (verdict_at verdicts place)
-          (λ out. one_effect_more operator effect place (λ has. absurd (not has))) (so_far.are place lt)
-    ];
+    are = λ place lt. one_effect_told operator effect place (verdict_at verdicts place) (λ has. told place (record { exists = lt; among = has })) (so_far.are place lt);
   }
 
   -- one verdict is told

@@ -113,7 +113,13 @@ fn look_at_each<T: Grounded>(
 }
 
 /// Takes from the family the groups that the operator doesn't keep.
-fn look_at<T: Grounded>(task: &T, index: &Index, operator: u32, family: &mut Family, marks: &mut Marks)
+fn look_at<T: Grounded>(
+    task: &T,
+    index: &Index,
+    operator: u32,
+    family: &mut Family,
+    marks: &mut Marks,
+)
     requires index { IsIndexOf (T.says task.now) index.now }
     requires operator { operator < length (T.says task.now).operators }
     requires room { HasRoom (T.says task.now) family.old }
@@ -183,7 +189,15 @@ fn look_at_group<T: Grounded>(
     ensures clean { IsClean (T.says task.now) marks.new }
 {
     if family.kept.as_slice()[group as usize]
-        && !effect_keeps(task, index, family.kept.as_slice(), operator, effect, group, marks)
+        && !effect_keeps(
+            task,
+            index,
+            family.kept.as_slice(),
+            operator,
+            effect,
+            group,
+            marks,
+        )
     {
         family.take_away(group);
     }

@@ -21,7 +21,10 @@ use std::alloc::{AllocError, Global};
 
 /// The joint verdict on each group of the task, in their order. Exclusive are the groups of the greatest family that is kept
 /// jointly. All memory is asked for before a group is judged.
-pub fn check_groups<T: Grounded>(alloc: Global, layered: &Layered<T>) -> Result<Vec<Verdict>, AllocError>
+pub fn check_groups<T: Grounded>(
+    alloc: Global,
+    layered: &Layered<T>,
+) -> Result<Vec<Verdict>, AllocError>
     ensures { IfOk result (λ verdicts. AreJointVerdicts layered.now verdicts.items) }
 {
     let task = layered.task();
