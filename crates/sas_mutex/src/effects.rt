@@ -45,7 +45,8 @@ fn is_single<T: Grounded>(
     effect: u32,
     group: u32,
     marks: &mut Marks,
-) -> bool {
+) -> bool
+{
     for other in 0..task.effects(operator) {
         if !not_both(task, index, kept, operator, effect, other, group, marks) {
             return false;
@@ -64,7 +65,8 @@ fn not_both<T: Grounded>(
     other: u32,
     group: u32,
     marks: &mut Marks,
-) -> bool {
+) -> bool
+{
     let second = task.effect_change(operator, other);
     if task.effect_change(operator, effect).var == second.var || !index.has(group, sets(second)) {
         return true;
@@ -85,7 +87,8 @@ fn removes_others<T: Grounded>(
     effect: u32,
     group: u32,
     marks: &mut Marks,
-) -> bool {
+) -> bool
+{
     let conditions = task.effect_conditions(operator, effect);
     let keeps = note_known(task, index, kept, operator, conditions, &[], marks)
         || none_stays(task, index, kept, operator, effect, group, marks);
@@ -102,17 +105,15 @@ fn none_stays<T: Grounded>(
     effect: u32,
     group: u32,
     marks: &Marks,
-) -> bool {
+) -> bool
+{
     let var = task.effect_change(operator, effect).var;
     // Where a fact of the group is known, it contradicts all the others.
     if let Some(fact) = marks.facts.as_slice()[group as usize] {
         return fact.var == var || is_removed(task, operator, fact, marks);
     }
     for fact in task.group(group) {
-        if !(fact.var == var
-            || contradicts(index, kept, *fact, marks)
-            || is_removed(task, operator, *fact, marks))
-        {
+        if !(fact.var == var || contradicts(index, kept, *fact, marks) || is_removed(task, operator, *fact, marks)) {
             return false;
         }
     }
@@ -120,17 +121,21 @@ fn none_stays<T: Grounded>(
 }
 
 /// Whether the fact contradicts one that is noted.
-fn contradicts(index: &Index, kept: &[bool], fact: Fact, marks: &Marks) -> bool {
+fn contradicts(index: &Index, kept: &[bool], fact: Fact, marks: &Marks) -> bool
+{
     match marks.values.as_slice()[fact.var as usize] {
         Some(value) => value != fact.value,
-        None => index.groups_of(fact).iter().any(|group| kept[*group as usize]
-            && marks.facts.as_slice()[*group as usize].is_some()),
+        None => index
+            .groups_of(fact)
+            .iter()
+            .any(|group| kept[*group as usize] && marks.facts.as_slice()[*group as usize].is_some()),
     }
 }
 
 /// Whether an effect of the operator whose conditions all are this fact or noted sets the variable of the fact to another
 /// value.
-fn is_removed<T: Grounded>(task: &T, operator: u32, fact: Fact, marks: &Marks) -> bool {
+fn is_removed<T: Grounded>(task: &T, operator: u32, fact: Fact, marks: &Marks) -> bool
+{
     for effect in 0..task.effects(operator) {
         let change = task.effect_change(operator, effect);
         if change.var == fact.var
@@ -144,9 +149,11 @@ fn is_removed<T: Grounded>(task: &T, operator: u32, fact: Fact, marks: &Marks) -
 }
 
 /// Whether all the conditions are this fact or noted.
-fn all_known(conditions: &[Fact], fact: Fact, marks: &Marks) -> bool {
-    conditions.iter().all(|condition| *condition == fact
-        || marks.values.as_slice()[condition.var as usize] == Some(condition.value))
+fn all_known(conditions: &[Fact], fact: Fact, marks: &Marks) -> bool
+{
+    conditions
+        .iter()
+        .all(|condition| *condition == fact || marks.values.as_slice()[condition.var as usize] == Some(condition.value))
 }
 
 /// The fact that the change sets.

@@ -52,7 +52,8 @@ impl Index {
 }
 
 /// Adds the number of each variable's first fact. Says how many facts there are.
-fn number_facts<T: Grounded>(task: &T, firsts: &mut Vec<usize>) -> Result<usize, AllocError> {
+fn number_facts<T: Grounded>(task: &T, firsts: &mut Vec<usize>) -> Result<usize, AllocError>
+{
     let mut facts = 0;
     for var in 0..task.variables() {
         firsts.push(facts)?;
@@ -67,7 +68,8 @@ fn enter_group<T: Grounded>(
     firsts: &[usize],
     group: u32,
     entries: &mut Vec<Entry>,
-) -> Result<(), AllocError> {
+) -> Result<(), AllocError>
+{
     for fact in task.group(group) {
         entries.push(Entry {
             key: firsts[fact.var as usize] + fact.value as usize,

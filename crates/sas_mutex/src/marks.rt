@@ -68,7 +68,8 @@ pub fn note_known<T: Grounded>(
 }
 
 /// Notes the fact. Says whether it contradicts none that is noted; if it does, it may be noted in part.
-fn note(index: &Index, kept: &[bool], fact: Fact, marks: &mut Marks) -> bool {
+fn note(index: &Index, kept: &[bool], fact: Fact, marks: &mut Marks) -> bool
+{
     match marks.values.as_slice()[fact.var as usize] {
         Some(value) => value == fact.value,
         None => {
@@ -79,12 +80,8 @@ fn note(index: &Index, kept: &[bool], fact: Fact, marks: &mut Marks) -> bool {
 }
 
 /// Notes the fact for the groups that are kept. Says whether no other fact is noted for one of them.
-fn note_in_groups(
-    groups: &[u32],
-    kept: &[bool],
-    fact: Fact,
-    facts: &mut Items<Option<Fact>>,
-) -> bool {
+fn note_in_groups(groups: &[u32], kept: &[bool], fact: Fact, facts: &mut Items<Option<Fact>>) -> bool
+{
     for group in groups {
         if kept[*group as usize] {
             let noted = facts.as_slice()[*group as usize];

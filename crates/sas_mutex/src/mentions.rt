@@ -8,11 +8,7 @@ use sas_core::{Fact, Grounded};
 use std::alloc::{AllocError, Global};
 
 /// For each group, the operators that mention a fact of it, as a precondition or as a condition of an effect.
-pub fn mentions_of<T: Grounded>(
-    alloc: Global,
-    task: &T,
-    index: &Index,
-) -> Result<Directory, AllocError>
+pub fn mentions_of<T: Grounded>(alloc: Global, task: &T, index: &Index) -> Result<Directory, AllocError>
     requires index { IsIndexOf (T.says task.now) index.now }
     ensures { IfOk result (λ mentions. AreMentions (T.says task.now) mentions) }
 {
@@ -29,7 +25,8 @@ fn enter_operator<T: Grounded>(
     index: &Index,
     operator: u32,
     entries: &mut Vec<Entry>,
-) -> Result<(), AllocError> {
+) -> Result<(), AllocError>
+{
     enter_facts(index, operator, task.prevail(operator), entries)?;
     for effect in 0..task.effects(operator) {
         let change = task.effect_change(operator, effect);
@@ -40,12 +37,7 @@ fn enter_operator<T: Grounded>(
             };
             enter_fact(index, operator, old, entries)?;
         }
-        enter_facts(
-            index,
-            operator,
-            task.effect_conditions(operator, effect),
-            entries,
-        )?;
+        enter_facts(index, operator, task.effect_conditions(operator, effect), entries)?;
     }
     Ok(())
 }
@@ -56,7 +48,8 @@ fn enter_facts(
     operator: u32,
     facts: &[Fact],
     entries: &mut Vec<Entry>,
-) -> Result<(), AllocError> {
+) -> Result<(), AllocError>
+{
     for fact in facts {
         enter_fact(index, operator, *fact, entries)?;
     }
@@ -69,7 +62,8 @@ fn enter_fact(
     operator: u32,
     fact: Fact,
     entries: &mut Vec<Entry>,
-) -> Result<(), AllocError> {
+) -> Result<(), AllocError>
+{
     for group in index.groups_of(fact) {
         entries.push(Entry {
             key: *group as usize,
