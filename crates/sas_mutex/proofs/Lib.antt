@@ -8,3 +8,8 @@ pub mod TaskFacts
 pub mod NotesOfFacts
 pub mod ToldByNotes
 pub mod JointLists
+pub mod Keeping
+pub mod FallingGroups
+pub mod Counting
+pub mod SetFacts
+pub mod Telling

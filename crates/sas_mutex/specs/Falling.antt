@@ -19,6 +19,11 @@ EffectKeepsAll p kept operator effect = (place : ℕ) → IsIn p (family_of kept
 abbrev pub MentionsNone : Parts → ℕ → List ℕ → Type 0
 MentionsNone p operator places = (place : ℕ) → Contains places place → MentionsGroup p operator place → ⊥
 
+-- the effect keeps the group at this place, if it is in the family, unless its operator mentions a fact of a group that waits
+pub record RestsAt (p : Parts) (kept : List Bool) (waiting : List ℕ) (operator effect place : ℕ) : Type 0 where
+  pub keeps : MentionsNone p operator waiting → IsIn p (family_of kept) place
+      → EffectKeeps (IsKept p kept) (operator_at p operator) (group_at p place) (effect_at (operator_at p operator) effect)
+
 -- an effect is at rest: unless its operator mentions a fact of a group that waits, it keeps the groups of the family
 abbrev pub IsEffectAtRest : Parts → List Bool → List ℕ → ℕ → ℕ → Type 0
 IsEffectAtRest p kept waiting operator effect = MentionsNone p operator waiting → EffectKeepsAll p kept operator effect

@@ -1,11 +1,12 @@
 -- The verdicts on all groups of a task, and how they are found.
-use Rattle.std.specs.Prelude.{Bool, ◌≡◌, ℕ, ◌<◌, ◌≤◌, List, length, slice_index_or}
+use Rattle.std.specs.Prelude.{Bool, ◌≡◌, ℕ, ◌<◌, ◌≤◌, List, length, slice_index_or, Contains}
 use Rattle.sas_core.specs.declared.parts.Parts.{Parts}
 use Rattle.sas_core.specs.Grounded.{operator_at, effect_at, group_at}
 use Rattle.sas_groups.specs.declared.verdict.Verdict.{Verdict}
-use Rattle.sas_groups.specs.declared.verdict.Verdict.TheVariants.{Exclusive}
-use Rattle.sas_groups.specs.Clashes.{sets}
-use Rattle.sas_groups.specs.Families.{IsGroupOfOr}
+use Rattle.sas_groups.specs.declared.verdict.Verdict.TheVariants.{Exclusive, Derived, Initial, Broken}
+use Rattle.sas_groups.specs.Clashes.{sets, Keeps}
+use Rattle.sas_groups.specs.Families.{IsIn, IsGroupOfOr}
+use Rattle.sas_groups.specs.Groups.{MayBeExclusive}
 use Rattle.sas_groups.specs.Verdicts.{IsFirstVerdict, IsJointVerdict}
 use Rattle.sas_mutex.specs.Effects.{family_of, EffectKeeps}
 
@@ -27,3 +28,23 @@ pub record AreFirstVerdicts (p : Parts) (verdicts : List Verdict) : Type 0 where
 abbrev pub KeepsWithItself : Parts → List Bool → ℕ → ℕ → ℕ → Type 0
 KeepsWithItself p kept operator effect place = EffectKeeps (IsGroupOfOr p (family_of kept) (group_at p place))
     (operator_at p operator) (group_at p place) (effect_at (operator_at p operator) effect)
+
+-- the operators below this one keep the group under the family and itself, and so do this one's effects below this place
+pub record KeptSoFar (p : Parts) (kept : List Bool) (operator effect place : ℕ) : Type 0 where
+  pub operators : (lower : ℕ) → lower < operator
+      → Keeps (IsGroupOfOr p (family_of kept) (group_at p place)) (operator_at p lower) (group_at p place)
+  pub effects : (lower : ℕ) → lower < effect → Contains (group_at p place) (sets (effect_at (operator_at p operator) lower))
+      → KeepsWithItself p kept operator lower place
+
+-- the verdict on the group at this place, as far as the operators and effects so far tell it
+abbrev pub IsVerdictSoFar : Parts → List Bool → ℕ → ℕ → ℕ → Verdict → Type 0
+IsVerdictSoFar p kept operator effect place Derived = IsJointVerdict p place Derived
+IsVerdictSoFar p kept operator effect place Initial = IsJointVerdict p place Initial
+IsVerdictSoFar p kept operator effect place (Broken breaking) = IsJointVerdict p place (Broken breaking)
+IsVerdictSoFar p kept operator effect place Exclusive = MayBeExclusive p (group_at p place)
+    × ((IsIn p (family_of kept) place → ⊥) → KeptSoFar p kept operator effect place)
+
+-- one such verdict for each group
+pub record AreVerdictsSoFar (p : Parts) (kept : List Bool) (operator effect : ℕ) (verdicts : List Verdict) : Type 0 where
+  pub one_each : length verdicts ≡ length p.groups
+  pub are : (place : ℕ) → place < length p.groups → IsVerdictSoFar p kept operator effect place (verdict_at verdicts place)

@@ -1,11 +1,12 @@
 // The greatest family of groups that is kept jointly.
 ghost use Rattle.std.specs.Prelude.{◌≡◌, ◌<◌, ◌≤◌, ℕ, ◌+◌, ◌++◌, [], ◌∷◌, false, length, All, Contains, IsTrue, slice_set, vec_capacity};
 ghost use Rattle.sas_core.specs.Grounded.{operator_at, effect_at, group_at};
-ghost use Rattle.sas_groups.specs.Families.{IsIn, IsGreatest};
+ghost use Rattle.sas_groups.specs.Clashes.{sets};
+ghost use Rattle.sas_groups.specs.Families.{IsGreatest};
 ghost use Rattle.sas_mutex.specs.Effects.{family_of};
 ghost use Rattle.sas_mutex.specs.Index.{IsIndexOf, AreMentions};
 ghost use Rattle.sas_mutex.specs.Marks.{IsClean};
-ghost use Rattle.sas_mutex.specs.Falling.{count, HasRoom, AreCandidates, newly, Falls, IsAtRest, IsEffectAtRest};
+ghost use Rattle.sas_mutex.specs.Falling.{count, HasRoom, AreCandidates, newly, Falls, IsAtRest, IsEffectAtRest, RestsAt};
 
 use crate::directory::Directory;
 use crate::effects::effect_keeps;
@@ -112,7 +113,13 @@ fn look_at_each<T: Grounded>(
 }
 
 /// Takes from the family the groups that the operator doesn't keep.
-fn look_at<T: Grounded>(task: &T, index: &Index, operator: u32, family: &mut Family, marks: &mut Marks)
+fn look_at<T: Grounded>(
+    task: &T,
+    index: &Index,
+    operator: u32,
+    family: &mut Family,
+    marks: &mut Marks,
+)
     requires index { IsIndexOf (T.says task.now) index.now }
     requires operator { operator < length (T.says task.now).operators }
     requires room { HasRoom (T.says task.now) family.old }
@@ -146,25 +153,53 @@ fn look_at_effect<T: Grounded>(
     ensures room { HasRoom (T.says task.now) family.new }
     ensures clean { IsClean (T.says task.now) marks.new }
 {
+    // The contract of this call tells that what the task says is well ranged.
+    let _ = task.variables();
     let change = task.effect_change(operator, effect);
     let set = Fact {
         var: change.var,
         value: change.new,
     };
-    for group in index.groups_of(set) {
-        if family.kept.as_slice()[*group as usize]
-            && !effect_keeps(
-                task,
-                index,
-                family.kept.as_slice(),
-                operator,
-                effect,
-                *group,
-                marks,
-            )
-        {
-            family.take_away(*group);
-        }
+    let groups = index.groups_of(set);
+    for group in groups {
+        look_at_group(task, index, operator, effect, *group, family, marks);
+    }
+}
+
+/// Takes the group from the family if the effect doesn't keep it.
+fn look_at_group<T: Grounded>(
+    task: &T,
+    index: &Index,
+    operator: u32,
+    effect: u32,
+    group: u32,
+    family: &mut Family,
+    marks: &mut Marks,
+)
+    requires index { IsIndexOf (T.says task.now) index.now }
+    requires operator { operator < length (T.says task.now).operators }
+    requires effect { effect < length (operator_at (T.says task.now) operator).effects }
+    requires group { group < length (T.says task.now).groups }
+    requires has { Contains (group_at (T.says task.now) group) (sets (effect_at (operator_at (T.says task.now) operator) effect)) }
+    requires room { HasRoom (T.says task.now) family.old }
+    requires clean { IsClean (T.says task.now) marks.old }
+    ensures falls { Falls (T.says task.now) family.old family.new }
+    ensures rest { RestsAt (T.says task.now) family.new.kept (newly family.old family.new) operator effect group }
+    ensures room { HasRoom (T.says task.now) family.new }
+    ensures clean { IsClean (T.says task.now) marks.new }
+{
+    if family.kept.as_slice()[group as usize]
+        && !effect_keeps(
+            task,
+            index,
+            family.kept.as_slice(),
+            operator,
+            effect,
+            group,
+            marks,
+        )
+    {
+        family.take_away(group);
     }
 }
 

@@ -1,10 +1,13 @@
 // The joint verdict on each group.
-ghost use Rattle.std.specs.Prelude.{◌≡◌, ◌<◌, length, IfOk};
+ghost use Rattle.std.specs.Prelude.{◌≡◌, ◌≢◌, ℕ, ◌+◌, ◌<◌, ◌≤◌, ◌↔◌, [], length, IfOk, IsTrue, IsFalse, vec_capacity};
+ghost use Rattle.sas_core.specs.Grounded.{operator_at, effect_at};
+ghost use Rattle.sas_groups.specs.Clashes.{sets};
 ghost use Rattle.sas_groups.specs.Families.{IsGreatest};
+ghost use Rattle.sas_groups.specs.declared.verdict.Verdict.TheVariants.{Exclusive};
 ghost use Rattle.sas_mutex.specs.Effects.{family_of};
-ghost use Rattle.sas_mutex.specs.Index.{IsIndexOf};
+ghost use Rattle.sas_mutex.specs.Index.{IsIndexOf, HasFact};
 ghost use Rattle.sas_mutex.specs.Marks.{IsClean};
-ghost use Rattle.sas_mutex.specs.Joint.{AreJointVerdicts, AreFirstVerdicts};
+ghost use Rattle.sas_mutex.specs.Joint.{verdict_at, AreJointVerdicts, AreFirstVerdicts, KeepsWithItself, IsVerdictSoFar, AreVerdictsSoFar};
 
 use crate::effects::effect_keeps;
 use crate::family::{Family, find_greatest};
@@ -18,7 +21,10 @@ use std::alloc::{AllocError, Global};
 
 /// The joint verdict on each group of the task, in their order. Exclusive are the groups of the greatest family that is kept
 /// jointly. All memory is asked for before a group is judged.
-pub fn check_groups<T: Grounded>(alloc: Global, layered: &Layered<T>) -> Result<Vec<Verdict>, AllocError>
+pub fn check_groups<T: Grounded>(
+    alloc: Global,
+    layered: &Layered<T>,
+) -> Result<Vec<Verdict>, AllocError>
     ensures { IfOk result (λ verdicts. AreJointVerdicts layered.now verdicts.items) }
 {
     let task = layered.task();
@@ -36,6 +42,8 @@ pub fn check_groups<T: Grounded>(alloc: Global, layered: &Layered<T>) -> Result<
 fn first_verdicts<T: Grounded>(alloc: Global, task: &T) -> Result<Items<Verdict>, AllocError>
     ensures { IfOk result (λ verdicts. AreFirstVerdicts (T.says task.now) verdicts) }
 {
+    // The contract of this call tells that what the task says is well ranged.
+    let _ = task.variables();
     let mut verdicts = Items::from_vec(Vec::with_capacity(alloc, task.groups() as usize)?);
     for group in 0..task.groups() {
         verdicts.push(before_operators(task, task.group(group)))?;
@@ -45,15 +53,30 @@ fn first_verdicts<T: Grounded>(alloc: Global, task: &T) -> Result<Items<Verdict>
 
 /// The family of the groups that may be exclusive.
 fn candidates(alloc: Global, verdicts: &[Verdict]) -> Result<Family, AllocError>
+    ensures one_each { IfOk result (λ family. length family.kept ≡ length verdicts.now) }
+    ensures exclusive { IfOk result (λ family. (place : ℕ) → place < length verdicts.now
+        → IsTrue (family_of family.kept place) ↔ (verdict_at verdicts.now place ≡ Exclusive)) }
+    ensures none { IfOk result (λ family. family.fallen.items ≡ []) }
+    ensures room { IfOk result (λ family. length verdicts.now ≤ vec_capacity family.fallen) }
 {
     let mut kept = Items::from_vec(Vec::with_capacity(alloc, verdicts.len())?);
     for verdict in verdicts {
-        kept.push(*verdict == Verdict::Exclusive)?;
+        kept.push(is_exclusive(*verdict))?;
     }
     Ok(Family {
         kept,
         fallen: Vec::with_capacity(alloc, verdicts.len())?,
     })
+}
+
+/// Whether nothing speaks against the group.
+fn is_exclusive(verdict: Verdict) -> bool
+    ensures { IsTrue result ↔ (verdict ≡ Exclusive) }
+{
+    match verdict {
+        Verdict::Exclusive => true,
+        _ => false,
+    }
 }
 
 /// Tells of each group that fell the first operator that doesn't keep it under the family, which is the greatest, and itself.
@@ -64,16 +87,44 @@ fn tell_breaking<T: Grounded>(
     verdicts: &mut Items<Verdict>,
     marks: &mut Marks,
 )
+    requires index { IsIndexOf (T.says task.now) index.now }
+    requires greatest { IsGreatest (T.says task.now) (family_of kept.old) }
+    requires one_each { length kept.old ≡ length (T.says task.now).groups }
+    requires first { AreFirstVerdicts (T.says task.now) verdicts.old }
+    requires clean { IsClean (T.says task.now) marks.old }
+    ensures { AreJointVerdicts (T.says task.now) verdicts.new }
 {
     for operator in 0..task.operators() {
-        for effect in 0..task.effects(operator) {
-            tell_broken_by(task, index, operator, effect, kept, verdicts, marks);
-        }
+        tell_broken_by(task, index, operator, kept, verdicts, marks);
+    }
+}
+
+/// Tells of each group that fell, and of which nothing is told so far, whether the operator keeps it.
+fn tell_broken_by<T: Grounded>(
+    task: &T,
+    index: &Index,
+    operator: u32,
+    kept: &mut Items<bool>,
+    verdicts: &mut Items<Verdict>,
+    marks: &mut Marks,
+)
+    requires index { IsIndexOf (T.says task.now) index.now }
+    requires operator { operator < length (T.says task.now).operators }
+    requires greatest { IsGreatest (T.says task.now) (family_of kept.old) }
+    requires one_each { length kept.old ≡ length (T.says task.now).groups }
+    requires so_far { AreVerdictsSoFar (T.says task.now) kept.old operator 0 verdicts.old }
+    requires clean { IsClean (T.says task.now) marks.old }
+    ensures so_far { AreVerdictsSoFar (T.says task.now) kept.old (operator + 1) 0 verdicts.new }
+    ensures kept { kept.new ≡ kept.old }
+    ensures clean { IsClean (T.says task.now) marks.new }
+{
+    for effect in 0..task.effects(operator) {
+        tell_broken_by_effect(task, index, operator, effect, kept, verdicts, marks);
     }
 }
 
 /// Tells of each group that fell, and of which nothing is told so far, whether the effect keeps it.
-fn tell_broken_by<T: Grounded>(
+fn tell_broken_by_effect<T: Grounded>(
     task: &T,
     index: &Index,
     operator: u32,
@@ -82,20 +133,88 @@ fn tell_broken_by<T: Grounded>(
     verdicts: &mut Items<Verdict>,
     marks: &mut Marks,
 )
+    requires index { IsIndexOf (T.says task.now) index.now }
+    requires operator { operator < length (T.says task.now).operators }
+    requires effect { effect < length (operator_at (T.says task.now) operator).effects }
+    requires greatest { IsGreatest (T.says task.now) (family_of kept.old) }
+    requires one_each { length kept.old ≡ length (T.says task.now).groups }
+    requires so_far { AreVerdictsSoFar (T.says task.now) kept.old operator effect verdicts.old }
+    requires clean { IsClean (T.says task.now) marks.old }
+    ensures so_far { AreVerdictsSoFar (T.says task.now) kept.old operator (effect + 1) verdicts.new }
+    ensures kept { kept.new ≡ kept.old }
+    ensures clean { IsClean (T.says task.now) marks.new }
 {
+    // The contract of this call tells that what the task says is well ranged.
+    let _ = task.variables();
     let change = task.effect_change(operator, effect);
     let set = Fact {
         var: change.var,
         value: change.new,
     };
-    for group in index.groups_of(set) {
-        let place = *group as usize;
-        if verdicts.as_slice()[place] == Verdict::Exclusive && !kept.as_slice()[place] {
-            kept.set(place, true);
-            if !effect_keeps(task, index, kept.as_slice(), operator, effect, *group, marks) {
-                verdicts.set(place, Verdict::Broken { operator });
-            }
-            kept.set(place, false);
-        }
+    let groups = index.groups_of(set);
+    for group in groups {
+        tell_group(task, index, operator, effect, *group, kept, verdicts, marks);
     }
+}
+
+/// If the group fell and nothing is told of it so far, tells whether the effect keeps it.
+fn tell_group<T: Grounded>(
+    task: &T,
+    index: &Index,
+    operator: u32,
+    effect: u32,
+    group: u32,
+    kept: &mut Items<bool>,
+    verdicts: &mut Items<Verdict>,
+    marks: &mut Marks,
+)
+    requires index { IsIndexOf (T.says task.now) index.now }
+    requires operator { operator < length (T.says task.now).operators }
+    requires effect { effect < length (operator_at (T.says task.now) operator).effects }
+    requires has { HasFact (T.says task.now) group (sets (effect_at (operator_at (T.says task.now) operator) effect)) }
+    requires greatest { IsGreatest (T.says task.now) (family_of kept.old) }
+    requires one_each { length kept.old ≡ length (T.says task.now).groups }
+    requires so_far { AreVerdictsSoFar (T.says task.now) kept.old operator effect verdicts.old }
+    requires clean { IsClean (T.says task.now) marks.old }
+    ensures so_far { AreVerdictsSoFar (T.says task.now) kept.old operator effect verdicts.new }
+    ensures told { IsVerdictSoFar (T.says task.now) kept.old operator (effect + 1) group (verdict_at verdicts.new group) }
+    ensures others { (place : ℕ) → place ≢ group → verdict_at verdicts.new place ≡ verdict_at verdicts.old place }
+    ensures kept { kept.new ≡ kept.old }
+    ensures clean { IsClean (T.says task.now) marks.new }
+{
+    if is_exclusive(verdicts.as_slice()[group as usize])
+        && !kept.as_slice()[group as usize]
+        && !keeps_with_itself(task, index, operator, effect, group, kept, marks)
+    {
+        verdicts.set(group as usize, Verdict::Broken { operator });
+    }
+}
+
+/// Whether the effect keeps the group, which isn't in the family, under the family and the group itself. The family is in the
+/// end as it was.
+fn keeps_with_itself<T: Grounded>(
+    task: &T,
+    index: &Index,
+    operator: u32,
+    effect: u32,
+    group: u32,
+    kept: &mut Items<bool>,
+    marks: &mut Marks,
+) -> bool
+    requires index { IsIndexOf (T.says task.now) index.now }
+    requires operator { operator < length (T.says task.now).operators }
+    requires effect { effect < length (operator_at (T.says task.now) operator).effects }
+    requires group { group < length (T.says task.now).groups }
+    requires one_each { length kept.old ≡ length (T.says task.now).groups }
+    requires outside { IsFalse (family_of kept.old group) }
+    requires clean { IsClean (T.says task.now) marks.old }
+    ensures yes { IsTrue result → KeepsWithItself (T.says task.now) kept.old operator effect group }
+    ensures no { IsFalse result → KeepsWithItself (T.says task.now) kept.old operator effect group → ⊥ }
+    ensures kept { kept.new ≡ kept.old }
+    ensures clean { IsClean (T.says task.now) marks.new }
+{
+    kept.set(group as usize, true);
+    let keeps = effect_keeps(task, index, kept.as_slice(), operator, effect, group, marks);
+    kept.set(group as usize, false);
+    keeps
 }

@@ -1,0 +1,235 @@
+-- Groups fall out of a family, one after another, until the greatest family is left.
+use Rattle.std.proofs.Common.{◌≡◌, ℕ, ◌+◌, ◌<◌, ◌≤◌, ◌⊎◌, Bool, true, false, List, [], ◌∷◌, ◌++◌, length, get_or, set, drop, refl, sym, ◌∙◌, ap, subst, inl, inr, arith}
+use Rattle.std.proofs.lemmas.Bool.{cases_eq, cases_Bool, both_ways}
+use Rattle.std.proofs.lemmas.List.{append-nil, append_assoc, drop_all, drop_at, drop-append-le, length-append, length-set, get_or-set_same, get_or-set_other}
+use Rattle.std.proofs.lemmas.List.Elements.{All-nil, All-cons, All-append, All-contains, All-contains_itself, All-weaker, All-from_get_or, Contains-append_cases, Contains-append_left, Contains-append_right, Contains-push}
+use Rattle.std.specs.List.{All, Contains}
+use Rattle.std.specs.Prelude.{◌↔◌}
+use Rattle.sas_core.specs.declared.parts.Fact.{Fact}
+use Rattle.sas_core.specs.declared.parts.Operator.{Operator}
+use Rattle.sas_core.specs.declared.parts.Parts.{Parts}
+use Rattle.sas_core.specs.Grounded.{operator_at, effect_at, group_at}
+use Rattle.sas_groups.specs.Clashes.{Keeps, sets}
+use Rattle.sas_groups.specs.Families.{IsIn, IsGroupOf, IsKeptJointly, IsGreatest}
+use Rattle.sas_groups.proofs.GreatestFamily.{group_of_larger, keeps_more}
+use Rattle.sas_mutex.specs.declared.family.Family.{Family}
+use Rattle.sas_mutex.specs.Effects.{family_of, IsKept, EffectKeeps}
+use Rattle.sas_mutex.specs.Falling.{MentionsNone, EffectKeepsAll, IsEffectAtRest, IsAtRest, RestsAt, AreCandidates, newly, Falls}
+use Rattle.sas_mutex.specs.Directories.{under}
+use Rattle.sas_mutex.specs.Index.{MentionsGroup, AreMentions}
+use Rattle.sas_mutex.proofs.Keeping.{keeps_from_effects, effect_of_keeps, effect_keeps_still}
+
+module _ (p : Parts) where
+  none_left : (operator : ℕ) (xs ys : List ℕ) → MentionsNone p operator (xs ++ ys) → MentionsNone p operator xs
+  none_left operator xs ys none place within = none place (Contains-append_left xs ys place within)
+
+  none_right : (operator : ℕ) (xs ys : List ℕ) → MentionsNone p operator (xs ++ ys) → MentionsNone p operator ys
+  none_right operator xs ys none place within = none place (Contains-append_right xs ys place within)
+
+  -- ---- groups that fell in one turn after another
+
+  pub none_fell : (family : Family) → Falls p family family
+  none_fell family = record {
+    one_each = refl;
+    behind = sym (ap (λ (xs : List ℕ). family.fallen.items ++ xs) nothing ∙ append-nil family.fallen.items);
+    exist = subst (All (λ place. place < length p.groups)) (sym nothing) (All-nil (λ place. place < length p.groups));
+    less = λ place w. w;
+    noted = λ place w out. absurd (out w);
+    none_lost = λ other jointly within. within;
+  }
+    where
+      nothing : drop (length family.fallen.items) family.fallen.items ≡ []
+      nothing = drop_all (length family.fallen.items) family.fallen.items (omega arith)
+
+  pub newly_then : (a b c : Family) → Falls p a b → Falls p b c → newly a c ≡ newly a b ++ newly b c
+  newly_then a b c first second =
+      ap (λ (xs : List ℕ). drop (length a.fallen.items) xs)
+      (second.behind ∙ (ap (λ (xs : List ℕ). xs ++ newly b c) first.behind ∙ append_assoc a.fallen.items (newly a b) (newly b c)))
+      ∙ drop_at a.fallen.items (newly a b ++ newly b c) (length a.fallen.items) refl
+
+  pub falls_then : (a b c : Family) → Falls p a b → Falls p b c → Falls p a c
+  falls_then a b c first second = record {
+    one_each = second.one_each ∙ first.one_each;
+    behind = second.behind ∙ (ap (λ (xs : List ℕ). xs ++ newly b c) first.behind ∙ (append_assoc a.fallen.items (newly a b) (newly b c)
+        ∙ ap (λ (xs : List ℕ). a.fallen.items ++ xs) (sym both)));
+    exist = subst (All (λ place. place < length p.groups)) (sym both) (All-append (λ place. place < length p.groups) (newly a b) (newly b c) first.exist second.exist);
+    less = λ place w. first.less place (second.less place w);
+    noted = λ place w out. subst (λ (xs : List ℕ). Contains xs place) (sym both) (elim (cases_Bool (family_of b.kept place)) [
+      | inl here ↦ Contains-append_right (newly a b) (newly b c) place (second.noted place (record { exists = w.exists; chosen = here }) out)
+      | inr gone ↦ Contains-append_left (newly a b) (newly b c) place (first.noted place w (λ v. both_ways (family_of b.kept place) gone v.chosen))
+    ]);
+    none_lost = λ other jointly within. second.none_lost other jointly (first.none_lost other jointly within);
+  }
+    where
+      both : newly a c ≡ newly a b ++ newly b c
+      both = newly_then a b c first second
+
+  -- one group falls, which no family that is kept jointly within the present one has
+  pub one_fell : (before after : Family) (place : ℕ) → after.kept ≡ set before.kept place false → after.fallen.items ≡ before.fallen.items ++ place ∷ []
+      → place < length p.groups
+      → ((other : ℕ → Bool) → IsKeptJointly p other → ((n : ℕ) → IsIn p other n → IsIn p (family_of before.kept) n) → IsIn p other place → ⊥)
+      → length before.kept ≡ length p.groups → Falls p before after
+  one_fell before after place kept fallen exists never one_each = record {
+    one_each = ap length kept ∙ length-set before.kept place false;
+    behind = fallen ∙ ap (λ (xs : List ℕ). before.fallen.items ++ xs) (sym one);
+    exist = subst (All (λ place. place < length p.groups)) (sym one) (All-cons (λ place. place < length p.groups) place [] exists (All-nil (λ place. place < length p.groups)));
+    less = less;
+    noted = λ n w out. subst (λ (xs : List ℕ). Contains xs n) (sym one) (elim (cases_eq n place) [
+      | inl e ↦ subst (λ i. Contains (place ∷ []) i) (sym e) (Contains-push [] place)
+      | inr ne ↦ absurd (out (record { exists = w.exists; chosen = is_other n ne ∙ w.chosen }))
+    ]);
+    none_lost = λ other jointly within n w. elim (cases_eq n place) [
+      | inl e ↦ absurd (never other jointly within (subst (IsIn p other) e w))
+      | inr ne ↦ record { exists = w.exists; chosen = is_other n ne ∙ (within n w).chosen }
+    ];
+  }
+    where
+      one : newly before after ≡ place ∷ []
+      one = ap (λ (xs : List ℕ). drop (length before.fallen.items) xs) fallen ∙ drop_at before.fallen.items (place ∷ []) (length before.fallen.items) refl
+
+      is_other : (n : ℕ) → (n ≡ place → ⊥) → family_of after.kept n ≡ family_of before.kept n
+      is_other n ne = ap (λ (xs : List Bool). get_or xs n false) kept ∙ get_or-set_other before.kept place n false false ne
+
+      is_out : family_of after.kept place ≡ false
+      is_out = ap (λ (xs : List Bool). get_or xs place false) kept ∙ get_or-set_same before.kept place false false (omega arith)
+
+      less : (n : ℕ) → IsIn p (family_of after.kept) n → IsIn p (family_of before.kept) n
+      less n w = elim (cases_eq n place) [
+        | inl e ↦ absurd (both_ways (family_of after.kept place) is_out (subst (λ i. family_of after.kept i ≡ true) e w.chosen))
+        | inr ne ↦ record { exists = w.exists; chosen = sym (is_other n ne) ∙ w.chosen }
+      ]
+
+  -- ---- what rests stays at rest, if what fell waits
+
+  pub rests_later : (a b c : Family) (operator effect place : ℕ) → operator < length p.operators → effect < length (operator_at p operator).effects
+      → Falls p a b → Falls p b c
+      → RestsAt p b.kept (newly a b) operator effect place → RestsAt p c.kept (newly a c) operator effect place
+  rests_later a b c operator effect place exists within first second rests = record {
+    keeps = λ none w.
+        (let both = subst (MentionsNone p operator) (newly_then a b c first second) none in
+        effect_keeps_still p b.kept c.kept operator (newly b c) exists second.noted (none_right operator (newly a b) (newly b c) both) effect (group_at p place) within
+        (rests.keeps (none_left operator (newly a b) (newly b c) both) (second.less place w)));
+  }
+
+  pub effect_later : (b c : Family) (waiting : List ℕ) (operator effect : ℕ) → operator < length p.operators → effect < length (operator_at p operator).effects
+      → Falls p b c → IsEffectAtRest p b.kept waiting operator effect → IsEffectAtRest p c.kept (waiting ++ newly b c) operator effect
+  effect_later b c waiting operator effect exists within falls rest none place w has =
+      effect_keeps_still p b.kept c.kept operator (newly b c) exists falls.noted (none_right operator waiting (newly b c) none) effect (group_at p place) within
+      (rest (none_left operator waiting (newly b c) none) place (falls.less place w) has)
+
+  pub operator_later : (b c : Family) (waiting : List ℕ) (operator : ℕ) → operator < length p.operators
+      → Falls p b c → IsAtRest p b.kept waiting operator → IsAtRest p c.kept (waiting ++ newly b c) operator
+  operator_later b c waiting operator exists falls rest effect within = effect_later b c waiting operator effect exists within falls (rest effect within)
+
+  -- ---- what is at rest in the turns so far, and in the last
+
+  rests_fewer : (operator : ℕ) (a b c : Family) → Falls p a b → Falls p b c → MentionsNone p operator (newly a c) → MentionsNone p operator (newly b c)
+  rests_fewer operator a b c first second none = none_right operator (newly a b) (newly b c) (subst (MentionsNone p operator) (newly_then a b c first second) none)
+
+  pub rests_now : (a b c : Family) (operator effect place : ℕ) → Falls p a b → Falls p b c
+      → RestsAt p c.kept (newly b c) operator effect place → RestsAt p c.kept (newly a c) operator effect place
+  rests_now a b c operator effect place first second rests = record { keeps = λ none w. rests.keeps (rests_fewer operator a b c first second none) w }
+
+  pub effect_now : (a b c : Family) (operator effect : ℕ) → Falls p a b → Falls p b c
+      → IsEffectAtRest p c.kept (newly b c) operator effect → IsEffectAtRest p c.kept (newly a c) operator effect
+  effect_now a b c operator effect first second rest none = rest (rests_fewer operator a b c first second none)
+
+  pub effect_since : (a b c : Family) (operator effect : ℕ) → operator < length p.operators → effect < length (operator_at p operator).effects
+      → Falls p a b → Falls p b c → IsEffectAtRest p b.kept (newly a b) operator effect → IsEffectAtRest p c.kept (newly a c) operator effect
+  effect_since a b c operator effect exists within first second rest =
+      subst (λ (waiting : List ℕ). IsEffectAtRest p c.kept waiting operator effect) (sym (newly_then a b c first second))
+      (effect_later b c (newly a b) operator effect exists within second rest)
+
+  pub operator_now : (a b c : Family) (operator : ℕ) → Falls p a b → Falls p b c
+      → IsAtRest p c.kept (newly b c) operator → IsAtRest p c.kept (newly a c) operator
+  operator_now a b c operator first second rest effect within = effect_now a b c operator effect first second (rest effect within)
+
+  pub operator_since : (a b c : Family) (operator : ℕ) → operator < length p.operators
+      → Falls p a b → Falls p b c → IsAtRest p b.kept (newly a b) operator → IsAtRest p c.kept (newly a c) operator
+  operator_since a b c operator exists first second rest effect within = effect_since a b c operator effect exists within first second (rest effect within)
+
+  -- ---- the queue of those that wait
+
+  -- whether a number is among some
+  is_among : (xs : List ℕ) (n : ℕ) → Contains xs n ⊎ (Contains xs n → ⊥)
+  is_among [] n = inr (λ w. absurd (omega (arith, w.1)))
+  is_among (x ∷ xs) n = elim (cases_eq x n) [
+    | inl is ↦ inl (0, omega arith, is)
+    | inr ne ↦ elim (is_among xs n) [
+      | inl w ↦ inl (Contains-append_right (x ∷ []) xs n w)
+      | inr none ↦ inr (λ w. elim (Contains-append_cases (x ∷ []) xs n w) [
+        | inl v ↦ absurd (ne (All-contains (λ y. x ≡ y) (x ∷ []) n (All-cons (λ y. x ≡ y) x [] refl (All-nil (λ y. x ≡ y))) v))
+        | inr v ↦ none v
+      ])
+    ]
+  ]
+
+  -- the first that waits has been gone through: the operators that mention a fact of it are at rest, and the others were
+  pub gone_through : (before after : Family) (first : ℕ) (waiting operators : List ℕ) → Falls p before after
+      → ((operator : ℕ) → MentionsGroup p operator first → Contains operators operator)
+      → All (IsAtRest p after.kept (newly before after)) operators
+      → ((operator : ℕ) → operator < length p.operators → IsAtRest p before.kept (first ∷ waiting) operator)
+      → (operator : ℕ) → operator < length p.operators → IsAtRest p after.kept (waiting ++ newly before after) operator
+  gone_through before after first waiting operators falls mentioning looked rest operator exists effect within none = elim (is_among operators operator) [
+    | inl w ↦ All-contains (IsAtRest p after.kept (newly before after)) operators operator looked w effect within
+        (none_right operator waiting (newly before after) none)
+    | inr not ↦ effect_later before after (first ∷ waiting) operator effect exists within falls (rest operator exists effect within)
+        (λ place w mentions. elim (Contains-append_cases (first ∷ waiting) (newly before after) place w) [
+          | inl v ↦ elim (Contains-append_cases (first ∷ []) waiting place v) [
+            | inl u ↦ not (mentioning operator (subst (MentionsGroup p operator) (All-contains (λ y. y ≡ first) (first ∷ []) place (All-cons (λ y. y ≡ first) first [] refl (All-nil (λ y. y ≡ first))) u) mentions))
+            | inr u ↦ none place (Contains-append_left waiting (newly before after) place u) mentions
+          ]
+          | inr v ↦ none place (Contains-append_right waiting (newly before after) place v) mentions
+        ])
+  ]
+
+  -- what waits then: the queue behind the first
+  pub queue_then : (before after : Family) (next : ℕ) → Falls p before after → next < length before.fallen.items
+      → drop (next + 1) after.fallen.items ≡ drop (next + 1) before.fallen.items ++ newly before after
+  queue_then before after next falls lt = ap (λ (xs : List ℕ). drop (next + 1) xs) falls.behind
+      ∙ drop-append-le (next + 1) before.fallen.items (newly before after) (omega arith)
+
+  -- ---- where nothing waits, the family is the greatest
+
+  pub greatest_in_the_end : (before after : Family) → AreCandidates p before.kept → Falls p before after
+      → ((operator : ℕ) → operator < length p.operators → IsAtRest p after.kept [] operator) → IsGreatest p (family_of after.kept)
+  greatest_in_the_end before after candidates falls rest = record {
+    jointly = record {
+      may = λ place w. (let before_in = falls.less place w in (candidates place before_in.exists).0 before_in.chosen);
+      kept = λ place w. All-from_get_or (λ (o : Operator). Keeps (IsKept p after.kept) o (group_at p place)) p.operators _
+          (λ operator exists. keeps_from_effects (IsKept p after.kept) (operator_at p operator) (group_at p place)
+          (λ effect within has. rest operator exists effect within (λ n none _. absurd (omega (arith, none.1))) place w has));
+    };
+    greatest = λ other jointly. falls.none_lost other jointly
+        (λ place w. record { exists = w.exists; chosen = (candidates place w.exists).1 (jointly.may place w) });
+  }
+
+  -- a group that an operator of the task doesn't keep is in no family that is kept jointly
+  pub never_jointly : (kept : List Bool) (operator effect place : ℕ) → operator < length p.operators → effect < length (operator_at p operator).effects
+      → Contains (group_at p place) (sets (effect_at (operator_at p operator) effect))
+      → (EffectKeeps (IsKept p kept) (operator_at p operator) (group_at p place) (effect_at (operator_at p operator) effect) → ⊥)
+      → (other : ℕ → Bool) → IsKeptJointly p other → ((n : ℕ) → IsIn p other n → IsIn p (family_of kept) n) → IsIn p other place → ⊥
+  never_jointly kept operator effect place exists within has broken other jointly smaller w =
+      broken (effect_of_keeps (IsKept p kept) (operator_at p operator) (group_at p place)
+      (keeps_more (IsGroupOf p other) (IsKept p kept) (operator_at p operator) (group_at p place) (group_of_larger p other (family_of kept) smaller)
+      (jointly.kept place w operator _ exists)) effect within has)
+
+  -- the operators that mention a fact of a group exist
+  pub mentioning_exist : (mentions : List (List ℕ)) (place : ℕ) → AreMentions p mentions → place < length p.groups
+      → All (λ (operator : ℕ). operator < length p.operators) (under mentions place)
+  mentioning_exist mentions place are exists = All-weaker (Contains (under mentions place)) (λ (operator : ℕ). operator < length p.operators)
+      (λ operator w. ((are place exists operator).0 w).exists) (under mentions place) (All-contains_itself (under mentions place))
+
+  -- all that fell exist
+  pub fallen_exist : (before after : Family) → Falls p before after → All (λ (place : ℕ). place < length p.groups) before.fallen.items
+      → All (λ (place : ℕ). place < length p.groups) after.fallen.items
+  fallen_exist before after falls exist = subst (All (λ (place : ℕ). place < length p.groups)) (sym falls.behind)
+      (All-append (λ (place : ℕ). place < length p.groups) before.fallen.items (newly before after) exist falls.exist)
+
+  pub fallen_grow : (before after : Family) → Falls p before after → length before.fallen.items ≤ length after.fallen.items
+  fallen_grow before after falls =
+      let longer = ap length falls.behind ∙ length-append before.fallen.items (newly before after) in omega (arith, longer)
+
+  -- of an empty queue all that fell is new
+  pub newly_all : (before after : Family) → before.fallen.items ≡ [] → newly before after ≡ after.fallen.items
+  newly_all before after none = ap (λ (xs : List ℕ). drop (length xs) after.fallen.items) none

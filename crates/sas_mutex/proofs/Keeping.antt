@@ -1,0 +1,138 @@
+-- What an effect keeps as more groups count, or fewer, and what an operator keeps whose effects all do.
+use Rattle.std.proofs.Common.{◌≡◌, ℕ, ◌<◌, ◌⊎◌, Bool, List, [], ◌∷◌, ◌++◌, length, None, sym, ◌∙◌, subst, inl, inr}
+use Rattle.std.proofs.lemmas.Bool.{cases_Bool, both_ways}
+use Rattle.std.proofs.lemmas.List.Elements.{Contains-get_or, Contains-append_cases, Contains-push_cases}
+use Rattle.std.specs.List.{Contains}
+use Rattle.sas_core.specs.declared.parts.Fact.{Fact}
+use Rattle.sas_core.specs.declared.parts.Effect.{Effect}
+use Rattle.sas_core.specs.declared.parts.Operator.{Operator}
+use Rattle.sas_core.specs.declared.parts.Parts.{Parts}
+use Rattle.sas_core.specs.Grounded.{operator_at, effect_at, group_at}
+use Rattle.sas_meaning.specs.Steps.{preconditions}
+use Rattle.sas_groups.specs.Clashes.{Clash, Keeps, sets}
+use Rattle.sas_groups.specs.Families.{IsIn}
+use Rattle.sas_groups.specs.Lists.{known}
+use Rattle.sas_groups.proofs.Effects.{place_of}
+use Rattle.sas_groups.proofs.GreatestFamily.{clash_more}
+use Rattle.sas_mutex.specs.Effects.{family_of, IsKept, NotBoth, EffectKeeps}
+use Rattle.sas_mutex.specs.Falling.{MentionsNone}
+use Rattle.sas_mutex.specs.Index.{Mentions}
+
+-- what clashes where some groups count clashes where others do
+module _ (Counts Others : List Fact → Type 0) (o : Operator) (group : List Fact) (e : Effect) where
+  pub effect_keeps_by : ((other : ℕ) → other < length o.effects
+      → Clash Counts (known o e.conditions (effect_at o other).conditions) → Clash Others (known o e.conditions (effect_at o other).conditions))
+      → ((f : Fact) → Clash Counts (known o e.conditions (f ∷ [])) → Clash Others (known o e.conditions (f ∷ [])))
+      → EffectKeeps Counts o group e → EffectKeeps Others o group e
+  effect_keeps_by both one keeps = record {
+    single = λ other lt hf ne. both other lt (keeps.single other lt hf ne);
+    others = λ f in_f ne. elim (keeps.others f in_f ne) [
+      | inl c ↦ inl (one f c)
+      | inr r ↦ inr r
+    ];
+  }
+
+  pub effect_keeps_more : ((g : List Fact) → Counts g → Others g) → EffectKeeps Counts o group e → EffectKeeps Others o group e
+  effect_keeps_more more = effect_keeps_by (λ other lt. clash_more Counts Others (known o e.conditions (effect_at o other).conditions) more)
+      (λ f. clash_more Counts Others (known o e.conditions (f ∷ [])) more)
+
+-- an operator keeps a group if each effect that sets a fact of it does
+module _ (Counts : List Fact → Type 0) (o : Operator) (group : List Fact) where
+  KeepsAt : Effect → Type 0
+  KeepsAt e = Contains group (sets e) → EffectKeeps Counts o group e
+
+  effect_in : (effect : ℕ) → effect < length o.effects → Contains o.effects (effect_at o effect)
+  effect_in effect lt = Contains-get_or o.effects effect (record { conditions = []; var = 0; old = None; new = 0 }) lt
+
+  pub keeps_from_effects : ((effect : ℕ) → effect < length o.effects → Contains group (sets (effect_at o effect)) → EffectKeeps Counts o group (effect_at o effect))
+      → Keeps Counts o group
+  keeps_from_effects each = record {
+    two = λ e f in_e in_f he hf ne. subst (λ (x : Effect). NotBoth Counts o group e x) (place_of o f in_f) ((of e in_e he).single in_f.0 in_f.1) hf ne;
+    others = λ e f in_e he in_f ne. (of e in_e he).others f in_f ne;
+  }
+    where
+      of : (e : Effect) → Contains o.effects e → Contains group (sets e) → EffectKeeps Counts o group e
+      of e in_e he = subst (λ (x : Effect). Contains group (sets x) → EffectKeeps Counts o group x) (place_of o e in_e) (each in_e.0 in_e.1) he
+
+  pub effect_of_keeps : Keeps Counts o group → (effect : ℕ) → effect < length o.effects → Contains group (sets (effect_at o effect))
+      → EffectKeeps Counts o group (effect_at o effect)
+  effect_of_keeps keeps effect lt he = record {
+    single = λ other lt' hf ne. keeps.two (effect_at o effect) (effect_at o other) (effect_in effect lt) (effect_in other lt') he hf ne;
+    others = λ f in_f ne. keeps.others (effect_at o effect) f (effect_in effect lt) he in_f ne;
+  }
+
+-- Groups that fell no longer count. If the operator mentions no fact of them, its effects keep what they did: two different
+-- facts of such a group aren't among what is known, where at most one is not mentioned.
+module _ (p : Parts) (kept kept' : List Bool) (operator : ℕ) (fell : List ℕ)
+    (exists : operator < length p.operators)
+    (noted : (place : ℕ) → IsIn p (family_of kept) place → (IsIn p (family_of kept') place → ⊥) → Contains fell place)
+    (none : MentionsNone p operator fell) where
+  still_kept : (f : Fact) (g : List Fact) → Mentions (operator_at p operator) f → IsKept p kept g → Contains g f → IsKept p kept' g
+  still_kept f g mentions (place, among, is) within = elim (cases_Bool (family_of kept' place)) [
+    | inl here ↦ (place, record { exists = among.exists; chosen = here }, is)
+    | inr gone ↦ absurd (none place (noted place among (λ w. both_ways (family_of kept' place) gone w.chosen))
+        (record { exists = exists; fact = f; mentions = mentions; among = subst (λ (x : List Fact). Contains x f) is within }))
+  ]
+
+  clash_still : (facts : List Fact) (extra : Fact) → ((f : Fact) → Contains facts f → Mentions (operator_at p operator) f ⊎ (f ≡ extra))
+      → Clash (IsKept p kept) facts → Clash (IsKept p kept') facts
+  clash_still facts extra each (f, g, in_f, in_g, why) = (
+    f,
+    g,
+    in_f,
+    in_g,
+    elim why [
+      | inl w ↦ inl w
+      | inr w ↦ inr (record {
+        differ = w.differ;
+        group = w.group;
+        counts = elim (each f in_f) [
+          | inl m ↦ still_kept f w.group m w.counts w.first
+          | inr is ↦ elim (each g in_g) [
+            | inl m ↦ still_kept g w.group m w.counts w.second
+            | inr is' ↦ absurd (w.differ (is ∙ sym is'))
+          ]
+        ];
+        first = w.first;
+        second = w.second;
+      })
+    ],
+  )
+
+  pub effect_keeps_still : (effect : ℕ) (group : List Fact) → effect < length (operator_at p operator).effects
+      → EffectKeeps (IsKept p kept) (operator_at p operator) group (effect_at (operator_at p operator) effect)
+      → EffectKeeps (IsKept p kept') (operator_at p operator) group (effect_at (operator_at p operator) effect)
+  effect_keeps_still effect group lt = effect_keeps_by (IsKept p kept) (IsKept p kept') o group e
+      (λ other lt'. clash_still (known o e.conditions (effect_at o other).conditions) (sets e) (of_both other lt'))
+      (λ f. clash_still (known o e.conditions (f ∷ [])) f (of_one f))
+    where
+      o : Operator
+      o = operator_at p operator
+
+      e : Effect
+      e = effect_at (operator_at p operator) effect
+
+      of_conditions : (k : ℕ) → k < length (operator_at p operator).effects → (x : Fact)
+          → Contains (effect_at (operator_at p operator) k).conditions x → Mentions (operator_at p operator) x
+      of_conditions k below x within = inr (effect_at (operator_at p operator) k, effect_in (IsKept p kept) (operator_at p operator) group k below, within)
+
+      of_first : (x : Fact) → Contains (preconditions (operator_at p operator) ++ (effect_at (operator_at p operator) effect).conditions) x → Mentions (operator_at p operator) x
+      of_first x within = elim (Contains-append_cases (preconditions (operator_at p operator)) (effect_at (operator_at p operator) effect).conditions x within) [
+        | inl w ↦ inl w
+        | inr w ↦ of_conditions effect lt x w
+      ]
+
+      of_both : (other : ℕ) → other < length (operator_at p operator).effects → (x : Fact)
+          → Contains (known (operator_at p operator) (effect_at (operator_at p operator) effect).conditions (effect_at (operator_at p operator) other).conditions) x
+          → Mentions (operator_at p operator) x ⊎ (x ≡ sets (effect_at (operator_at p operator) effect))
+      of_both other below x within = elim (Contains-append_cases (preconditions (operator_at p operator) ++ (effect_at (operator_at p operator) effect).conditions) (effect_at (operator_at p operator) other).conditions x within) [
+        | inl w ↦ inl (of_first x w)
+        | inr w ↦ inl (of_conditions other below x w)
+      ]
+
+      of_one : (f x : Fact) → Contains (known (operator_at p operator) (effect_at (operator_at p operator) effect).conditions (f ∷ [])) x
+          → Mentions (operator_at p operator) x ⊎ (x ≡ f)
+      of_one f x within = elim (Contains-push_cases (preconditions (operator_at p operator) ++ (effect_at (operator_at p operator) effect).conditions) f x within) [
+        | inl w ↦ inl (of_first x w)
+        | inr is ↦ inr (sym is)
+      ]

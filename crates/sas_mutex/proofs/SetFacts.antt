@@ -1,0 +1,46 @@
+-- The facts that effects set exist, so that the index has their groups; and so do the facts of groups.
+use Rattle.std.proofs.Common.{◌≡◌, ℕ, ◌<◌, List, [], length, get_or, None, sym, ◌∙◌, ap, subst}
+use Rattle.std.specs.List.{All, Contains}
+use Rattle.std.specs.Prelude.{◌↔◌}
+use Rattle.std.proofs.lemmas.List.{get_or_default}
+use Rattle.std.proofs.lemmas.List.Elements.{All-from_recursion, All-weaker}
+use Rattle.sas_core.specs.declared.grounded.Change.{Change}
+use Rattle.sas_core.specs.declared.parts.Fact.{Fact}
+use Rattle.sas_core.specs.declared.parts.Parts.{Parts}
+use Rattle.sas_core.specs.Grounded.{operator_at, effect_at, group_at, effect_change}
+use Rattle.sas_core.specs.Variables.{FactExists}
+use Rattle.sas_core.specs.WellRanged.{WellRanged, Listed, OperatorFits, EffectFits}
+use Rattle.sas_core.proofs.Places.{holds_at}
+use Rattle.sas_meaning.proofs.Forced.{fact_within}
+use Rattle.sas_groups.specs.Clashes.{sets}
+use Rattle.sas_mutex.specs.declared.index.Index.{Index}
+use Rattle.sas_mutex.specs.Index.{IsIndexOf, HasFact, groups_of}
+
+module _ (p : Parts) (ranged : WellRanged p) where
+  pub set_exists : (operator effect : ℕ) → operator < length p.operators → effect < length (operator_at p operator).effects
+      → FactExists p.variables (sets (effect_at (operator_at p operator) effect))
+  set_exists operator effect exists lt =
+      let fits = holds_at (OperatorFits p.variables) (record { name = []; prevail = []; effects = []; cost = 0 }) p.operators ranged.operators.each operator exists in
+      (holds_at (EffectFits p.variables) (record { conditions = []; var = 0; old = None; new = 0 }) (operator_at p operator).effects fits.effects.each effect lt).new
+
+  -- the groups under the fact that an effect sets
+  pub groups_setting : (index : Index) (operator effect : ℕ) → IsIndexOf p index → operator < length p.operators → effect < length (operator_at p operator).effects
+      → (groups : List ℕ) (change : Change) → change ≡ effect_change (effect_at (operator_at p operator) effect)
+      → groups ≡ groups_of index (record { var = change.var; value = change.new })
+      → (place : ℕ) → Contains groups place ↔ HasFact p place (sets (effect_at (operator_at p operator) effect))
+  groups_setting index operator effect is exists lt groups change change_is groups_is place =
+      let e = effect_at (operator_at p operator) effect in
+      subst (λ (xs : List ℕ). Contains xs place ↔ HasFact p place (sets e))
+      (sym (groups_is ∙ ap (λ (c : Change). groups_of index (record { var = c.var; value = c.new })) change_is))
+      (is.groups (sets e) (set_exists operator effect exists lt) place)
+
+  -- the variables of a group's facts exist
+  pub group_within : (place : ℕ) → place < length p.groups → All (λ (f : Fact). f.var < length p.variables) (group_at p place)
+  group_within place lt =
+      let listed = holds_at (Listed (FactExists p.variables)) [] p.groups ranged.groups.each place lt in
+      All-weaker (FactExists p.variables) (λ (f : Fact). f.var < length p.variables) (λ f h. fact_within p f.var f.value h) (group_at p place)
+      (All-from_recursion (FactExists p.variables) (group_at p place) listed.each)
+
+-- what each of a list's items has, one that the list contains has
+pub at_item : (P : ℕ → Type 0) (xs : List ℕ) (n : ℕ) → ((k : ℕ) → k < length xs → P (get_or xs k 0)) → Contains xs n → P n
+at_item P xs n each within = subst P (get_or_default xs within.0 0 n within.1 ∙ within.2) (each within.0 within.1)

@@ -1,0 +1,34 @@
+-- A group that the effect doesn't keep falls.
+use Rattle.std.proofs.Common.{◌≡◌, Bool, true, List, length, sym, ap, subst, ◌∙◌, arith, rules}
+use Rattle.std.proofs.lemmas.List.{length-set, length_push}
+use Rattle.sas_core.specs.Grounded.{operator_at, effect_at, group_at}
+use Rattle.sas_mutex.specs.Effects.{family_of, IsKept, EffectKeeps}
+use Rattle.sas_mutex.proofs.Counting.{count_fell}
+use Rattle.sas_mutex.proofs.FallingGroups.{one_fell, never_jointly}
+use Rattle.sas_mutex.specs.Falling.{count}
+use Rattle.sas_mutex.proofs.family.look_at_group.Goals as goal
+
+pub returns-then-not-effect_keeps-clause-falls : goal.returns-then-not-effect_keeps-clause-falls
+returns-then-not-effect_keeps-clause-falls g c =
+    let p = g.T.Grounded.says c.args.task.now in
+    let o = operator_at p c.args.operator in
+    let before = c.args.family.now in
+    one_fell p before c.take_away.new.self c.args.group c.take_away.ensures.kept c.take_away.ensures.fallen c.requires.group
+    (never_jointly p before.kept c.args.operator c.args.effect c.args.group c.requires.operator c.requires.effect c.requires.has
+    (λ keeps. c.effect_keeps.ensures.no c.if-not-effect_keeps.true (subst (λ (kept : List Bool). EffectKeeps (IsKept p kept) o (group_at p c.args.group) (effect_at o c.args.effect))
+    (sym c.as_slice-then-as_slice-group.ensures) keeps)))
+    c.requires.room.one_each
+
+pub returns-then-not-effect_keeps-clause-room : goal.returns-then-not-effect_keeps-clause-room
+returns-then-not-effect_keeps-clause-room g c =
+    let before = c.args.family.now in
+    let after = c.take_away.new.self in
+    let fell = ap count c.take_away.ensures.kept in
+    let kept : family_of before.kept c.args.group ≡ true = search rules in
+    let less = count_fell before.kept c.args.group kept in
+    let more = ap length c.take_away.ensures.fallen ∙ length_push before.fallen.items c.args.group in
+    record {
+      one_each = ap length c.take_away.ensures.kept ∙ (length-set before.kept c.args.group _ ∙ c.requires.room.one_each);
+      room = omega (arith, c.requires.room.room, c.take_away.ensures.room);
+      few = omega (arith, c.requires.room.few);
+    }

@@ -1,0 +1,6 @@
+-- The verdicts on the groups so far.
+use Rattle.sas_mutex.proofs.Telling.{FirstUpTo}
+use Rattle.sas_mutex.proofs.joint.first_verdicts.Given as goal
+
+abbrev pub invariant-loop-group : goal.invariant-loop-group
+invariant-loop-group g l = FirstUpTo (g.T.Grounded.says l.task) l.group l.verdicts

@@ -1,0 +1,12 @@
+-- The operators so far have told of the groups; the family is as it was.
+use Rattle.std.proofs.Common.{◌≡◌}
+use Rattle.sas_mutex.specs.Joint.{AreVerdictsSoFar}
+use Rattle.sas_mutex.specs.Marks.{IsClean}
+use Rattle.sas_mutex.proofs.joint.tell_breaking.Given as goal
+
+abbrev pub invariant-loop-operator : goal.invariant-loop-operator
+invariant-loop-operator g l = record {
+  so_far : AreVerdictsSoFar (g.T.Grounded.says l.task) l.fn.kept l.operator 0 l.verdicts;
+  kept : l.kept ≡ l.fn.kept;
+  clean : IsClean (g.T.Grounded.says l.task) l.marks;
+}

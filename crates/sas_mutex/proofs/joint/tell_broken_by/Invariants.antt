@@ -1,0 +1,12 @@
+-- The effects so far have told of the groups; the family is as it was.
+use Rattle.std.proofs.Common.{◌≡◌}
+use Rattle.sas_mutex.specs.Joint.{AreVerdictsSoFar}
+use Rattle.sas_mutex.specs.Marks.{IsClean}
+use Rattle.sas_mutex.proofs.joint.tell_broken_by.Given as goal
+
+abbrev pub invariant-loop-effect : goal.invariant-loop-effect
+invariant-loop-effect g l = record {
+  so_far : AreVerdictsSoFar (g.T.Grounded.says l.task) l.fn.kept l.operator l.effect l.verdicts;
+  kept : l.kept ≡ l.fn.kept;
+  clean : IsClean (g.T.Grounded.says l.task) l.marks;
+}
