@@ -29,7 +29,7 @@ impl<'a, T: Grounded> Model for Preconditions<'a, T> {
 
     ghost view = { λ it. preconditions_left it.prevail.now (operator_at (T.says it.task.now) it.operator) it.effect };
 
-    ghost invariant = { λ it. IsAtOperator (T.says it.task.now) it.operator it.effects };
+    ghost invariant = { λ it. IsAtOperator (T.says it.task.now) it.operator it.effect it.effects };
 }
 
 impl<'a, T: Grounded> Preconditions<'a, T> {
@@ -62,9 +62,12 @@ impl<'a, T: Grounded> Iterator for Preconditions<'a, T> {
     fn next(&mut self) -> Option<Fact> {
         if let Some((fact, rest)) = self.prevail.split_first() {
             self.prevail = rest;
-            return Some(*fact);
+            return Some(Fact {
+                var: fact.var,
+                value: fact.value,
+            });
         }
-        while self.effect < self.effects {
+        while self.effect != self.effects {
             let change = self.task.effect_change(self.operator, self.effect);
             self.effect += 1;
             if let Some(value) = change.old {

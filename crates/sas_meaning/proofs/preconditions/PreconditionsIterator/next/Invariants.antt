@@ -6,7 +6,7 @@ use Rattle.sas_meaning.proofs.preconditions.PreconditionsIterator.next.Given as 
 
 abbrev pub invariant-loop-self : goal.invariant-loop-self
 invariant-loop-self g l = record {
-  at : IsAtOperator (g.T.Grounded.says l.self-inside.task.now) l.self-inside.operator l.self-inside.effects;
+  at : IsAtOperator (g.T.Grounded.says l.self-inside.task.now) l.self-inside.operator l.self-inside.effect l.self-inside.effects;
   left : preconditions_left l.self-inside.prevail.now (operator_at (g.T.Grounded.says l.self-inside.task.now) l.self-inside.operator)
       l.self-inside.effect ≡ l.fn.self;
   no_prevail : l.self-inside.prevail.now ≡ [];
