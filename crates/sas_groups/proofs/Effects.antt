@@ -41,14 +41,14 @@ module _ (o : Operator) where
   never_removed facts fact none w = of_one (λ (e : Effect). Removes facts e fact → ⊥) w.effect none w.among
       (record { fires = w.fires; var = w.var; other = w.other })
 
-  pub keeps_from : (group : List Fact) → OfEffects o (IsSingle o group) → OfEffects o (RemovesAll o group) → Keeps (Alone group) o group
+  pub keeps_from : (group : List Fact) → OfEffects o (IsSingle (Alone group) o group) → OfEffects o (RemovesAll (Alone group) o group) → Keeps (Alone group) o group
   keeps_from group single removes = record {
-    two = λ e f in_e in_f he hf ne. of_one (NotBoth o group e) f (of_one (IsSingle o group) e single in_e he) in_f hf ne;
-    others = λ e f in_e he in_f ne. All-contains (IsGone o group e) group f (of_one (RemovesAll o group) e removes in_e he) in_f ne;
+    two = λ e f in_e in_f he hf ne. of_one (NotBoth (Alone group) o group e) f (of_one (IsSingle (Alone group) o group) e single in_e he) in_f hf ne;
+    others = λ e f in_e he in_f ne. All-contains (IsGone (Alone group) o e) group f (of_one (RemovesAll (Alone group) o group) e removes in_e he) in_f ne;
   }
 
-  pub single_from : (group : List Fact) → Keeps (Alone group) o group → OfEffects o (IsSingle o group)
+  pub single_from : (group : List Fact) → Keeps (Alone group) o group → OfEffects o (IsSingle (Alone group) o group)
   single_from group keeps k lt he j lt' hf ne = keeps.two (effect_at o k) (effect_at o j) (effect_in k lt) (effect_in j lt') he hf ne
 
-  pub removes_from : (group : List Fact) → Keeps (Alone group) o group → OfEffects o (RemovesAll o group)
+  pub removes_from : (group : List Fact) → Keeps (Alone group) o group → OfEffects o (RemovesAll (Alone group) o group)
   removes_from group keeps k lt he i d lt' ne = keeps.others (effect_at o k) (get_or group i d) (effect_in k lt) he (Contains-get_or group i d lt') ne

@@ -1,4 +1,4 @@
--- What the parts of the check of a group decide. The group alone counts.
+-- What the parts of the check of a group decide. Which groups count is said by a condition on groups, `Counts`.
 use Rattle.std.specs.Prelude.{◌≡◌, ◌≢◌, ◌⊎◌, ℕ, ◌<◌, length, List, [], ◌∷◌, All, Contains, slice_index}
 use Rattle.sas_core.specs.declared.parts.Fact.{Fact}
 use Rattle.sas_core.specs.declared.parts.Effect.{Effect}
@@ -23,25 +23,25 @@ pub record Removes (facts : List Fact) (effect : Effect) (fact : Fact) : Type 0 
   pub other : effect.new ≢ fact.value
 
 -- if this effect sets a fact of the group on another variable, what holds when both fire clashes
-abbrev pub NotBoth : Operator → List Fact → Effect → Effect → Type 0
-NotBoth o group e f = Contains group (sets f) → e.var ≢ f.var → Clash (Alone group) (known o e.conditions f.conditions)
+abbrev pub NotBoth : (List Fact → Type 0) → Operator → List Fact → Effect → Effect → Type 0
+NotBoth Counts o group e f = Contains group (sets f) → e.var ≢ f.var → Clash Counts (known o e.conditions f.conditions)
 
 -- if this fact is on another variable, it can't have held before, or it is removed
-abbrev pub IsGone : Operator → List Fact → Effect → Fact → Type 0
-IsGone o group e f = e.var ≢ f.var
-    → Clash (Alone group) (known o e.conditions (f ∷ [])) ⊎ IsRemoved o (known o e.conditions (f ∷ [])) f
+abbrev pub IsGone : (List Fact → Type 0) → Operator → Effect → Fact → Type 0
+IsGone Counts o e f = e.var ≢ f.var
+    → Clash Counts (known o e.conditions (f ∷ [])) ⊎ IsRemoved o (known o e.conditions (f ∷ [])) f
 
 -- each effect is such
 abbrev pub OfEffects : Operator → (Effect → Type 0) → Type 0
 OfEffects o P = (effect : ℕ) → effect < length o.effects → P (effect_at o effect)
 
 -- where an effect sets a fact of the group, no other sets another in the same step
-abbrev pub IsSingle : Operator → List Fact → Effect → Type 0
-IsSingle o group e = Contains group (sets e) → OfEffects o (NotBoth o group e)
+abbrev pub IsSingle : (List Fact → Type 0) → Operator → List Fact → Effect → Type 0
+IsSingle Counts o group e = Contains group (sets e) → OfEffects o (NotBoth Counts o group e)
 
 -- where an effect sets a fact of the group, no other fact of it stays
-abbrev pub RemovesAll : Operator → List Fact → Effect → Type 0
-RemovesAll o group e = Contains group (sets e) → All (IsGone o group e) group
+abbrev pub RemovesAll : (List Fact → Type 0) → Operator → List Fact → Effect → Type 0
+RemovesAll Counts o group e = Contains group (sets e) → All (IsGone Counts o e) group
 
 -- another fact than this doesn't hold in the state section
 abbrev pub IsOnlyOne : List ℕ → Fact → Fact → Type 0

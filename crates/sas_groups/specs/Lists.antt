@@ -1,11 +1,10 @@
 -- The facts that hold where effects of an operator fire, and those of them that an iterator has still to give.
-use Rattle.std.specs.Prelude.{List, [], ◌++◌, drop, filter_map, Option, None, Some}
+use Rattle.std.specs.Prelude.{List, [], ◌++◌, filter_map, Option, None, Some}
 use Rattle.std.specs.Option.{option_to_list}
 use Rattle.sas_core.specs.declared.parts.Fact.{Fact}
 use Rattle.sas_core.specs.declared.parts.Effect.{Effect}
 use Rattle.sas_core.specs.declared.parts.Operator.{Operator}
 use Rattle.sas_core.specs.declared.parts.Parts.{Parts}
-use Rattle.sas_core.specs.Grounded.{operator_at}
 use Rattle.sas_meaning.specs.Steps.{preconditions, old_fact}
 use Rattle.sas_groups.specs.declared.facts.Facts.{Facts}
 use Rattle.sas_groups.specs.declared.known.Known.{Known}
@@ -25,5 +24,4 @@ known o first second = preconditions o ++ first ++ second
 
 -- what is left of `Known`
 abbrev pub known_left : {T : Type 0} → (T → Parts) → Known T → List Fact
-known_left says it = it.prevail.now ++ (filter_map old_fact (drop it.effect (operator_at (says it.task.now) it.operator).effects)
-    ++ (it.first.now ++ it.second.now))
+known_left says it = it.preconditions ++ it.first.now ++ it.second.now

@@ -21,9 +21,9 @@ pub fn keeps<T: Grounded>(task: &T, operator: u32, group: &[Fact]) -> bool
 fn never_sets_two<T: Grounded>(task: &T, operator: u32, group: &[Fact]) -> bool
     requires { operator < length (T.says task.now).operators }
     ensures yes { IsTrue result → OfEffects (operator_at (T.says task.now) operator)
-        (IsSingle (operator_at (T.says task.now) operator) group.now) }
+        (IsSingle (Alone group.now) (operator_at (T.says task.now) operator) group.now) }
     ensures no { IsFalse result → OfEffects (operator_at (T.says task.now) operator)
-        (IsSingle (operator_at (T.says task.now) operator) group.now) → ⊥ }
+        (IsSingle (Alone group.now) (operator_at (T.says task.now) operator) group.now) → ⊥ }
 {
     for effect in 0..task.effects(operator) {
         if !is_single(task, operator, group, effect) {
@@ -37,9 +37,9 @@ fn never_sets_two<T: Grounded>(task: &T, operator: u32, group: &[Fact]) -> bool
 fn is_single<T: Grounded>(task: &T, operator: u32, group: &[Fact], effect: u32) -> bool
     requires operator { operator < length (T.says task.now).operators }
     requires effect { effect < length (operator_at (T.says task.now) operator).effects }
-    ensures yes { IsTrue result → IsSingle (operator_at (T.says task.now) operator) group.now
+    ensures yes { IsTrue result → IsSingle (Alone group.now) (operator_at (T.says task.now) operator) group.now
         (effect_at (operator_at (T.says task.now) operator) effect) }
-    ensures no { IsFalse result → IsSingle (operator_at (T.says task.now) operator) group.now
+    ensures no { IsFalse result → IsSingle (Alone group.now) (operator_at (T.says task.now) operator) group.now
         (effect_at (operator_at (T.says task.now) operator) effect) → ⊥ }
 {
     if !contains(group, sets(task.effect_change(operator, effect))) {
@@ -58,9 +58,9 @@ fn not_both<T: Grounded>(task: &T, operator: u32, group: &[Fact], effect: u32, o
     requires operator { operator < length (T.says task.now).operators }
     requires effect { effect < length (operator_at (T.says task.now) operator).effects }
     requires other { other < length (operator_at (T.says task.now) operator).effects }
-    ensures yes { IsTrue result → NotBoth (operator_at (T.says task.now) operator) group.now
+    ensures yes { IsTrue result → NotBoth (Alone group.now) (operator_at (T.says task.now) operator) group.now
         (effect_at (operator_at (T.says task.now) operator) effect) (effect_at (operator_at (T.says task.now) operator) other) }
-    ensures no { IsFalse result → NotBoth (operator_at (T.says task.now) operator) group.now
+    ensures no { IsFalse result → NotBoth (Alone group.now) (operator_at (T.says task.now) operator) group.now
         (effect_at (operator_at (T.says task.now) operator) effect) (effect_at (operator_at (T.says task.now) operator) other)
         → ⊥ }
 {
@@ -82,9 +82,9 @@ fn not_both<T: Grounded>(task: &T, operator: u32, group: &[Fact], effect: u32, o
 fn removes_others<T: Grounded>(task: &T, operator: u32, group: &[Fact]) -> bool
     requires { operator < length (T.says task.now).operators }
     ensures yes { IsTrue result → OfEffects (operator_at (T.says task.now) operator)
-        (RemovesAll (operator_at (T.says task.now) operator) group.now) }
+        (RemovesAll (Alone group.now) (operator_at (T.says task.now) operator) group.now) }
     ensures no { IsFalse result → OfEffects (operator_at (T.says task.now) operator)
-        (RemovesAll (operator_at (T.says task.now) operator) group.now) → ⊥ }
+        (RemovesAll (Alone group.now) (operator_at (T.says task.now) operator) group.now) → ⊥ }
 {
     for effect in 0..task.effects(operator) {
         if !removes_all(task, operator, group, effect) {
@@ -98,9 +98,9 @@ fn removes_others<T: Grounded>(task: &T, operator: u32, group: &[Fact]) -> bool
 fn removes_all<T: Grounded>(task: &T, operator: u32, group: &[Fact], effect: u32) -> bool
     requires operator { operator < length (T.says task.now).operators }
     requires effect { effect < length (operator_at (T.says task.now) operator).effects }
-    ensures yes { IsTrue result → RemovesAll (operator_at (T.says task.now) operator) group.now
+    ensures yes { IsTrue result → RemovesAll (Alone group.now) (operator_at (T.says task.now) operator) group.now
         (effect_at (operator_at (T.says task.now) operator) effect) }
-    ensures no { IsFalse result → RemovesAll (operator_at (T.says task.now) operator) group.now
+    ensures no { IsFalse result → RemovesAll (Alone group.now) (operator_at (T.says task.now) operator) group.now
         (effect_at (operator_at (T.says task.now) operator) effect) → ⊥ }
 {
     if !contains(group, sets(task.effect_change(operator, effect))) {
@@ -118,9 +118,9 @@ fn removes_all<T: Grounded>(task: &T, operator: u32, group: &[Fact], effect: u32
 fn is_gone<T: Grounded>(task: &T, operator: u32, group: &[Fact], effect: u32, fact: Fact) -> bool
     requires operator { operator < length (T.says task.now).operators }
     requires effect { effect < length (operator_at (T.says task.now) operator).effects }
-    ensures yes { IsTrue result → IsGone (operator_at (T.says task.now) operator) group.now
+    ensures yes { IsTrue result → IsGone (Alone group.now) (operator_at (T.says task.now) operator)
         (effect_at (operator_at (T.says task.now) operator) effect) fact }
-    ensures no { IsFalse result → IsGone (operator_at (T.says task.now) operator) group.now
+    ensures no { IsFalse result → IsGone (Alone group.now) (operator_at (T.says task.now) operator)
         (effect_at (operator_at (T.says task.now) operator) effect) fact → ⊥ }
 {
     let change = task.effect_change(operator, effect);

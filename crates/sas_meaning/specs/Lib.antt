@@ -2,6 +2,7 @@ pub mod States
 pub mod Layers
 pub mod Settled
 pub mod Steps
+pub mod Preconditions
 pub mod Reachable
 pub mod NewValues
 pub mod LayerChecks

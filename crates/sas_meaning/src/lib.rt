@@ -1,13 +1,15 @@
-//! What a task means: which tasks are layered, states, settled states, steps, and which states can be reached.
+//! What a task means: which tasks are layered, states, settled states, preconditions, steps, and which states can be reached.
 #![tactic(auto)]
 
 mod laws;
 mod layer_checks;
 mod layered;
+mod preconditions;
 mod settle;
 mod state;
 
 pub use laws::meaning_laws;
 pub use layered::{LayerFault, Layered};
+pub use preconditions::Preconditions;
 pub use settle::Settle;
 pub use state::{State, StateFault};

@@ -1,15 +1,33 @@
 -- The operators of a task and their effects fit, and the variables of these exist.
-use Rattle.std.proofs.Common.{ℕ, ◌<◌, [], length, None}
+use Rattle.std.proofs.Common.{ℕ, ◌<◌, List, [], ◌∷◌, length, Option, None, Some}
+use Rattle.std.specs.Prelude.{filter_map, option_map}
+use Rattle.std.specs.List.{All, AllByRecursion, cons_option}
+use Rattle.std.proofs.lemmas.List.Elements.{All-append, All-weaker, All-from_recursion}
+use Rattle.sas_core.specs.declared.parts.Fact.{Fact}
+use Rattle.sas_core.specs.declared.parts.Variable.{Variable}
+use Rattle.sas_core.specs.Variables.{FactExists, MayHaveValue}
 use Rattle.sas_core.specs.declared.parts.Effect.{Effect}
 use Rattle.sas_core.specs.declared.parts.Parts.{Parts}
 use Rattle.sas_core.specs.Grounded.{operator_at, effect_at}
 use Rattle.sas_core.specs.WellRanged.{WellRanged, OperatorFits, EffectFits}
 use Rattle.sas_core.proofs.Places.{holds_at}
+use Rattle.sas_meaning.specs.Steps.{old_fact, preconditions}
 use Rattle.sas_meaning.proofs.Forced.{fact_within}
 
 -- what stands behind the last effect
 abbrev pub no_effect : Effect
 no_effect = record { conditions = []; var = 0; old = None; new = 0 }
+
+-- the old values that effects ask for exist
+old_facts_exist : (variables : List Variable) (effects : List Effect) → AllByRecursion (EffectFits variables) effects
+    → AllByRecursion (FactExists variables) (filter_map old_fact effects)
+old_facts_exist variables [] fit = tt
+old_facts_exist variables (e ∷ es) fit = with_old e.old fit.0.old (old_facts_exist variables es fit.1)
+  where
+    with_old : (old : Option ℕ) → MayHaveValue variables e.var old → AllByRecursion (FactExists variables) (filter_map old_fact es)
+        → AllByRecursion (FactExists variables) (cons_option (option_map (λ (value : ℕ). record { var = e.var; value = value }) old) (filter_map old_fact es))
+    with_old None may rest = rest
+    with_old (Some value) may rest = (may, rest)
 
 module _ (p : Parts) (ranged : WellRanged p) (operator : ℕ) (exists : operator < length p.operators) where
   -- the operator fits
@@ -23,3 +41,11 @@ module _ (p : Parts) (ranged : WellRanged p) (operator : ℕ) (exists : operator
   -- the variable of an effect exists
   pub effect_within : (effect : ℕ) → effect < length (operator_at p operator).effects → (effect_at (operator_at p operator) effect).var < length p.variables
   effect_within effect lt = fact_within p (effect_at (operator_at p operator) effect).var (effect_at (operator_at p operator) effect).new (effect_fits effect lt).new
+
+  -- the variables of its preconditions exist
+  pub preconditions_within : All (λ (f : Fact). f.var < length p.variables) (preconditions (operator_at p operator))
+  preconditions_within = All-weaker (FactExists p.variables) (λ (f : Fact). f.var < length p.variables) (λ f is. fact_within p f.var f.value is) (preconditions (operator_at p operator))
+      (All-append (FactExists p.variables) (operator_at p operator).prevail (filter_map old_fact (operator_at p operator).effects)
+      (All-from_recursion (FactExists p.variables) (operator_at p operator).prevail operator_fits.prevail.each)
+      (All-from_recursion (FactExists p.variables) (filter_map old_fact (operator_at p operator).effects)
+      (old_facts_exist p.variables (operator_at p operator).effects operator_fits.effects.each)))

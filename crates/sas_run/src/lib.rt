@@ -1,10 +1,10 @@
 //! Steps and plans: what a plan of a task does, and whether it is valid.
 #![tactic(auto)]
 
+mod holding;
 mod laws;
 mod names;
 mod plan_check;
-mod preconditions;
 mod runner;
 mod steps;
 

@@ -8,8 +8,8 @@ ghost use Rattle.sas_run.specs.Given.{IsClean};
 ghost use Rattle.sas_run.specs.Plans.{IsApplicable, IsNamed};
 ghost use Rattle.sas_run.specs.Running.{IsChoice, IsFirstChosen, IsGoalAnswer, Steps};
 
+use crate::holding::first_missed;
 use crate::names::Names;
-use crate::preconditions::first_missed;
 use crate::steps::{StepFault, apply, missed_precondition};
 use sas_core::{Grounded, Items, Task};
 use sas_meaning::{Layered, Settle, State};

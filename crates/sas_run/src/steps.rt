@@ -7,9 +7,9 @@ ghost use Rattle.sas_run.specs.Plans.{IsApplicable};
 ghost use Rattle.sas_run.specs.Running.{IsFirstConflict, IsStepFault, Applies};
 ghost use Rattle.sas_run.specs.Given.{IsClean, IsGiven, IsGivenTo, value_after, Gives, GivesOther};
 
-use crate::preconditions::{all_hold, first_missed, missed_old_value};
+use crate::holding::all_hold;
 use sas_core::{Fact, Grounded, Items};
-use sas_meaning::State;
+use sas_meaning::{Preconditions, State};
 
 /// Why an operator has no step in a state.
 #[derive(Clone, Copy, Debug, PartialEq, Eq)]
@@ -30,11 +30,12 @@ pub fn missed_precondition<T: Grounded>(task: &T, operator: u32, state: &State) 
 {
     // The contract of this call tells that what the task says is well ranged.
     let _ = task.variables();
-    let prevail = task.prevail(operator);
-    match first_missed(state, prevail) {
-        Some(index) => Some(prevail[index]),
-        None => missed_old_value(task, operator, state),
+    for fact in Preconditions::new(task, operator) {
+        if state.value(fact.var) != fact.value {
+            return Some(fact);
+        }
     }
+    None
 }
 
 /// Does what the effects that fire do, unless a precondition fails or two of them conflict. What is given to variables

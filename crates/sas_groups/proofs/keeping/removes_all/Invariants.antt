@@ -2,9 +2,9 @@
 use Rattle.std.proofs.Common.{ℕ, ◌<◌, get_or}
 use Rattle.sas_core.specs.declared.parts.Fact.{Fact}
 use Rattle.sas_core.specs.Grounded.{operator_at, effect_at}
-use Rattle.sas_groups.specs.Checks.{IsGone}
+use Rattle.sas_groups.specs.Checks.{Alone, IsGone}
 use Rattle.sas_groups.proofs.keeping.removes_all.Given as goal
 
 abbrev pub invariant-loop-fact : goal.invariant-loop-fact
 invariant-loop-fact g l = (k : ℕ) (d : Fact) → k < l.fact-index
-    → IsGone (operator_at (g.T.Grounded.says l.task) l.operator) l.group (effect_at (operator_at (g.T.Grounded.says l.task) l.operator) l.effect) (get_or l.group k d)
+    → IsGone (Alone l.group) (operator_at (g.T.Grounded.says l.task) l.operator) (effect_at (operator_at (g.T.Grounded.says l.task) l.operator) l.effect) (get_or l.group k d)

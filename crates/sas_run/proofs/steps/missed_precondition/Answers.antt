@@ -1,34 +1,53 @@
--- The old values are asked where the prevail conditions hold.
-use Rattle.std.proofs.Common.{ℕ, Option, None, Some, subst}
-use Rattle.std.specs.Prelude.{IfSome, IfNone, slice_index, filter_map}
-use Rattle.std.proofs.lemmas.List.Elements.{All-append}
+-- Each precondition is asked in turn.
+use Rattle.std.proofs.Common.{◌≡◌, ◌∙◌, ◌<◌, List, [], ◌∷◌, ◌++◌, length, ap, sym, subst, append_assoc}
+use Rattle.std.specs.Prelude.{slice_index}
+use Rattle.std.specs.List.{All}
+use Rattle.std.proofs.lemmas.List.Elements.{All-nil, All-append, All-head, All-push, All-rest}
 use Rattle.sas_core.specs.declared.parts.Fact.{Fact}
-use Rattle.sas_core.specs.declared.parts.Operator.{Operator}
 use Rattle.sas_core.specs.Grounded.{operator_at}
-use Rattle.sas_meaning.specs.States.{Holds, AllHold}
-use Rattle.sas_meaning.specs.Steps.{old_fact, preconditions}
-use Rattle.sas_run.specs.Running.{IsFirstMissedFact}
-use Rattle.sas_run.proofs.Missed.{missed_behind}
+use Rattle.sas_meaning.specs.States.{Holds}
+use Rattle.sas_meaning.specs.Steps.{preconditions}
+use Rattle.sas_run.proofs.Ranges.{preconditions_within}
+use Rattle.sas_run.proofs.Missed.{missed_next}
 use Rattle.sas_run.proofs.steps.missed_precondition.Goals as goal
 
-module _ (s : ℕ → ℕ) (o : Operator) (prevail : AllHold s o.prevail) where
-  some_missed : (found : Option Fact) → IfSome found (λ fact. IsFirstMissedFact s (filter_map old_fact o.effects) fact)
-      → IfSome found (λ fact. IsFirstMissedFact s (preconditions o) fact)
-  some_missed None missed = missed
-  some_missed (Some fact) missed = missed_behind s o.prevail (filter_map old_fact o.effects) fact prevail missed
+pub loop-fact-init : goal.loop-fact-init
+loop-fact-init g c =
+    let p = g.T.Grounded.says c.args.task.now in
+    let all = preconditions (operator_at p c.args.operator) in
+    let is : c.into_iter-fact-iterator.result ≡ all = c.into_iter-fact-iterator.ensures.into_iter_gives ∙ c.new-fact-items.ensures in
+    record {
+      left = sym is;
+      hold = All-nil (Holds (slice_index c.args.state.now));
+      within = subst (All (λ (f : Fact). f.var < length c.args.state.now)) (sym is)
+          (subst (λ n. All (λ (f : Fact). f.var < n) all) (sym c.requires.state.one_each)
+          (preconditions_within p c.variables.ensures.well_ranged c.args.operator c.requires.operator));
+    }
 
-  none_missed : (found : Option Fact) → IfNone found (AllHold s (filter_map old_fact o.effects)) → IfNone found (AllHold s (preconditions o))
-  none_missed None hold = All-append (Holds s) o.prevail (filter_map old_fact o.effects) prevail hold
-  none_missed (Some fact) hold = hold
+pub value-requires : goal.value-requires
+value-requires g c =
+    let Within : Fact → Type 0 = λ f. f.var < length c.args.state.now in
+    All-head Within c.in-Some.fact _ (subst (All Within) c.in-Some.ensures.steps c.loop-fact.invariant.within)
 
-pub returns-in-None-clause-some : goal.returns-in-None-clause-some
-returns-in-None-clause-some g c =
-    let s = slice_index c.args.state.now in
-    some_missed s (operator_at (g.T.Grounded.says c.args.task.now) c.args.operator)
-    (subst (AllHold s) c.prevail-prevail.ensures c.in-None.ensures.none) c.missed_old_value.result c.missed_old_value.ensures.some
+pub returns-then-value-fact-clause-some : goal.returns-then-value-fact-clause-some
+returns-then-value-fact-clause-some g c =
+    missed_next (slice_index c.args.state.now) (preconditions (operator_at (g.T.Grounded.says c.args.task.now) c.args.operator))
+    c.loop-fact.yielded c.loop-fact.fact-iterator _ c.in-Some.fact c.loop-fact.invariant.left c.loop-fact.invariant.hold c.in-Some.ensures.steps
+    (λ e. c.if-value-fact.true (c.value.ensures ∙ e))
 
-pub returns-in-None-clause-none : goal.returns-in-None-clause-none
-returns-in-None-clause-none g c =
-    let s = slice_index c.args.state.now in
-    none_missed s (operator_at (g.T.Grounded.says c.args.task.now) c.args.operator)
-    (subst (AllHold s) c.prevail-prevail.ensures c.in-None.ensures.none) c.missed_old_value.result c.missed_old_value.ensures.none
+pub loop-fact-preserved : goal.loop-fact-preserved
+loop-fact-preserved g c =
+    let before = c.loop-fact.yielded in
+    let fact = c.in-Some.fact in
+    let steps = c.in-Some.ensures.steps in
+    record {
+      left = c.loop-fact.invariant.left ∙ (ap (λ (fs : List Fact). before ++ fs) steps ∙ sym (append_assoc before (fact ∷ []) c.next.new.self));
+      hold = All-push (Holds (slice_index c.args.state.now)) before fact c.loop-fact.invariant.hold (sym c.value.ensures ∙ c.if-value-fact.false);
+      within = All-rest (λ (f : Fact). f.var < length c.args.state.now) fact c.next.new.self c.loop-fact.fact-iterator steps c.loop-fact.invariant.within;
+    }
+
+pub returns-clause-none : goal.returns-clause-none
+returns-clause-none g c =
+    let P : Fact → Type 0 = Holds (slice_index c.args.state.now) in
+    subst (All P) (sym (c.loop-fact.invariant.left ∙ ap (λ (fs : List Fact). c.loop-fact.yielded ++ fs) c.in-None.ensures.steps.0))
+    (All-append P c.loop-fact.yielded [] c.loop-fact.invariant.hold (All-nil P))
