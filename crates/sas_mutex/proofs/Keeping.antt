@@ -14,7 +14,8 @@ use Rattle.sas_groups.specs.Families.{IsIn}
 use Rattle.sas_groups.specs.Lists.{known}
 use Rattle.sas_groups.proofs.Effects.{place_of}
 use Rattle.sas_groups.proofs.GreatestFamily.{clash_more}
-use Rattle.sas_mutex.specs.Effects.{family_of, IsKept, NotBoth, EffectKeeps}
+use Rattle.sas_groups.specs.Checks.{NotBoth}
+use Rattle.sas_mutex.specs.Effects.{family_of, IsKept, EffectKeeps}
 use Rattle.sas_mutex.specs.Falling.{MentionsNone}
 use Rattle.sas_mutex.specs.Index.{Mentions}
 

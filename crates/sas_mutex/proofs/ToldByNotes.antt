@@ -16,7 +16,8 @@ use Rattle.sas_groups.specs.Families.{IsIn}
 use Rattle.sas_groups.specs.Lists.{known}
 use Rattle.sas_mutex.specs.declared.index.Index.{Index}
 use Rattle.sas_mutex.specs.declared.marks.Marks.{Marks}
-use Rattle.sas_mutex.specs.Effects.{family_of, IsKept, IsGone}
+use Rattle.sas_groups.specs.Checks.{IsGone}
+use Rattle.sas_mutex.specs.Effects.{family_of, IsKept}
 use Rattle.sas_mutex.specs.Index.{IsIndexOf, HasFact, groups_of}
 use Rattle.sas_mutex.specs.Noting.{value_note, fact_note, HasOtherValue, HasNotedGroup, IsBarred, IsAgainst, IsMet, Removes, SomeRemoves, AreKnown, AreGone}
 use Rattle.sas_mutex.proofs.TaskFacts.{variable_below}

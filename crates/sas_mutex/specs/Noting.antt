@@ -10,7 +10,8 @@ use Rattle.sas_groups.specs.Clashes.{Clash}
 use Rattle.sas_groups.specs.Lists.{known}
 use Rattle.sas_mutex.specs.declared.index.Index.{Index}
 use Rattle.sas_mutex.specs.declared.marks.Marks.{Marks}
-use Rattle.sas_mutex.specs.Effects.{family_of, IsKept, NotBoth, IsGone}
+use Rattle.sas_groups.specs.Checks.{NotBoth, IsGone}
+use Rattle.sas_mutex.specs.Effects.{family_of, IsKept}
 use Rattle.sas_mutex.specs.Index.{IsIndexOf, HasFact, groups_of}
 use Rattle.sas_mutex.specs.Marks.{IsWide, IsNoted}
 

@@ -6,7 +6,8 @@ use Rattle.sas_core.specs.declared.parts.Fact.{Fact}
 use Rattle.sas_core.specs.Grounded.{operator_at, effect_at, group_at}
 use Rattle.sas_groups.specs.Lists.{known}
 use Rattle.sas_groups.proofs.Turns.{each_more}
-use Rattle.sas_mutex.specs.Effects.{IsKept, IsGone}
+use Rattle.sas_groups.specs.Checks.{IsGone}
+use Rattle.sas_mutex.specs.Effects.{IsKept}
 use Rattle.sas_mutex.specs.Noting.{fact_note}
 use Rattle.sas_mutex.proofs.NotesOfFacts.{fact_note_tells}
 use Rattle.sas_mutex.proofs.ToldByNotes.{known_one_is_all}
