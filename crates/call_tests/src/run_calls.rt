@@ -35,6 +35,7 @@ fn request_of(name: &str) -> Request {
         "show" => Request::Show,
         "check" => Request::Check,
         "plan" => Request::Plan,
+        "mutex" => Request::Mutex,
         _ => Request::Steps,
     }
 }
