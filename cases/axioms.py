@@ -127,13 +127,17 @@ def effect_line(facts, var, old, new):
 
 
 def text_of(task):
-    """The file of a task. It has no group; where the task says nothing of them, metric 0, no goal and no operator."""
+    """The file of a task. Where the task says nothing of them: metric 0, no group, no goal and no operator."""
     operators = task.get("operators", [])
     lines = [*section("version", [3]), *section("metric", [task.get("metric", 0)]), len(task["ranges"])]
     for var, (size, layer) in enumerate(zip(task["ranges"], task["layers"])):
         values = [f"Atom v{var}({value})" for value in range(size)]
         lines += section("variable", [f"var{var}", -1 if layer is None else layer, size, *values])
-    lines += [0, *section("state", task["defaults"]), *section("goal", facts_lines(task.get("goal", [])))]
+    groups = task.get("groups", [])
+    lines.append(len(groups))
+    for group in groups:
+        lines += section("mutex_group", facts_lines(group))
+    lines += [*section("state", task["defaults"]), *section("goal", facts_lines(task.get("goal", [])))]
     lines.append(len(operators))
     for name, prevail, effects, cost in operators:
         changes = [effect_line(*effect) for effect in effects]

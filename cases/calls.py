@@ -10,8 +10,8 @@ calls.json: what a call says, in groups of the same call.
     refused      left out, or so many runs are enough to refuse each allocation of the call in turn, in memory.py
     rows         [INPUT, ANSWER]: the bytes that the call is about, and what the program prints
 
-The calls over the files of tasks.json, lines.json, plans.json and verdicts.json are made here, and those over the tasks of
-axioms.py and walks.py. texts.py says what a text is. Each case that fails has a line, and the last line is 'N passed, M
+The calls over the files of tasks.json, lines.json, plans.json, verdicts.json and groups.json are made here, and those over
+the tasks of axioms.py, walks.py and families.py. texts.py says what a text is. Each case that fails has a line, and the last line is 'N passed, M
 failed'. The exit status is 0 where none failed.
 """
 import os
@@ -21,6 +21,7 @@ from concurrent.futures import ThreadPoolExecutor
 
 import report
 from axioms import settled_tasks, spoiled_tasks
+from families import grouped_tasks
 from steps import state_line
 from texts import as_bytes, changed_lines, table
 from walks import walked_calls, walked_plans
@@ -62,7 +63,7 @@ def task_cases():
             for way in ("task", "task-text", "outline"):
                 yield case(f"read-fronts {way}", given, RIGHT, about)
         if len(held) < 600:
-            yield from device_cases("task", ("task", "task-text", "outline"), ("print", "show", "check"), name, held)
+            yield from device_cases("task", ("task", "task-text", "outline"), ("print", "show", "check", "mutex"), name, held)
             yield case("run-broken-fronts plan", held, RIGHT, name)
 
 
@@ -125,6 +126,13 @@ def step_cases():
             yield case(f"steps {way}", [made["calls"], "|", made["task"]], made["answers"], made["name"])
 
 
+def group_cases():
+    """The groups of each task that isn't too long, and of those made at random: the joint verdicts, and each by itself."""
+    for made in (*table("groups.json"), *grouped_tasks()):
+        if len(as_bytes(made["task"])) <= LONGEST:
+            yield case("check-groups", made["task"], made["call"], made["name"])
+
+
 def numbers(values):
     """The values of a state, in a line."""
     return " ".join(map(str, values))
@@ -149,7 +157,7 @@ def layer_cases():
 def cases():
     """All calls."""
     files = (*task_cases(), *line_cases(), *plan_cases(), *verdict_cases())
-    return [*written_cases(), *files, *settled_cases(), *layer_cases(), *step_cases()]
+    return [*written_cases(), *files, *settled_cases(), *layer_cases(), *step_cases(), *group_cases()]
 
 
 def faults(program, call):

@@ -9,12 +9,13 @@ line; that is tried with `print`, and with `check` where the file is small.
 
     file         the file, a path from the top of the repository
     check        what `check` says of it
+    mutex        the lines that `mutex` says of it
     show         the lines of its summary
 
 lines.json: lines of these files, and texts in their place. Rows are [LINE, TEXT, ANSWER]; or each of `texts` stands in
 each of `lines` with the same answer. It is `kept`, where the file is printed as changed; a word, where `print`, `show` and
 `check` refuse it on that line; or the line with the word, as `line 15: keyword`. Behind `kept` may stand the fault of the
-layers for which `check` refuses the task, which is layered where none stands there. `memory` is as below.
+layers for which `check` and `mutex` refuse the task, which is layered where none stands there. `memory` is as below.
 
 plans.json: plan files. Each is given to `steps` twice, as a file and as standard input, and nothing may come on
 standard error. One with `cut_off` ends early wherever it is cut off.
@@ -27,6 +28,14 @@ standard input; those that walks.py makes at random as two files.
     status       the exit status
     initial      the initial state, and
     call         what the call `check_plan` answers; both for calls.py, and left out where a file is refused or too long
+
+groups.json: tasks. Each is given to `mutex` as a file and as standard input, and there with CR LF at the end of each line
+too; those that families.py makes at random, and its larger ones, as standard input.
+
+    task         the file, as a text
+    output       standard output, exactly
+    status       the exit status
+    call         what the call `check-groups` says, for calls.py
 
 program.json: words and devices, by these names.
 
@@ -50,6 +59,7 @@ import tempfile
 from concurrent.futures import ThreadPoolExecutor
 
 import report
+from families import grouped_tasks, long_chains
 from texts import TOP, as_bytes, changed_lines, early_end, table
 from walks import walked_plans
 
@@ -71,17 +81,24 @@ def checked(fault):
     return refused("task", fault) if fault else {"output": "task layered\n", "status": 0}
 
 
+def lines_of(lines):
+    """Lines, each ended by LF."""
+    return "".join(f"{line}\n" for line in lines).encode("latin-1")
+
+
 def task_cases():
     """Each task file: as it stands, with other ends of lines, and cut off."""
     for task in table("tasks.json"):
         name, held = task["file"], as_bytes({"file": task["file"]})
         returns = held.replace(b"\n", b"\r\n")
-        shown = "".join(f"{line}\n" for line in task["show"]).encode("latin-1")
+        shown, groups = lines_of(task["show"]), lines_of(task["mutex"])
         layered = 0 if task["check"] == "task layered" else 1
+        exclusive = 0 if all(line.endswith(" exclusive") for line in task["mutex"]) else 1
         for ends, given in (("LF", held), ("CR LF", returns)):
             yield over_task(f"{name}, printed, with {ends}", "print", given, held, 0)
             yield over_task(f"{name}, shown, with {ends}", "show", given, shown, 0)
             yield over_task(f"{name}, checked, with {ends}", "check", given, f"{task['check']}\n", layered)
+            yield over_task(f"{name}, its groups, with {ends}", "mutex", given, groups, exclusive)
         lines = held.splitlines(keepends=True)
         for number, line in enumerate(lines):
             given = b"".join([*lines[:number], line[:-1] + b"\r\n", *lines[number + 1 :]])
@@ -100,6 +117,8 @@ def line_cases():
         if case["fault"] is None:
             yield over_task(name, "print", task, task, 0, **more)
             yield over_task(f"{name}, check", "check", task, **checked(case["layers"]), **more)
+            if case["layers"]:
+                yield over_task(f"{name}, mutex", "mutex", task, **refused("task", case["layers"]), **more)
             continue
         for request in ("print", "show", "check"):
             yield over_task(f"{name}, {request}", request, task, **refused("task", case["fault"]), **more)
@@ -135,6 +154,17 @@ def verdict_cases():
         yield verdict_case(made, ["t.sas", "-"], files=task, input=made["plan"])
     for made in walked_plans():
         yield verdict_case(made, ["t.sas", "p.txt"], files={"t.sas": made["task"], "p.txt": made["plan"]})
+
+
+def group_cases():
+    """The groups of each task, from a file, and from standard input with either end of lines."""
+    for made in table("groups.json"):
+        name, held, answer = made["name"], as_bytes(made["task"]), {"output": made["output"], "status": made["status"]}
+        yield {"name": f"{name}, mutex of a file", "words": ["mutex", "t.sas"], "files": {"t.sas": held}, **answer}
+        for ends, given in (("LF", held), ("CR LF", held.replace(b"\n", b"\r\n"))):
+            yield over_task(f"{name}, mutex with {ends}", "mutex", given, **answer)
+    for made in (*grouped_tasks(), *long_chains()):
+        yield over_task(made["name"], "mutex", made["task"], made["output"], made["status"])
 
 
 def closed_pipe():
@@ -233,7 +263,7 @@ def main():
         sys.exit(__doc__)
     program = os.path.abspath(sys.argv[1])
     with tempfile.TemporaryDirectory() as plans, tempfile.TemporaryDirectory() as folder:
-        files = (*task_cases(), *line_cases(), *plan_cases(plans), *verdict_cases())
+        files = (*task_cases(), *line_cases(), *plan_cases(plans), *verdict_cases(), *group_cases())
         cases = [*files, *table("program.json")]
         with ThreadPoolExecutor(os.cpu_count()) as pool:
             wrong = list(pool.map(lambda case: faults(program, case, folder), cases))

@@ -13,6 +13,7 @@ mod asked;
 mod axiom_calls;
 mod changes;
 mod core_calls;
+mod group_calls;
 mod limits;
 mod line_calls;
 mod parts_text;
@@ -27,6 +28,7 @@ mod task_calls;
 use asked::{Asked, asked_by};
 use axiom_calls::call_of_axioms;
 use core_calls::call_of_core;
+use group_calls::call_of_groups;
 use limits::call_within_limits;
 use line_calls::{call_of_lines, call_over_devices};
 use plan_calls::call_of_plans;
@@ -46,6 +48,7 @@ fn call<R: AllocGlobal + Print>(rt: &R, asked: &Asked<'_>) -> Result<bool, Alloc
         call_of_core(rt, asked)?
             || call_of_tasks(rt, asked)?
             || call_of_axioms(rt, asked)?
+            || call_of_groups(rt, asked)?
             || call_of_runners(rt, asked)?
             || call_of_plans(rt, asked)?
             || call_of_lines(rt, asked)?

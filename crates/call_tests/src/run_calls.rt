@@ -14,7 +14,8 @@ const ROOM: usize = 8192;
 pub fn call_of_tool<R: AllocGlobal + Print>(rt: &R, asked: &Asked<'_>) -> Result<bool, AllocError> {
     let request = request_of(asked.kind);
     match asked.call {
-        "run" => run_whole(rt, asked.number, request, asked.bytes)?,
+        "run" => run_whole(rt, asked.number, request, asked.bytes, ROOM)?,
+        "run-without-room" => run_whole(rt, asked.number, request, asked.bytes, 0)?,
         "run-broken" => run_broken(rt, request, asked.bytes)?,
         "run-broken-plan" => run_broken_plan(rt, request, asked.bytes)?,
         "run-broken-plan-fronts" => {
@@ -35,6 +36,7 @@ fn request_of(name: &str) -> Request {
         "show" => Request::Show,
         "check" => Request::Check,
         "plan" => Request::Plan,
+        "mutex" => Request::Mutex,
         _ => Request::Steps,
     }
 }
@@ -93,15 +95,17 @@ fn say_answer<P: Print>(out: &P, answer: &Result<Status, ToolFault>, written: &[
     }
 }
 
-/// `run` over these inputs. It could show that it always wants memory, or writes before its answer is whole.
+/// `run` over these inputs, and a writer that then fails behind so many bytes. It could show that it always wants memory,
+/// writes before its answer is whole, or writes where the answer is empty.
 fn run_whole<R: AllocGlobal + Print>(
     rt: &R,
     count: usize,
     request: Request,
     bytes: &[u8],
+    room: usize,
 ) -> Result<(), AllocError> {
     let (task, plan) = inputs(request, bytes);
-    let out = Narrow::new(rt.alloc(), ROOM, ROOM, true)?;
+    let out = Narrow::new(rt.alloc(), ROOM, room, true)?;
     spend(rt.alloc(), count)?;
     let (result, written) = answer_over(rt.alloc(), request, task, plan, out);
     say_answer(rt, &result, written.kept());

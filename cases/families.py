@@ -1,0 +1,253 @@
+"""Mutex groups computed from the meaning of a task, for small tasks made at random from a fixed seed and for two larger ones:
+what `mutex` says of each, and what is said of each group by itself.
+
+A task here is as in walks.py, and has
+
+    groups      lists of facts (VARIABLE, VALUE)
+
+Two facts contradict each other in a family of groups where they are two values of one variable or two facts of one of these
+groups; facts clash where two of them contradict each other. An operator keeps a group if, for any two facts of it on
+different variables, what has to hold for two of its effects that set them clashes; and if, for each of its effects that
+sets one, the other fact clashes with what has to hold for that, or an effect that then fires as well gives its variable
+another value.
+
+A group with a fact on a derived variable is `Derived`, one with two facts of the state section `Initial`. A family of the
+others is kept where each operator keeps each of its groups, facts contradicting each other in the family. Here every family
+is tried; the groups of those that are kept are `Exclusive`, and together they are kept too. Each group beside them is
+`Broken` by the first operator that doesn't keep it in these and itself. By itself a group is judged as if it were the only
+one. No reachable state holds two facts of a group that is exclusive, in either way.
+"""
+import random
+from itertools import chain, combinations
+
+from axioms import any_fact, other_value, random_task, text_of
+from steps import conflict, holds, initial, next_state, preconditions
+from walks import basic_task, random_facts, random_operator
+
+SEED = 7
+TASKS = 300
+MANY = 300
+
+
+def contradict(f, g, family):
+    """Whether two facts contradict each other in the family."""
+    return f != g and (f[0] == g[0] or any(f in group and g in group for group in family))
+
+
+def clash(facts, family):
+    """Whether two of the facts do."""
+    return any(contradict(f, g, family) for f, g in combinations(facts, 2))
+
+
+def setters(operator, fact):
+    """The effects of the operator that set the fact."""
+    return [effect for effect in operator[2] if (effect[1], effect[3]) == fact]
+
+
+def never_both(operator, f, g, family):
+    """Whether effects that set the two facts never fire in one step."""
+    known = preconditions(operator)
+    pairs = ((first, second) for first in setters(operator, f) for second in setters(operator, g))
+    return all(clash([*known, *first[0], *second[0]], family) for first, second in pairs)
+
+
+def gone(operator, f, effect, family):
+    """Whether the fact doesn't hold behind a step in which the effect fires."""
+    known = [*preconditions(operator), *effect[0], f]
+    if clash(known, family):
+        return True
+    return any(var == f[0] and new != f[1] and set(facts) <= set(known) for facts, var, _, new in operator[2])
+
+
+def keeps(operator, group, family):
+    """Whether the operator keeps the group."""
+    pairs = [(f, g) for f in group for g in group if f[0] != g[0]]
+    return all(never_both(operator, f, g, family) for f, g in pairs) and all(
+        gone(operator, f, effect, family) for f, g in pairs for effect in setters(operator, g)
+    )
+
+
+def first_breaking(task, group, family):
+    """The first operator that doesn't keep the group; None where each does."""
+    return next((place for place, one in enumerate(task["operators"]) if not keeps(one, group, family)), None)
+
+
+def are_kept(task, family):
+    """Whether the family is kept."""
+    return all(first_breaking(task, group, family) is None for group in family)
+
+
+def before_operators(task, group):
+    """What is said of a group whatever the operators are, or None."""
+    if any(task["layers"][var] is not None for var, _ in group):
+        return "Derived"
+    if len({fact for fact in group if holds(task["defaults"], [fact])}) > 1:
+        return "Initial"
+    return None
+
+
+def verdict_beside(task, group, family):
+    """The verdict on a group in the family and itself."""
+    operator = first_breaking(task, group, [*family, group])
+    return "Exclusive" if operator is None else f"Broken {{ operator: {operator} }}"
+
+
+def greatest(task, candidates):
+    """The groups, by their places, of all families of these candidates that are kept."""
+    groups = task["groups"]
+    families = chain.from_iterable(combinations(candidates, size) for size in range(1, len(candidates) + 1))
+    kept = {place for family in families if are_kept(task, [groups[place] for place in family]) for place in family}
+    assert are_kept(task, [groups[place] for place in kept])
+    return kept
+
+
+def verdicts(task):
+    """The joint verdicts on the groups, and those on each by itself."""
+    groups = task["groups"]
+    first = [before_operators(task, group) for group in groups]
+    kept = greatest(task, [place for place, verdict in enumerate(first) if verdict is None])
+    family = [groups[place] for place in kept]
+    joint = [verdict or verdict_beside(task, group, family) for verdict, group in zip(first, groups)]
+    return joint, [verdict or verdict_beside(task, group, []) for verdict, group in zip(first, groups)]
+
+
+def reachable(task):
+    """The reachable states."""
+    found, left = set(), [initial(task)]
+    while left:
+        state = left.pop()
+        if tuple(state) in found:
+            continue
+        found.add(tuple(state))
+        able = (one for one in task["operators"] if holds(state, preconditions(one)) and conflict(state, one) is None)
+        left += [next_state(task, state, one) for one in able]
+    return found
+
+
+def is_invariant(states, group):
+    """Whether none of the states holds two facts of the group."""
+    return all(len({fact for fact in group if holds(state, [fact])}) <= 1 for state in states)
+
+
+def random_group(chance, task):
+    """A group, most often of facts on several basic variables of which at most one is of the state section."""
+    while True:
+        group = [any_fact(chance, task) for _ in range(chance.choice((0, 1, 2, 2, 2, 2, 3, 3, 3, 4)))]
+        if chance.random() < 0.1 or before_operators(task, group) is None and len({var for var, _ in group}) > 1:
+            return group
+
+
+def removing(chance, task, f, known):
+    """An effect that may take the fact f away, under one of the facts that are known where f is to go, and most often does."""
+    var, value = f
+    facts = chance.choice(([], [], [f], known[:1], known[-1:], [any_fact(chance, task)]))
+    new = value if chance.random() < 0.1 else other_value(chance, task["ranges"][var], value)
+    return facts, var, chance.choice((-1, -1, -1, value)), new
+
+
+def excluding(chance, task, f, g):
+    """Facts so that a step that sets g doesn't start where f holds: one on its variable, or another one of some group of it.
+    There is none, now and then."""
+    rivals = [fact for group in task["groups"] if f in group for fact in group if fact[0] not in (f[0], g[0])]
+    if rivals and chance.random() < 0.7:
+        return [chance.choice(rivals)]
+    return [(f[0], other_value(chance, task["ranges"][f[0]], f[1]))] if chance.random() < 0.8 else []
+
+
+def random_setting(chance, task):
+    """A group of facts on basic variables with two facts, most often on different ones; none where there is no such group."""
+    groups = [group for group in task["groups"] if all(task["layers"][var] is None for var, _ in group)]
+    groups = [group for group in groups if len(group) > 1]
+    return chance.sample(chance.choice(groups), 2) if groups else None
+
+
+def either_operator(chance, task, f, g):
+    """An operator with an effect for each of these two facts; it asks for facts that may contradict each other."""
+    on, value = any_fact(chance, task)
+    other = chance.choice(((on, other_value(chance, task["ranges"][on], value)), *chain.from_iterable(task["groups"])))
+    first, second = [(on, value), *excluding(chance, task, g, f)], [other, *excluding(chance, task, f, g)]
+    return "go", [], [(first, f[0], -1, f[1]), (second, g[0], -1, g[1])], 1
+
+
+def careful_operator(chance, task, g):
+    """An operator that sets this fact, and most often keeps the groups that it is in."""
+    prevail, conditions, others = random_facts(chance, task, (0, 0, 1)), random_facts(chance, task, (0, 0, 1)), []
+    for f in sorted({f for group in task["groups"] if g in group for f in group if f[0] != g[0]}):
+        if task["layers"][f[0]] is None and chance.random() < 0.35:
+            others.append(removing(chance, task, f, [*prevail, *conditions]))
+        else:
+            chance.choice((prevail, conditions)).extend(excluding(chance, task, f, g))
+    others.insert(chance.randrange(len(others) + 1), (conditions, g[0], -1, g[1]))
+    return "go", prevail, others, 1
+
+
+def group_operator(chance, task):
+    """An operator that sets facts of some group, or any operator."""
+    facts = random_setting(chance, task)
+    if facts is None or chance.random() < 0.15:
+        return random_operator(chance, task)
+    if chance.random() < 0.2:
+        return either_operator(chance, task, *facts)
+    return careful_operator(chance, task, facts[0])
+
+
+def grouped_task(chance):
+    """A task with groups that overlap, and with operators."""
+    while True:
+        task = random_task(chance) if chance.random() < 0.3 else basic_task(chance)
+        if len(task["ranges"]) <= 4:
+            break
+    task["groups"] = [random_group(chance, task) for _ in range(chance.choice((1, 2, 3, 4, 4, 5, 5)))]
+    task["operators"] = [group_operator(chance, task) for _ in range(chance.choice((1, 2, 3, 4, 4, 4)))]
+    return task
+
+
+def chain_of(last):
+    """A task of many groups, each of which rests on the next: the operator that sets its second fact asks for two facts of the
+    next group. For the last of them it asks for these facts."""
+    facts = [[(2 * place, 0), (2 * place + 1, 0)] for place in range(MANY)]
+    return {
+        "ranges": [2] * (2 * MANY),
+        "layers": [None] * (2 * MANY),
+        "defaults": [0, 1] * MANY,
+        "rules": [],
+        "groups": facts,
+        "operators": [("go", needed, [([], group[1][0], -1, 0)], 1) for group, needed in zip(facts, [*facts[1:], last])],
+    }
+
+
+def line_of(place, verdict):
+    """What `mutex` says of a group with this verdict."""
+    words = {"Exclusive": "exclusive", "Derived": "derived", "Initial": "not shown: initial state"}
+    return f"group {place} {words.get(verdict) or 'not shown: operator ' + verdict.split()[3]}\n"
+
+
+def judged(name, task, joint, alone):
+    """The task as a text, with what is said of its groups."""
+    return {
+        "name": name,
+        "task": text_of(task),
+        "output": "".join(line_of(place, verdict) for place, verdict in enumerate(joint)),
+        "status": 0 if set(joint) <= {"Exclusive"} else 1,
+        "call": "".join([*(f"joint {verdict}\n" for verdict in joint), *(f"alone {verdict}\n" for verdict in alone)]),
+    }
+
+
+def grouped_tasks():
+    """Tasks with groups made at random, as texts, each with what is said of the groups."""
+    chance = random.Random(SEED)
+    for number in range(TASKS):
+        task = grouped_task(chance)
+        joint, alone = verdicts(task)
+        states = reachable(task)
+        for group, said in zip(task["groups"], zip(joint, alone)):
+            assert "Exclusive" not in said or is_invariant(states, group)
+        yield judged(f"groups of random task {number}", task, joint, alone)
+
+
+def long_chains():
+    """Two tasks of many groups that rest on one another. In the first one the last group rests on nothing, so that all fall,
+    one after another from the last one on; in the other it rests on the first one, and all stay."""
+    broken = [f"Broken {{ operator: {place} }}" for place in range(MANY)]
+    yield judged("many groups that fall", chain_of([]), broken, broken)
+    yield judged("many groups that stay", chain_of([(0, 0), (1, 0)]), ["Exclusive"] * MANY, broken)
