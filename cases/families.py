@@ -154,10 +154,10 @@ def excluding(chance, task, f, g):
     return [(f[0], other_value(chance, task["ranges"][f[0]], f[1]))] if chance.random() < 0.8 else []
 
 
-def random_setting(chance, task):
-    """A group of facts on basic variables with two facts, most often on different ones; none where there is no such group."""
-    groups = [group for group in task["groups"] if all(task["layers"][var] is None for var, _ in group)]
-    groups = [group for group in groups if len(group) > 1]
+def two_facts(chance, task):
+    """Two facts of some group on basic variables; none where no such group has two."""
+    groups = [group for group in task["groups"] if len(group) > 1]
+    groups = [group for group in groups if all(task["layers"][var] is None for var, _ in group)]
     return chance.sample(chance.choice(groups), 2) if groups else None
 
 
@@ -183,7 +183,7 @@ def careful_operator(chance, task, g):
 
 def group_operator(chance, task):
     """An operator that sets facts of some group, or any operator."""
-    facts = random_setting(chance, task)
+    facts = two_facts(chance, task)
     if facts is None or chance.random() < 0.15:
         return random_operator(chance, task)
     if chance.random() < 0.2:
