@@ -11,8 +11,8 @@ calls.json: what a call says, in groups of the same call.
     rows         [INPUT, ANSWER]: the bytes that the call is about, and what the program prints
 
 The calls over the files of tasks.json, lines.json, plans.json, verdicts.json and groups.json are made here, and those over
-the tasks of axioms.py, walks.py and families.py. texts.py says what a text is. Each case that fails has a line, and the last line is 'N passed, M
-failed'. The exit status is 0 where none failed.
+the tasks of axioms.py, walks.py and families.py. texts.py says what a text is. Each case that fails has a line, and the last
+line is 'N passed, M failed'. The exit status is 0 where none failed.
 """
 import os
 import subprocess
@@ -63,7 +63,8 @@ def task_cases():
             for way in ("task", "task-text", "outline"):
                 yield case(f"read-fronts {way}", given, RIGHT, about)
         if len(held) < 600:
-            yield from device_cases("task", ("task", "task-text", "outline"), ("print", "show", "check", "mutex"), name, held)
+            ways, requests = ("task", "task-text", "outline"), ("print", "show", "check", "mutex")
+            yield from device_cases("task", ways, requests, name, held)
             yield case("run-broken-fronts plan", held, RIGHT, name)
 
 

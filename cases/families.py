@@ -138,7 +138,7 @@ def random_group(chance, task):
 
 
 def removing(chance, task, f, known):
-    """An effect that may take the fact f away, under one of the facts that are known where f is to go, and most often does."""
+    """An effect that most often takes the fact f away, under f, one of the facts that are known, any fact or none."""
     var, value = f
     facts = chance.choice(([], [], [f], known[:1], known[-1:], [any_fact(chance, task)]))
     new = value if chance.random() < 0.1 else other_value(chance, task["ranges"][var], value)
@@ -154,17 +154,18 @@ def excluding(chance, task, f, g):
     return [(f[0], other_value(chance, task["ranges"][f[0]], f[1]))] if chance.random() < 0.8 else []
 
 
-def random_setting(chance, task):
-    """A group of facts on basic variables with two facts, most often on different ones; none where there is no such group."""
-    groups = [group for group in task["groups"] if all(task["layers"][var] is None for var, _ in group)]
-    groups = [group for group in groups if len(group) > 1]
+def two_facts(chance, task):
+    """Two facts of some group on basic variables; none where no such group has two."""
+    groups = [group for group in task["groups"] if len(group) > 1]
+    groups = [group for group in groups if all(task["layers"][var] is None for var, _ in group)]
     return chance.sample(chance.choice(groups), 2) if groups else None
 
 
 def either_operator(chance, task, f, g):
     """An operator with an effect for each of these two facts; it asks for facts that may contradict each other."""
     on, value = any_fact(chance, task)
-    other = chance.choice(((on, other_value(chance, task["ranges"][on], value)), *chain.from_iterable(task["groups"])))
+    changed = (on, other_value(chance, task["ranges"][on], value))
+    other = chance.choice((changed, *chain.from_iterable(task["groups"])))
     first, second = [(on, value), *excluding(chance, task, g, f)], [other, *excluding(chance, task, f, g)]
     return "go", [], [(first, f[0], -1, f[1]), (second, g[0], -1, g[1])], 1
 
@@ -183,7 +184,7 @@ def careful_operator(chance, task, g):
 
 def group_operator(chance, task):
     """An operator that sets facts of some group, or any operator."""
-    facts = random_setting(chance, task)
+    facts = two_facts(chance, task)
     if facts is None or chance.random() < 0.15:
         return random_operator(chance, task)
     if chance.random() < 0.2:
@@ -203,8 +204,8 @@ def grouped_task(chance):
 
 
 def chain_of(last):
-    """A task of many groups, each of which rests on the next: the operator that sets its second fact asks for two facts of the
-    next group. For the last of them it asks for these facts."""
+    """A task of many groups, each of which rests on the next: the operator that sets its second fact asks for both facts of
+    the next group. For the last of them it asks for these facts."""
     facts = [[(2 * place, 0), (2 * place + 1, 0)] for place in range(MANY)]
     return {
         "ranges": [2] * (2 * MANY),
@@ -212,7 +213,9 @@ def chain_of(last):
         "defaults": [0, 1] * MANY,
         "rules": [],
         "groups": facts,
-        "operators": [("go", needed, [([], group[1][0], -1, 0)], 1) for group, needed in zip(facts, [*facts[1:], last])],
+        "operators": [
+            ("go", needed, [([], 2 * place + 1, -1, 0)], 1) for place, needed in enumerate([*facts[1:], last])
+        ],
     }
 
 
