@@ -84,7 +84,7 @@ words_exclusive (Broken operator) e = absurd (apart_at 0 (codes "exclusive") (co
 same_line : (m n : ℕ) (verdict : Verdict) → m < 2 ^ 64 → n < 2 ^ 64 → group_line m verdict ≡ group_line n Exclusive → (m ≡ n) × (verdict ≡ Exclusive)
 same_line m n verdict few_m few_n e =
     let behind : decimal m ++ 32 ∷ verdict_words verdict ≡ decimal n ++ 32 ∷ codes "exclusive" =
-        sym (append_assoc (decimal m) (32 ∷ []) (verdict_words verdict)) ∙ ap (drop 6) e ∙ append_assoc (decimal n) (32 ∷ []) (codes "exclusive") in
+    sym (append_assoc (decimal m) (32 ∷ []) (verdict_words verdict)) ∙ ap (drop 6) e ∙ append_assoc (decimal n) (32 ∷ []) (codes "exclusive") in
     let first = same_first (decimal m) (decimal n) (verdict_words verdict) (codes "exclusive") (NoSpace-decimal m few_m) (NoSpace-decimal n few_n) behind in
     let same : m ≡ n = decimal_injective m n few_m few_n first.0 in
     let here : decimal n ++ 32 ∷ verdict_words verdict ≡ decimal n ++ 32 ∷ codes "exclusive" = ap (λ (x : List ℕ). x ++ 32 ∷ verdict_words verdict) (sym first.0) ∙ behind in
@@ -108,8 +108,8 @@ line_said n place [] few few_place h = absurd (omega (arith, h.1))
 line_said n place (v ∷ verdicts) few few_place h =
     elim (Contains-append_cases (group_line n v ∷ []) (group_lines_from (n + 1) verdicts) (group_line place Exclusive) h) [
       | inl here ↦
-        (let same = same_line n place v (omega arith) few_place (only_item (group_line n v) (group_line place Exclusive) here) in
-        record { behind = 0; is = omega (arith, same.0); exclusive = same.1 })
+          (let same = same_line n place v (omega arith) few_place (only_item (group_line n v) (group_line place Exclusive) here) in
+          record { behind = 0; is = omega (arith, same.0); exclusive = same.1 })
       | inr later ↦ said_later n place v verdicts (line_said (n + 1) place verdicts (omega arith) few_place later)
     ]
 
@@ -127,7 +127,7 @@ read_told p r o e out =
 layered_told : (b : List ℕ) (p : Parts) (o : Output) → Reads task_format b p → IsLayered p → MutexOut b (Some o) → GroupsAnswer p o
 layered_told b p o is layered out =
     let read = text_read task_format task_laws_hold b p out.0 is
-        (λ f e. not_long (codes "task") f o (subst (λ (x : Result Parts Fault). IsAnswerOrRefusal (codes "task") MutexAnswer x (Some o)) e out.2)) out.1 in
+    (λ f e. not_long (codes "task") f o (subst (λ (x : Result Parts Fault). IsAnswerOrRefusal (codes "task") MutexAnswer x (Some o)) e out.2)) out.1 in
     groups_told p o layered (read_told p out.0 o read out.2)
 
 -- the verdicts are of operators of the task, of which a file has few
