@@ -13,3 +13,4 @@ pub mod FallingGroups
 pub mod Counting
 pub mod SetFacts
 pub mod Telling
+pub mod OldValues

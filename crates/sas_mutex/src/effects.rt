@@ -1,5 +1,5 @@
 // Which effects keep a group.
-ghost use Rattle.std.specs.Prelude.{◌≡◌, ◌<◌, ◌≤◌, ◌^◌, ℕ, [], length, IsTrue, IsFalse, All};
+ghost use Rattle.std.specs.Prelude.{◌≡◌, ◌<◌, ◌≤◌, ◌^◌, ℕ, Bool, List, [], length, IsTrue, IsFalse, All};
 ghost use Rattle.sas_core.specs.Grounded.{operator_at, effect_at, group_at};
 ghost use Rattle.sas_core.specs.Variables.{FactExists};
 ghost use Rattle.sas_core.specs.WellRanged.{WellRanged};
@@ -112,8 +112,57 @@ fn not_both<T: Grounded>(
     clash
 }
 
-/// Whether no other fact of the group stays where this effect fires.
+/// Whether no other fact of the group stays where this effect fires. Mostly an old value tells so at once.
 fn removes_others<T: Grounded>(
+    task: &T,
+    index: &Index,
+    kept: &[bool],
+    operator: u32,
+    effect: u32,
+    group: u32,
+    marks: &mut Marks,
+) -> bool
+    requires fit { AreOf (T.says task.now) index.now kept.now marks.old }
+    requires operator { operator < length (T.says task.now).operators }
+    requires effect { effect < length (operator_at (T.says task.now) operator).effects }
+    requires group { IsIn (T.says task.now) (family_of kept.now) group }
+    requires clean { IsClean (T.says task.now) marks.old }
+    ensures clean { IsClean (T.says task.now) marks.new }
+    ensures yes { IsTrue result → AreGone (IsKept (T.says task.now) kept.now) (operator_at (T.says task.now) operator)
+        (group_at (T.says task.now) group) (effect_at (operator_at (T.says task.now) operator) effect) }
+    ensures no { IsFalse result → AreGone (IsKept (T.says task.now) kept.now) (operator_at (T.says task.now) operator)
+        (group_at (T.says task.now) group) (effect_at (operator_at (T.says task.now) operator) effect) → ⊥ }
+{
+    asks_one_of(task, index, operator, effect, group)
+        || removes_by_notes(task, index, kept, operator, effect, group, marks)
+}
+
+/// Whether the effect asks for an old value that is a fact of the group. Then no other fact of the group can have held, on
+/// another variable.
+fn asks_one_of<T: Grounded>(task: &T, index: &Index, operator: u32, effect: u32, group: u32) -> bool
+    requires ranged { WellRanged (T.says task.now) }
+    requires index { IsIndexOf (T.says task.now) index.now }
+    requires operator { operator < length (T.says task.now).operators }
+    requires effect { effect < length (operator_at (T.says task.now) operator).effects }
+    ensures { IsTrue result → (kept : List Bool) → IsIn (T.says task.now) (family_of kept) group
+        → AreGone (IsKept (T.says task.now) kept) (operator_at (T.says task.now) operator)
+        (group_at (T.says task.now) group) (effect_at (operator_at (T.says task.now) operator) effect) }
+{
+    let change = task.effect_change(operator, effect);
+    match change.old {
+        Some(value) => {
+            let old = Fact {
+                var: change.var,
+                value,
+            };
+            index.has(group, old)
+        }
+        None => false,
+    }
+}
+
+/// Whether no other fact of the group stays where this effect fires, by what is known there.
+fn removes_by_notes<T: Grounded>(
     task: &T,
     index: &Index,
     kept: &[bool],

@@ -7,8 +7,8 @@ use Rattle.sas_groups.specs.Clashes.{Clash}
 use Rattle.sas_groups.specs.Lists.{known}
 use Rattle.sas_mutex.specs.Effects.{IsKept}
 use Rattle.sas_mutex.proofs.ToldByNotes.{clash_stays}
-use Rattle.sas_mutex.proofs.effects.removes_others.Goals as goal
-use Rattle.sas_mutex.proofs.effects.removes_others.Goals.{then-note_known, else-note_known}
+use Rattle.sas_mutex.proofs.effects.removes_by_notes.Goals as goal
+use Rattle.sas_mutex.proofs.effects.removes_by_notes.Goals.{then-note_known, else-note_known}
 
 pub returns-clause-yes : goal.returns-clause-yes
 returns-clause-yes g c =

@@ -1,0 +1,52 @@
+-- Where an effect asks for an old value that is a fact of a group, no other fact of the group can have held.
+use Rattle.std.proofs.Common.{◌≡◌, ℕ, ◌<◌, length, List, [], ◌++◌, Bool, Option, None, Some, subst, refl, sym, ap, ◌∙◌, arith}
+use Rattle.std.specs.List.{Contains, filter_map}
+use Rattle.std.specs.Option.{option_to_list}
+use Rattle.std.proofs.lemmas.List.Elements.{Contains-append_left, Contains-append_right, Contains-get_or, All-contains}
+use Rattle.sas_core.specs.declared.grounded.Change.{Change}
+use Rattle.sas_core.specs.declared.parts.Fact.{Fact}
+use Rattle.sas_core.specs.declared.parts.Effect.{Effect}
+use Rattle.sas_core.specs.declared.parts.Operator.{Operator}
+use Rattle.sas_core.specs.declared.parts.Parts.{Parts}
+use Rattle.sas_core.specs.Grounded.{operator_at, effect_at, group_at, effect_change}
+use Rattle.sas_core.specs.Variables.{FactExists}
+use Rattle.sas_core.specs.WellRanged.{WellRanged}
+use Rattle.sas_meaning.specs.Steps.{old_fact, preconditions}
+use Rattle.sas_groups.specs.Families.{IsIn}
+use Rattle.sas_groups.specs.Lists.{known}
+use Rattle.sas_mutex.specs.declared.index.Index.{Index}
+use Rattle.sas_mutex.specs.Effects.{family_of, IsKept}
+use Rattle.sas_mutex.specs.Index.{IsIndexOf, groups_of}
+use Rattle.sas_mutex.specs.Noting.{AreGone}
+use Rattle.sas_mutex.proofs.Lists.{in_flat, given_is}
+use Rattle.sas_mutex.proofs.TaskFacts.{conditions_exist, known_exist}
+use Rattle.sas_mutex.proofs.ToldByNotes.{known_one_is_all}
+
+-- the old value that an effect asks for is a precondition
+old_is_known : (o : Operator) (effect : ℕ) (fact : Fact) → effect < length o.effects → old_fact (effect_at o effect) ≡ Some fact → Contains (preconditions o) fact
+old_is_known o effect fact below is = Contains-append_right o.prevail (filter_map old_fact o.effects) fact
+    (subst (λ (facts : List Fact). Contains facts fact) (sym (given_is old_fact o.effects))
+    (in_flat (λ (e : Effect). option_to_list (old_fact e)) o.effects (effect_at o effect) fact (Contains-get_or o.effects effect _ below)
+    (subst (λ (old : Option Fact). Contains (option_to_list old) fact) (sym is) (0, omega arith, refl))))
+
+asked_is : (e : Effect) (value : ℕ) → e.old ≡ Some value → old_fact e ≡ Some (record { var = e.var; value = value })
+asked_is e value is = rw is refl
+
+pub old_one_is_all : (p : Parts) (index : Index) (operator effect place value : ℕ) (change : Change) → WellRanged p → IsIndexOf p index
+    → operator < length p.operators → effect < length (operator_at p operator).effects
+    → change ≡ effect_change (effect_at (operator_at p operator) effect) → change.old ≡ Some value
+    → Contains (groups_of index (record { var = change.var; value = value })) place
+    → (kept : List Bool) → IsIn p (family_of kept) place
+    → AreGone (IsKept p kept) (operator_at p operator) (group_at p place) (effect_at (operator_at p operator) effect)
+old_one_is_all p index operator effect place value change ranged indexed below_o below_e changes asks has kept in_family =
+    let o = operator_at p operator in
+    let e = effect_at o effect in
+    let h : Fact = record { var = e.var; value = value } in
+    let asked = asked_is e value (sym (ap (λ (c : Change). c.old) changes) ∙ asks) in
+    let first = old_is_known o effect h below_e asked in
+    let known_h = Contains-append_left (preconditions o ++ e.conditions) [] h (Contains-append_left (preconditions o) e.conditions h first) in
+    let conditions = conditions_exist p ranged operator below_o effect below_e in
+    let exists = All-contains (FactExists p.variables) (known o e.conditions e.conditions) h (known_exist p ranged operator below_o e.conditions e.conditions conditions conditions)
+    (Contains-append_left (preconditions o ++ e.conditions) e.conditions h (Contains-append_left (preconditions o) e.conditions h first)) in
+    let there = subst (λ (var : ℕ). Contains (groups_of index (record { var = var; value = value })) place) (ap (λ (c : Change). c.var) changes) has in
+    known_one_is_all p kept o place e h in_family known_h ((indexed.groups h exists place).0 there).among (λ on_other. absurd (on_other refl))
