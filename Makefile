@@ -1,13 +1,14 @@
 # make        proves what the program needs, as much as can be side by side, and builds it: the executable is ./sas
 # make test   the whole gate: every proof from nothing, the edits that must fail, and the cases over the programs that the
 #             gate built; the last line is 'N passed, M failed', and the exit status is 0 exactly if M is 0
-# make clean  removes what was built
+# make bench  measures ./sas over inputs of a fiftieth of the size, in a minute; docs/BENCHMARK.md says how to measure in full
+# make clean  removes what was built, and the inputs of `make bench`
 #
 # `rt`, the command of the toolchain, has to be on the PATH, and python3. JOBS is how many crates are proved at a time.
 
 JOBS ?= $(shell nproc)
 
-.PHONY: program test clean
+.PHONY: program test bench clean
 
 program:
 	cd crates/sas && rt all check --jobs $(JOBS) && rt run < stdin > /dev/null
@@ -16,5 +17,9 @@ program:
 test:
 	@python3 cases/gate.py
 
+bench:
+	@test -x sas || { echo "there is no ./sas yet; make builds it"; exit 1; }
+	@python3 bench/run.py ./sas bench/out --scale 0.02 --rounds 3
+
 clean:
-	rm -rf crates/*/out sas
+	rm -rf crates/*/out bench/out sas

@@ -1,0 +1,43 @@
+"""What is measured: which request over which input.
+
+A size is a number of a unit that the domain knows (its UNITS). A scale multiplies it, and the steps too where the case
+says so; so the bytes of the inputs grow with the scale, and what a case costs should grow as they do. Counting is slow
+and takes a small scale; `enlarged` is by how much it takes more of a case whose inputs are small already.
+"""
+from collections import namedtuple
+
+Case = namedtuple("Case", "name request domain size unit steps more_steps enlarged", defaults=[None, False, 1])
+
+CASES = [
+    Case("steps, 1M steps", "steps", "gripper", 100000, "operators", 1000000, True, 4),
+    Case("print gripper, 200 MB", "print", "gripper", 200, "MB"),
+    Case("show blocks, 200 MB", "show", "blocks", 200, "MB"),
+    Case("check gripper, 200 MB", "check", "gripper", 200, "MB"),
+    Case("check power, 30 MB", "check", "power", 30, "MB", enlarged=5),
+    Case("plan gripper, 100k operators, 1M steps", "plan", "gripper", 100000, "operators", 1000000, True, 4),
+    Case("plan blocks, 20k operators, 1M steps", "plan", "blocks", 20000, "operators", 1000000, True, 8),
+    # a step costs what the rules cost, so the steps stay as they are
+    Case("plan power, 100k rules, 400 steps", "plan", "power", 100000, "rules", 400, enlarged=2),
+    Case("mutex gripper, 2000 groups", "mutex", "gripper", 2000, "groups", enlarged=25),
+    Case("mutex blocks, 20 MB", "mutex", "blocks", 20, "MB", enlarged=5),
+]
+
+
+def chosen(text):
+    """The cases with this text in their name."""
+    return [case for case in CASES if text in case.name]
+
+
+def wanted_size(case, scale):
+    return case.size * scale
+
+
+def wanted_steps(case, scale):
+    """How many steps the plan shall have; None where the request reads no plan."""
+    return max(1, int(case.steps * scale)) if case.more_steps else case.steps
+
+
+def files_of(case, made):
+    """The files that the request reads, in the order of its words."""
+    reads = {"steps": [made.plan], "plan": [made.task, made.plan]}
+    return reads.get(case.request, [made.task])

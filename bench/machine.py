@@ -1,0 +1,50 @@
+"""When and where a measurement was made, as lines that go with it."""
+import hashlib
+import os
+import platform
+import shutil
+import sys
+import time
+
+
+def cpu_model():
+    """What the system calls the processor, as far as it tells."""
+    try:
+        with open("/proc/cpuinfo") as file:
+            models = [line.split(":", 1)[1].strip() for line in file if line.startswith("model name")]
+    except OSError:
+        models = []
+    return models[0] if models else platform.processor() or platform.machine()
+
+
+def load():
+    """How many processes ran or waited to run, on average over 1, 5 and 15 minutes."""
+    return "load %.2f %.2f %.2f" % os.getloadavg()
+
+
+def told_program(path):
+    """A program and a checksum of its file, which tells one build from another."""
+    found = shutil.which(path)
+    if not found:
+        sys.exit("there is no program %s" % path)
+    with open(found, "rb") as file:
+        return "%s (sha256 %s..)" % (path, hashlib.sha256(file.read()).hexdigest()[:12])
+
+
+def header(program, beside):
+    """The lines in front of a table."""
+    yield "Date: " + time.strftime("%Y-%m-%d %H:%M:%S UTC", time.gmtime())
+    yield "Machine: %s, %d cores, %s %s" % (cpu_model(), os.cpu_count(), platform.system(), platform.release())
+    yield "Program: " + told_program(program)
+    if beside:
+        yield "Beside: " + told_program(beside)
+    yield "Before: " + load()
+
+
+def row(cells):
+    """A row of a table, as Markdown writes it."""
+    return "| " + " | ".join(cells) + " |"
+
+
+def table_head(cells):
+    return row(cells) + "\n" + "|" + "---|" * len(cells)

@@ -1,0 +1,162 @@
+"""A power net with derived variables: which buses are fed follows, by rules, from which switches are closed.
+
+The net is a long ladder of two rows of buses. Each line, along a row or across, has a switch; the main line ties the
+first bus to the source. Current flows both ways, so the rules go in rings everywhere:
+
+    layer 0     fed(BUS)        where a closed line ties it to the source or to a fed bus
+    layer 1     dark(DISTRICT)  where its last bus isn't fed, a district being about a hundred columns
+    layer 2     blackout()      where a district is dark
+
+The main switch and the one of the last line are open at first, the others closed. The goal is that there is no
+blackout. The rules stand from the far end on, so that whoever goes through them in turn feeds about one column a round.
+
+With n columns it has 3 n - 1 lines, an operator to open and one to close each of them, and about 6 n rules.
+"""
+from collections import deque
+
+from mixing import mixed
+
+MAIN = 0
+CLOSED, OPEN = 0, 1
+DISTRICT = 100
+
+
+class Power:
+    """The task with a ladder of so many columns."""
+
+    # for each unit of size, how many columns that makes; bytes by what a column takes in a file of 30 MB
+    UNITS = {
+        "columns": lambda columns: columns,
+        "MB": lambda megabytes: megabytes * 1e6 / 1171,
+        "rules": lambda rules: rules / 6.02,
+        "operators": lambda operators: operators / 6,
+    }
+    LEAST = 2
+
+    def __init__(self, columns):
+        self.objects = columns
+        self.lines = lines_of_ladder(columns)
+        self.buses = 2 * columns
+        self.districts = max(1, columns // DISTRICT)
+
+    def counts(self):
+        lines = len(self.lines)
+        return {
+            "variables": lines + self.buses + self.districts + 1,
+            "groups": 0,
+            "operators": 2 * lines,
+            "rules": 1 + 2 * (lines - 1) + 2 * self.districts,
+        }
+
+    def fed(self, bus):
+        return len(self.lines) + bus
+
+    def dark(self, district):
+        return len(self.lines) + self.buses + district
+
+    def blackout(self):
+        return len(self.lines) + self.buses + self.districts
+
+    def last_bus(self, district):
+        """The bus of the upper row where a district ends."""
+        return 2 * ((district + 1) * self.objects // self.districts - 1)
+
+    def variables(self):
+        yield from (both(-1, "closed(line%d)" % line) for line in range(len(self.lines)))
+        yield from (both(0, "fed(bus%d)" % bus) for bus in range(self.buses))
+        yield from (both(1, "dark(district%d)" % district) for district in range(self.districts))
+        yield both(2, "blackout()")
+
+    def groups(self):
+        return []
+
+    def initial(self):
+        switches = [OPEN] + [CLOSED] * (len(self.lines) - 2) + [OPEN]
+        return switches + [1] * (self.buses + self.districts + 1)
+
+    def goal(self):
+        return [(self.blackout(), 1)]
+
+    def operators(self):
+        """Sorted by their first word."""
+        for line in range(len(self.lines)):
+            yield close_switch(line), [], [(line, OPEN, CLOSED)]
+        for line in range(len(self.lines)):
+            yield open_switch(line), [], [(line, CLOSED, OPEN)]
+
+    def rules(self):
+        """Each sets its variable from 1, the default of all of them, to 0."""
+        for line, (bus, other) in reversed(list(enumerate(self.lines))):
+            if line == MAIN:
+                yield [(MAIN, CLOSED)], (self.fed(other), 1, 0)
+            else:
+                yield [(line, CLOSED), (self.fed(other), 0)], (self.fed(bus), 1, 0)
+                yield [(line, CLOSED), (self.fed(bus), 0)], (self.fed(other), 1, 0)
+        for district in range(self.districts):
+            yield [(self.fed(self.last_bus(district)), 1)], (self.dark(district), 1, 0)
+        for district in range(self.districts):
+            yield [(self.dark(district), 0)], (self.blackout(), 1, 0)
+
+    def plan(self, steps):
+        """A plan of that many steps, at least one.
+
+        After the main switch is closed, one line after the other is opened and closed again; the rings keep the net
+        fed. The last line's switch is closed first where the number is even.
+        """
+        closed = [value == CLOSED for value in self.initial()[:len(self.lines)]]
+        if steps > 0 and steps % 2 == 0:
+            yield switched(closed, len(closed) - 1)
+        yield switched(closed, MAIN)
+        for line in self.maintained(max(0, steps - 1) // 2):
+            yield switched(closed, line)
+            yield switched(closed, line)
+        assert len(self.fed_buses(closed)) == self.buses
+
+    def maintained(self, many):
+        """So many lines, in mixed order, without the main line and the last one."""
+        lines = mixed(range(1, len(self.lines) - 1), 1)
+        return (lines[place % len(lines)] for place in range(many))
+
+    def fed_buses(self, closed):
+        """The buses that are fed with these switches closed, by going from bus to bus."""
+        ties = {bus: [] for bus in range(self.buses)}
+        for line, (bus, other) in enumerate(self.lines):
+            if closed[line] and line != MAIN:
+                ties[bus].append(other)
+                ties[other].append(bus)
+        fed = {0} if closed[MAIN] else set()
+        waiting = deque(fed)
+        while waiting:
+            new = [bus for bus in ties[waiting.popleft()] if bus not in fed]
+            fed.update(new)
+            waiting.extend(new)
+        return fed
+
+
+def lines_of_ladder(columns):
+    """The two buses of each line, column after column: 2 k and 2 k + 1 are column k. The main line has bus 0 alone."""
+    lines = [(None, 0)]
+    for upper in range(0, 2 * columns, 2):
+        if upper > 0:
+            lines += [(upper - 2, upper), (upper - 1, upper + 1)]
+        lines.append((upper, upper + 1))
+    return lines
+
+
+def both(layer, atom):
+    """A variable that says whether an atom holds."""
+    return layer, ["Atom " + atom, "NegatedAtom " + atom]
+
+
+def close_switch(line):
+    return "close-switch line%d" % line
+
+
+def open_switch(line):
+    return "open-switch line%d" % line
+
+
+def switched(closed, line):
+    """Turns a switch; the name of that step."""
+    closed[line] = not closed[line]
+    return close_switch(line) if closed[line] else open_switch(line)

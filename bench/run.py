@@ -1,0 +1,177 @@
+#!/usr/bin/env python3
+"""Measures how long ./sas takes and how much memory, over inputs that are made in FOLDER if they aren't there.
+
+    bench/run.py ./sas FOLDER [--beside PROGRAM] [--rounds R] [--only TEXT] [--scale F] [--limit S]
+
+For each case of cases.py it tells the size of the input, the best wall time of R rounds, MB a second at that, the peak
+memory of the process, and as floors the best times of `cat` and `wc -l` over the same files. PROGRAM takes the same
+words, an older build for example; it runs in turn with ./sas, and for times and memory ./sas / PROGRAM is told.
+
+In front of the rounds each program runs once to be compared with the answer that is due (answers.py); by then the input
+is in the cache of the system. A run past S seconds is stopped; a program that is stopped there isn't run in the rounds.
+"""
+import argparse
+import os
+import signal
+import subprocess
+import sys
+from collections import namedtuple
+
+import machine
+from answers import digest, expected_digest
+from cases import chosen, files_of
+from make import case_input
+
+LAUNCH = os.path.join(os.path.dirname(os.path.abspath(__file__)), "launch.py")
+PIECE = 1 << 20
+
+# seconds, peak (in MB) and status are None where the command was stopped, output where nothing looked at it
+Run = namedtuple("Run", "seconds peak status output")
+Best = namedtuple("Best", "seconds peak")
+NOTHING = Best(None, None)
+
+
+def launcher(command, report, stdout):
+    """Starts the command under launch.py, in a session of its own, so that both can be stopped together."""
+    return subprocess.Popen([sys.executable, "-I", "-S", LAUNCH, str(report), *command], stdin=subprocess.DEVNULL,
+                            stdout=stdout, pass_fds=[report], start_new_session=True)
+
+
+def stop(process):
+    """Ends a launcher that isn't waited for yet, and its command."""
+    os.killpg(process.pid, signal.SIGKILL)
+
+
+def finish(process, limit):
+    """Waits for a launcher, no longer than the limit; the digest of its output, where it has one to read."""
+    # an alarm, since there are two places to wait in
+    signal.signal(signal.SIGALRM, lambda *_: stop(process))
+    signal.alarm(limit)
+    output = None
+    if process.stdout:
+        with process.stdout:
+            output = digest(iter(lambda: process.stdout.read(PIECE), b""))
+    # looks without taking the process away, so that the alarm never ends another that has its number
+    os.waitid(os.P_PID, process.pid, os.WEXITED | os.WNOWAIT)
+    signal.alarm(0)
+    return output
+
+
+def measured(command, limit, compared=False):
+    """One run of a command; its output is thrown away, or made into a digest to compare it by."""
+    source, report = os.pipe()
+    process = launcher(command, report, subprocess.PIPE if compared else subprocess.DEVNULL)
+    os.close(report)
+    try:
+        output = finish(process, limit)
+    except BaseException:
+        stop(process)
+        raise
+    finally:
+        process.wait()
+    with open(source) as file:
+        told = file.read().split()
+    if not told:
+        return Run(None, None, None, output)
+    return Run(float(told[0]), int(told[1]) * 1024 / 1e6, int(told[2]), output)
+
+
+def commands_of(given, case, files):
+    """What runs in turn in each round, under a name."""
+    commands = {"sas": [given.sas, case.request, *files]}
+    if given.beside:
+        commands["beside"] = [given.beside, case.request, *files]
+    commands["cat"] = ["cat", *files]
+    commands["wc"] = ["wc", "-l", *files]
+    return commands
+
+
+def best_runs(commands, rounds, limit, stopped):
+    """Of each command the best time and the most memory of its runs to the end; those named `stopped` aren't run."""
+    runs = {name: [] for name in commands}
+    for turn in range(rounds):
+        # every other round backwards, so that none is always behind the same one
+        for name in list(commands)[::-1 if turn % 2 else 1]:
+            if name not in stopped:
+                runs[name].append(measured(commands[name], limit))
+    whole = {name: [run for run in told if run.status is not None] for name, told in runs.items()}
+    return {name: Best(min(run.seconds for run in told), max(run.peak for run in told)) if told else NOTHING
+            for name, told in whole.items()}
+
+
+def word_of(run, due, limit):
+    """How a run compares with the answer that is due."""
+    if run.status is None:
+        return "stopped after %d s" % limit
+    if run.status != 0:
+        return "WRONG: status %d" % run.status
+    return "right" if run.output == due else "WRONG"
+
+
+def compared_words(firsts, due, limit):
+    """What the answers were like, and those of both programs beside each other."""
+    words = [word_of(firsts["sas"], due, limit)]
+    if "beside" in firsts:
+        mine, other = firsts["sas"], firsts["beside"]
+        words.append("same" if (mine.status, mine.output) == (other.status, other.output) else
+                     "DIFFERENT: " + word_of(other, due, limit))
+    return words
+
+
+def cell(form, value):
+    return "-" if value is None else form % value
+
+
+def ratio(mine, other):
+    return None if mine is None or other is None else mine / other
+
+
+def heads(beside):
+    cells = ["Case", "MB", "s", "MB/s", "peak MB", "`cat` s", "`wc -l` s", "answer"]
+    return cells + ["beside s", "time ratio", "beside peak MB", "memory ratio", "answers"] if beside else cells
+
+
+def case_row(given, case):
+    """Measures a case; its row of the table."""
+    made = case_input(given.folder, case, given.scale)
+    files = files_of(case, made)
+    commands = commands_of(given, case, files)
+    firsts = {name: measured(commands[name], given.limit, True) for name in commands if name in ("sas", "beside")}
+    words = compared_words(firsts, expected_digest(case.request, made), given.limit)
+    stopped = [name for name, run in firsts.items() if run.status is None]
+    best = best_runs(commands, given.rounds, given.limit, stopped)
+    size = sum(map(os.path.getsize, files)) / 1e6
+    mine, other = best["sas"], best.get("beside", NOTHING)
+    cells = [case.name, "%.1f" % size, cell("%.3f", mine.seconds), cell("%.0f", ratio(size, mine.seconds)),
+             cell("%.1f", mine.peak), *(cell("%.3f", best[name].seconds) for name in ("cat", "wc")), words[0]]
+    if given.beside:
+        cells += [cell("%.3f", other.seconds), cell("%.2f", ratio(mine.seconds, other.seconds)),
+                  cell("%.1f", other.peak), cell("%.2f", ratio(mine.peak, other.peak)), words[1]]
+    return cells
+
+
+def read_words():
+    words = argparse.ArgumentParser(description=__doc__, formatter_class=argparse.RawDescriptionHelpFormatter)
+    words.add_argument("sas")
+    words.add_argument("folder")
+    words.add_argument("--beside", metavar="PROGRAM")
+    words.add_argument("--rounds", type=int, default=7)
+    words.add_argument("--only", default="", metavar="TEXT")
+    words.add_argument("--scale", type=float, default=1, metavar="F")
+    words.add_argument("--limit", type=int, default=600, metavar="S")
+    return words.parse_args()
+
+
+def main():
+    given = read_words()
+    floor = measured(["true"], given.limit)
+    print("\n".join(machine.header(given.sas, given.beside)))
+    print("Best of %d rounds at scale %g; memory below some %.0f MB can't be told" % (
+        given.rounds, given.scale, floor.peak), flush=True)
+    print("\n" + machine.table_head(heads(given.beside)), flush=True)
+    for case in chosen(given.only):
+        print(machine.row(case_row(given, case)), flush=True)
+    print("\nAfter: " + machine.load())
+
+
+main()

@@ -1,0 +1,81 @@
+"""The text of a task file (`output.sas`, version 3), section by section, as the translator of Fast Downward writes it.
+
+A domain is an object with these members. Facts are pairs (VARIABLE, VALUE), and an effect is (VARIABLE, OLD, NEW),
+where -1 is no old value. Everything is under metric 0, so each operator's cost line is 1.
+
+    objects                 how many things its size counts
+    counts()                how many `variables`, `groups`, `operators` and `rules` it has
+    variables()             of each variable its layer (-1 for none) and the names of its values
+    groups()                the facts of each mutex group
+    initial()               the value of each variable
+    goal()                  facts
+    operators()             of each operator its name, the facts of its prevail conditions, and its effects
+    rules()                 of each rule its conditions and its effect
+    plan(steps)             the names of the steps of a plan that reaches the goal, see the domain for how many
+"""
+
+HEAD = "begin_version\n3\nend_version\nbegin_metric\n0\nend_metric\n"
+
+
+def fact_lines(facts):
+    """How many facts, and a line for each."""
+    return "%d\n" % len(facts) + "".join(["%d %d\n" % fact for fact in facts])
+
+
+def variable_text(place, variable):
+    layer, names = variable
+    return "begin_variable\nvar%d\n%d\n%d\n%s\nend_variable\n" % (place, layer, len(names), "\n".join(names))
+
+
+def group_text(_, facts):
+    return "begin_mutex_group\n" + fact_lines(facts) + "end_mutex_group\n"
+
+
+def operator_text(_, operator):
+    name, conditions, effects = operator
+    lines = "".join(["0 %d %d %d\n" % effect for effect in effects])
+    return "begin_operator\n%s\n%s%d\n%s1\nend_operator\n" % (name, fact_lines(conditions), len(effects), lines)
+
+
+def rule_text(_, rule):
+    conditions, effect = rule
+    return "begin_rule\n%s%d %d %d\nend_rule\n" % (fact_lines(conditions), *effect)
+
+
+def state_text(values):
+    return "begin_state\n" + "".join(["%d\n" % value for value in values]) + "end_state\n"
+
+
+def goal_text(facts):
+    return "begin_goal\n" + fact_lines(facts) + "end_goal\n"
+
+
+def listed(count, items, text):
+    """A count and the text of each item, piece by piece; the count has to be theirs."""
+    yield "%d\n" % count
+    seen = 0
+    for place, item in enumerate(items):
+        yield text(place, item)
+        seen += 1
+    assert seen == count, (seen, count)
+
+
+def task_pieces(domain):
+    """The text of the task of a domain, piece by piece."""
+    counts = domain.counts()
+    yield HEAD
+    yield from listed(counts["variables"], domain.variables(), variable_text)
+    yield from listed(counts["groups"], domain.groups(), group_text)
+    yield state_text(domain.initial())
+    yield goal_text(domain.goal())
+    yield from listed(counts["operators"], domain.operators(), operator_text)
+    yield from listed(counts["rules"], domain.rules(), rule_text)
+
+
+def plan_pieces(steps):
+    """The text of a plan of these steps, under unit cost."""
+    count = 0
+    for step in steps:
+        yield "(%s)\n" % step
+        count += 1
+    yield "; cost = %d (unit cost)\n" % count
