@@ -145,3 +145,12 @@ IsSingle Counts o group e = (other : ℕ) → other < length o.effects → NotBo
 -- no other fact of the group stays where the effect fires
 abbrev pub AreGone : (List Fact → Type 0) → Operator → List Fact → Effect → Type 0
 AreGone Counts o group e = (f : Fact) → Contains group f → IsGone Counts o e f
+
+-- the fact isn't known where the effect fires
+abbrev pub IsUnknown : Operator → Effect → Fact → Type 0
+IsUnknown o e fact = Contains (known o e.conditions []) fact → ⊥
+
+-- the first of the facts, if there is one, is on the effect's variable, or a value is noted for its variable
+abbrev pub IsSettled : Effect → List Fact → Marks → Type 0
+IsSettled e facts marks = (first : Fact) (d : Fact) → 0 < length facts → slice_index_or facts 0 d ≡ first
+    → (e.var ≡ first.var) ⊎ (value_note marks.values first.var ≢ None)

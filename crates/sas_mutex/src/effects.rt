@@ -10,7 +10,8 @@ ghost use Rattle.sas_mutex.specs.Effects.{family_of, IsKept, EffectKeeps};
 ghost use Rattle.sas_mutex.specs.Index.{IsIndexOf, groups_of};
 ghost use Rattle.sas_mutex.specs.Marks.{IsWide, IsClean};
 ghost use Rattle.sas_mutex.specs.Noting.{AreBelow, HasNotedGroup, IsAgainst, IsMet, SomeRemoves, Removes};
-ghost use Rattle.sas_mutex.specs.Noting.{AreOf, AreKnown, IsSingle, AreGone};
+ghost use Rattle.sas_mutex.specs.Noting.{AreOf, AreKnown, IsSingle, AreGone, IsUnknown, IsSettled};
+ghost use Rattle.sas_mutex.specs.Runs.{AreOnOne};
 
 use crate::index::Index;
 use crate::marks::{Marks, forget_known, note_known};
@@ -214,12 +215,73 @@ fn none_stays<T: Grounded>(
     if let Some(fact) = marks.facts.as_slice()[group as usize] {
         return is_gone(task, index, kept, operator, effect, fact, marks);
     }
-    for fact in task.group(group) {
+    let mut left = task.group(group);
+    for length in index.runs.as_slice()[group as usize].as_slice() {
+        let (run, rest) = left.split_at(*length as usize);
+        if !run_is_gone(task, index, kept, operator, effect, run, marks) {
+            return false;
+        }
+        left = rest;
+    }
+    true
+}
+
+/// Whether none of the facts stays, which are on one variable, and of which none is known. If that is the effect's variable,
+/// or another value of it is known, that is told at once.
+fn run_is_gone<T: Grounded>(
+    task: &T,
+    index: &Index,
+    kept: &[bool],
+    operator: u32,
+    effect: u32,
+    run: &[Fact],
+    marks: &Marks,
+) -> bool
+    requires fit { AreOf (T.says task.now) index.now kept.now marks.now }
+    requires operator { operator < length (T.says task.now).operators }
+    requires effect { effect < length (operator_at (T.says task.now) operator).effects }
+    requires exist { All (FactExists (T.says task.now).variables) run.now }
+    requires one { AreOnOne run.now }
+    requires unknown { All (IsUnknown (operator_at (T.says task.now) operator)
+        (effect_at (operator_at (T.says task.now) operator) effect)) run.now }
+    requires known { AreKnown (T.says task.now) kept.now (known (operator_at (T.says task.now) operator)
+        (effect_at (operator_at (T.says task.now) operator) effect).conditions []) marks.now }
+    ensures yes { IsTrue result → All (IsGone (IsKept (T.says task.now) kept.now) (operator_at (T.says task.now) operator)
+        (effect_at (operator_at (T.says task.now) operator) effect)) run.now }
+    ensures no { IsFalse result → All (IsGone (IsKept (T.says task.now) kept.now) (operator_at (T.says task.now) operator)
+        (effect_at (operator_at (T.says task.now) operator) effect)) run.now → ⊥ }
+{
+    if is_settled(task, operator, effect, run, marks) {
+        return true;
+    }
+    for fact in run {
         if !is_gone(task, index, kept, operator, effect, *fact, marks) {
             return false;
         }
     }
     true
+}
+
+/// Whether the first of the facts is on the effect's variable, or a value of its variable is known.
+fn is_settled<T: Grounded>(
+    task: &T,
+    operator: u32,
+    effect: u32,
+    run: &[Fact],
+    marks: &Marks,
+) -> bool
+    requires operator { operator < length (T.says task.now).operators }
+    requires effect { effect < length (operator_at (T.says task.now) operator).effects }
+    requires values { All (λ (f : Fact). f.var < length marks.now.values) run.now }
+    ensures { IsTrue result → IsSettled (effect_at (operator_at (T.says task.now) operator) effect) run.now marks.now }
+{
+    match run.first() {
+        Some(first) => {
+            task.effect_change(operator, effect).var == first.var
+                || marks.values.as_slice()[first.var as usize].is_some()
+        }
+        None => true,
+    }
 }
 
 /// Whether the fact is on the effect's variable, or doesn't stay where the effect fires.
