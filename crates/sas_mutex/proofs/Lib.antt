@@ -15,3 +15,4 @@ pub mod SetFacts
 pub mod Telling
 pub mod OldValues
 pub mod RunLengths
+pub mod GoneRuns

@@ -44,6 +44,6 @@ pub next_run : (facts left run rest : List Fact) (runs more : List ℕ) (n var :
 next_run facts left run rest runs more n var (before, is, are) within on_it run_is rest_is more_is = (
   before ++ run,
   is ∙ ap (λ (xs : List Fact). before ++ xs) (sym (take-append-drop n left) ∙ ap (λ (xs : List Fact). xs ++ drop n left) (sym run_is) ∙ ap (λ (xs : List Fact). run ++ xs) (sym rest_is))
-  ∙ sym (append_assoc before run rest),
+      ∙ sym (append_assoc before run rest),
   subst (AreRuns (before ++ run)) (sym more_is) (runs_more before run runs are (var, subst (All (λ (f : Fact). f.var ≡ var)) (sym run_is) on_it)),
 )
