@@ -1,9 +1,9 @@
 -- What the notes of facts that don't clash tell of one fact more.
-use Rattle.std.proofs.Common.{◌≡◌, ◌≢◌, ◌⊎◌, ℕ, ◌+◌, ◌<◌, Bool, IsTrue, [], length, get_or, List, ◌∷◌, ◌++◌, Option, None, Some, subst, refl, sym, ap, ◌∙◌, inl, inr, append-nil, arith}
+use Rattle.std.proofs.Common.{◌≡◌, ◌≢◌, ◌⊎◌, ℕ, ◌<◌, Bool, [], length, get_or, List, ◌∷◌, ◌++◌, None, Some, subst, refl, sym, ap, ◌∙◌, inl, inr, append-nil}
 use Rattle.std.specs.List.{All, Contains}
 use Rattle.std.proofs.lemmas.Bool.{cases_eq}
 use Rattle.std.proofs.lemmas.List.{get_or_default}
-use Rattle.std.proofs.lemmas.List.Elements.{All-weaker, All-contains, Contains-append_left, Contains-push, Contains-push_cases, Contains-get_or}
+use Rattle.std.proofs.lemmas.List.Elements.{Contains-append_left, Contains-push, Contains-push_cases, Contains-get_or}
 use Rattle.sas_core.specs.declared.parts.Fact.{Fact}
 use Rattle.sas_core.specs.declared.parts.Effect.{Effect}
 use Rattle.sas_core.specs.declared.parts.Operator.{Operator}
@@ -11,7 +11,7 @@ use Rattle.sas_core.specs.declared.parts.Parts.{Parts}
 use Rattle.sas_core.specs.Grounded.{effect_at, group_at}
 use Rattle.sas_core.specs.Variables.{FactExists}
 use Rattle.sas_meaning.specs.Steps.{preconditions}
-use Rattle.sas_groups.specs.Clashes.{Contradict, Clash, AreOfOneGroup, IsRemoved}
+use Rattle.sas_groups.specs.Clashes.{Contradict, Clash, IsRemoved}
 use Rattle.sas_groups.specs.Families.{IsIn}
 use Rattle.sas_groups.specs.Lists.{known}
 use Rattle.sas_mutex.specs.declared.index.Index.{Index}
@@ -19,7 +19,7 @@ use Rattle.sas_mutex.specs.declared.marks.Marks.{Marks}
 use Rattle.sas_groups.specs.Checks.{IsGone}
 use Rattle.sas_mutex.specs.Effects.{family_of, IsKept}
 use Rattle.sas_mutex.specs.Index.{IsIndexOf, HasFact, groups_of}
-use Rattle.sas_mutex.specs.Noting.{value_note, fact_note, HasOtherValue, HasNotedGroup, IsBarred, IsAgainst, IsMet, Removes, SomeRemoves, AreKnown, AreGone}
+use Rattle.sas_mutex.specs.Noting.{value_note, fact_note, IsAgainst, IsMet, Removes, SomeRemoves, AreKnown, AreGone}
 use Rattle.sas_mutex.proofs.TaskFacts.{variable_below}
 use Rattle.sas_mutex.proofs.NotesOfFacts.{a_note, value_note_tells, no_value_note_tells, fact_note_tells, no_fact_note_tells, contradict_turned, not_itself}
 

@@ -4,7 +4,7 @@ use Rattle.sas_core.specs.declared.parts.Fact.{Fact}
 use Rattle.sas_core.specs.declared.parts.Effect.{Effect}
 use Rattle.sas_core.specs.declared.parts.Operator.{Operator}
 use Rattle.sas_core.specs.declared.parts.Parts.{Parts}
-use Rattle.sas_core.specs.Grounded.{operator_at, effect_at}
+use Rattle.sas_core.specs.Grounded.{effect_at}
 use Rattle.sas_core.specs.WellRanged.{WellRanged}
 use Rattle.sas_groups.specs.Clashes.{Clash}
 use Rattle.sas_groups.specs.Lists.{known}
@@ -12,7 +12,7 @@ use Rattle.sas_mutex.specs.declared.index.Index.{Index}
 use Rattle.sas_mutex.specs.declared.marks.Marks.{Marks}
 use Rattle.sas_groups.specs.Checks.{NotBoth, IsGone}
 use Rattle.sas_mutex.specs.Effects.{family_of, IsKept}
-use Rattle.sas_mutex.specs.Index.{IsIndexOf, HasFact, groups_of}
+use Rattle.sas_mutex.specs.Index.{IsIndexOf, HasFact}
 use Rattle.sas_mutex.specs.Marks.{IsWide, IsNoted}
 
 -- the value noted for a variable, and the fact noted for a group

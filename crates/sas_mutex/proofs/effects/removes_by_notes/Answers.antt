@@ -1,6 +1,5 @@
 -- What clashes never is, so that nothing stays.
-use Rattle.std.proofs.Common.{◌≡◌, List, [], true, sym, ap, subst, ◌∙◌, inl}
-use Rattle.std.specs.List.{Contains}
+use Rattle.std.proofs.Common.{List, [], sym, subst, ◌∙◌, inl}
 use Rattle.sas_core.specs.declared.parts.Fact.{Fact}
 use Rattle.sas_core.specs.Grounded.{operator_at, effect_at}
 use Rattle.sas_groups.specs.Clashes.{Clash}

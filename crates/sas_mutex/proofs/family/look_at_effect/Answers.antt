@@ -1,5 +1,5 @@
 -- One more group rests, and so in the end all that have the fact.
-use Rattle.std.proofs.Common.{ℕ, ◌<◌, length, get_or, below_more, arith}
+use Rattle.std.proofs.Common.{ℕ, below_more, arith}
 use Rattle.std.specs.List.{Contains}
 use Rattle.std.specs.Prelude.{◌↔◌}
 use Rattle.std.proofs.lemmas.List.Elements.{Contains-get_or}

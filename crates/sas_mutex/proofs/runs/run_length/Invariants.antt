@@ -2,7 +2,6 @@
 use Rattle.std.proofs.Common.{◌≡◌, take}
 use Rattle.std.specs.List.{All}
 use Rattle.sas_core.specs.declared.parts.Fact.{Fact}
-use Rattle.sas_mutex.proofs.RunLengths.{on_more}
 use Rattle.sas_mutex.proofs.runs.run_length.Given as goal
 
 abbrev pub invariant-loop-place : goal.invariant-loop-place

@@ -2,7 +2,6 @@
 use Rattle.std.proofs.Common.{◌≡◌, ◌++◌, List, length}
 use Rattle.sas_core.specs.declared.parts.Fact.{Fact}
 use Rattle.sas_mutex.specs.Runs.{AreRuns}
-use Rattle.sas_mutex.proofs.RunLengths.{runs_more}
 use Rattle.sas_mutex.proofs.runs.runs_in.Given as goal
 
 abbrev pub invariant-loop-first : goal.invariant-loop-first
