@@ -4,7 +4,7 @@ use Rattle.sas_core.specs.declared.parts.Fact.{Fact}
 use Rattle.sas_core.specs.declared.parts.Effect.{Effect}
 use Rattle.sas_core.specs.declared.parts.Operator.{Operator}
 use Rattle.sas_core.specs.declared.parts.Parts.{Parts}
-use Rattle.sas_core.specs.Grounded.{effect_at}
+use Rattle.sas_core.specs.Grounded.{operator_at, effect_at}
 use Rattle.sas_core.specs.WellRanged.{WellRanged}
 use Rattle.sas_groups.specs.Clashes.{Clash}
 use Rattle.sas_groups.specs.Lists.{known}
@@ -13,7 +13,7 @@ use Rattle.sas_mutex.specs.declared.marks.Marks.{Marks}
 use Rattle.sas_groups.specs.Checks.{NotBoth, IsGone}
 use Rattle.sas_mutex.specs.Effects.{family_of, IsKept}
 use Rattle.sas_mutex.specs.Index.{IsIndexOf, HasFact}
-use Rattle.sas_mutex.specs.Marks.{IsWide, IsNoted}
+use Rattle.sas_mutex.specs.Marks.{IsWide, IsNotedFrom, IsNoted}
 
 -- the value noted for a variable, and the fact noted for a group
 abbrev pub value_note : List (Option ℕ) → ℕ → Option ℕ
@@ -137,6 +137,15 @@ pub record AreOf (p : Parts) (index : Index) (kept : List Bool) (marks : Marks) 
 pub record AreKnown (p : Parts) (kept : List Bool) (facts : List Fact) (marks : Marks) : Type 0 where
   pub noted : IsNoted p kept facts marks
   pub apart : Clash (IsKept p kept) facts → ⊥
+
+-- what is known where the effect at this place of this operator fires
+abbrev pub known_at : Parts → ℕ → ℕ → List Fact
+known_at p operator effect = known (operator_at p operator) (effect_at (operator_at p operator) effect).conditions []
+
+-- that is noted, and doesn't clash
+pub record IsNotedFor (p : Parts) (kept : List Bool) (operator effect : ℕ) (marks : Marks) : Type 0 where
+  pub are : AreKnown p kept (known_at p operator effect) marks
+  pub from : IsNotedFrom p (known_at p operator effect) marks
 
 -- no effect that may fire together with this one sets a fact of the group too, on another variable
 abbrev pub IsSingle : (List Fact → Type 0) → Operator → List Fact → Effect → Type 0
