@@ -1,12 +1,15 @@
 //! The task file, read in pieces with each fault at its exact place.
 #![tactic(auto)]
 
+mod flat_so_far;
+mod flat_task;
 mod outline;
 mod task;
 mod task_outline;
 mod task_reader;
 mod task_text;
 
+pub use flat_task::read_flat_task;
 pub use outline::{Outline, read_outline};
 pub use task::{read_task, read_task_text};
 pub use task_reader::TaskReader;

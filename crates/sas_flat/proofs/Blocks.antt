@@ -1,0 +1,165 @@
+-- One list more behind the others.
+use Rattle.std.proofs.Common.{◌≡◌, ℕ, zero, suc, ◌+◌, ◌-◌, ◌<◌, ◌≤◌, ◌⊎◌, inl, inr, List, [], ◌∷◌, ◌++◌, length, get_or, take, drop, refl, sym, ap, subst, ◌∙◌, arith, length-append, length-drop}
+use Rattle.std.specs.Prelude.{slice_index, slice_range}
+use Rattle.std.proofs.lemmas.List.{take-append-le, drop-append-le, take-append-drop, length-take-le, get_or-take, get_or-drop}
+use Rattle.std.proofs.Math.Nat.{eq-or-lt_of_le}
+use Rattle.std.proofs.Math.ListN.{get_or-append}
+use Rattle.std.proofs.Math.Seq.{get_or-append_seam, drop-append_seam, take-length}
+use Rattle.sas_flat.specs.Table.{table}
+use Rattle.sas_flat.specs.Lists.{start_of, list_at, lists_of, AreEnds}
+use Rattle.sas_flat.proofs.Tables.{length-table, table_same, table_more, get_or-table, take-table}
+
+-- a list that isn't the first starts where the one before it ends
+pub start_after : (ends : List ℕ) (k : ℕ) → 0 < k → start_of ends k ≡ slice_index ends (k - 1)
+start_after ends zero h = absurd (omega arith)
+start_after ends (suc k) h = ap (λ i. slice_index ends i) (omega arith)
+
+start_same : (ends more : List ℕ) (k : ℕ) → k ≤ length ends → start_of (ends ++ more) k ≡ start_of ends k
+start_same ends more zero h = refl
+start_same ends more (suc k) h = get_or-append ends more 0 k (omega arith)
+
+range_same : {X : Type 0} (items more : List X) (a b : ℕ) → a ≤ b → b ≤ length items → slice_range (items ++ more) a b ≡ slice_range items a b
+range_same items more a b ab h =
+    ap (λ l. take (b - a) l) (drop-append-le a items more (omega arith))
+    ∙ take-append-le (b - a) (drop a items) more (omega (arith, length-drop a items))
+
+range_last : {X : Type 0} (items list : List X) (a b : ℕ) → a ≡ length items → b ≡ length items + length list → slice_range (items ++ list) a b ≡ list
+range_last items list a b start end =
+    ap (λ k. take (b - k) (drop k (items ++ list))) start
+    ∙ ap (λ l. take (b - length items) l) (drop-append_seam items list)
+    ∙ ap (λ n. take n list) (omega arith)
+    ∙ take-length list
+
+-- no list
+pub no_list : {X : Type 0} (items : List X) (ends : List ℕ) → ends ≡ [] → lists_of items ends ≡ []
+unfolding table
+no_list items ends none = ap (λ l. lists_of items l) none
+
+module _ {X : Type 0} (items : List X) (ends : List ℕ) (lists : List (List X)) (is : lists_of items ends ≡ lists) where
+  -- as many lists as ends
+  pub count_of : length ends ≡ length lists
+  count_of = sym (length-table (length ends) (list_at items ends)) ∙ ap length is
+
+  pub list_of : (k : ℕ) → k < length lists → list_at items ends k ≡ get_or lists k []
+  list_of k h = sym (get_or-table (length ends) (list_at items ends) k [] (omega (arith, count_of))) ∙ ap (λ l. get_or l k []) is
+
+module _ {X : Type 0} (items list : List X) (ends : List ℕ) (end : ℕ) (are : AreEnds ends (length items)) (is : end ≡ length items + length list) where
+  more_end : length (ends ++ end ∷ []) ≡ length ends + 1
+  more_end = omega (arith, length-append ends (end ∷ []))
+
+  more_suc : length (ends ++ end ∷ []) ≡ suc (length ends)
+  more_suc = omega (arith, more_end)
+
+  last_start : start_of (ends ++ end ∷ []) (length ends) ≡ length items
+  last_start = start_same ends (end ∷ []) (length ends) (omega arith) ∙ are.closed
+
+  last_end : slice_index (ends ++ end ∷ []) (length ends) ≡ end
+  last_end = get_or-append_seam ends end [] 0
+
+  old_end : (k : ℕ) → k < length ends → slice_index (ends ++ end ∷ []) k ≡ slice_index ends k
+  old_end k h = get_or-append ends (end ∷ []) 0 k h
+
+  old_list : (k : ℕ) → k < length ends → list_at (items ++ list) (ends ++ end ∷ []) k ≡ list_at items ends k
+  old_list k h =
+      ap (λ a. slice_range (items ++ list) a (slice_index (ends ++ end ∷ []) k)) (start_same ends (end ∷ []) k (omega arith))
+      ∙ ap (λ b. slice_range (items ++ list) (start_of ends k) b) (old_end k h)
+      ∙ range_same items list (start_of ends k) (slice_index ends k) (are.ascending k h) (are.within k h)
+
+  pub lists_more : lists_of (items ++ list) (ends ++ end ∷ []) ≡ lists_of items ends ++ list ∷ []
+  lists_more = table_more (length ends) (length (ends ++ end ∷ [])) (list_at items ends) (list_at (items ++ list) (ends ++ end ∷ [])) list
+      more_end old_list (range_last items list _ _ last_start (last_end ∙ is))
+
+  each_end : (P : ℕ → Type 0) → ((k : ℕ) → k < length ends → P k) → P (length ends) → (k : ℕ) → k < length (ends ++ end ∷ []) → P k
+  each_end P old last k h =
+      let small : (k ≡ length ends) ⊎ (k < length ends) = eq-or-lt_of_le (omega (arith, more_end)) in
+      elim small [ inl e ↦ subst P (sym e) last | inr below ↦ old k below ]
+
+  pub ends_more : AreEnds (ends ++ end ∷ []) (length (items ++ list))
+  ends_more = record {
+    ascending = each_end (λ k. start_of (ends ++ end ∷ []) k ≤ slice_index (ends ++ end ∷ []) k)
+        (λ k h. rw (start_same ends (end ∷ []) k (omega arith), old_end k h) (are.ascending k h))
+        (omega (arith, last_start, last_end));
+    within = each_end (λ k. slice_index (ends ++ end ∷ []) k ≤ length (items ++ list))
+        (λ k h. omega (arith, old_end k h, are.within k h, length-append items list))
+        (omega (arith, last_end, length-append items list));
+    closed = ap (λ k. start_of (ends ++ end ∷ []) k) more_suc ∙ last_end ∙ is ∙ sym (length-append items list);
+  }
+
+-- ---- fewer lists
+
+-- a place between two ends is passed by neither
+start_within : (ends : List ℕ) (count k : ℕ) → AreEnds ends count → k ≤ length ends → start_of ends k ≤ count
+start_within ends count zero are h = omega arith
+start_within ends count (suc k) are h = are.within k (omega arith)
+
+-- lists end in the order in which they stand
+ends_ordered : (ends : List ℕ) (count j k : ℕ) → AreEnds ends count → j < k → k ≤ length ends → slice_index ends j ≤ start_of ends k
+ends_ordered ends count j zero are h b = absurd (omega arith)
+ends_ordered ends count j (suc k) are h b =
+    let last : (j ≡ k) ⊎ (j < k) = eq-or-lt_of_le (omega arith) in
+    elim last [
+      | inl e ↦ ap-le e
+      | inr below ↦ omega (arith, ends_ordered ends count j k are below (omega arith), are.ascending k (omega arith))
+    ]
+  where
+    ap-le : j ≡ k → slice_index ends j ≤ slice_index ends k
+    ap-le e = subst (λ (i : ℕ). slice_index ends j ≤ slice_index ends i) e (omega arith)
+
+start_taken : (ends : List ℕ) (n k : ℕ) → k ≤ n → start_of (take n ends) k ≡ start_of ends k
+start_taken ends n zero h = refl
+start_taken ends n (suc k) h = get_or-take n ends k 0 (omega arith)
+
+range_taken : {X : Type 0} (items : List X) (n a b : ℕ) → a ≤ b → b ≤ n → n ≤ length items → slice_range (take n items) a b ≡ slice_range items a b
+range_taken items n a b ab bn h =
+    sym (range_same (take n items) (drop n items) a b ab (omega (arith, length-take-le n items h)))
+    ∙ ap (λ l. slice_range l a b) (take-append-drop n items)
+
+module _ {X : Type 0} (items : List X) (ends : List ℕ) (n : ℕ) (are : AreEnds ends (length items)) (fewer : n ≤ length ends) where
+  cut_within : start_of ends n ≤ length items
+  cut_within = start_within ends (length items) n are fewer
+
+  taken_length : length (take n ends) ≡ n
+  taken_length = length-take-le n ends fewer
+
+  pub ends_taken : AreEnds (take n ends) (length (take (start_of ends n) items))
+  ends_taken = record {
+    ascending = λ k h. rw (start_taken ends n k (omega (arith, taken_length)), get_or-take n ends k 0 (omega (arith, taken_length))) (are.ascending k (omega (arith, taken_length)));
+    within = λ k h. omega (
+      arith,
+      taken_length,
+      get_or-take n ends k 0 (omega (arith, taken_length)),
+      ends_ordered ends (length items) k n are (omega (arith, taken_length)) fewer,
+      length-take-le (start_of ends n) items cut_within,
+    );
+    closed = ap (λ k. start_of (take n ends) k) taken_length ∙ start_taken ends n n (omega arith) ∙ sym (length-take-le (start_of ends n) items cut_within);
+  }
+
+  list_taken : (k : ℕ) → k < n → list_at (take (start_of ends n) items) (take n ends) k ≡ list_at items ends k
+  list_taken k h =
+      ap (λ a. slice_range (take (start_of ends n) items) a (slice_index (take n ends) k)) (start_taken ends n k (omega arith))
+      ∙ ap (λ b. slice_range (take (start_of ends n) items) (start_of ends k) b) (get_or-take n ends k 0 h)
+      ∙ range_taken items (start_of ends n) (start_of ends k) (slice_index ends k) (are.ascending k (omega arith))
+      (ends_ordered ends (length items) k n are h fewer) cut_within
+
+  pub lists_taken : lists_of (take (start_of ends n) items) (take n ends) ≡ take n (lists_of items ends)
+  lists_taken =
+      ap (λ m. table m (list_at (take (start_of ends n) items) (take n ends))) taken_length
+      ∙ table_same n _ _ list_taken
+      ∙ sym (take-table (length ends) (list_at items ends) n fewer)
+
+-- ---- a list and its items
+
+module _ {X : Type 0} (items : List X) (ends : List ℕ) (are : AreEnds ends (length items)) (k : ℕ) (h : k < length ends) where
+  pub list_length : length (list_at items ends k) + start_of ends k ≡ slice_index ends k
+  list_length = omega (
+    arith,
+    length-take-le (slice_index ends k - start_of ends k) (drop (start_of ends k) items)
+        (omega (arith, length-drop (start_of ends k) items, are.within k h)),
+    are.ascending k h,
+  )
+
+  -- the item at a place of the list
+  pub item_of_list : (i : ℕ) (d : X) → i < length (list_at items ends k) → get_or (list_at items ends k) i d ≡ get_or items (start_of ends k + i) d
+  item_of_list i d below =
+      get_or-take (slice_index ends k - start_of ends k) (drop (start_of ends k) items) i d (omega (arith, list_length, are.ascending k h))
+      ∙ get_or-drop (start_of ends k) items i d

@@ -1,0 +1,41 @@
+-- Effects in columns: the effect at a place, one effect more, and fewer.
+use Rattle.std.proofs.Common.{◌≡◌, ℕ, ◌+◌, ◌<◌, ◌≤◌, List, [], ◌∷◌, ◌++◌, length, take, get_or, sym, ap, ◌∙◌, arith, length-append}
+use Rattle.std.specs.Prelude.{None}
+use Rattle.std.proofs.lemmas.List.{length-take-le, get_or-take, map-append, length-map}
+use Rattle.std.proofs.Math.ListN.{get_or-append}
+use Rattle.std.proofs.Math.Seq.{get_or-append_seam}
+use Rattle.sas_core.specs.declared.grounded.Change.{Change}
+use Rattle.sas_core.specs.declared.parts.Fact.{Fact}
+use Rattle.sas_core.specs.declared.parts.Effect.{Effect}
+use Rattle.sas_flat.specs.Table.{table}
+use Rattle.sas_flat.specs.Effects.{effect, change_in, effects_of, effect_in}
+use Rattle.sas_flat.proofs.Tables.{length-table, table_same, table_none, table_more, get_or-table, take-table}
+
+pub no_effect : (cs : List Change) (ds : List (List Fact)) → cs ≡ [] → effects_of cs ds ≡ []
+no_effect cs ds none = table_none (length cs) _ (ap length none)
+
+same_effect : (c c' : Change) (d d' : List Fact) → c ≡ c' → d ≡ d' → effect c d ≡ effect c' d'
+same_effect c c' d d' changes conditions = ap (λ x. effect x d) changes ∙ ap (λ x. effect c' x) conditions
+
+no_change : Change
+no_change = record { var = 0; old = None; new = 0 }
+
+module _ (cs : List Change) (ds : List (List Fact)) (es : List Effect) (is : effects_of cs ds ≡ es) where
+  pub effect_count : length cs ≡ length es
+  effect_count = sym (length-table (length cs) _) ∙ ap length is
+
+  pub effect_at_place : (i : ℕ) → i < length es → effect_in es i ≡ effect (change_in cs i) (get_or ds i [])
+  effect_at_place i h = ap (λ l. effect_in l i) (sym is) ∙ get_or-table (length cs) _ i _ (omega (arith, effect_count))
+
+pub effects_more : (cs : List Change) (ds : List (List Fact)) (c : Change) (d : List Fact) → length ds ≡ length cs
+    → effects_of (cs ++ c ∷ []) (ds ++ d ∷ []) ≡ effects_of cs ds ++ effect c d ∷ []
+effects_more cs ds c d pairs = table_more (length cs) (length (cs ++ c ∷ [])) _ _ (effect c d) (omega (arith, length-append cs (c ∷ [])))
+    (λ i h. same_effect _ _ _ _ (get_or-append cs (c ∷ []) _ i h) (get_or-append ds (d ∷ []) [] i (omega (arith, pairs))))
+    (same_effect _ _ _ _ (get_or-append_seam cs c [] _) (ap (λ n. get_or (ds ++ d ∷ []) n []) (sym pairs) ∙ get_or-append_seam ds d [] []))
+
+pub effects_taken : (cs : List Change) (ds : List (List Fact)) (n : ℕ) → length ds ≡ length cs → n ≤ length cs
+    → effects_of (take n cs) (take n ds) ≡ take n (effects_of cs ds)
+effects_taken cs ds n pairs h =
+    ap (λ m. table m (λ i. effect (change_in (take n cs) i) (get_or (take n ds) i []))) (length-take-le n cs h)
+    ∙ table_same n _ _ (λ i b. same_effect _ _ _ _ (get_or-take n cs i _ b) (get_or-take n ds i [] b))
+    ∙ sym (take-table (length cs) _ n h)

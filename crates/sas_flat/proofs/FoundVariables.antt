@@ -1,0 +1,44 @@
+-- The variable at a place of the columns.
+use Rattle.std.proofs.Common.{◌≡◌, ℕ, ◌+◌, ◌<◌, ◌≤◌, List, [], ◌∷◌, ◌++◌, length, get_or, sym, ap, ◌∙◌, arith}
+use Rattle.std.specs.Prelude.{slice_index, None}
+use Rattle.sas_core.specs.declared.parts.Variable.{Variable}
+use Rattle.sas_core.specs.Variables.{range_of, layer_of}
+use Rattle.sas_flat.specs.declared.variables.Columns.{Columns}
+use Rattle.sas_flat.specs.Lists.{start_of, list_at, lists_of}
+use Rattle.sas_flat.specs.Variables.{variables_in, variables_of, AreAligned, OneMore}
+use Rattle.sas_flat.proofs.Tables.{length-table, get_or-table}
+use Rattle.sas_flat.proofs.Blocks.{lists_more, list_length}
+use Rattle.sas_flat.proofs.Rows.{variable_count, range_is, layer_is, variables_more}
+
+module _ (c : Columns) (vs : List Variable) (is : variables_in c ≡ vs) where
+  pub as_many : length c.ends ≡ length vs
+  as_many = sym (length-table (length c.ends) (list_at c.values c.ends)) ∙ variable_count c.names c.layers.items (lists_of c.values c.ends) vs is
+
+  pub layer_found : (k : ℕ) → k < length vs → layer_of vs k ≡ get_or c.layers.items k None
+  layer_found k h = layer_is c.names c.layers.items (lists_of c.values c.ends) vs is k h
+
+  module _ (aligned : AreAligned c) (k : ℕ) (h : k < length vs) where
+    there : k < length c.ends
+    there = omega (arith, h, as_many)
+
+    pub values_ordered : start_of c.ends k ≤ slice_index c.ends k
+    values_ordered = aligned.values.ascending k there
+
+    pub value_number : range_of vs k + start_of c.ends k ≡ slice_index c.ends k
+    value_number =
+        ap (λ n. n + start_of c.ends k) (range_is c.names c.layers.items (lists_of c.values c.ends) vs is k h)
+        ∙ ap (λ l. length l + start_of c.ends k) (get_or-table (length c.ends) (list_at c.values c.ends) k [] there)
+        ∙ list_length c.values c.ends aligned.values k there
+
+-- ---- one more
+
+pub one_more : (old new : Columns) (v : Variable) → AreAligned old → OneMore old new v → variables_in new ≡ variables_in old ++ v ∷ []
+one_more old new v aligned more =
+    let many = length-table (length old.ends) (list_at old.values old.ends) in
+    ap (λ l. variables_of l new.layers.items (lists_of new.values new.ends)) more.names
+    ∙ ap (λ l. variables_of (old.names ++ v.name ∷ []) l (lists_of new.values new.ends)) more.layers
+    ∙ ap (λ l. variables_of (old.names ++ v.name ∷ []) (old.layers.items ++ v.layer ∷ []) l)
+    (ap (λ l. lists_of l new.ends) more.values ∙ ap (λ l. lists_of (old.values ++ v.values) l) more.ends
+    ∙ lists_more old.values v.values old.ends _ aligned.values (omega arith))
+    ∙ variables_more old.names old.layers.items (lists_of old.values old.ends) v.name v.layer v.values
+    (aligned.names ∙ sym many) (aligned.layers ∙ sym many)

@@ -1,0 +1,7 @@
+mod Tables
+mod Growing
+mod Blocks
+mod EffectRows
+mod Rows
+mod FoundOperators
+mod FoundVariables

@@ -1,0 +1,10 @@
+use Rattle.std.proofs.Common.{◌∷◌, [], ◌++◌, ap, ◌∙◌, arith, length-append}
+use Rattle.sas_flat.proofs.Blocks.{lists_more}
+use Rattle.sas_flat.proofs.lists.Lists.push.Goals as goal
+
+pub returns-in-Ok-clause-ok : goal.returns-in-Ok-clause-ok
+returns-in-Ok-clause-ok g c =
+    rw (c.in-Ok.ensures.ok, c.in_ok-extend_from_slice.ensures.items)
+    (lists_more c.self.inside.items.items c.args.list.now c.self.inside.ends _ c.self.invariant
+    (c.len.ensures ∙ omega (arith, c.in_ok-extend_from_slice.ensures.len, c.self.inside.items.ok.0))
+    ∙ ap (λ l. l ++ c.args.list.now ∷ []) c.self.view_is)

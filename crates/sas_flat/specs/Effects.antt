@@ -1,0 +1,23 @@
+-- Effects in columns: what each changes, and its conditions.
+use Rattle.std.specs.Prelude.{ℕ, List, [], length, slice_index_or, None}
+use Rattle.sas_core.specs.declared.grounded.Change.{Change}
+use Rattle.sas_core.specs.declared.parts.Fact.{Fact}
+use Rattle.sas_core.specs.declared.parts.Effect.{Effect}
+use Rattle.sas_flat.specs.Table.{table}
+
+-- the effect with this change and these conditions
+abbrev pub effect : Change → List Fact → Effect
+effect c conditions = record { conditions = conditions; var = c.var; old = c.old; new = c.new }
+
+-- the change at this place; behind the last one that of variable 0 to value 0
+abbrev pub change_in : List Change → ℕ → Change
+change_in changes index = slice_index_or changes index (record { var = 0; old = None; new = 0 })
+
+abbrev pub effects_of : List Change → List (List Fact) → List Effect
+effects_of changes conditions =
+    table (length changes) (λ index. effect (change_in changes index) (slice_index_or conditions index []))
+
+-- the effect at this place; behind the last one that of variable 0 to value 0
+abbrev pub effect_in : List Effect → ℕ → Effect
+effect_in effects index =
+    slice_index_or effects index (record { conditions = []; var = 0; old = None; new = 0 })

@@ -1,0 +1,21 @@
+-- Rules, which are like effects.
+use Rattle.std.specs.Prelude.{ℕ, List, [], map, slice_index_or, None}
+use Rattle.sas_core.specs.declared.grounded.Change.{Change}
+use Rattle.sas_core.specs.declared.parts.Fact.{Fact}
+use Rattle.sas_core.specs.declared.parts.Effect.{Effect}
+use Rattle.sas_core.specs.declared.parts.Rule.{Rule}
+
+-- the rule that is like an effect
+abbrev pub rule_of : Effect → Rule
+rule_of e = record { conditions = e.conditions; var = e.var; old = e.old; new = e.new }
+
+abbrev pub rules_of : List Effect → List Rule
+rules_of effects = map rule_of effects
+
+-- the rule with this change and these conditions
+abbrev pub rule : Change → List Fact → Rule
+rule c conditions = record { conditions = conditions; var = c.var; old = c.old; new = c.new }
+
+-- the rule at this place; behind the last one that of variable 0 to value 0
+abbrev pub rule_in : List Rule → ℕ → Rule
+rule_in rules index = slice_index_or rules index (record { conditions = []; var = 0; old = None; new = 0 })

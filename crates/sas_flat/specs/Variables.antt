@@ -1,0 +1,30 @@
+-- Variables in columns.
+use Rattle.std.specs.Prelude.{◌≡◌, ℕ, List, [], ◌∷◌, ◌++◌, ◌+◌, length, slice_index_or, Option, None}
+use Rattle.sas_core.specs.declared.parts.Variable.{Variable}
+use Rattle.sas_flat.specs.declared.variables.Columns.{Columns}
+use Rattle.sas_flat.specs.Lists.{lists_of, AreEnds}
+use Rattle.sas_flat.specs.Table.{table}
+
+abbrev pub variable : List ℕ → Option ℕ → List (List ℕ) → Variable
+variable name layer values = record { name = name; layer = layer; values = values }
+
+-- the variables with these names, layers and values, each at its place
+abbrev pub variables_of : List (List ℕ) → List (Option ℕ) → List (List (List ℕ)) → List Variable
+variables_of names layers values = table (length values) (λ index.
+    variable (slice_index_or names index []) (slice_index_or layers index None) (slice_index_or values index []))
+
+abbrev pub variables_in : Columns → List Variable
+variables_in c = variables_of c.names c.layers.items (lists_of c.values c.ends)
+
+-- each variable has an item in each column, and the ends are those of the values
+pub record AreAligned (c : Columns) : Type 0 where
+  pub names : length c.names ≡ length c.ends
+  pub layers : length c.layers.items ≡ length c.ends
+  pub values : AreEnds c.ends (length c.values)
+
+-- each column has what the variable puts there behind what it had
+pub record OneMore (old new : Columns) (v : Variable) : Type 0 where
+  pub names : new.names ≡ old.names ++ v.name ∷ []
+  pub layers : new.layers.items ≡ old.layers.items ++ v.layer ∷ []
+  pub values : new.values ≡ old.values ++ v.values
+  pub ends : new.ends ≡ old.ends ++ (length old.values + length v.values) ∷ []

@@ -1,0 +1,103 @@
+// Effects in a few blocks of memory.
+ghost use Rattle.std.specs.Prelude.{◌≡◌, ◌<◌, ◌≤◌, [], ◌∷◌, ◌++◌, length, take, OnOk, OnErr};
+ghost use Rattle.sas_core.specs.Grounded as grounded;
+ghost use Rattle.sas_flat.specs.Effects.{effect, effect_in};
+ghost use Rattle.sas_flat.specs.Growing.{Kept};
+
+use crate::lists::Lists;
+use sas_core::{Change, Fact};
+use std::alloc::{AllocError, Global};
+use std::marker::Model;
+
+/// Effects. In a contract they are the list of them.
+#[derive(Debug, Drop)]
+pub struct Effects {
+    changes: Vec<Change>,
+    conditions: Lists<Fact>,
+}
+
+impl Model for Effects {
+    ghost use Rattle.std.specs.Prelude.{◌≡◌, List, length};
+    ghost use Rattle.sas_core.specs.declared.parts.Effect.{Effect};
+    ghost use Rattle.sas_flat.specs.Effects.{effects_of};
+
+    ghost Value = { List Effect };
+
+    ghost view = { λ e. effects_of e.changes.items e.conditions };
+
+    ghost invariant = { λ e. length e.conditions ≡ length e.changes.items };
+}
+
+impl Effects {
+    /// No effect. It takes no memory.
+    pub fn new(alloc: Global) -> Self
+        ensures { result ≡ [] }
+    {
+        Effects {
+            changes: Vec::new(alloc),
+            conditions: Lists::new(alloc),
+        }
+    }
+
+    /// How many effects there are.
+    pub fn len(&self) -> usize
+        ensures { result ≡ length self.now }
+    {
+        self.changes.len()
+    }
+
+    /// What the effect changes.
+    pub fn change(&self, index: usize) -> Change
+        requires { index < length self.now }
+        ensures { result ≡ grounded.effect_change (effect_in self.now index) }
+    {
+        self.changes.as_slice()[index]
+    }
+
+    /// The conditions of the effect.
+    pub fn conditions(&self, index: usize) -> &[Fact]
+        requires { index < length self.now }
+        ensures { result.now ≡ (effect_in self.now index).conditions }
+    {
+        self.conditions.get(index)
+    }
+
+    /// One effect more. After an `Err` the effects are as they were.
+    pub fn push(&mut self, conditions: &[Fact], change: Change) -> Result<(), AllocError>
+        ensures ok { OnOk result (self.new ≡ self.old ++ effect change conditions.now ∷ []) }
+        ensures err { OnErr result (self.new ≡ self.old) }
+    {
+        self.changes.reserve(1)?;
+        self.conditions.push(conditions)?;
+        self.changes.push(change)?;
+        Ok(())
+    }
+
+    /// All these effects more. After an `Err` those that there were are still there, and maybe some of these behind them.
+    pub fn append(&mut self, more: &Effects) -> Result<(), AllocError>
+        ensures kept { Kept self.old self.new }
+        ensures ok { OnOk result (self.new ≡ self.old ++ more.now) }
+    {
+        for i in 0..more.len() {
+            self.push(more.conditions(i), more.change(i))?;
+        }
+        Ok(())
+    }
+
+    /// Leaves so many effects, the first ones.
+    pub fn truncate(&mut self, count: usize)
+        requires { count ≤ length self.old }
+        ensures { self.new ≡ take count self.old }
+    {
+        self.changes.truncate(count);
+        self.conditions.truncate(count);
+    }
+
+    /// Takes all effects away and keeps the memory.
+    pub fn clear(&mut self)
+        ensures { self.new ≡ [] }
+    {
+        self.changes.clear();
+        self.conditions.clear();
+    }
+}

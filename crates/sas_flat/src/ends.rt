@@ -1,0 +1,82 @@
+// Where lists that stand one behind the other end.
+ghost use Rattle.std.specs.Prelude.{◌≡◌, ◌<◌, ◌≤◌, [], ◌∷◌, ◌++◌, length, take, OnOk, OnErr, slice_index};
+ghost use Rattle.sas_flat.specs.Lists.{start_of};
+
+use std::alloc::{AllocError, Global};
+use std::marker::Model;
+
+/// The places where lists in one block end, one for each list. They grow. In a contract they are the list of the places.
+#[derive(Debug, Drop)]
+pub struct Ends {
+    places: Vec<usize>,
+}
+
+impl Model for Ends {
+    ghost use Rattle.std.specs.Prelude.{List, ℕ};
+
+    ghost Value = { List ℕ };
+
+    ghost view = { λ e. e.places.items };
+}
+
+impl Ends {
+    /// No list. It takes no memory.
+    pub fn new(alloc: Global) -> Self
+        ensures { result ≡ [] }
+    {
+        Ends {
+            places: Vec::new(alloc),
+        }
+    }
+
+    /// How many lists there are.
+    pub fn len(&self) -> usize
+        ensures { result ≡ length self.now }
+    {
+        self.places.len()
+    }
+
+    /// Where the list at the index starts: where the one before it ends. Behind the last list starts the next one.
+    pub fn start(&self, index: usize) -> usize
+        requires { index ≤ length self.now }
+        ensures { result ≡ start_of self.now index }
+    {
+        if index == 0 {
+            0
+        } else {
+            self.places.as_slice()[index - 1]
+        }
+    }
+
+    /// Where the list at the index ends.
+    pub fn end(&self, index: usize) -> usize
+        requires { index < length self.now }
+        ensures { result ≡ slice_index self.now index }
+    {
+        self.places.as_slice()[index]
+    }
+
+    /// One list more, which ends at this place. After an `Err` the lists are as they were.
+    pub fn push(&mut self, place: usize) -> Result<(), AllocError>
+        requires { start_of self.old (length self.old) ≤ place }
+        ensures ok { OnOk result (self.new ≡ self.old ++ place ∷ []) }
+        ensures err { OnErr result (self.new ≡ self.old) }
+    {
+        self.places.push(place)?;
+        Ok(())
+    }
+
+    /// Leaves so many lists of those that there are, the first ones.
+    pub fn truncate(&mut self, count: usize)
+        ensures { self.new ≡ take count self.old }
+    {
+        self.places.truncate(count);
+    }
+
+    /// Takes all lists away and keeps the memory.
+    pub fn clear(&mut self)
+        ensures { self.new ≡ [] }
+    {
+        self.places.clear();
+    }
+}

@@ -1,0 +1,17 @@
+//! A task in a few blocks of memory: it takes as many allocations as there are columns, however large it is.
+#![tactic(auto)]
+
+mod effects;
+mod ends;
+mod lists;
+mod operators;
+mod rules;
+mod task;
+mod variables;
+
+pub use effects::Effects;
+pub use lists::Lists;
+pub use operators::Operators;
+pub use rules::Rules;
+pub use task::FlatTask;
+pub use variables::Variables;

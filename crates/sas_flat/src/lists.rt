@@ -1,0 +1,109 @@
+// Lists that stand one behind the other in one block of memory.
+ghost use Rattle.std.specs.Prelude.{◌≡◌, ◌<◌, ◌≤◌, [], ◌∷◌, ◌++◌, length, take, OnOk, OnErr, slice_range};
+ghost use Rattle.std.specs.List.{slice_index_or};
+ghost use Rattle.sas_flat.specs.Growing.{Kept};
+
+use crate::ends::Ends;
+use std::alloc::{AllocError, Global};
+use std::marker::Model;
+
+/// Lists in one block of memory, and where each ends. In a contract they are the list of them.
+#[derive(Debug, Drop)]
+pub struct Lists<T> {
+    items: Vec<T>,
+    ends: Ends,
+}
+
+impl<T> Model for Lists<T> {
+    ghost use Rattle.std.specs.Prelude.{List, length};
+    ghost use Rattle.sas_flat.specs.Lists.{lists_of, AreEnds};
+
+    ghost Value = { List (List T) };
+
+    ghost view = { λ l. lists_of l.items.items l.ends };
+
+    ghost invariant = { λ l. AreEnds l.ends (length l.items.items) };
+}
+
+/// The items from a place to another.
+fn part<T>(items: &[T], start: usize, end: usize) -> &[T]
+    requires ordered { start ≤ end }
+    requires within { end ≤ length items.now }
+    ensures { result.now ≡ slice_range items.now start end }
+{
+    &items[start..end]
+}
+
+impl<T> Lists<T> {
+    /// No list. It takes no memory.
+    pub fn new(alloc: Global) -> Self
+        ensures { result ≡ [] }
+    {
+        Lists {
+            items: Vec::new(alloc),
+            ends: Ends::new(alloc),
+        }
+    }
+
+    /// How many lists there are.
+    pub fn len(&self) -> usize
+        ensures { result ≡ length self.now }
+    {
+        self.ends.len()
+    }
+
+    /// The list at the index, counted from 0.
+    pub fn get(&self, index: usize) -> &[T]
+        requires { index < length self.now }
+        ensures { result.now ≡ slice_index_or self.now index [] }
+    {
+        let start = self.ends.start(index);
+        part(self.items.as_slice(), start, self.ends.end(index))
+    }
+}
+
+impl<T: Copy> Lists<T> {
+    /// One list more. After an `Err` the lists are as they were.
+    pub fn push(&mut self, list: &[T]) -> Result<(), AllocError>
+        ensures ok { OnOk result (self.new ≡ self.old ++ list.now ∷ []) }
+        ensures err { OnErr result (self.new ≡ self.old) }
+    {
+        let count = self.items.len();
+        self.items.extend_from_slice(list)?;
+        match self.ends.push(self.items.len()) {
+            Ok(()) => Ok(()),
+            Err(error) => {
+                self.items.truncate(count);
+                Err(error)
+            }
+        }
+    }
+
+    /// All these lists more. After an `Err` those that there were are still there, and maybe some of these behind them.
+    pub fn append(&mut self, more: &Lists<T>) -> Result<(), AllocError>
+        ensures kept { Kept self.old self.new }
+        ensures ok { OnOk result (self.new ≡ self.old ++ more.now) }
+    {
+        for i in 0..more.len() {
+            self.push(more.get(i))?;
+        }
+        Ok(())
+    }
+
+    /// Leaves so many lists, the first ones.
+    pub fn truncate(&mut self, count: usize)
+        requires { count ≤ length self.old }
+        ensures { self.new ≡ take count self.old }
+    {
+        self.items.truncate(self.ends.start(count));
+        self.ends.truncate(count);
+    }
+
+    /// Takes all lists away and keeps the memory.
+    pub fn clear(&mut self)
+        ensures { self.new ≡ [] }
+    {
+        self.items.clear();
+        self.ends.clear();
+    }
+}

@@ -1,0 +1,67 @@
+// Rules in a few blocks of memory.
+ghost use Rattle.std.specs.Prelude.{◌≡◌, ◌<◌, [], ◌∷◌, ◌++◌, length, OnOk, OnErr};
+ghost use Rattle.sas_core.specs.Grounded as grounded;
+ghost use Rattle.sas_flat.specs.Rules.{rule, rule_in};
+
+use crate::effects::Effects;
+use sas_core::{Change, Fact};
+use std::alloc::{AllocError, Global};
+use std::marker::Model;
+
+/// Rules. In a contract they are the list of them. They are kept as the effects that they are like.
+#[derive(Debug, Drop)]
+pub struct Rules {
+    effects: Effects,
+}
+
+impl Model for Rules {
+    ghost use Rattle.std.specs.Prelude.{List};
+    ghost use Rattle.sas_core.specs.declared.parts.Rule.{Rule};
+    ghost use Rattle.sas_flat.specs.Rules.{rules_of};
+
+    ghost Value = { List Rule };
+
+    ghost view = { λ r. rules_of r.effects };
+}
+
+impl Rules {
+    /// No rule. It takes no memory.
+    pub fn new(alloc: Global) -> Self
+        ensures { result ≡ [] }
+    {
+        Rules {
+            effects: Effects::new(alloc),
+        }
+    }
+
+    /// How many rules there are.
+    pub fn len(&self) -> usize
+        ensures { result ≡ length self.now }
+    {
+        self.effects.len()
+    }
+
+    /// What the rule changes.
+    pub fn change(&self, index: usize) -> Change
+        requires { index < length self.now }
+        ensures { result ≡ grounded.rule_change (rule_in self.now index) }
+    {
+        self.effects.change(index)
+    }
+
+    /// The conditions of the rule.
+    pub fn conditions(&self, index: usize) -> &[Fact]
+        requires { index < length self.now }
+        ensures { result.now ≡ (rule_in self.now index).conditions }
+    {
+        self.effects.conditions(index)
+    }
+
+    /// One rule more. After an `Err` the rules are as they were.
+    pub fn push(&mut self, conditions: &[Fact], change: Change) -> Result<(), AllocError>
+        ensures ok { OnOk result (self.new ≡ self.old ++ rule change conditions.now ∷ []) }
+        ensures err { OnErr result (self.new ≡ self.old) }
+    {
+        self.effects.push(conditions, change)
+    }
+}

@@ -1,0 +1,136 @@
+// Variables in a few blocks of memory.
+ghost use Rattle.std.specs.Prelude.{◌≡◌, ◌<◌, ◌≤◌, [], ◌∷◌, ◌++◌, length, take, OnOk, OnErr};
+ghost use Rattle.sas_core.specs.Variables.{range_of, layer_of};
+ghost use Rattle.sas_flat.specs.Growing.{Kept};
+ghost use Rattle.sas_flat.specs.Lists.{AreEnds};
+ghost use Rattle.sas_flat.specs.Variables.{variable, OneMore};
+
+use crate::ends::Ends;
+use crate::lists::Lists;
+use std::alloc::{AllocError, Global};
+use std::marker::Model;
+
+/// The columns of variables. The names of all values stand one behind the other, and `ends` says where those of each
+/// variable end.
+#[derive(Debug, Drop)]
+pub struct Columns {
+    names: Lists<u8>,
+    layers: Vec<Option<u32>>,
+    values: Lists<u8>,
+    ends: Ends,
+}
+
+/// Variables. In a contract they are the list of them.
+#[derive(Debug, Drop)]
+pub struct Variables {
+    columns: Columns,
+}
+
+impl Model for Variables {
+    ghost use Rattle.std.specs.Prelude.{List};
+    ghost use Rattle.sas_core.specs.declared.parts.Variable.{Variable};
+    ghost use Rattle.sas_flat.specs.Variables.{variables_in, AreAligned};
+
+    ghost Value = { List Variable };
+
+    ghost view = { λ v. variables_in v.columns };
+
+    ghost invariant = { λ v. AreAligned v.columns };
+}
+
+impl Columns {
+    /// One item more in each column. After an `Err` some columns have it.
+    fn push(
+        &mut self,
+        name: &[u8],
+        layer: Option<u32>,
+        values: &Lists<u8>,
+    ) -> Result<(), AllocError>
+        requires { AreEnds self.old.ends (length self.old.values) }
+        ensures names { Kept self.old.names self.new.names }
+        ensures layers { Kept self.old.layers.items self.new.layers.items }
+        ensures values { Kept self.old.values self.new.values }
+        ensures ends { Kept self.old.ends self.new.ends }
+        ensures ok { OnOk result (OneMore self.old self.new (variable name.now layer values.now)) }
+    {
+        self.names.push(name)?;
+        self.layers.push(layer)?;
+        self.values.append(values)?;
+        self.ends.push(self.values.len())
+    }
+
+    /// Leaves so many variables, the first ones, which have so many values.
+    fn truncate(&mut self, variables: usize, values: usize)
+        requires names { variables ≤ length self.old.names }
+        requires values { values ≤ length self.old.values }
+        ensures names { self.new.names ≡ take variables self.old.names }
+        ensures layers { self.new.layers.items ≡ take variables self.old.layers.items }
+        ensures values { self.new.values ≡ take values self.old.values }
+        ensures ends { self.new.ends ≡ take variables self.old.ends }
+    {
+        self.names.truncate(variables);
+        self.layers.truncate(variables);
+        self.values.truncate(values);
+        self.ends.truncate(variables);
+    }
+}
+
+impl Variables {
+    /// No variable. It takes no memory.
+    pub fn new(alloc: Global) -> Self
+        ensures { result ≡ [] }
+    {
+        Variables {
+            columns: Columns {
+                names: Lists::new(alloc),
+                layers: Vec::new(alloc),
+                values: Lists::new(alloc),
+                ends: Ends::new(alloc),
+            },
+        }
+    }
+
+    /// How many variables there are.
+    pub fn len(&self) -> usize
+        ensures { result ≡ length self.now }
+    {
+        self.columns.ends.len()
+    }
+
+    /// One variable more, with these names of its values. After an `Err` the variables are as they were.
+    pub fn push(
+        &mut self,
+        name: &[u8],
+        layer: Option<u32>,
+        values: &Lists<u8>,
+    ) -> Result<(), AllocError>
+        ensures ok { OnOk result (self.new ≡ self.old ++ variable name.now layer values.now ∷ []) }
+        ensures err { OnErr result (self.new ≡ self.old) }
+    {
+        let variables = self.columns.ends.len();
+        let all_values = self.columns.values.len();
+        match self.columns.push(name, layer, values) {
+            Ok(()) => Ok(()),
+            Err(error) => {
+                self.columns.truncate(variables, all_values);
+                Err(error)
+            }
+        }
+    }
+
+    /// How many values the variable has.
+    pub fn range(&self, var: usize) -> usize
+        requires { var < length self.now }
+        ensures { result ≡ range_of self.now var }
+    {
+        self.columns.ends.end(var) - self.columns.ends.start(var)
+    }
+
+    /// The layer of a derived variable; a basic one has none.
+    pub fn layer(&self, var: usize) -> Option<u32>
+        requires { var < length self.now }
+        ensures { result ≡ layer_of self.now var }
+    {
+        self.columns.layers.as_slice()[var]
+    }
+}

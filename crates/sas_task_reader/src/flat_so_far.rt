@@ -1,0 +1,194 @@
+// What keeps all that a task file says, in a few blocks of memory.
+ghost use Rattle.std.specs.Prelude.{◌≡◌, [], OnOk};
+ghost use Rattle.sas_core.specs.WellRanged.{WellRanged};
+ghost use Rattle.sas_task_judge.specs.declared.task_events.Event.TheVariants as event;
+ghost use Rattle.sas_task_judge.specs.declared.task_events.Said.{Said};
+ghost use Rattle.sas_task_judge.specs.TaskEvents.{nothing_yet, after};
+
+use sas_core::{Change, Fact, Items};
+use sas_flat::{Effects, FlatTask, Lists, Operators, Rules, Variables};
+use sas_reader::Kind;
+use sas_task_judge::{Event, Keeper, Said};
+use std::alloc::{AllocError, Global};
+use std::marker::Model;
+
+/// What has come, as `SoFar` has it: its parts, and what has come of a variable, group, operator or rule that has begun.
+/// What has begun is kept in memory that serves the next one too, so that a line takes none of its own. In a contract it
+/// is the `SoFar` of the same lines.
+#[derive(Drop)]
+pub struct FlatSoFar {
+    alloc: Global,
+    metric: bool,
+    variables: Variables,
+    groups: Lists<Fact>,
+    init: Items<u32>,
+    goal: Items<Fact>,
+    operators: Operators,
+    rules: Rules,
+    name: Items<u8>,
+    layer: Option<u32>,
+    values: Lists<u8>,
+    /// The facts of a group, the prevail conditions of an operator, or the conditions of a rule.
+    facts: Items<Fact>,
+    effects: Effects,
+}
+
+impl Model for FlatSoFar {
+    ghost use Rattle.sas_flat.specs.FlatTasks.{parts};
+    ghost use Rattle.sas_task_judge.specs.declared.so_far.SoFar.{SoFar};
+
+    ghost Value = { SoFar };
+
+    ghost view = { λ s. record {
+      alloc = s.alloc;
+      parts = parts s.metric s.variables s.groups s.init s.goal s.operators s.rules;
+      name = s.name;
+      layer = s.layer;
+      values = s.values;
+      facts = s.facts;
+      effects = s.effects;
+    } };
+}
+
+impl FlatSoFar {
+    /// Nothing has come. It takes no memory.
+    pub fn new(alloc: Global) -> Self
+        ensures { result ≡ nothing_yet alloc }
+    {
+        FlatSoFar {
+            alloc,
+            metric: false,
+            variables: Variables::new(alloc),
+            groups: Lists::new(alloc),
+            init: Items::new(alloc),
+            goal: Items::new(alloc),
+            operators: Operators::new(alloc),
+            rules: Rules::new(alloc),
+            name: Items::new(alloc),
+            layer: None,
+            values: Lists::new(alloc),
+            facts: Items::new(alloc),
+            effects: Effects::new(alloc),
+        }
+    }
+
+    /// The task of the parts that have come, where they are known to be well ranged. It takes no memory.
+    pub fn into_task(self) -> FlatTask
+        requires { WellRanged self.parts }
+        ensures { result ≡ self.parts }
+    {
+        let FlatSoFar {
+            metric,
+            variables,
+            groups,
+            init,
+            goal,
+            operators,
+            rules,
+            ..
+        } = self;
+        FlatTask::of_parts(metric, variables, groups, init, goal, operators, rules)
+    }
+
+    fn name(&mut self, line: &[u8]) -> Result<(), AllocError>
+        ensures { (said : Said) → OnOk result (self.new ≡ after self.old event.Name said line.now) }
+    {
+        self.name.clear();
+        self.name.extend_from_slice(line)
+    }
+
+    fn variable(&mut self) -> Result<(), AllocError>
+        ensures { (said : Said) → OnOk result (self.new ≡ after self.old event.Variable said []) }
+    {
+        self.variables
+            .push(self.name.as_slice(), self.layer, &self.values)?;
+        self.name.clear();
+        self.values.clear();
+        Ok(())
+    }
+
+    fn group(&mut self) -> Result<(), AllocError>
+        ensures { (said : Said) → OnOk result (self.new ≡ after self.old event.Group said []) }
+    {
+        self.groups.push(self.facts.as_slice())?;
+        self.facts.clear();
+        Ok(())
+    }
+
+    fn effect(&mut self, said: &Said) -> Result<(), AllocError>
+        ensures { OnOk result (self.new ≡ after self.old event.Effect said.now []) }
+    {
+        let change = Change {
+            var: said.effect.var,
+            old: said.effect.old,
+            new: said.effect.new,
+        };
+        self.effects.push(said.effect.conditions.as_slice(), change)
+    }
+
+    fn operator(&mut self, said: &Said) -> Result<(), AllocError>
+        ensures { OnOk result (self.new ≡ after self.old event.Operator said.now []) }
+    {
+        self.operators.push(
+            self.name.as_slice(),
+            self.facts.as_slice(),
+            &self.effects,
+            said.number,
+        )?;
+        self.name.clear();
+        self.facts.clear();
+        self.effects.clear();
+        Ok(())
+    }
+
+    fn rule(&mut self, said: &Said) -> Result<(), AllocError>
+        ensures { OnOk result (self.new ≡ after self.old event.Rule said.now []) }
+    {
+        let change = Change {
+            var: said.head.var,
+            old: said.head.old,
+            new: said.head.new,
+        };
+        self.rules.push(self.facts.as_slice(), change)?;
+        self.facts.clear();
+        Ok(())
+    }
+
+    /// Takes what the line says.
+    fn add(&mut self, line: &[u8], event: Event, said: &Said) -> Result<(), AllocError>
+        ensures { OnOk result (self.new ≡ after self.old event said.now line.now) }
+    {
+        match event {
+            Event::Nothing => {}
+            Event::Metric => self.metric = said.number == 1,
+            Event::Name => return self.name(line),
+            Event::Layer => self.layer = said.layer,
+            Event::Values => self.values.clear(),
+            Event::Value => return self.values.push(line),
+            Event::Variable => return self.variable(),
+            Event::Facts => self.facts.clear(),
+            Event::Fact => return self.facts.push(said.fact),
+            Event::Group => return self.group(),
+            Event::State => return self.init.push(said.number),
+            Event::Goal => return self.goal.push(said.fact),
+            Event::Effects => self.effects.clear(),
+            Event::Effect => return self.effect(said),
+            Event::Operator => return self.operator(said),
+            Event::Rule => return self.rule(said),
+        }
+        Ok(())
+    }
+}
+
+impl Keeper for FlatSoFar {
+    ghost use Rattle.std.specs.Prelude.{◌≡◌};
+
+    ghost keeps = { λ lines s kept. kept ≡ s };
+
+    fn keep(&mut self, line: &[u8], event: Event, said: &mut Said) -> Result<(), Kind> {
+        match self.add(line, event, said) {
+            Ok(()) => Ok(()),
+            Err(_) => Err(Kind::Memory),
+        }
+    }
+}
