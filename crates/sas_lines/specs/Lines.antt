@@ -42,10 +42,10 @@ abbrev pub TakesLine : List ℕ → ℕ → Bool → Type 0
 TakesLine piece taken true = (front rest : List ℕ) × NoEnd front × (piece ≡ front ++ 10 ∷ rest) × (taken ≡ length front + 1)
 TakesLine piece taken false = NoEnd piece × (taken ≡ length piece)
 
--- a line stands first in the bytes, and takes so many of them with its end
-pub record LineStandsFirst (bytes line : List ℕ) (taken : ℕ) : Type 0 where
+-- a line stands first in the bytes, and takes n of them with its end
+pub record LineStandsFirst (bytes first : List ℕ) (n : ℕ) : Type 0 where
   -- these are the bytes up to and with the first LF
-  pub taken : TakesLine bytes taken true
+  pub taken : TakesLine bytes n true
   -- and they are this line and its end
-  pub line : lines (take taken bytes) ≡ line ∷ []
-  pub rest : unfinished (take taken bytes) ≡ []
+  pub line : lines (take n bytes) ≡ first ∷ []
+  pub rest : unfinished (take n bytes) ≡ []
