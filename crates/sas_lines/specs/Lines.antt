@@ -1,5 +1,5 @@
 -- Lines: every byte list is some complete lines, each with its line end, and a rest without LF.
-use Rattle.std.specs.Prelude.{◌≡◌, ◌≢◌, ℕ, ◌+◌, Bool, true, false, length, List, [], ◌∷◌, ◌++◌, ◌==◌, if◌then◌else◌}
+use Rattle.std.specs.Prelude.{◌≡◌, ◌≢◌, ℕ, ◌+◌, Bool, true, false, length, List, [], ◌∷◌, ◌++◌, ◌==◌, if◌then◌else◌, take}
 use Rattle.std.specs.List.{flat_map, AllByRecursion}
 use Rattle.sas_lines.specs.Parts.{parts}
 
@@ -41,3 +41,11 @@ NoEnd bytes = AllByRecursion (λ b. b ≢ 10) bytes
 abbrev pub TakesLine : List ℕ → ℕ → Bool → Type 0
 TakesLine piece taken true = (front rest : List ℕ) × NoEnd front × (piece ≡ front ++ 10 ∷ rest) × (taken ≡ length front + 1)
 TakesLine piece taken false = NoEnd piece × (taken ≡ length piece)
+
+-- a line stands first in the bytes, and takes n of them with its end
+pub record LineStandsFirst (bytes first : List ℕ) (n : ℕ) : Type 0 where
+  -- these are the bytes up to and with the first LF
+  pub taken : TakesLine bytes n true
+  -- and they are this line and its end
+  pub line : lines (take n bytes) ≡ first ∷ []
+  pub rest : unfinished (take n bytes) ≡ []

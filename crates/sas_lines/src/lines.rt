@@ -1,6 +1,6 @@
 // The lines of a stream, however it is cut into pieces.
 ghost use Rattle.std.specs.Prelude.{◌≡◌, ◌<◌, [], ◌∷◌, ◌++◌, take, false, true, IfOk, OnErr, IfSome, IfNone, if◌then◌else◌};
-ghost use Rattle.sas_lines.specs.Lines.{lines, unfinished, without_return, NoEnd, TakesLine};
+ghost use Rattle.sas_lines.specs.Lines.{lines, unfinished, without_return, NoEnd, TakesLine, LineStandsFirst};
 ghost use Rattle.sas_lines.specs.Progress.{completed};
 
 use crate::separators::first_place;
@@ -34,11 +34,7 @@ fn without_return(line: &[u8]) -> &[u8]
 
 /// The first line of the bytes, where its LF has come.
 pub fn first_line(bytes: &[u8]) -> Option<FirstLine<'_>>
-    // Up to and with the first LF.
-    ensures taken { IfSome result (λ first. TakesLine bytes.now first.taken true) }
-    // These bytes are the line and its end.
-    ensures line { IfSome result (λ first. lines (take first.taken bytes.now) ≡ first.line.now ∷ []) }
-    ensures rest { IfSome result (λ first. unfinished (take first.taken bytes.now) ≡ []) }
+    ensures some { IfSome result (λ first. LineStandsFirst bytes.now first.line.now first.taken) }
     ensures none { IfNone result (NoEnd bytes.now) }
 {
     let place = first_place(b'\n', bytes)?;
