@@ -42,8 +42,8 @@ is_long line n h e l = elim (cases_lt n 10) [ inl s ↦ absurd (omega (arith, is
 
 -- ---- of the digits so far
 
-pub so_far_short : (line : List ℕ) (i : ℕ) → AllDigits 10 (take i line) → i < 19 → digits_value 10 (take i line) < 10 ^ 18
-so_far_short line i d l = digits_value_short own (take i line) 18 d (omega (arith, length-take i line))
+pub so_far_below : (line : List ℕ) (i k : ℕ) → AllDigits 10 (take i line) → i ≤ k → digits_value 10 (take i line) < 10 ^ k
+so_far_below line i k d l = digits_value_short own (take i line) k d (omega (arith, length-take i line))
 
 pub digit_in : (c : ℕ) → 48 ≤ c → c ≤ 57 → digit_value c ≡ c - 48
 digit_in c l h = search rules
@@ -54,12 +54,17 @@ HasLeadingZero line = (get_or line 0 0 ≡ 48) × (1 < length line)
 one_digit : (line : List ℕ) → 0 < length line → (HasLeadingZero line → ⊥) → get_or line 0 0 ≡ 48 → length line ≡ 1
 one_digit line l h z = elim (cases_lt 1 (length line)) [ inl more ↦ absurd (h (z, more)) | inr one ↦ omega arith ]
 
+-- digits without a leading zero are the decimal of their value
+pub are_decimal : (line : List ℕ) → AllDigits 10 line → length line ≤ 19 → 0 < length line → (HasLeadingZero line → ⊥) → line ≡ decimal (digits_value 10 line)
+are_decimal line d s p z =
+    let b = digits_value_short own line 19 d s in
+    sym (decimal-digits_value own line d p (one_digit line p z) (omega arith))
+
 -- the whole line is read
 pub is_read : (line : List ℕ) (i v : ℕ) → length line ≤ i → length line ≤ 19 → AllDigits 10 (take i line) × (v ≡ digits_value 10 (take i line)) → 0 < length line → (HasLeadingZero line → ⊥) → (v < 10 ^ 19) × (line ≡ decimal v)
 is_read line i v l s h p z =
     let g : AllDigits 10 line × (v ≡ digits_value 10 line) = subst (λ (x : List ℕ). AllDigits 10 x × (v ≡ digits_value 10 x)) (take_all i line l) h in
-    let b = digits_value_short own line 19 g.0 s in
-    rw (g.1) (b, sym (decimal-digits_value own line g.0 p (one_digit line p z) (omega arith)))
+    rw (g.1) (digits_value_short own line 19 g.0 s, are_decimal line g.0 s p z)
 
 -- ---- of a line of 20 digits
 

@@ -5,3 +5,4 @@ mod Feeding
 mod Digits
 pub mod Splitting
 pub mod Words
+pub mod Beginnings

@@ -45,12 +45,12 @@ plain-effect : (e : Effect) → EffectNumbers e → AllByRecursion IsPlain (effe
 plain-effect e h = (plain-number (length e.conditions) h.count, plain-facts e.conditions (head_words e.var e.old e.new) h.conditions (plain-head e.var e.old e.new h.head))
 
 -- a word and a name without LF and CR, or numbers that a file can say
-abbrev Sayable : TaskLine → Type 0
+abbrev pub Sayable : TaskLine → Type 0
 Sayable (word w) = IsTrue (list_all is_plain w)
 Sayable (name bytes) = IsName bytes
 Sayable i = TaskLineFits i
 
-plain-line : (i : TaskLine) → Sayable i → IsPlain (task_line_bytes i)
+pub plain-line : (i : TaskLine) → Sayable i → IsPlain (task_line_bytes i)
 plain-line (word w) h = plain_bytes w h
 plain-line (name bytes) h = plain-name bytes h
 plain-line (number n) h = plain-number n h

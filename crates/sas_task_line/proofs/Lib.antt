@@ -1,2 +1,3 @@
 pub mod TaskReading
 pub mod TaskJudging
+mod AheadReading

@@ -1,3 +1,4 @@
 pub mod TaskLine
 pub mod TaskWords
 pub mod TaskRanges
+pub mod Ahead

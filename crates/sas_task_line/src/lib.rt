@@ -1,9 +1,13 @@
 //! One line of a task file: what it says, or the kind of its fault.
 #![tactic(auto)]
 
+mod ahead;
 mod task_line;
 
+pub use ahead::{
+    Ahead, effect_ahead, fact_ahead, head_ahead, name_ahead, number_ahead, word_ahead,
+};
 pub use task_line::{
-    Change, effect_at, fact_at, head_at, name_at, number_at, number_below, positive_at, signed_at,
-    version_at, word_at,
+    Change, change_in, effect_at, fact_at, head_at, name_at, number_at, number_below, positive_at,
+    signed_at, value_in, version_at, word_at,
 };

@@ -236,7 +236,7 @@ fn change_of(line: &[u8]) -> Option<Change>
 }
 
 /// Whether the variable exists and has the value, by the number of each variable's values.
-fn value_in(ranges: &Items<u32>, var: u32, value: u32) -> bool
+pub fn value_in(ranges: &Items<u32>, var: u32, value: u32) -> bool
     ensures { result ≡ value_in ranges.now var value }
 {
     match ranges.get(var as usize) {
@@ -246,7 +246,7 @@ fn value_in(ranges: &Items<u32>, var: u32, value: u32) -> bool
 }
 
 /// Whether the variable exists and has the new value and the old one, if any.
-fn change_in(ranges: &Items<u32>, var: u32, old: Option<u32>, new: u32) -> bool
+pub fn change_in(ranges: &Items<u32>, var: u32, old: Option<u32>, new: u32) -> bool
     ensures { result ≡ change_in ranges.now var old new }
 {
     match old {

@@ -2,7 +2,7 @@ use Rattle.std.proofs.Common.{arith, length, ◌<◌, ◌≡◌, get_or, refl}
 use Rattle.std.proofs.lemmas.Int.Digits.{digits_more, digits_value_more}
 use Rattle.std.proofs.lemmas.Bool.{iff_false, MatchBool-at_true, MatchBool-at_false}
 use Rattle.std.proofs.lemmas.Bool.Decides.{nat_tests}
-use Rattle.sas_lines.proofs.Digits.{is_not_empty, is_zero, is_digit, so_far_short, digit_in, is_read}
+use Rattle.sas_lines.proofs.Digits.{is_not_empty, is_zero, is_digit, so_far_below, digit_in, is_read}
 use Rattle.sas_lines.proofs.spelling.short_number.Goals as goal
 
 pub returns-then-is_empty-clause-none : goal.returns-then-is_empty-clause-none
@@ -19,10 +19,10 @@ returns-then-not-is_ascii_digit-clause-none c = λ n h e.
     grind arith
 
 pub overflow_mul-value : goal.overflow_mul-value
-overflow_mul-value c = let k = so_far_short c.args.digits.now c.loop-digit.digit-index c.loop-digit.invariant.0 (omega arith) in omega (arith, k, c.loop-digit.invariant.1)
+overflow_mul-value c = let k = so_far_below c.args.digits.now c.loop-digit.digit-index 18 c.loop-digit.invariant.0 (omega arith) in omega (arith, k, c.loop-digit.invariant.1)
 
 pub overflow_add-value : goal.overflow_add-value
-overflow_add-value c = let k = so_far_short c.args.digits.now c.loop-digit.digit-index c.loop-digit.invariant.0 (omega arith) in omega (arith, k, c.loop-digit.invariant.1)
+overflow_add-value c = let k = so_far_below c.args.digits.now c.loop-digit.digit-index 18 c.loop-digit.invariant.0 (omega arith) in omega (arith, k, c.loop-digit.invariant.1)
 
 pub loop-digit-preserved : goal.loop-digit-preserved
 loop-digit-preserved c =

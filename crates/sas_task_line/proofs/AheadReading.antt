@@ -1,0 +1,104 @@
+-- Reading the first line of some bytes up to its LF.
+use Rattle.std.proofs.Common.{◌≡◌, ℕ, ◌+◌, ◌-◌, ◌<◌, ◌≤◌, List, [], ◌∷◌, ◌++◌, length, take, drop, refl, sym, ap, subst, ◌∙◌, append_assoc, length-append, arith, None, get_or, true, false, Bool, not, ◌&&◌, ◌==◌, IsTrue}
+use Rattle.std.specs.Fmt.{decimal}
+use Rattle.std.specs.List.{list_all}
+use Rattle.std.proofs.lemmas.Fmt.{decimal_digit}
+use Rattle.std.proofs.lemmas.List.{length-take-le, take_rest, take_at, get_or-take, take-append-drop, drop_more}
+use Rattle.memchr.specs.Find.{Nowhere, NoneBefore, Passes, is_byte2}
+use Rattle.sas_core.specs.Names.{is_plain, IsName}
+use Rattle.sas_core.proofs.PlainBytes.{is_none-search}
+use Rattle.std.proofs.lemmas.Bool.{ne_eqb}
+use Rattle.sas_core.specs.declared.parts.Fact.{Fact}
+use Rattle.sas_lines.specs.Lines.{without_return, NoEnd, LineStandsFirst}
+use Rattle.sas_lines.proofs.Beginnings.{stands_first}
+use Rattle.sas_lines.proofs.Splitting.{Plain}
+use Rattle.sas_reader.specs.System.{IsPlain}
+use Rattle.sas_task_format.specs.TaskFormat.{TaskLine, word, name, number, fact, effect, head, task_line_bytes, TaskLineFits, EffectNumbers}
+use Rattle.sas_task_format.proofs.TaskPlain.{Sayable, plain-line}
+use Rattle.sas_task_line.specs.declared.task_line.Change.{Change}
+use Rattle.sas_task_line.specs.Ahead.{SpellsAhead, NumberAhead, ChangeAhead, plain_effect}
+
+-- ---- a line and its LF
+
+plain : (line : List ℕ) → IsPlain line → Plain line
+plain line h = record { no_end = no_end line h; no_return = no_return line h }
+  where
+    no_end : (line : List ℕ) → IsPlain line → NoEnd line
+    no_end [] h = tt
+    no_end (b ∷ line) h = (h.0.0, no_end line h.1)
+
+    no_return : (line : List ℕ) → IsPlain line → without_return line ≡ line
+    no_return [] h = refl
+    no_return (b ∷ []) h = rw (ne_eqb b 13 h.0.1) refl
+    no_return (b ∷ c ∷ line) h = ap (λ (x : List ℕ). b ∷ x) (no_return (c ∷ line) h.1)
+
+-- a line that stands whole before LF
+pub line_is_ahead : (i : TaskLine) (bytes rest : List ℕ) (taken : ℕ) → TaskLineFits i → Sayable i → bytes ≡ task_line_bytes i ++ 10 ∷ rest → length (task_line_bytes i) + 1 ≡ taken → SpellsAhead i bytes taken
+line_is_ahead i bytes rest taken fits says e n =
+    let line = task_line_bytes i in
+    record {
+      fits = fits;
+      first = subst (LineStandsFirst bytes line) n (stands_first bytes line rest (plain line (plain-line i says)) e);
+      before_end = sym (ap (take (taken - 1)) e ∙ take_at line (10 ∷ rest) (taken - 1) (omega arith));
+    }
+
+-- the same where the rest tells how many bytes were taken
+spells_ahead : (i : TaskLine) (bytes rest : List ℕ) (taken : ℕ) → TaskLineFits i → Sayable i → bytes ≡ task_line_bytes i ++ 10 ∷ rest → taken ≡ length bytes - length rest → SpellsAhead i bytes taken
+spells_ahead i bytes rest taken fits says e n = line_is_ahead i bytes rest taken fits says e (omega (arith, n, ap length e, length-append (task_line_bytes i) (10 ∷ rest)))
+
+-- ---- bytes in front
+
+pub byte_in_front : (bytes : List ℕ) (byte : ℕ) → 1 ≤ length bytes → get_or bytes 0 0 ≡ byte → bytes ≡ byte ∷ drop 1 bytes
+byte_in_front [] byte l h = absurd (omega arith)
+byte_in_front (b ∷ bytes) byte l h = ap (λ (x : ℕ). x ∷ bytes) h
+
+pub bytes_in_front : (bytes : List ℕ) (first second : ℕ) → 2 ≤ length bytes → get_or bytes 0 0 ≡ first → get_or bytes 1 0 ≡ second → bytes ≡ first ∷ second ∷ take (length bytes - 2) (drop 2 bytes)
+bytes_in_front bytes first second l h g = rw (take_rest bytes 2) (in_front bytes l h g)
+  where
+    in_front : (bytes : List ℕ) → 2 ≤ length bytes → get_or bytes 0 0 ≡ first → get_or bytes 1 0 ≡ second → bytes ≡ first ∷ second ∷ drop 2 bytes
+    in_front [] l h g = absurd (omega arith)
+    in_front (a ∷ []) l h g = absurd (omega arith)
+    in_front (a ∷ b ∷ bytes) l h g = cc
+
+-- ---- numbers, one after another
+
+-- two texts with a byte between them, and the rest
+then : (a b bytes more rest : List ℕ) (byte : ℕ) → bytes ≡ a ++ byte ∷ more → more ≡ b ++ rest → bytes ≡ (a ++ byte ∷ b) ++ rest
+then a b bytes more rest byte e f = e ∙ ap (λ (x : List ℕ). a ++ byte ∷ x) f ∙ sym (append_assoc a (byte ∷ b) rest)
+
+pub number_is_ahead : (bytes rest : List ℕ) (n taken : ℕ) → NumberAhead bytes n 10 rest → taken ≡ length bytes - length rest → SpellsAhead (number n) bytes taken
+number_is_ahead bytes rest n taken h l = spells_ahead (number n) bytes rest taken h.0 h.0 h.1 l
+
+pub fact_is_ahead : (bytes more rest : List ℕ) (f : Fact) (taken : ℕ) → NumberAhead bytes f.var 32 more → NumberAhead more f.value 10 rest → taken ≡ length bytes - length rest → SpellsAhead (fact f) bytes taken
+fact_is_ahead bytes more rest f taken h g l = spells_ahead (fact f) bytes rest taken (h.0, g.0) (h.0, g.0) (then _ _ bytes more (10 ∷ rest) 32 h.1 g.1) l
+
+pub head_is_ahead : (bytes rest : List ℕ) (c : Change) (taken : ℕ) → ChangeAhead bytes c rest → taken ≡ length bytes - length rest → SpellsAhead (head c.var c.old c.new) bytes taken
+head_is_ahead bytes rest c taken h l = spells_ahead (head c.var c.old c.new) bytes rest taken h.0 h.0 h.1 l
+
+pub effect_is_ahead : (bytes more rest : List ℕ) (c : Change) (taken : ℕ) → bytes ≡ 48 ∷ 32 ∷ more → ChangeAhead more c rest → taken ≡ length bytes - length rest → SpellsAhead (effect (plain_effect c)) bytes taken
+effect_is_ahead bytes more rest c taken e h l =
+    let numbers : EffectNumbers (plain_effect c) = record { count = omega arith; conditions = tt; head = h.0 } in
+    let zero_is : decimal 0 ≡ 48 ∷ [] = decimal_digit 0 (omega arith) in
+    spells_ahead (effect (plain_effect c)) bytes rest taken numbers numbers (then _ _ bytes more (10 ∷ rest) 32 (e ∙ ap (λ (x : List ℕ). x ++ 32 ∷ more) (sym zero_is)) h.1) l
+
+-- ---- a word, a name
+
+both : (a b : Bool) → IsTrue (a && b) → IsTrue b
+both true b h = h
+both false b h = absurd cc
+
+Name_all : (w : List ℕ) → IsName w → IsTrue (list_all is_plain w)
+Name_all w h = both (not (length w == 0)) (list_all is_plain w) h
+
+pub word_is_ahead : (bytes w rest : List ℕ) → IsName w → bytes ≡ w ++ 10 ∷ rest → SpellsAhead (word w) bytes (length w + 1)
+word_is_ahead bytes w rest h e = line_is_ahead (word w) bytes rest _ tt (Name_all w h) e refl
+
+pub name_is_ahead : (bytes : List ℕ) (end : ℕ) → 0 < end → NoneBefore (Passes (is_byte2 10 13) bytes) 0 (length bytes) end → get_or bytes end 0 ≡ 10 → IsName (take end bytes) × SpellsAhead (name (take end bytes)) bytes (length (take end bytes) + 1)
+name_is_ahead bytes end some first here =
+    let w = take end bytes in
+    let l : length w ≡ end = length-take-le end bytes (omega (arith, first.high)) in
+    let nowhere : Nowhere (Passes (is_byte2 10 13) w) 0 (length w) = λ k low below found. first.before k low (omega arith) (rw (get_or-take end bytes k 0 (omega arith)) at found) in
+    let one_line = is_none-search w None true nowhere refl in
+    let many : (length w == 0) ≡ false = ne_eqb (length w) 0 (λ e. omega (arith, e, l, some)) in
+    let h : IsName w = ap (λ (b : Bool). not b && list_all is_plain w) many ∙ sym one_line in
+    (h, line_is_ahead (name w) bytes (drop (end + 1) bytes) _ tt h (sym (take-append-drop end bytes) ∙ ap (λ (x : List ℕ). w ++ x) (drop_more bytes end 0 first.high ∙ ap (λ (b : ℕ). b ∷ drop (end + 1) bytes) here)) refl)

@@ -1,0 +1,32 @@
+-- What the code reads off the first line of some bytes, up to and with its LF.
+use Rattle.std.specs.Prelude.{◌≡◌, ℕ, ◌-◌, List, take, [], ◌∷◌, ◌++◌, Option}
+use Rattle.std.specs.Fmt.{decimal}
+use Rattle.sas_core.specs.declared.parts.Effect.{Effect}
+use Rattle.sas_core.specs.Numbers.{IsNumber, IsSigned}
+use Rattle.sas_lines.specs.Lines.{LineStandsFirst}
+use Rattle.sas_lines.specs.Spelling.{signed_decimal, joined}
+use Rattle.sas_task_format.specs.TaskFormat.{TaskLine, task_line_bytes, TaskLineFits, head_words, HeadNumbers}
+use Rattle.sas_task_line.specs.declared.task_line.Change.{Change}
+
+-- the bytes begin with this line, its numbers being numbers that a file can say, and with its LF it takes so many of them
+pub record SpellsAhead (i : TaskLine) (bytes : List ℕ) (taken : ℕ) : Type 0 where
+  pub fits : TaskLineFits i
+  pub first : LineStandsFirst bytes (task_line_bytes i) taken
+  pub before_end : task_line_bytes i ≡ take (taken - 1) bytes
+
+-- an effect that makes this change, without conditions
+abbrev pub plain_effect : Change → Effect
+plain_effect change = record { conditions = []; var = change.var; old = change.old; new = change.new }
+
+-- the bytes are a number, this byte, and the rest
+abbrev pub NumberAhead : List ℕ → ℕ → ℕ → List ℕ → Type 0
+NumberAhead bytes n end rest = IsNumber n × (bytes ≡ decimal n ++ end ∷ rest)
+
+-- the bytes are a number, or `-1` for none, this byte, and the rest
+abbrev pub SignedAhead : List ℕ → Option ℕ → ℕ → List ℕ → Type 0
+SignedAhead bytes n end rest = IsSigned n × (bytes ≡ signed_decimal n ++ end ∷ rest)
+
+-- the bytes are a change, LF, and the rest
+abbrev pub ChangeAhead : List ℕ → Change → List ℕ → Type 0
+ChangeAhead bytes c rest =
+    HeadNumbers c.var c.old c.new × (bytes ≡ joined (head_words c.var c.old c.new) ++ 10 ∷ rest)

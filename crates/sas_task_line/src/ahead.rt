@@ -1,0 +1,126 @@
+// The first line of some bytes, read straight off these, where it is quick to see that it ends with LF and says what is
+// asked for. All else is left to the functions that are given the line by itself, and tell its fault.
+ghost use Rattle.std.specs.Prelude.{◌≡◌, ◌+◌, length, IfSome};
+ghost use Rattle.sas_core.specs.Names.{IsName};
+ghost use Rattle.sas_task_format.specs.TaskFormat as format;
+ghost use Rattle.sas_task_line.specs.Ahead.{SpellsAhead, NumberAhead, SignedAhead, ChangeAhead, plain_effect};
+
+use crate::task_line::Change;
+use memchr::memchr2;
+use sas_core::Fact;
+use sas_lines::first_numeral;
+
+/// What the first line of some bytes says, and how many of the bytes the line takes with its LF.
+#[derive(Clone, Copy, Debug, PartialEq, Eq)]
+pub struct Ahead<A> {
+    pub said: A,
+    pub taken: usize,
+}
+
+/// A number that stands before this byte, and what follows that.
+fn number_before(bytes: &[u8], end: u8) -> Option<(u32, &[u8])>
+    ensures { IfSome result (λ found. NumberAhead bytes.now found.0 end found.1.now) }
+{
+    let numeral = first_numeral(bytes)?;
+    match &bytes[numeral.taken..] {
+        [byte, rest @ ..] if *byte == end => Some((numeral.value, rest)),
+        _ => None,
+    }
+}
+
+/// A number, or `-1` for none, that stands before this byte, and what follows that.
+fn signed_before(bytes: &[u8], end: u8) -> Option<(Option<u32>, &[u8])>
+    ensures { IfSome result (λ found. SignedAhead bytes.now found.0 end found.1.now) }
+{
+    if let [b'-', b'1', byte, rest @ ..] = bytes {
+        return if *byte == end {
+            Some((None, rest))
+        } else {
+            None
+        };
+    }
+    let (number, rest) = number_before(bytes, end)?;
+    Some((Some(number), rest))
+}
+
+/// A change that stands before LF, and what follows that.
+fn change_before(bytes: &[u8]) -> Option<(Change, &[u8])>
+    ensures { IfSome result (λ found. ChangeAhead bytes.now found.0 found.1.now) }
+{
+    let (var, rest) = number_before(bytes, b' ')?;
+    let (old, rest) = signed_before(rest, b' ')?;
+    let (new, rest) = number_before(rest, b'\n')?;
+    Some((Change { var, old, new }, rest))
+}
+
+/// A number.
+pub fn number_ahead(bytes: &[u8]) -> Option<Ahead<u32>>
+    ensures { IfSome result (λ a. SpellsAhead (format.number a.said) bytes.now a.taken) }
+{
+    let (said, rest) = number_before(bytes, b'\n')?;
+    Some(Ahead {
+        said,
+        taken: bytes.len() - rest.len(),
+    })
+}
+
+/// A fact, whether it exists or not.
+pub fn fact_ahead(bytes: &[u8]) -> Option<Ahead<Fact>>
+    ensures { IfSome result (λ a. SpellsAhead (format.fact a.said) bytes.now a.taken) }
+{
+    let (var, rest) = number_before(bytes, b' ')?;
+    let (value, rest) = number_before(rest, b'\n')?;
+    Some(Ahead {
+        said: Fact { var, value },
+        taken: bytes.len() - rest.len(),
+    })
+}
+
+/// An effect without conditions, by its change, whether its facts exist or not.
+pub fn effect_ahead(bytes: &[u8]) -> Option<Ahead<Change>>
+    ensures { IfSome result (λ a. SpellsAhead (format.effect (plain_effect a.said)) bytes.now a.taken) }
+{
+    let [b'0', b' ', rest @ ..] = bytes else {
+        return None;
+    };
+    let (said, rest) = change_before(rest)?;
+    Some(Ahead {
+        said,
+        taken: bytes.len() - rest.len(),
+    })
+}
+
+/// The head of a rule, whether its facts exist or not.
+pub fn head_ahead(bytes: &[u8]) -> Option<Ahead<Change>>
+    ensures { IfSome result (λ a. SpellsAhead (format.head a.said.var a.said.old a.said.new) bytes.now a.taken) }
+{
+    let (said, rest) = change_before(bytes)?;
+    Some(Ahead {
+        said,
+        taken: bytes.len() - rest.len(),
+    })
+}
+
+/// The fixed word: how many of the bytes it takes with its LF.
+pub fn word_ahead(bytes: &[u8], word: &[u8]) -> Option<usize>
+    requires { IsName word.now }
+    ensures { IfSome result (λ taken. SpellsAhead (format.word word.now) bytes.now taken) }
+{
+    match bytes.strip_prefix(word)? {
+        [b'\n', ..] => Some(word.len() + 1),
+        _ => None,
+    }
+}
+
+/// A name.
+pub fn name_ahead(bytes: &[u8]) -> Option<&[u8]>
+    ensures { IfSome result (λ name.
+        IsName name.now × SpellsAhead (format.name name.now) bytes.now (length name.now + 1)) }
+{
+    let end = memchr2(b'\n', b'\r', bytes)?;
+    if end > 0 && bytes[end] == b'\n' {
+        Some(&bytes[..end])
+    } else {
+        None
+    }
+}
