@@ -7,7 +7,7 @@ use Rattle.std.proofs.lemmas.Bool.Decides.{eqb_tells}
 use Rattle.std.proofs.lemmas.List.{get_or-take, get_or-drop, length-take, length-drop, take-append-drop}
 use Rattle.std.proofs.lemmas.List.Elements.{All-head, All-tail}
 use Rattle.sas_core.specs.declared.parts.Parts.{Parts}
-use Rattle.sas_core.specs.Grounded.{rule_at}
+use Rattle.sas_grounded.specs.Grounded.{rule_at}
 use Rattle.sas_meaning.specs.Layers.{IsOnLayer}
 use Rattle.sas_meaning.proofs.Layers.{on_layer_within}
 use Rattle.sas_axioms.specs.declared.layer_rules.LayerRule.{LayerRule}

@@ -2,7 +2,7 @@
 use Rattle.std.specs.Prelude.{◌≡◌, ℕ, ◌+◌, ◌-◌, ◌<◌, ◌≤◌, ◌==◌, ◌&&◌, if◌then◌else◌, List, [], ◌∷◌, length, All, slice_index, slice_index_or, take, drop}
 use Rattle.sas_core.specs.declared.parts.Fact.{Fact}
 use Rattle.sas_core.specs.declared.parts.Parts.{Parts}
-use Rattle.sas_core.specs.Grounded.{rule_at}
+use Rattle.sas_grounded.specs.Grounded.{rule_at}
 use Rattle.sas_meaning.specs.Layers.{IsOnLayer}
 use Rattle.sas_axioms.specs.declared.waiting.Waiting.{Waiting}
 use Rattle.sas_axioms.specs.LayerRules.{IsRuleOn}

@@ -2,7 +2,7 @@
 ghost use Rattle.sas_core.specs.Variables.{IsState};
 ghost use Rattle.sas_meaning.specs.Settled.{Settles};
 
-use sas_core::Grounded;
+use sas_grounded::Grounded;
 use sas_meaning::{Layered, State};
 
 /// What settles the layers of a task in turn, from the lowest one on.

@@ -1,6 +1,6 @@
 // Settling one layer by counters: each rule counts its conditions that don't hold yet, and fires when none is left.
 ghost use Rattle.std.specs.Prelude.{◌≡◌, ℕ, ◌<◌, ◌≤◌, ◌^◌, [], ◌∷◌, List, length, All, Contains, IsTrue, slice_index, vec_capacity};
-ghost use Rattle.sas_core.specs.Grounded.{rule_at};
+ghost use Rattle.sas_grounded.specs.Grounded.{rule_at};
 ghost use Rattle.sas_core.specs.Variables.{IsState};
 ghost use Rattle.sas_meaning.specs.States.{AllHold};
 ghost use Rattle.sas_meaning.specs.Forced.{SameOff, AtDefault};
@@ -12,7 +12,8 @@ ghost use Rattle.sas_axioms.specs.Worklist.{open_conditions, IsRunning, Counts, 
 
 use crate::layer_rules::LayerRule;
 use crate::waiting::{Index, Waiting};
-use sas_core::{Fact, Grounded, Items};
+use sas_core::{Fact, Items};
+use sas_grounded::Grounded;
 use sas_meaning::State;
 
 /// Settles a layer on which all variables have their default. These are its rules that can fire.

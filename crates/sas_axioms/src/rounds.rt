@@ -1,6 +1,6 @@
 // Settling in rounds: the rules of a layer are repeated until none changes a value.
 ghost use Rattle.std.specs.Prelude.{ℕ, ◌<◌, ◌≤◌, ◌↔◌, length, All, IsTrue, IsFalse, IfSome, IfNone, slice_index};
-ghost use Rattle.sas_core.specs.Grounded.{rule_at};
+ghost use Rattle.sas_grounded.specs.Grounded.{rule_at};
 ghost use Rattle.sas_core.specs.Variables.{IsState};
 ghost use Rattle.sas_meaning.specs.States.{AllHold};
 ghost use Rattle.sas_meaning.specs.Settled.{SameBasic};
@@ -8,7 +8,8 @@ ghost use Rattle.sas_meaning.specs.Forced.{OnlyForced, equal_places, HasFired, C
 ghost use Rattle.sas_axioms.specs.ByLayers.{IsLayeredTask, SettlesLayer};
 
 use crate::by_layers::{ByLayers, settle_by_layers};
-use sas_core::{Fact, Grounded};
+use sas_core::Fact;
+use sas_grounded::Grounded;
 use sas_meaning::{Layered, Settle, State};
 
 /// Settles states of any layered task: goes through the layers that occur, in ascending order, and repeats the rules of a

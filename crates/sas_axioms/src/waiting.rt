@@ -7,7 +7,8 @@ ghost use Rattle.sas_axioms.specs.LayerRules.{IsRuleOn};
 ghost use Rattle.sas_axioms.specs.Waiting.{IsWaiting, AddsWaiting, IsVariableEnd, AreStarts, IsIndex, waiting_at};
 
 use crate::layer_rules::firing_layer;
-use sas_core::{Fact, Grounded};
+use sas_core::Fact;
+use sas_grounded::Grounded;
 use std::alloc::{AllocError, Global};
 
 /// A rule that can fire waits for a fact: a condition of it, on a variable of the rule's own layer.

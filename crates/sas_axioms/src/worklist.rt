@@ -10,7 +10,8 @@ use crate::by_layers::{ByLayers, settle_by_layers};
 use crate::firing::settle_layer;
 use crate::layer_rules::{LayerRule, layer_at, ranked_rules};
 use crate::waiting::Index;
-use sas_core::{Fact, Grounded, Items};
+use sas_core::{Fact, Items};
+use sas_grounded::Grounded;
 use sas_meaning::{Layered, Settle, State};
 use std::alloc::{AllocError, Global};
 

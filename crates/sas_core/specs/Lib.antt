@@ -6,4 +6,3 @@ pub mod Variables
 pub mod WellRanged
 pub mod Checks
 pub mod Tasks
-pub mod Grounded

@@ -2,7 +2,6 @@
 #![tactic(auto)]
 
 mod checks;
-mod grounded;
 mod items;
 mod names;
 mod parts;
@@ -10,7 +9,6 @@ mod plan;
 mod task;
 
 pub use checks::PartsFault;
-pub use grounded::{Change, Grounded};
 pub use items::Items;
 pub use names::is_name;
 pub use parts::{Effect, Fact, Operator, Parts, Rule, Variable};

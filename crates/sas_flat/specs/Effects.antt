@@ -1,6 +1,6 @@
 -- Effects in columns: what each changes, and its conditions.
 use Rattle.std.specs.Prelude.{ℕ, List, [], length, slice_index_or, None}
-use Rattle.sas_core.specs.declared.grounded.Change.{Change}
+use Rattle.sas_grounded.specs.declared.grounded.Change.{Change}
 use Rattle.sas_core.specs.declared.parts.Fact.{Fact}
 use Rattle.sas_core.specs.declared.parts.Effect.{Effect}
 use Rattle.sas_flat.specs.Table.{table}

@@ -1,6 +1,6 @@
 -- Rules, which are like effects.
 use Rattle.std.specs.Prelude.{ℕ, List, [], map, slice_index_or, None}
-use Rattle.sas_core.specs.declared.grounded.Change.{Change}
+use Rattle.sas_grounded.specs.declared.grounded.Change.{Change}
 use Rattle.sas_core.specs.declared.parts.Fact.{Fact}
 use Rattle.sas_core.specs.declared.parts.Effect.{Effect}
 use Rattle.sas_core.specs.declared.parts.Rule.{Rule}

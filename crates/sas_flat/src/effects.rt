@@ -1,11 +1,12 @@
 // Effects in a few blocks of memory.
 ghost use Rattle.std.specs.Prelude.{◌≡◌, ◌<◌, ◌≤◌, [], ◌∷◌, ◌++◌, length, take, OnOk, OnErr};
-ghost use Rattle.sas_core.specs.Grounded as grounded;
+ghost use Rattle.sas_grounded.specs.Grounded as grounded;
 ghost use Rattle.sas_flat.specs.Effects.{effect, effect_in};
 ghost use Rattle.sas_flat.specs.Growing.{Kept};
 
 use crate::lists::Lists;
-use sas_core::{Change, Fact};
+use sas_core::Fact;
+use sas_grounded::Change;
 use std::alloc::{AllocError, Global};
 use std::marker::Model;
 

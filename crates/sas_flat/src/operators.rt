@@ -1,6 +1,6 @@
 // Operators in a few blocks of memory.
 ghost use Rattle.std.specs.Prelude.{◌≡◌, ◌<◌, ◌≤◌, [], ◌∷◌, ◌++◌, length, take, OnOk, OnErr};
-ghost use Rattle.sas_core.specs.Grounded as grounded;
+ghost use Rattle.sas_grounded.specs.Grounded as grounded;
 ghost use Rattle.sas_flat.specs.Effects.{effect_in};
 ghost use Rattle.sas_flat.specs.Growing.{Kept};
 ghost use Rattle.sas_flat.specs.Lists.{AreEnds};
@@ -9,7 +9,8 @@ ghost use Rattle.sas_flat.specs.Operators.{operator, operator_in, OneMore};
 use crate::effects::Effects;
 use crate::ends::Ends;
 use crate::lists::Lists;
-use sas_core::{Change, Fact};
+use sas_core::Fact;
+use sas_grounded::Change;
 use std::alloc::{AllocError, Global};
 use std::marker::Model;
 

@@ -7,7 +7,8 @@ use crate::lists::Lists;
 use crate::operators::Operators;
 use crate::rules::Rules;
 use crate::variables::Variables;
-use sas_core::{Change, Fact, Grounded, Items};
+use sas_core::{Fact, Items};
+use sas_grounded::{Change, Grounded};
 use std::marker::Model;
 
 /// A task in a few blocks of memory: its parts are well ranged. In a contract it is its parts.

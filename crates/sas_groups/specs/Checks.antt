@@ -3,7 +3,7 @@ use Rattle.std.specs.Prelude.{◌≡◌, ◌≢◌, ◌⊎◌, ℕ, ◌<◌, len
 use Rattle.sas_core.specs.declared.parts.Fact.{Fact}
 use Rattle.sas_core.specs.declared.parts.Effect.{Effect}
 use Rattle.sas_core.specs.declared.parts.Operator.{Operator}
-use Rattle.sas_core.specs.Grounded.{effect_at}
+use Rattle.sas_grounded.specs.Grounded.{effect_at}
 use Rattle.sas_meaning.specs.States.{Holds}
 use Rattle.sas_groups.specs.Clashes.{Clash, IsRemoved, sets}
 use Rattle.sas_groups.specs.Lists.{known}

@@ -1,12 +1,13 @@
 // Which facts clash.
 ghost use Rattle.std.specs.Prelude.{◌<◌, ◌↔◌, length, All, Contains, IsTrue, IsFalse};
-ghost use Rattle.sas_core.specs.Grounded.{operator_at};
+ghost use Rattle.sas_grounded.specs.Grounded.{operator_at};
 ghost use Rattle.sas_groups.specs.Clashes.{Contradict, Clash};
 ghost use Rattle.sas_groups.specs.Checks.{Alone, Has};
 ghost use Rattle.sas_groups.specs.Lists.{known};
 
 use crate::known::Known;
-use sas_core::{Fact, Grounded};
+use sas_core::Fact;
+use sas_grounded::Grounded;
 
 /// Whether the fact is one of the facts.
 pub fn contains(facts: &[Fact], fact: Fact) -> bool

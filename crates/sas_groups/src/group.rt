@@ -9,7 +9,8 @@ ghost use Rattle.sas_groups.specs.Checks.{Alone, IsOnlyOne};
 
 use crate::keeping::keeps;
 use crate::verdict::Verdict;
-use sas_core::{Fact, Grounded};
+use sas_core::Fact;
+use sas_grounded::Grounded;
 use sas_meaning::Layered;
 
 /// Whether the group is exclusive by itself, its facts alone being known to exclude each other. It takes no memory.

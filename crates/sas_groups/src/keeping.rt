@@ -1,12 +1,13 @@
 // Which operators keep a group.
 ghost use Rattle.std.specs.Prelude.{◌≡◌, ◌<◌, length, IsTrue, IsFalse};
-ghost use Rattle.sas_core.specs.Grounded.{operator_at, effect_at};
+ghost use Rattle.sas_grounded.specs.Grounded.{operator_at, effect_at};
 ghost use Rattle.sas_groups.specs.Clashes.{Keeps};
 ghost use Rattle.sas_groups.specs.Checks.{Alone, NotBoth, IsGone, OfEffects, IsSingle, RemovesAll};
 
 use crate::clashes::{clash, contains};
 use crate::removal::is_removed;
-use sas_core::{Change, Fact, Grounded};
+use sas_core::Fact;
+use sas_grounded::{Change, Grounded};
 
 /// Whether the operator keeps the group.
 pub fn keeps<T: Grounded>(task: &T, operator: u32, group: &[Fact]) -> bool

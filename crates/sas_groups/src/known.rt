@@ -1,10 +1,11 @@
 // The facts that hold where effects of an operator of a task fire.
 ghost use Rattle.std.specs.Prelude.{◌≡◌, ◌<◌, length};
 ghost use Rattle.std.specs.Iterator.{YieldsFirst, item_count};
-ghost use Rattle.sas_core.specs.Grounded.{operator_at};
+ghost use Rattle.sas_grounded.specs.Grounded.{operator_at};
 ghost use Rattle.sas_groups.specs.Lists.{known, known_left};
 
-use sas_core::{Fact, Grounded};
+use sas_core::Fact;
+use sas_grounded::Grounded;
 use sas_meaning::Preconditions;
 
 /// An iterator over an operator's preconditions, then the facts of two lists. What it has still to give is `known_left`.

@@ -1,12 +1,13 @@
 // Whether a fact is removed.
 ghost use Rattle.std.specs.Prelude.{◌<◌, length, All, Contains, IsTrue, IsFalse};
-ghost use Rattle.sas_core.specs.Grounded.{operator_at, effect_at};
+ghost use Rattle.sas_grounded.specs.Grounded.{operator_at, effect_at};
 ghost use Rattle.sas_groups.specs.Clashes.{IsRemoved};
 ghost use Rattle.sas_groups.specs.Checks.{Removes};
 ghost use Rattle.sas_groups.specs.Lists.{known};
 
 use crate::known::Known;
-use sas_core::{Fact, Grounded};
+use sas_core::Fact;
+use sas_grounded::Grounded;
 
 /// Whether the fact is a precondition of the operator, or one of the facts.
 fn is_known<T: Grounded>(

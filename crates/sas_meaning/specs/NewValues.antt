@@ -1,7 +1,7 @@
 -- What the check of layers knows of the rules before the one that it looks at.
 use Rattle.std.specs.Prelude.{◌≡◌, ℕ, ◌<◌, List, length, slice_index_or, Option, None, Some}
 use Rattle.sas_core.specs.declared.parts.Parts.{Parts}
-use Rattle.sas_core.specs.Grounded.{rule_at}
+use Rattle.sas_grounded.specs.Grounded.{rule_at}
 use Rattle.sas_meaning.specs.Layers.{CanFire}
 
 -- the rule is before this place, can fire, and gives the variable the value

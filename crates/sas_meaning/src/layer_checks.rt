@@ -3,7 +3,7 @@ ghost use Rattle.std.specs.Prelude.{◌≡◌, ◌≢◌, ◌==◌, ◌<◌, ◌
 ghost use Rattle.std.specs.Option.{option_map_or};
 ghost use Rattle.std.specs.Result.{result_err};
 ghost use Rattle.sas_core.specs.Checks.{first_fault, check};
-ghost use Rattle.sas_core.specs.Grounded.{operator_at, rule_at, rule_change};
+ghost use Rattle.sas_grounded.specs.Grounded.{operator_at, rule_at, rule_change};
 ghost use Rattle.sas_core.specs.WellRanged.{WellRanged};
 ghost use Rattle.sas_meaning.specs.LayerChecks as spec;
 ghost use Rattle.sas_meaning.specs.Layers.{CanFire};
@@ -11,7 +11,8 @@ ghost use Rattle.sas_meaning.specs.NewValues.{NewValues};
 ghost use Rattle.sas_meaning.specs.declared.layered.LayerFault.TheVariants.{LayerOrder};
 
 use crate::layered::LayerFault;
-use sas_core::{Change, Fact, Grounded, Items};
+use sas_core::{Fact, Items};
+use sas_grounded::{Change, Grounded};
 use std::alloc::Global;
 
 /// Looks at the operators and the rules in turn, up to the first fault.

@@ -5,7 +5,8 @@ ghost use Rattle.sas_meaning.specs.LayerChecks.{layer_checks};
 ghost use Rattle.sas_meaning.specs.Layers.{IsLayered};
 
 use crate::layer_checks::check_layers;
-use sas_core::{Grounded, Task};
+use sas_core::Task;
+use sas_grounded::Grounded;
 use std::alloc::{AllocError, Global};
 use std::marker::Model;
 

@@ -2,7 +2,8 @@
 ghost use Rattle.std.specs.Prelude.{◌≡◌, ◌<◌, ◌↔◌, Some, List, ℕ, length, slice_get, slice_index, slice_set, IfOk, IsErrOf, IsTrue, IsFalse};
 ghost use Rattle.sas_core.specs.Variables.{IsState};
 
-use sas_core::{Fact, Grounded, Items};
+use sas_core::{Fact, Items};
+use sas_grounded::Grounded;
 use std::alloc::{AllocError, Global};
 use std::marker::Model;
 

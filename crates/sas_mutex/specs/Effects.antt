@@ -4,7 +4,7 @@ use Rattle.sas_core.specs.declared.parts.Fact.{Fact}
 use Rattle.sas_core.specs.declared.parts.Effect.{Effect}
 use Rattle.sas_core.specs.declared.parts.Operator.{Operator}
 use Rattle.sas_core.specs.declared.parts.Parts.{Parts}
-use Rattle.sas_core.specs.Grounded.{effect_at}
+use Rattle.sas_grounded.specs.Grounded.{effect_at}
 use Rattle.sas_groups.specs.Families.{IsGroupOf}
 use Rattle.sas_groups.specs.Checks.{NotBoth, IsGone}
 

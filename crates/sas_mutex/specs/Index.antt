@@ -6,7 +6,7 @@ use Rattle.sas_core.specs.declared.parts.Fact.{Fact}
 use Rattle.sas_core.specs.declared.parts.Effect.{Effect}
 use Rattle.sas_core.specs.declared.parts.Operator.{Operator}
 use Rattle.sas_core.specs.declared.parts.Parts.{Parts}
-use Rattle.sas_core.specs.Grounded.{operator_at, group_at}
+use Rattle.sas_grounded.specs.Grounded.{operator_at, group_at}
 use Rattle.sas_core.specs.Variables.{FactExists, range_of}
 use Rattle.sas_meaning.specs.Steps.{preconditions, old_fact}
 use Rattle.sas_mutex.specs.declared.directory.Entry.{Entry}

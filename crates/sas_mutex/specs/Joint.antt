@@ -1,7 +1,7 @@
 -- The verdicts on all groups of a task, and how they are found.
 use Rattle.std.specs.Prelude.{Bool, ◌≡◌, ℕ, ◌<◌, List, length, slice_index_or, Contains}
 use Rattle.sas_core.specs.declared.parts.Parts.{Parts}
-use Rattle.sas_core.specs.Grounded.{operator_at, effect_at, group_at}
+use Rattle.sas_grounded.specs.Grounded.{operator_at, effect_at, group_at}
 use Rattle.sas_groups.specs.declared.verdict.Verdict.{Verdict}
 use Rattle.sas_groups.specs.declared.verdict.Verdict.TheVariants.{Exclusive, Derived, Initial, Broken}
 use Rattle.sas_groups.specs.Clashes.{sets, Keeps}

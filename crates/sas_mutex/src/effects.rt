@@ -1,6 +1,6 @@
 // Which effects keep a group.
 ghost use Rattle.std.specs.Prelude.{◌≡◌, ◌<◌, ◌≤◌, ◌^◌, ℕ, Bool, List, [], length, IsTrue, IsFalse, All};
-ghost use Rattle.sas_core.specs.Grounded.{operator_at, effect_at, group_at};
+ghost use Rattle.sas_grounded.specs.Grounded.{operator_at, effect_at, group_at};
 ghost use Rattle.sas_core.specs.Variables.{FactExists};
 ghost use Rattle.sas_core.specs.WellRanged.{WellRanged};
 ghost use Rattle.sas_groups.specs.Clashes.{Clash};
@@ -16,7 +16,8 @@ ghost use Rattle.sas_mutex.specs.Runs.{AreOnOne};
 
 use crate::index::Index;
 use crate::marks::{Marks, forget_known, note_known};
-use sas_core::{Change, Fact, Grounded, Items};
+use sas_core::{Fact, Items};
+use sas_grounded::{Change, Grounded};
 
 /// Whether the effect keeps the group, which is in the family, where the groups of the family count.
 pub fn effect_keeps<T: Grounded>(

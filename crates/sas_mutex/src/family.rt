@@ -1,6 +1,6 @@
 // The greatest family of groups that is kept jointly.
 ghost use Rattle.std.specs.Prelude.{◌≡◌, ◌<◌, ◌≤◌, ℕ, ◌+◌, ◌++◌, [], ◌∷◌, false, length, All, Contains, IsTrue, slice_set, vec_capacity};
-ghost use Rattle.sas_core.specs.Grounded.{operator_at, effect_at, group_at};
+ghost use Rattle.sas_grounded.specs.Grounded.{operator_at, effect_at, group_at};
 ghost use Rattle.sas_core.specs.WellRanged.{WellRanged};
 ghost use Rattle.sas_groups.specs.Clashes.{sets};
 ghost use Rattle.sas_groups.specs.Families.{IsGreatest};
@@ -14,7 +14,8 @@ use crate::directory::Directory;
 use crate::effects::keeps_by_notes;
 use crate::index::Index;
 use crate::marks::{Marks, forget_known, note_known};
-use sas_core::{Fact, Grounded, Items};
+use sas_core::{Fact, Items};
+use sas_grounded::Grounded;
 
 /// The groups that may still be kept jointly, and those that fell out of them.
 #[derive(Drop)]

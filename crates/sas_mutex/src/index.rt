@@ -1,13 +1,14 @@
 // Which groups have which facts.
 ghost use Rattle.std.specs.Prelude.{◌≡◌, ◌<◌, ◌≤◌, ◌^◌, ◌↔◌, ◌++◌, ℕ, [], length, IsTrue, IfOk, OnOk, All, Contains};
-ghost use Rattle.sas_core.specs.Grounded.{group_at};
+ghost use Rattle.sas_grounded.specs.Grounded.{group_at};
 ghost use Rattle.sas_core.specs.WellRanged.{WellRanged};
 ghost use Rattle.sas_mutex.specs.Index as spec;
 ghost use Rattle.sas_mutex.specs.Index.{IsIndexOf, AreFirstNumbers, facts_below, entries_of_group};
 
 use crate::directory::{Directory, Entry};
 use crate::runs::runs_of_groups;
-use sas_core::{Fact, Grounded, Items};
+use sas_core::{Fact, Items};
+use sas_grounded::Grounded;
 use std::alloc::{AllocError, Global};
 
 /// Which groups have which fact. Facts are numbered, variable after variable, so that a look at one takes a fixed time.

@@ -1,6 +1,6 @@
 // The joint verdict on each group.
 ghost use Rattle.std.specs.Prelude.{◌≡◌, ◌≢◌, ℕ, ◌+◌, ◌<◌, ◌≤◌, ◌↔◌, [], length, IfOk, IsTrue, IsFalse, vec_capacity};
-ghost use Rattle.sas_core.specs.Grounded.{operator_at, effect_at};
+ghost use Rattle.sas_grounded.specs.Grounded.{operator_at, effect_at};
 ghost use Rattle.sas_groups.specs.Clashes.{sets};
 ghost use Rattle.sas_groups.specs.Families.{IsGreatest};
 ghost use Rattle.sas_groups.specs.declared.verdict.Verdict.TheVariants.{Exclusive};
@@ -14,7 +14,8 @@ use crate::family::{Family, find_greatest};
 use crate::index::Index;
 use crate::marks::Marks;
 use crate::mentions::mentions_of;
-use sas_core::{Fact, Grounded, Items};
+use sas_core::{Fact, Items};
+use sas_grounded::Grounded;
 use sas_groups::{Verdict, before_operators};
 use sas_meaning::Layered;
 use std::alloc::{AllocError, Global};

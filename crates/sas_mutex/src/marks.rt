@@ -1,6 +1,6 @@
 // Facts noted by variable and by group, so that each further one is compared with all in a fixed time.
 ghost use Rattle.std.specs.Prelude.{◌≡◌, ◌<◌, ◌≤◌, ◌^◌, ◌⊎◌, ℕ, length, IsTrue, IsFalse, IfOk, All};
-ghost use Rattle.sas_core.specs.Grounded.{operator_at};
+ghost use Rattle.sas_grounded.specs.Grounded.{operator_at};
 ghost use Rattle.sas_core.specs.Variables.{FactExists};
 ghost use Rattle.sas_groups.specs.Clashes.{Clash};
 ghost use Rattle.sas_groups.specs.Lists.{known};
@@ -12,7 +12,8 @@ ghost use Rattle.sas_mutex.specs.Noting.{AreBelow, IsOther, IsFree, IsRefused, T
 ghost use Rattle.sas_mutex.specs.Noting.{ChangesAt, IsThere, IsNew, ForgetsGroups, Forgets};
 
 use crate::index::Index;
-use sas_core::{Fact, Grounded, Items};
+use sas_core::{Fact, Items};
+use sas_grounded::Grounded;
 use sas_groups::Known;
 use std::alloc::{AllocError, Global};
 

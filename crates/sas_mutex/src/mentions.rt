@@ -1,11 +1,12 @@
 // Which operators mention facts of a group.
 ghost use Rattle.std.specs.Prelude.{◌≡◌, ◌<◌, ◌≤◌, ◌^◌, ◌++◌, ℕ, length, IfOk, OnOk, All};
-ghost use Rattle.sas_core.specs.Grounded.{operator_at, effect_at};
+ghost use Rattle.sas_grounded.specs.Grounded.{operator_at, effect_at};
 ghost use Rattle.sas_mutex.specs.Index.{IsIndexOf, AreMentions, entries_of_fact, entries_of_facts, facts_of_effect, facts_of_operator};
 
 use crate::directory::{Directory, Entry};
 use crate::index::Index;
-use sas_core::{Fact, Grounded};
+use sas_core::Fact;
+use sas_grounded::Grounded;
 use std::alloc::{AllocError, Global};
 
 /// For each group, the operators that mention a fact of it, as a precondition or as a condition of an effect.

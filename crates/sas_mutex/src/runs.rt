@@ -3,7 +3,8 @@ ghost use Rattle.std.specs.Prelude.{◌≡◌, ℕ, ◌<◌, ◌≤◌, ◌^◌,
 ghost use Rattle.sas_core.specs.declared.parts.Fact.{Fact};
 ghost use Rattle.sas_mutex.specs.Runs.{AreRuns, AreRunsOf};
 
-use sas_core::{Fact, Grounded, Items};
+use sas_core::{Fact, Items};
+use sas_grounded::Grounded;
 use std::alloc::{AllocError, Global};
 
 /// For each group of the task, how many of its facts stand in a row on one variable, run after run.

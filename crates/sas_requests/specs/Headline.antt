@@ -9,7 +9,7 @@ use Rattle.std.specs.Prelude.{◌≡◌, ◌↔◌, ℕ, ◌<◌, List, length, 
 use Rattle.sas_core.specs.declared.parts.Parts.{Parts}
 use Rattle.sas_core.specs.PlanParts.{PlanParts}
 use Rattle.sas_meaning.specs.Layers.{IsLayered}
-use Rattle.sas_core.specs.Grounded.{group_at}
+use Rattle.sas_grounded.specs.Grounded.{group_at}
 use Rattle.sas_meaning.specs.Reachable.{Reachable}
 use Rattle.sas_groups.specs.declared.verdict.Verdict.TheVariants.{Exclusive}
 use Rattle.sas_groups.specs.Groups.{IsExclusiveIn}

@@ -2,7 +2,7 @@
 use Rattle.std.specs.Prelude.{◌≡◌, ◌≢◌, ℕ, ◌<◌, List, length, Option, None, Some, slice_index, slice_index_or, slice_set, unwrap_or}
 use Rattle.sas_core.specs.declared.parts.Operator.{Operator}
 use Rattle.sas_core.specs.declared.parts.Parts.{Parts}
-use Rattle.sas_core.specs.Grounded.{effect_at}
+use Rattle.sas_grounded.specs.Grounded.{effect_at}
 use Rattle.sas_core.specs.Variables.{HasValue}
 use Rattle.sas_meaning.specs.Steps.{Fires}
 

@@ -2,12 +2,12 @@
 ghost use Rattle.std.specs.Prelude.{◌≡◌, ◌+◌, ◌<◌, length, IfOk, OnOk};
 ghost use Rattle.indexmap.specs.IndexMap.{get_by};
 ghost use Rattle.sas_core.specs.declared.parts.Parts.{Parts};
-ghost use Rattle.sas_core.specs.Grounded.{operator_at};
+ghost use Rattle.sas_grounded.specs.Grounded.{operator_at};
 ghost use Rattle.sas_run.specs.NameTable.{AreNames, Puts, is_called};
 ghost use Rattle.sas_run.specs.Names.{IsNextNamed};
 
 use indexmap::IndexMap;
-use sas_core::Grounded;
+use sas_grounded::Grounded;
 use std::alloc::{AllocError, Global};
 
 /// For each name the lowest operator of it, and for each operator the next one of the same name.

@@ -1,13 +1,14 @@
 // Whether a plan is valid.
 ghost use Rattle.std.specs.Prelude.{◌≡◌, ◌≢◌, ◌<◌, ◌≤◌, ◌++◌, ◌∷◌, [], length, All, IfOk, IfErr, OnOk, OnErr, vec_capacity};
-ghost use Rattle.sas_core.specs.Grounded.{operator_at};
+ghost use Rattle.sas_grounded.specs.Grounded.{operator_at};
 ghost use Rattle.sas_core.specs.Variables.{IsState};
 ghost use Rattle.sas_run.specs.Plans.{IsValid, GoThrough, cost_of_all};
 ghost use Rattle.sas_run.specs.Verdicts.{IsFaultOf};
 ghost use Rattle.sas_run.specs.Running.{GoesOn, StopsAt, GoesThrough};
 
 use crate::runner::{Choice, Runner};
-use sas_core::{Grounded, Items, Plan};
+use sas_core::{Items, Plan};
+use sas_grounded::Grounded;
 use sas_meaning::{Settle, State};
 use std::alloc::{AllocError, Global};
 

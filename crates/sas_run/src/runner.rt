@@ -1,6 +1,6 @@
 // What goes through the steps of plans.
 ghost use Rattle.std.specs.Prelude.{◌≡◌, ◌<◌, ◌↔◌, length, IfOk, IfErr, IfSome, IfNone, IsTrue, slice_index};
-ghost use Rattle.sas_core.specs.Grounded.{operator_at};
+ghost use Rattle.sas_grounded.specs.Grounded.{operator_at};
 ghost use Rattle.sas_core.specs.Variables.{IsState};
 ghost use Rattle.sas_meaning.specs.Reachable.{IsInitial};
 ghost use Rattle.sas_run.specs.NameTable.{AreNames};
@@ -11,7 +11,8 @@ ghost use Rattle.sas_run.specs.Running.{IsChoice, IsFirstChosen, IsGoalAnswer, S
 use crate::holding::first_missed;
 use crate::names::Names;
 use crate::steps::{StepFault, apply, missed_precondition};
-use sas_core::{Grounded, Items, Task};
+use sas_core::{Items, Task};
+use sas_grounded::Grounded;
 use sas_meaning::{Layered, Settle, State};
 use std::alloc::{AllocError, Global};
 use std::marker::Model;

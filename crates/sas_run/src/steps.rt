@@ -1,6 +1,6 @@
 // One step: from a state by an operator to the next state, before it is settled.
 ghost use Rattle.std.specs.Prelude.{◌≡◌, ℕ, ◌<◌, length, IsTrue, IsFalse, IfSome, IfNone, slice_index};
-ghost use Rattle.sas_core.specs.Grounded.{operator_at};
+ghost use Rattle.sas_grounded.specs.Grounded.{operator_at};
 ghost use Rattle.sas_core.specs.Variables.{IsState};
 ghost use Rattle.sas_core.specs.WellRanged.{WellRanged};
 ghost use Rattle.sas_run.specs.Plans.{IsApplicable};
@@ -8,7 +8,8 @@ ghost use Rattle.sas_run.specs.Running.{IsFirstConflict, IsStepFault, Applies};
 ghost use Rattle.sas_run.specs.Given.{IsClean, IsGiven, IsGivenTo, value_after, Gives, GivesOther};
 
 use crate::holding::all_hold;
-use sas_core::{Fact, Grounded, Items};
+use sas_core::{Fact, Items};
+use sas_grounded::Grounded;
 use sas_meaning::{Preconditions, State};
 
 /// Why an operator has no step in a state.

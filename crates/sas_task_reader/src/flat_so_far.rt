@@ -5,8 +5,9 @@ ghost use Rattle.sas_task_judge.specs.declared.task_events.Event.TheVariants as 
 ghost use Rattle.sas_task_judge.specs.declared.task_events.Said.{Said};
 ghost use Rattle.sas_task_judge.specs.TaskEvents.{nothing_yet, after};
 
-use sas_core::{Change, Fact, Items};
+use sas_core::{Fact, Items};
 use sas_flat::{Effects, FlatTask, Lists, Operators, Rules, Variables};
+use sas_grounded::Change;
 use sas_reader::Kind;
 use sas_task_judge::{Event, Keeper, Said};
 use std::alloc::{AllocError, Global};

@@ -1,8 +1,8 @@
 -- The two writes.
 use Rattle.std.proofs.Common.{◌≡◌, true, [], ◌∷◌, ◌++◌, get_or, set, sym, ap, ◌∙◌, arith}
 use Rattle.std.specs.Result.{is_ok}
-use Rattle.sas_core.specs.declared.grounded.Change.{Change}
-use Rattle.sas_core.specs.Grounded.{rule_at}
+use Rattle.sas_grounded.specs.declared.grounded.Change.{Change}
+use Rattle.sas_grounded.specs.Grounded.{rule_at}
 use Rattle.sas_axioms.proofs.Counters.{Pushed, pushed, fires_by}
 use Rattle.sas_axioms.proofs.firing.fire.Goals as goal
 use Rattle.sas_axioms.proofs.firing.fire.Given.{Over}

@@ -1,7 +1,7 @@
 -- The rules so far that wait for nothing have fired.
 use Rattle.std.proofs.Common.{◌≡◌, ℕ, ◌<◌, [], get_or}
 use Rattle.std.specs.Prelude.{vec_capacity}
-use Rattle.sas_core.specs.Grounded.{rule_at}
+use Rattle.sas_grounded.specs.Grounded.{rule_at}
 use Rattle.sas_meaning.specs.Forced.{SameOff}
 use Rattle.sas_axioms.specs.declared.layer_rules.LayerRule.{LayerRule}
 use Rattle.sas_axioms.specs.Worklist.{IsRunning, Counts, HasRoom}

@@ -3,7 +3,7 @@ use Rattle.std.proofs.Common.{◌≡◌, ◌<◌, ◌≤◌, ◌+◌, ◌==◌, 
 use Rattle.std.proofs.lemmas.List.{drop_more, drop_all}
 use Rattle.std.specs.Option.{option_eq}
 use Rattle.sas_core.specs.declared.parts.Fact.{Fact}
-use Rattle.sas_core.specs.Grounded.{rule_at}
+use Rattle.sas_grounded.specs.Grounded.{rule_at}
 use Rattle.sas_core.specs.Variables.{layer_of}
 use Rattle.sas_meaning.specs.Layers.{IsOnLayer}
 use Rattle.sas_axioms.proofs.Entries.{AddsUpTo, adds_none, adds_more, adds_skip, adds_all, condition_within, same_option}

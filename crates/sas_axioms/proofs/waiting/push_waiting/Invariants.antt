@@ -1,6 +1,6 @@
 -- What the rule waits for, as far as its first conditions.
 use Rattle.std.proofs.Common.{drop}
-use Rattle.sas_core.specs.Grounded.{rule_at}
+use Rattle.sas_grounded.specs.Grounded.{rule_at}
 use Rattle.sas_axioms.proofs.Entries.{AddsUpTo}
 use Rattle.sas_axioms.proofs.waiting.push_waiting.Given as goal
 

@@ -2,7 +2,7 @@
 use Rattle.std.specs.List.{All}
 use Rattle.std.proofs.lemmas.List.Elements.{All-contains}
 use Rattle.sas_core.specs.declared.parts.Fact.{Fact}
-use Rattle.sas_core.specs.Grounded.{operator_at}
+use Rattle.sas_grounded.specs.Grounded.{operator_at}
 use Rattle.sas_groups.specs.Clashes.{Contradict}
 use Rattle.sas_groups.specs.Checks.{Alone}
 use Rattle.sas_groups.specs.Lists.{known, known_left}

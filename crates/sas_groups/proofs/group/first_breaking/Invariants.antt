@@ -1,6 +1,6 @@
 -- The operators so far keep the group.
 use Rattle.std.proofs.Common.{ℕ, ◌<◌}
-use Rattle.sas_core.specs.Grounded.{operator_at}
+use Rattle.sas_grounded.specs.Grounded.{operator_at}
 use Rattle.sas_groups.specs.Clashes.{Keeps}
 use Rattle.sas_groups.specs.Checks.{Alone}
 use Rattle.sas_groups.proofs.group.first_breaking.Given as goal

@@ -1,7 +1,7 @@
 -- The other effect may set a second fact of the group.
 use Rattle.std.proofs.Common.{subst, arith}
 use Rattle.std.specs.List.{Contains}
-use Rattle.sas_core.specs.Grounded.{operator_at, effect_at}
+use Rattle.sas_grounded.specs.Grounded.{operator_at, effect_at}
 use Rattle.sas_groups.proofs.Effects.{set_is}
 use Rattle.sas_groups.proofs.keeping.is_single.Goals as goal
 

@@ -1,5 +1,5 @@
 -- Both parts make the whole.
-use Rattle.sas_core.specs.Grounded.{operator_at}
+use Rattle.sas_grounded.specs.Grounded.{operator_at}
 use Rattle.sas_groups.proofs.Effects.{keeps_from}
 use Rattle.sas_groups.proofs.keeping.keeps.Goals as goal
 

@@ -1,5 +1,5 @@
 -- One more fact is gone.
-use Rattle.sas_core.specs.Grounded.{operator_at, effect_at}
+use Rattle.sas_grounded.specs.Grounded.{operator_at, effect_at}
 use Rattle.sas_groups.specs.Checks.{Alone, IsGone}
 use Rattle.sas_groups.proofs.Turns.{each_more}
 use Rattle.sas_groups.proofs.keeping.removes_all.Goals as goal

@@ -1,6 +1,6 @@
 -- One more condition is known.
 use Rattle.std.specs.List.{Contains}
-use Rattle.sas_core.specs.Grounded.{operator_at}
+use Rattle.sas_grounded.specs.Grounded.{operator_at}
 use Rattle.sas_groups.specs.Lists.{known}
 use Rattle.sas_groups.proofs.Turns.{each_more}
 use Rattle.sas_groups.proofs.removal.all_known.Goals as goal

@@ -1,7 +1,7 @@
 -- The fact is none of those that came.
 use Rattle.std.proofs.Common.{◌≡◌, ◌++◌}
 use Rattle.std.specs.List.{All}
-use Rattle.sas_core.specs.Grounded.{operator_at}
+use Rattle.sas_grounded.specs.Grounded.{operator_at}
 use Rattle.sas_groups.specs.Lists.{known, known_left}
 use Rattle.sas_groups.proofs.removal.is_known.Given as goal
 

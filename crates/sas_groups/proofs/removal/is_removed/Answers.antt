@@ -1,6 +1,6 @@
 -- No effect removes the fact.
 use Rattle.std.proofs.Common.{arith}
-use Rattle.sas_core.specs.Grounded.{operator_at}
+use Rattle.sas_grounded.specs.Grounded.{operator_at}
 use Rattle.sas_groups.specs.Lists.{known}
 use Rattle.sas_groups.proofs.Effects.{never_removed}
 use Rattle.sas_groups.proofs.removal.is_removed.Goals as goal

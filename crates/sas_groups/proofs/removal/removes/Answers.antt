@@ -1,8 +1,8 @@
 -- The change is that of the effect.
 use Rattle.std.proofs.Common.{sym, ◌∙◌, ap, subst}
 use Rattle.std.specs.List.{All, Contains}
-use Rattle.sas_core.specs.declared.grounded.Change.{Change}
-use Rattle.sas_core.specs.Grounded.{operator_at}
+use Rattle.sas_grounded.specs.declared.grounded.Change.{Change}
+use Rattle.sas_grounded.specs.Grounded.{operator_at}
 use Rattle.sas_groups.specs.Lists.{known}
 use Rattle.sas_groups.proofs.removal.removes.Goals as goal
 

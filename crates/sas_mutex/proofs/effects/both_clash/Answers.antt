@@ -2,7 +2,7 @@
 use Rattle.std.proofs.Common.{List, [], false, ◌≡◌, subst, inl, inr}
 use Rattle.std.proofs.lemmas.Bool.{cases_Bool}
 use Rattle.sas_core.specs.declared.parts.Fact.{Fact}
-use Rattle.sas_core.specs.Grounded.{operator_at}
+use Rattle.sas_grounded.specs.Grounded.{operator_at}
 use Rattle.sas_groups.specs.Clashes.{Clash}
 use Rattle.sas_groups.specs.Lists.{known}
 use Rattle.sas_mutex.specs.Effects.{IsKept}

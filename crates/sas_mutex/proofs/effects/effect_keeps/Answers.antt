@@ -1,7 +1,7 @@
 -- What clashes never is.
 use Rattle.std.proofs.Common.{List, [], sym, subst, ◌∙◌}
 use Rattle.sas_core.specs.declared.parts.Fact.{Fact}
-use Rattle.sas_core.specs.Grounded.{operator_at, effect_at, group_at}
+use Rattle.sas_grounded.specs.Grounded.{operator_at, effect_at, group_at}
 use Rattle.sas_groups.specs.Clashes.{Clash}
 use Rattle.sas_groups.specs.Lists.{known}
 use Rattle.sas_mutex.specs.Effects.{IsKept}

@@ -1,7 +1,7 @@
 -- What the notes tell of the fact decides whether it is gone.
 use Rattle.std.proofs.Common.{length, ap, ◌∙◌, inl, inr}
-use Rattle.sas_core.specs.declared.grounded.Change.{Change}
-use Rattle.sas_core.specs.Grounded.{operator_at, effect_at}
+use Rattle.sas_grounded.specs.declared.grounded.Change.{Change}
+use Rattle.sas_grounded.specs.Grounded.{operator_at, effect_at}
 use Rattle.sas_mutex.proofs.TaskFacts.{groups_below, conditions_exist}
 use Rattle.sas_mutex.proofs.ToldByNotes.{against_clashes, clash_is_against, removes_is_removed, removed_is_removes}
 use Rattle.sas_mutex.proofs.effects.is_gone.Goals as goal

@@ -1,6 +1,6 @@
 -- No effect so far removes the fact.
 use Rattle.std.proofs.Common.{ℕ, ◌<◌}
-use Rattle.sas_core.specs.Grounded.{operator_at, effect_at}
+use Rattle.sas_grounded.specs.Grounded.{operator_at, effect_at}
 use Rattle.sas_mutex.specs.Noting.{Removes}
 use Rattle.sas_mutex.proofs.effects.is_removed.Given as goal
 

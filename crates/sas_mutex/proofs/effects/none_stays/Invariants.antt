@@ -1,6 +1,6 @@
 -- The facts before those that are left are gone.
 use Rattle.std.proofs.Common.{drop}
-use Rattle.sas_core.specs.Grounded.{operator_at, effect_at, group_at}
+use Rattle.sas_grounded.specs.Grounded.{operator_at, effect_at, group_at}
 use Rattle.sas_groups.specs.Checks.{IsGone}
 use Rattle.sas_mutex.specs.Effects.{IsKept}
 use Rattle.sas_mutex.proofs.GoneRuns.{SuchBefore}

@@ -1,9 +1,9 @@
 -- The other effect sets a fact of the group on another variable, or doesn't.
 use Rattle.std.proofs.Common.{◌≡◌, sym, ap, subst, ◌∙◌}
 use Rattle.std.specs.List.{Contains}
-use Rattle.sas_core.specs.declared.grounded.Change.{Change}
+use Rattle.sas_grounded.specs.declared.grounded.Change.{Change}
 use Rattle.sas_core.specs.declared.parts.Fact.{Fact}
-use Rattle.sas_core.specs.Grounded.{operator_at, effect_at}
+use Rattle.sas_grounded.specs.Grounded.{operator_at, effect_at}
 use Rattle.sas_groups.specs.Clashes.{sets}
 use Rattle.sas_groups.proofs.Effects.{set_is}
 use Rattle.sas_mutex.specs.Index.{HasFact, groups_of}

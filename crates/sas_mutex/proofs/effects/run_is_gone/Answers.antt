@@ -1,5 +1,5 @@
 -- A run that is settled is gone, or one fact more.
-use Rattle.sas_core.specs.Grounded.{operator_at, effect_at}
+use Rattle.sas_grounded.specs.Grounded.{operator_at, effect_at}
 use Rattle.sas_groups.specs.Checks.{IsGone}
 use Rattle.sas_groups.proofs.Turns.{each_more}
 use Rattle.sas_mutex.specs.Effects.{IsKept}

@@ -1,7 +1,7 @@
 -- The facts so far are gone.
 use Rattle.std.proofs.Common.{ℕ, ◌<◌, get_or}
 use Rattle.sas_core.specs.declared.parts.Fact.{Fact}
-use Rattle.sas_core.specs.Grounded.{operator_at, effect_at}
+use Rattle.sas_grounded.specs.Grounded.{operator_at, effect_at}
 use Rattle.sas_groups.specs.Checks.{IsGone}
 use Rattle.sas_mutex.specs.Effects.{IsKept}
 use Rattle.sas_mutex.proofs.effects.run_is_gone.Given as goal

@@ -3,7 +3,7 @@ use Rattle.std.proofs.Common.{ℕ, below_more, arith}
 use Rattle.std.specs.List.{Contains}
 use Rattle.std.specs.Prelude.{◌↔◌}
 use Rattle.std.proofs.lemmas.List.Elements.{Contains-get_or}
-use Rattle.sas_core.specs.Grounded.{operator_at, effect_at}
+use Rattle.sas_grounded.specs.Grounded.{operator_at, effect_at}
 use Rattle.sas_groups.specs.Clashes.{sets}
 use Rattle.sas_mutex.specs.Falling.{newly, RestsAt}
 use Rattle.sas_mutex.specs.Index.{HasFact}

@@ -2,7 +2,7 @@
 use Rattle.std.proofs.Common.{◌≡◌, ◌<◌, ◌+◌, ◌++◌, ◌∷◌, [], List, length, get_or, ◌∙◌, ap, arith}
 use Rattle.std.proofs.lemmas.List.Elements.{Contains-get_or}
 use Rattle.sas_core.specs.declared.parts.Fact.{Fact}
-use Rattle.sas_core.specs.Grounded.{group_at}
+use Rattle.sas_grounded.specs.Grounded.{group_at}
 use Rattle.sas_mutex.specs.declared.directory.Entry.{Entry}
 use Rattle.sas_mutex.proofs.Entering.{entered_fact, group_fact_exists}
 use Rattle.sas_mutex.proofs.index.enter_group.Goals as goal

@@ -1,6 +1,6 @@
 -- The entries of the group's first facts.
 use Rattle.std.proofs.Common.{◌≡◌, ◌++◌, take}
-use Rattle.sas_core.specs.Grounded.{group_at}
+use Rattle.sas_grounded.specs.Grounded.{group_at}
 use Rattle.sas_mutex.specs.Index.{entries_of_group}
 use Rattle.sas_mutex.proofs.index.enter_group.Given as goal
 

@@ -1,6 +1,6 @@
 -- The family with the group has the groups of the family, and this one.
 use Rattle.std.proofs.Common.{Bool, false, List, set, sym, ap, ◌∙◌, subst}
-use Rattle.sas_core.specs.Grounded.{operator_at, effect_at, group_at}
+use Rattle.sas_grounded.specs.Grounded.{operator_at, effect_at, group_at}
 use Rattle.sas_mutex.specs.Effects.{IsKept, EffectKeeps}
 use Rattle.sas_mutex.proofs.Telling.{keeps_then, keeps_itself, put_back}
 use Rattle.sas_mutex.proofs.joint.keeps_with_itself.Goals as goal

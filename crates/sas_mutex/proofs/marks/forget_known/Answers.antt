@@ -1,7 +1,7 @@
 -- One more fact is forgotten.
 use Rattle.std.proofs.Common.{arith, length}
 use Rattle.std.proofs.lemmas.List.Elements.{All-contains, All-weaker}
-use Rattle.sas_core.specs.Grounded.{operator_at}
+use Rattle.sas_grounded.specs.Grounded.{operator_at}
 use Rattle.sas_core.specs.Variables.{FactExists}
 use Rattle.sas_groups.specs.Lists.{known, known_left}
 use Rattle.sas_groups.proofs.Turns.{turn_has, turn_left, turn_more, turns_end}

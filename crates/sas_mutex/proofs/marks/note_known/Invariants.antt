@@ -1,6 +1,6 @@
 -- Those that came are noted, and don't clash.
 use Rattle.std.proofs.Common.{◌≡◌, ◌++◌}
-use Rattle.sas_core.specs.Grounded.{operator_at}
+use Rattle.sas_grounded.specs.Grounded.{operator_at}
 use Rattle.sas_groups.specs.Lists.{known, known_left}
 use Rattle.sas_mutex.specs.Marks.{IsNotedFrom}
 use Rattle.sas_mutex.specs.Noting.{AreKnown}

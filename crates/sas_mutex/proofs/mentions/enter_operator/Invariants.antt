@@ -1,7 +1,7 @@
 -- The entries for the prevail conditions and the first effects.
 use Rattle.std.proofs.Common.{◌≡◌, ◌++◌, take}
 use Rattle.std.specs.List.{flat_map}
-use Rattle.sas_core.specs.Grounded.{operator_at}
+use Rattle.sas_grounded.specs.Grounded.{operator_at}
 use Rattle.sas_mutex.specs.Index.{entries_of_facts, facts_of_effect}
 use Rattle.sas_mutex.proofs.mentions.enter_operator.Given as goal
 

@@ -1,6 +1,6 @@
 -- The runs of the groups so far.
 use Rattle.std.proofs.Common.{◌≡◌, ℕ, ◌<◌, length}
-use Rattle.sas_core.specs.Grounded.{group_at}
+use Rattle.sas_grounded.specs.Grounded.{group_at}
 use Rattle.sas_mutex.specs.Runs.{AreRuns, runs_at}
 use Rattle.sas_mutex.proofs.runs.runs_of_groups.Given as goal
 

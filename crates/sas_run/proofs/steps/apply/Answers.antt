@@ -1,5 +1,5 @@
 -- All that the effects give is written.
-use Rattle.sas_core.specs.Grounded.{operator_at}
+use Rattle.sas_grounded.specs.Grounded.{operator_at}
 use Rattle.sas_run.proofs.Giving.{applied}
 use Rattle.sas_run.proofs.steps.apply.Goals as goal
 

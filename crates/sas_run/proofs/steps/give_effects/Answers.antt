@@ -1,8 +1,8 @@
 -- One more effect has given its value, if it fires.
 use Rattle.std.proofs.Common.{◌≡◌, ◌+◌, sym, subst, arith, rules}
 use Rattle.std.specs.Prelude.{slice_index}
-use Rattle.sas_core.specs.declared.grounded.Change.{Change}
-use Rattle.sas_core.specs.Grounded.{operator_at}
+use Rattle.sas_grounded.specs.declared.grounded.Change.{Change}
+use Rattle.sas_grounded.specs.Grounded.{operator_at}
 use Rattle.sas_meaning.specs.States.{AllHold}
 use Rattle.sas_run.specs.Given.{IsGiven, IsGivenTo, Gives}
 use Rattle.sas_run.proofs.Ranges.{effect_fits, effect_within}

@@ -1,5 +1,5 @@
 -- What the effects so far give is given, and nothing else.
-use Rattle.sas_core.specs.Grounded.{operator_at}
+use Rattle.sas_grounded.specs.Grounded.{operator_at}
 use Rattle.sas_run.specs.Given.{IsGiven}
 use Rattle.sas_run.proofs.steps.give_effects.Given as goal
 

@@ -4,7 +4,7 @@ use Rattle.std.specs.Prelude.{slice_index}
 use Rattle.std.specs.List.{All}
 use Rattle.std.proofs.lemmas.List.Elements.{All-nil, All-append, All-head, All-push, All-rest}
 use Rattle.sas_core.specs.declared.parts.Fact.{Fact}
-use Rattle.sas_core.specs.Grounded.{operator_at}
+use Rattle.sas_grounded.specs.Grounded.{operator_at}
 use Rattle.sas_meaning.specs.States.{Holds}
 use Rattle.sas_meaning.specs.Steps.{preconditions}
 use Rattle.sas_run.proofs.Ranges.{preconditions_within}

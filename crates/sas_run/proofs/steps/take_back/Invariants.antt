@@ -1,6 +1,6 @@
 -- What was given to the variables of the effects so far is taken back.
 use Rattle.std.proofs.Common.{◌≡◌, ℕ, ◌<◌, None}
-use Rattle.sas_core.specs.Grounded.{operator_at, effect_at}
+use Rattle.sas_grounded.specs.Grounded.{operator_at, effect_at}
 use Rattle.sas_run.specs.Given.{given_to, IsGivenTo}
 use Rattle.sas_run.proofs.steps.take_back.Given as goal
 

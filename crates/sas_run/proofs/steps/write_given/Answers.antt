@@ -1,8 +1,8 @@
 -- What is given to one more variable is written and taken back.
 use Rattle.std.proofs.Common.{◌≡◌, ◌<◌, length, set, None, Some, sym, ap, subst, ◌∙◌, inl, inr, arith}
 use Rattle.std.proofs.lemmas.Bool.{cases_eq}
-use Rattle.sas_core.specs.declared.grounded.Change.{Change}
-use Rattle.sas_core.specs.Grounded.{operator_at, effect_at}
+use Rattle.sas_grounded.specs.declared.grounded.Change.{Change}
+use Rattle.sas_grounded.specs.Grounded.{operator_at, effect_at}
 use Rattle.sas_meaning.proofs.Forced.{state_set}
 use Rattle.sas_run.specs.Given.{given_to}
 use Rattle.sas_run.proofs.Ranges.{effect_within}

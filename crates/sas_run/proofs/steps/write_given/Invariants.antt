@@ -1,6 +1,6 @@
 -- What was given to the variables of the effects so far is written and taken back.
 use Rattle.std.proofs.Common.{◌≡◌, ℕ, ◌<◌, None}
-use Rattle.sas_core.specs.Grounded.{operator_at, effect_at}
+use Rattle.sas_grounded.specs.Grounded.{operator_at, effect_at}
 use Rattle.sas_core.specs.Variables.{IsState}
 use Rattle.sas_run.specs.Given.{given_to, value_after, IsGivenTo}
 use Rattle.sas_run.proofs.steps.write_given.Given as goal

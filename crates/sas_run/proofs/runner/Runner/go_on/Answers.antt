@@ -1,6 +1,6 @@
 -- A chosen operator whose step is refused has none.
 use Rattle.std.proofs.Common.{refl}
-use Rattle.sas_core.specs.Grounded.{operator_at}
+use Rattle.sas_grounded.specs.Grounded.{operator_at}
 use Rattle.sas_run.proofs.NextStates.{fault_has_no_step}
 use Rattle.sas_run.proofs.runner.Runner.go_on.Goals as goal
 

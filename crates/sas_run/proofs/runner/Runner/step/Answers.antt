@@ -1,5 +1,5 @@
 -- The effects, and what settles them.
-use Rattle.sas_core.specs.Grounded.{operator_at}
+use Rattle.sas_grounded.specs.Grounded.{operator_at}
 use Rattle.sas_run.proofs.NextStates.{effects_basic, step_from_applied}
 use Rattle.sas_run.proofs.runner.Runner.step.Goals as goal
 

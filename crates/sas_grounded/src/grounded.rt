@@ -1,10 +1,9 @@
 // What a grounded task says, however it is stored.
 ghost use Rattle.std.specs.Prelude.{◌≡◌, ◌<◌, length};
-ghost use Rattle.sas_core.specs.Grounded as spec;
+ghost use Rattle.sas_grounded.specs.Grounded as spec;
 ghost use Rattle.sas_core.specs.WellRanged.{OperatorFits};
 
-use crate::parts::{Effect, Fact, Operator, Rule};
-use crate::task::Task;
+use sas_core::{Effect, Fact, Operator, Rule, Task};
 
 /// What an effect or a rule changes: its variable gets the new value. The old value, if any, is asked of the variable
 /// before.
@@ -20,7 +19,7 @@ pub struct Change {
 pub trait Grounded {
     ghost use Rattle.std.specs.Prelude.{◌≡◌, ◌<◌, length, slice_index};
     ghost use Rattle.sas_core.specs.declared.parts.Parts.{Parts};
-    ghost use Rattle.sas_core.specs.Grounded.{operator_at, effect_at, rule_at, group_at, effect_change, rule_change};
+    ghost use Rattle.sas_grounded.specs.Grounded.{operator_at, effect_at, rule_at, group_at, effect_change, rule_change};
     ghost use Rattle.sas_core.specs.Tasks.{cost_of};
     ghost use Rattle.sas_core.specs.Variables.{range_of, layer_of};
     ghost use Rattle.sas_core.specs.WellRanged.{WellRanged};

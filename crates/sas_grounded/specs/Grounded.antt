@@ -1,6 +1,6 @@
 -- What a task says, item by item, each named by its place, counted from 0.
 use Rattle.std.specs.Prelude.{ℕ, List, [], slice_index_or, None}
-use Rattle.sas_core.specs.declared.grounded.Change.{Change}
+use Rattle.sas_grounded.specs.declared.grounded.Change.{Change}
 use Rattle.sas_core.specs.declared.parts.Fact.{Fact}
 use Rattle.sas_core.specs.declared.parts.Effect.{Effect}
 use Rattle.sas_core.specs.declared.parts.Operator.{Operator}
