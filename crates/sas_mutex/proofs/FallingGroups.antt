@@ -4,8 +4,6 @@ use Rattle.std.proofs.lemmas.Bool.{cases_eq, cases_Bool, both_ways}
 use Rattle.std.proofs.lemmas.List.{append-nil, append_assoc, drop_all, drop_at, drop-append-le, length-append, length-set, get_or-set_same, get_or-set_other}
 use Rattle.std.proofs.lemmas.List.Elements.{All-nil, All-cons, All-append, All-contains, All-contains_itself, All-weaker, All-from_get_or, Contains-append_cases, Contains-append_left, Contains-append_right, Contains-push}
 use Rattle.std.specs.List.{All, Contains}
-use Rattle.std.specs.Prelude.{◌↔◌}
-use Rattle.sas_core.specs.declared.parts.Fact.{Fact}
 use Rattle.sas_core.specs.declared.parts.Operator.{Operator}
 use Rattle.sas_core.specs.declared.parts.Parts.{Parts}
 use Rattle.sas_core.specs.Grounded.{operator_at, effect_at, group_at}
@@ -14,7 +12,7 @@ use Rattle.sas_groups.specs.Families.{IsIn, IsGroupOf, IsKeptJointly, IsGreatest
 use Rattle.sas_groups.proofs.GreatestFamily.{group_of_larger, keeps_more}
 use Rattle.sas_mutex.specs.declared.family.Family.{Family}
 use Rattle.sas_mutex.specs.Effects.{family_of, IsKept, EffectKeeps}
-use Rattle.sas_mutex.specs.Falling.{MentionsNone, EffectKeepsAll, IsEffectAtRest, IsAtRest, RestsAt, AreCandidates, newly, Falls}
+use Rattle.sas_mutex.specs.Falling.{MentionsNone, IsEffectAtRest, IsAtRest, RestsAt, AreCandidates, newly, Falls}
 use Rattle.sas_mutex.specs.Directories.{under}
 use Rattle.sas_mutex.specs.Index.{MentionsGroup, AreMentions}
 use Rattle.sas_mutex.proofs.Keeping.{keeps_from_effects, effect_of_keeps, effect_keeps_still}

@@ -14,3 +14,5 @@ pub mod Counting
 pub mod SetFacts
 pub mod Telling
 pub mod OldValues
+pub mod RunLengths
+pub mod GoneRuns

@@ -16,7 +16,7 @@ use Rattle.sas_core.proofs.Places.{holds_at}
 use Rattle.sas_meaning.specs.Steps.{old_fact}
 use Rattle.sas_mutex.specs.declared.directory.Entry.{Entry}
 use Rattle.sas_mutex.specs.declared.index.Index.{Index}
-use Rattle.sas_mutex.specs.Directories.{IsDirectoryOf, under}
+use Rattle.sas_mutex.specs.Directories.{IsDirectoryOf}
 use Rattle.sas_mutex.specs.Index.{IsIndexOf, HasFact, groups_of, Mentions, AreMentions, entries_of_fact, entries_of_facts, facts_of_effect, facts_of_operator}
 use Rattle.sas_mutex.proofs.Lists.{in_none, in_map, from_map, in_flat, from_flat, given_is}
 use Rattle.sas_mutex.proofs.Entering.{group_fact_exists}

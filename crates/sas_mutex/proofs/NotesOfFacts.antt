@@ -1,21 +1,19 @@
 -- What is noted after one fact more is noted or forgotten.
-use Rattle.std.proofs.Common.{◌≡◌, ◌≢◌, ◌⊎◌, ℕ, ◌+◌, ◌<◌, Bool, true, false, IsTrue, [], length, get_or, set, List, ◌∷◌, ◌++◌, Option, None, Some, subst, refl, sym, ap, ◌∙◌, inl, inr, arith}
+use Rattle.std.proofs.Common.{◌≡◌, ◌≢◌, ◌⊎◌, ℕ, ◌<◌, Bool, IsTrue, [], length, set, List, ◌∷◌, ◌++◌, Option, None, Some, subst, refl, sym, ap, ◌∙◌, inl, inr, arith}
 use Rattle.std.specs.List.{All, Contains}
-use Rattle.std.specs.Prelude.{IfSome, IfNone}
 use Rattle.std.proofs.lemmas.Bool.{cases_eq}
 use Rattle.std.proofs.lemmas.List.{get_or-set_same, get_or-set_other, length-set}
-use Rattle.std.proofs.lemmas.List.Elements.{All-contains, Contains-append_left, Contains-push, Contains-push_cases, Contains-get_or}
+use Rattle.std.proofs.lemmas.List.Elements.{All-contains, Contains-append_left, Contains-push, Contains-push_cases}
 use Rattle.sas_core.specs.declared.parts.Fact.{Fact}
 use Rattle.sas_core.specs.declared.parts.Parts.{Parts}
 use Rattle.sas_core.specs.Grounded.{group_at}
 use Rattle.sas_core.specs.Variables.{FactExists}
-use Rattle.sas_groups.specs.Clashes.{Contradict, Clash, AreOfOneGroup}
-use Rattle.sas_groups.specs.Families.{IsIn}
+use Rattle.sas_groups.specs.Clashes.{Contradict}
 use Rattle.sas_mutex.specs.declared.index.Index.{Index}
 use Rattle.sas_mutex.specs.declared.marks.Marks.{Marks}
 use Rattle.sas_mutex.specs.Effects.{family_of, IsKept}
 use Rattle.sas_mutex.specs.Index.{IsIndexOf, HasFact, groups_of}
-use Rattle.sas_mutex.specs.Marks.{IsWide, IsClean, IsNotedFrom, IsValueNote, IsFactNote, IsNoted}
+use Rattle.sas_mutex.specs.Marks.{IsWide, IsClean, IsNotedFrom, IsValueNote, IsFactNote}
 use Rattle.sas_mutex.specs.Noting.{value_note, fact_note, IsFree, IsRefused, Takes, TakenBySome, HasOtherValue, ChangesAt, IsThere, IsNew, Forgets, IsForgotten, AreKnown}
 use Rattle.sas_mutex.proofs.TaskFacts.{variable_below}
 

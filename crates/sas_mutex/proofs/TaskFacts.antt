@@ -1,7 +1,7 @@
 -- The facts that a task mentions exist, and the groups that have one are groups of the task.
 use Rattle.std.proofs.Common.{◌≡◌, ℕ, ◌<◌, [], length, get_or, List, ◌∷◌, ◌++◌, Option, None, Some, subst, sym}
 use Rattle.std.specs.Prelude.{filter_map}
-use Rattle.std.specs.List.{All, Contains, cons_option}
+use Rattle.std.specs.List.{All, cons_option}
 use Rattle.std.proofs.lemmas.List.Elements.{All-nil, All-cons, All-append, All-from_recursion, All-head, All-tail, Contains-get_or}
 use Rattle.sas_core.specs.declared.parts.Fact.{Fact}
 use Rattle.sas_core.specs.declared.parts.Effect.{Effect}

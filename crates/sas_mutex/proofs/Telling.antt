@@ -1,9 +1,9 @@
 -- The verdicts, as the operators tell them one after another.
-use Rattle.std.proofs.Common.{◌≡◌, ◌≢◌, ℕ, ◌+◌, ◌<◌, ◌≤◌, ◌⊎◌, Bool, true, false, List, [], ◌∷◌, ◌++◌, length, get_or, set, refl, sym, ◌∙◌, ap, subst, inl, inr, arith}
+use Rattle.std.proofs.Common.{◌≡◌, ◌≢◌, ℕ, ◌+◌, ◌<◌, ◌≤◌, Bool, true, false, List, [], ◌∷◌, ◌++◌, length, set, refl, sym, ◌∙◌, ap, subst, inl, inr, arith}
 use Rattle.std.proofs.lemmas.Bool.{cases_eq, cases_Bool, both_ways}
 use Rattle.std.proofs.lemmas.List.{length_push, get_or_push, get_or_append_left, length-set, get_or-set_same, get_or-set_other, set-set, set-get_or}
 use Rattle.std.proofs.lemmas.List.Elements.{All-from_get_or}
-use Rattle.std.specs.List.{All, Contains}
+use Rattle.std.specs.List.{Contains}
 use Rattle.std.specs.Prelude.{◌↔◌, IsTrue, vec_capacity}
 use Rattle.sas_core.specs.declared.parts.Fact.{Fact}
 use Rattle.sas_core.specs.declared.parts.Operator.{Operator}
@@ -18,7 +18,7 @@ use Rattle.sas_groups.specs.Verdicts.{IsFirstVerdict, IsJointVerdict}
 use Rattle.sas_groups.proofs.GreatestFamily.{outside_is_broken}
 use Rattle.sas_mutex.specs.declared.family.Family.{Family}
 use Rattle.sas_mutex.specs.Effects.{family_of, IsKept, EffectKeeps}
-use Rattle.sas_mutex.specs.Falling.{count, HasRoom, AreCandidates}
+use Rattle.sas_mutex.specs.Falling.{HasRoom, AreCandidates}
 use Rattle.sas_mutex.specs.Index.{HasFact}
 use Rattle.sas_mutex.specs.Joint.{verdict_at, AreJointVerdicts, AreFirstVerdicts, KeepsWithItself, KeptSoFar, IsVerdictSoFar, AreVerdictsSoFar}
 use Rattle.sas_mutex.proofs.Counting.{count_within}

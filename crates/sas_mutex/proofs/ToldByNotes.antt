@@ -1,9 +1,9 @@
 -- What the notes of facts that don't clash tell of one fact more.
-use Rattle.std.proofs.Common.{◌≡◌, ◌≢◌, ◌⊎◌, ℕ, ◌+◌, ◌<◌, Bool, IsTrue, [], length, get_or, List, ◌∷◌, ◌++◌, Option, None, Some, subst, refl, sym, ap, ◌∙◌, inl, inr, append-nil, arith}
+use Rattle.std.proofs.Common.{◌≡◌, ◌≢◌, ◌⊎◌, ℕ, ◌<◌, Bool, [], length, get_or, List, ◌∷◌, ◌++◌, None, Some, subst, refl, sym, ap, ◌∙◌, inl, inr, append-nil}
 use Rattle.std.specs.List.{All, Contains}
 use Rattle.std.proofs.lemmas.Bool.{cases_eq}
 use Rattle.std.proofs.lemmas.List.{get_or_default}
-use Rattle.std.proofs.lemmas.List.Elements.{All-weaker, All-contains, Contains-append_left, Contains-push, Contains-push_cases, Contains-get_or}
+use Rattle.std.proofs.lemmas.List.Elements.{Contains-append_left, Contains-push, Contains-push_cases, Contains-get_or}
 use Rattle.sas_core.specs.declared.parts.Fact.{Fact}
 use Rattle.sas_core.specs.declared.parts.Effect.{Effect}
 use Rattle.sas_core.specs.declared.parts.Operator.{Operator}
@@ -11,15 +11,16 @@ use Rattle.sas_core.specs.declared.parts.Parts.{Parts}
 use Rattle.sas_core.specs.Grounded.{effect_at, group_at}
 use Rattle.sas_core.specs.Variables.{FactExists}
 use Rattle.sas_meaning.specs.Steps.{preconditions}
-use Rattle.sas_groups.specs.Clashes.{Contradict, Clash, AreOfOneGroup, IsRemoved}
+use Rattle.sas_groups.specs.Clashes.{Contradict, Clash, IsRemoved}
 use Rattle.sas_groups.specs.Families.{IsIn}
 use Rattle.sas_groups.specs.Lists.{known}
 use Rattle.sas_mutex.specs.declared.index.Index.{Index}
 use Rattle.sas_mutex.specs.declared.marks.Marks.{Marks}
 use Rattle.sas_groups.specs.Checks.{IsGone}
-use Rattle.sas_mutex.specs.Effects.{family_of, IsKept}
+use Rattle.sas_groups.proofs.GreatestFamily.{clash_more, group_of_larger}
+use Rattle.sas_mutex.specs.Effects.{family_of, IsKept, EffectKeeps}
 use Rattle.sas_mutex.specs.Index.{IsIndexOf, HasFact, groups_of}
-use Rattle.sas_mutex.specs.Noting.{value_note, fact_note, HasOtherValue, HasNotedGroup, IsBarred, IsAgainst, IsMet, Removes, SomeRemoves, AreKnown, AreGone}
+use Rattle.sas_mutex.specs.Noting.{value_note, fact_note, IsAgainst, IsMet, Removes, SomeRemoves, AreKnown, AreGone, IsNotedFor, known_at}
 use Rattle.sas_mutex.proofs.TaskFacts.{variable_below}
 use Rattle.sas_mutex.proofs.NotesOfFacts.{a_note, value_note_tells, no_value_note_tells, fact_note_tells, no_fact_note_tells, contradict_turned, not_itself}
 
@@ -187,14 +188,37 @@ module _ (p : Parts) (index : Index) (kept : List Bool) (marks : Marks) (o : Ope
           }),
         )
 
--- what clashes clashes with one fact more
-pub clash_stays : (p : Parts) (kept : List Bool) (o : Operator) (conditions : List Fact) (f : Fact) → Clash (IsKept p kept) (known o conditions [])
-    → Clash (IsKept p kept) (known o conditions (f ∷ []))
-clash_stays p kept o conditions f clash = (clash.0, clash.1, also_there clash.0 clash.2, also_there clash.1 clash.3, clash.4)
+-- what clashes clashes with more facts
+pub clash_stays : (p : Parts) (kept : List Bool) (o : Operator) (conditions second : List Fact) → Clash (IsKept p kept) (known o conditions [])
+    → Clash (IsKept p kept) (known o conditions second)
+clash_stays p kept o conditions second clash = (clash.0, clash.1, also_there clash.0 clash.2, also_there clash.1 clash.3, clash.4)
   where
-    also_there : (x : Fact) → Contains (known o conditions []) x → Contains (known o conditions (f ∷ [])) x
-    also_there x here = subst (λ (xs : List Fact). Contains (xs ++ f ∷ []) x) (append-nil (preconditions o ++ conditions))
-        (Contains-append_left (known o conditions []) (f ∷ []) x here)
+    also_there : (x : Fact) → Contains (known o conditions []) x → Contains (known o conditions second) x
+    also_there x here = subst (λ (xs : List Fact). Contains (xs ++ second) x) (append-nil (preconditions o ++ conditions))
+        (Contains-append_left (known o conditions []) second x here)
+
+-- what clashes never is, so that an effect that fires only there keeps each group
+pub clash_keeps : (p : Parts) (kept : List Bool) (o : Operator) (group : List Fact) (e : Effect) → Clash (IsKept p kept) (known o e.conditions [])
+    → EffectKeeps (IsKept p kept) o group e
+clash_keeps p kept o group e clash = record {
+  single = λ other below has on_other. clash_stays p kept o e.conditions (effect_at o other).conditions clash;
+  others = λ f in_group on_other. inl (clash_stays p kept o e.conditions (f ∷ []) clash);
+}
+
+-- what is noted for the groups of a family is noted for those of a smaller one
+pub noted_fewer : (p : Parts) (kept fewer : List Bool) (operator effect : ℕ) (marks : Marks) → ((place : ℕ) → IsIn p (family_of fewer) place → IsIn p (family_of kept) place)
+    → IsNotedFor p kept operator effect marks → IsNotedFor p fewer operator effect marks
+noted_fewer p kept fewer operator effect marks less noted = record {
+  are = record {
+    noted = record {
+      values = noted.are.noted.values;
+      facts = λ place lt chosen. noted.are.noted.facts place lt (less place (record { exists = lt; chosen = chosen })).chosen;
+    };
+    apart = λ clash. noted.are.apart (clash_more (IsKept p fewer) (IsKept p kept) (known_at p operator effect)
+        (group_of_larger p (family_of fewer) (family_of kept) less) clash);
+  };
+  from = noted.from;
+}
 
 -- where a fact of a group that counts is known, and is gone, all of the group are
 pub known_one_is_all : (p : Parts) (kept : List Bool) (o : Operator) (place : ℕ) (e : Effect) (h : Fact) → IsIn p (family_of kept) place

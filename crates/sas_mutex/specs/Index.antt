@@ -12,6 +12,7 @@ use Rattle.sas_meaning.specs.Steps.{preconditions, old_fact}
 use Rattle.sas_mutex.specs.declared.directory.Entry.{Entry}
 use Rattle.sas_mutex.specs.declared.index.Index.{Index}
 use Rattle.sas_mutex.specs.Directories.{under}
+use Rattle.sas_mutex.specs.Runs.{AreRunsOf}
 
 -- how many facts are on variables below this one; the facts of a task are so numbered, variable after variable
 abbrev pub facts_below : Parts → ℕ → ℕ
@@ -32,12 +33,13 @@ pub record HasFact (p : Parts) (place : ℕ) (fact : Fact) : Type 0 where
 abbrev pub groups_of : Index → Fact → List ℕ
 groups_of index fact = under index.groups (slice_index_or index.firsts.items fact.var 0 + fact.value)
 
--- for each fact of the task, the groups that have it
+-- for each fact of the task, the groups that have it; and how the facts of each group fall into runs on one variable
 pub record IsIndexOf (p : Parts) (index : Index) : Type 0 where
   pub firsts : AreFirstNumbers p index.firsts.items
   pub low : All (λ (first : ℕ). first ≤ 2 ^ 62) index.firsts.items
   pub groups : (fact : Fact) → FactExists p.variables fact
       → (place : ℕ) → Contains (groups_of index fact) place ↔ HasFact p place fact
+  pub runs : AreRunsOf p index.runs
 
 -- the operator mentions the fact: as a precondition, or as a condition of an effect
 abbrev pub Mentions : Operator → Fact → Type 0

@@ -7,6 +7,7 @@ pub use Rattle.sas_groups.specs.Laws
 pub mod Joint
 pub mod Directories
 pub mod Index
+pub mod Runs
 pub mod Marks
 pub mod Effects
 pub mod Noting

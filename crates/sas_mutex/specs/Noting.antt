@@ -12,8 +12,8 @@ use Rattle.sas_mutex.specs.declared.index.Index.{Index}
 use Rattle.sas_mutex.specs.declared.marks.Marks.{Marks}
 use Rattle.sas_groups.specs.Checks.{NotBoth, IsGone}
 use Rattle.sas_mutex.specs.Effects.{family_of, IsKept}
-use Rattle.sas_mutex.specs.Index.{IsIndexOf, HasFact, groups_of}
-use Rattle.sas_mutex.specs.Marks.{IsWide, IsNoted}
+use Rattle.sas_mutex.specs.Index.{IsIndexOf, HasFact}
+use Rattle.sas_mutex.specs.Marks.{IsWide, IsNotedFrom, IsNoted}
 
 -- the value noted for a variable, and the fact noted for a group
 abbrev pub value_note : List (Option ℕ) → ℕ → Option ℕ
@@ -138,6 +138,15 @@ pub record AreKnown (p : Parts) (kept : List Bool) (facts : List Fact) (marks : 
   pub noted : IsNoted p kept facts marks
   pub apart : Clash (IsKept p kept) facts → ⊥
 
+-- what is known where the effect at this place of this operator fires
+abbrev pub known_at : Parts → ℕ → ℕ → List Fact
+known_at p operator effect = known (operator_at p operator) (effect_at (operator_at p operator) effect).conditions []
+
+-- that is noted, and doesn't clash
+pub record IsNotedFor (p : Parts) (kept : List Bool) (operator effect : ℕ) (marks : Marks) : Type 0 where
+  pub are : AreKnown p kept (known_at p operator effect) marks
+  pub from : IsNotedFrom p (known_at p operator effect) marks
+
 -- no effect that may fire together with this one sets a fact of the group too, on another variable
 abbrev pub IsSingle : (List Fact → Type 0) → Operator → List Fact → Effect → Type 0
 IsSingle Counts o group e = (other : ℕ) → other < length o.effects → NotBoth Counts o group e (effect_at o other)
@@ -145,3 +154,12 @@ IsSingle Counts o group e = (other : ℕ) → other < length o.effects → NotBo
 -- no other fact of the group stays where the effect fires
 abbrev pub AreGone : (List Fact → Type 0) → Operator → List Fact → Effect → Type 0
 AreGone Counts o group e = (f : Fact) → Contains group f → IsGone Counts o e f
+
+-- the fact isn't known where the effect fires
+abbrev pub IsUnknown : Operator → Effect → Fact → Type 0
+IsUnknown o e fact = Contains (known o e.conditions []) fact → ⊥
+
+-- the first of the facts, if there is one, is on the effect's variable, or a value is noted for its variable
+abbrev pub IsSettled : Effect → List Fact → Marks → Type 0
+IsSettled e facts marks = (first : Fact) (d : Fact) → 0 < length facts → slice_index_or facts 0 d ≡ first
+    → (e.var ≡ first.var) ⊎ (value_note marks.values first.var ≢ None)

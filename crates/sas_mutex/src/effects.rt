@@ -3,6 +3,7 @@ ghost use Rattle.std.specs.Prelude.{◌≡◌, ◌<◌, ◌≤◌, ◌^◌, ℕ,
 ghost use Rattle.sas_core.specs.Grounded.{operator_at, effect_at, group_at};
 ghost use Rattle.sas_core.specs.Variables.{FactExists};
 ghost use Rattle.sas_core.specs.WellRanged.{WellRanged};
+ghost use Rattle.sas_groups.specs.Clashes.{Clash};
 ghost use Rattle.sas_groups.specs.Families.{IsIn};
 ghost use Rattle.sas_groups.specs.Lists.{known};
 ghost use Rattle.sas_groups.specs.Checks.{NotBoth, IsGone};
@@ -10,7 +11,8 @@ ghost use Rattle.sas_mutex.specs.Effects.{family_of, IsKept, EffectKeeps};
 ghost use Rattle.sas_mutex.specs.Index.{IsIndexOf, groups_of};
 ghost use Rattle.sas_mutex.specs.Marks.{IsWide, IsClean};
 ghost use Rattle.sas_mutex.specs.Noting.{AreBelow, HasNotedGroup, IsAgainst, IsMet, SomeRemoves, Removes};
-ghost use Rattle.sas_mutex.specs.Noting.{AreOf, AreKnown, IsSingle, AreGone};
+ghost use Rattle.sas_mutex.specs.Noting.{AreOf, AreKnown, IsNotedFor, IsSingle, AreGone, IsUnknown, IsSettled};
+ghost use Rattle.sas_mutex.specs.Runs.{AreOnOne};
 
 use crate::index::Index;
 use crate::marks::{Marks, forget_known, note_known};
@@ -40,6 +42,34 @@ pub fn effect_keeps<T: Grounded>(
 {
     // The contract of this call tells that what the task says is well ranged.
     let _ = task.variables();
+    let conditions = task.effect_conditions(operator, effect);
+    let keeps = note_known(task, index, kept, operator, conditions, &[], marks)
+        || keeps_by_notes(task, index, kept, operator, effect, group, marks);
+    forget_known(task, index, operator, conditions, &[], marks);
+    keeps
+}
+
+/// Whether the effect keeps the group, which is in the family, where what is known where it fires is noted and doesn't clash.
+pub fn keeps_by_notes<T: Grounded>(
+    task: &T,
+    index: &Index,
+    kept: &[bool],
+    operator: u32,
+    effect: u32,
+    group: u32,
+    marks: &mut Marks,
+) -> bool
+    requires fit { AreOf (T.says task.now) index.now kept.now marks.old }
+    requires operator { operator < length (T.says task.now).operators }
+    requires effect { effect < length (operator_at (T.says task.now) operator).effects }
+    requires group { IsIn (T.says task.now) (family_of kept.now) group }
+    requires noted { IsNotedFor (T.says task.now) kept.now operator effect marks.old }
+    ensures noted { IsNotedFor (T.says task.now) kept.now operator effect marks.new }
+    ensures yes { IsTrue result → EffectKeeps (IsKept (T.says task.now) kept.now) (operator_at (T.says task.now) operator)
+        (group_at (T.says task.now) group) (effect_at (operator_at (T.says task.now) operator) effect) }
+    ensures no { IsFalse result → EffectKeeps (IsKept (T.says task.now) kept.now) (operator_at (T.says task.now) operator)
+        (group_at (T.says task.now) group) (effect_at (operator_at (T.says task.now) operator) effect) → ⊥ }
+{
     is_single(task, index, kept, operator, effect, group, marks)
         && removes_others(task, index, kept, operator, effect, group, marks)
 }
@@ -58,8 +88,8 @@ fn is_single<T: Grounded>(
     requires operator { operator < length (T.says task.now).operators }
     requires effect { effect < length (operator_at (T.says task.now) operator).effects }
     requires group { IsIn (T.says task.now) (family_of kept.now) group }
-    requires clean { IsClean (T.says task.now) marks.old }
-    ensures clean { IsClean (T.says task.now) marks.new }
+    requires noted { IsNotedFor (T.says task.now) kept.now operator effect marks.old }
+    ensures noted { IsNotedFor (T.says task.now) kept.now operator effect marks.new }
     ensures yes { IsTrue result → IsSingle (IsKept (T.says task.now) kept.now) (operator_at (T.says task.now) operator)
         (group_at (T.says task.now) group) (effect_at (operator_at (T.says task.now) operator) effect) }
     ensures no { IsFalse result → IsSingle (IsKept (T.says task.now) kept.now) (operator_at (T.says task.now) operator)
@@ -89,8 +119,8 @@ fn not_both<T: Grounded>(
     requires effect { effect < length (operator_at (T.says task.now) operator).effects }
     requires other { other < length (operator_at (T.says task.now) operator).effects }
     requires group { IsIn (T.says task.now) (family_of kept.now) group }
-    requires clean { IsClean (T.says task.now) marks.old }
-    ensures clean { IsClean (T.says task.now) marks.new }
+    requires noted { IsNotedFor (T.says task.now) kept.now operator effect marks.old }
+    ensures noted { IsNotedFor (T.says task.now) kept.now operator effect marks.new }
     ensures yes { IsTrue result → NotBoth (IsKept (T.says task.now) kept.now) (operator_at (T.says task.now) operator)
         (group_at (T.says task.now) group) (effect_at (operator_at (T.says task.now) operator) effect)
         (effect_at (operator_at (T.says task.now) operator) other) }
@@ -105,10 +135,41 @@ fn not_both<T: Grounded>(
     if !index.has(group, sets(change)) {
         return true;
     }
+    both_clash(task, index, kept, operator, effect, other, marks)
+}
+
+/// Whether what is known where both effects fire clashes. What is known where this one fires is noted before and after.
+fn both_clash<T: Grounded>(
+    task: &T,
+    index: &Index,
+    kept: &[bool],
+    operator: u32,
+    effect: u32,
+    other: u32,
+    marks: &mut Marks,
+) -> bool
+    requires fit { AreOf (T.says task.now) index.now kept.now marks.old }
+    requires operator { operator < length (T.says task.now).operators }
+    requires effect { effect < length (operator_at (T.says task.now) operator).effects }
+    requires other { other < length (operator_at (T.says task.now) operator).effects }
+    requires noted { IsNotedFor (T.says task.now) kept.now operator effect marks.old }
+    ensures noted { IsNotedFor (T.says task.now) kept.now operator effect marks.new }
+    ensures yes { IsTrue result → Clash (IsKept (T.says task.now) kept.now) (known (operator_at (T.says task.now) operator)
+        (effect_at (operator_at (T.says task.now) operator) effect).conditions
+        (effect_at (operator_at (T.says task.now) operator) other).conditions) }
+    ensures no { IsFalse result → Clash (IsKept (T.says task.now) kept.now) (known (operator_at (T.says task.now) operator)
+        (effect_at (operator_at (T.says task.now) operator) effect).conditions
+        (effect_at (operator_at (T.says task.now) operator) other).conditions) → ⊥ }
+{
     let first = task.effect_conditions(operator, effect);
     let second = task.effect_conditions(operator, other);
+    if second.is_empty() {
+        return false;
+    }
+    forget_known(task, index, operator, first, &[], marks);
     let clash = note_known(task, index, kept, operator, first, second, marks);
     forget_known(task, index, operator, first, second, marks);
+    let _ = note_known(task, index, kept, operator, first, &[], marks);
     clash
 }
 
@@ -120,21 +181,21 @@ fn removes_others<T: Grounded>(
     operator: u32,
     effect: u32,
     group: u32,
-    marks: &mut Marks,
+    marks: &Marks,
 ) -> bool
-    requires fit { AreOf (T.says task.now) index.now kept.now marks.old }
+    requires fit { AreOf (T.says task.now) index.now kept.now marks.now }
     requires operator { operator < length (T.says task.now).operators }
     requires effect { effect < length (operator_at (T.says task.now) operator).effects }
     requires group { IsIn (T.says task.now) (family_of kept.now) group }
-    requires clean { IsClean (T.says task.now) marks.old }
-    ensures clean { IsClean (T.says task.now) marks.new }
+    requires known { AreKnown (T.says task.now) kept.now (known (operator_at (T.says task.now) operator)
+        (effect_at (operator_at (T.says task.now) operator) effect).conditions []) marks.now }
     ensures yes { IsTrue result → AreGone (IsKept (T.says task.now) kept.now) (operator_at (T.says task.now) operator)
         (group_at (T.says task.now) group) (effect_at (operator_at (T.says task.now) operator) effect) }
     ensures no { IsFalse result → AreGone (IsKept (T.says task.now) kept.now) (operator_at (T.says task.now) operator)
         (group_at (T.says task.now) group) (effect_at (operator_at (T.says task.now) operator) effect) → ⊥ }
 {
     asks_one_of(task, index, operator, effect, group)
-        || removes_by_notes(task, index, kept, operator, effect, group, marks)
+        || none_stays(task, index, kept, operator, effect, group, marks)
 }
 
 /// Whether the effect asks for an old value that is a fact of the group. Then no other fact of the group can have held, on
@@ -159,34 +220,6 @@ fn asks_one_of<T: Grounded>(task: &T, index: &Index, operator: u32, effect: u32,
         }
         None => false,
     }
-}
-
-/// Whether no other fact of the group stays where this effect fires, by what is known there.
-fn removes_by_notes<T: Grounded>(
-    task: &T,
-    index: &Index,
-    kept: &[bool],
-    operator: u32,
-    effect: u32,
-    group: u32,
-    marks: &mut Marks,
-) -> bool
-    requires fit { AreOf (T.says task.now) index.now kept.now marks.old }
-    requires operator { operator < length (T.says task.now).operators }
-    requires effect { effect < length (operator_at (T.says task.now) operator).effects }
-    requires group { IsIn (T.says task.now) (family_of kept.now) group }
-    requires clean { IsClean (T.says task.now) marks.old }
-    ensures clean { IsClean (T.says task.now) marks.new }
-    ensures yes { IsTrue result → AreGone (IsKept (T.says task.now) kept.now) (operator_at (T.says task.now) operator)
-        (group_at (T.says task.now) group) (effect_at (operator_at (T.says task.now) operator) effect) }
-    ensures no { IsFalse result → AreGone (IsKept (T.says task.now) kept.now) (operator_at (T.says task.now) operator)
-        (group_at (T.says task.now) group) (effect_at (operator_at (T.says task.now) operator) effect) → ⊥ }
-{
-    let conditions = task.effect_conditions(operator, effect);
-    let keeps = note_known(task, index, kept, operator, conditions, &[], marks)
-        || none_stays(task, index, kept, operator, effect, group, marks);
-    forget_known(task, index, operator, conditions, &[], marks);
-    keeps
 }
 
 /// Whether no other fact of the group stays, where what is known is noted and doesn't clash.
@@ -214,12 +247,73 @@ fn none_stays<T: Grounded>(
     if let Some(fact) = marks.facts.as_slice()[group as usize] {
         return is_gone(task, index, kept, operator, effect, fact, marks);
     }
-    for fact in task.group(group) {
+    let mut left = task.group(group);
+    for length in index.runs.as_slice()[group as usize].as_slice() {
+        let (run, rest) = left.split_at(*length as usize);
+        if !run_is_gone(task, index, kept, operator, effect, run, marks) {
+            return false;
+        }
+        left = rest;
+    }
+    true
+}
+
+/// Whether none of the facts stays, which are on one variable, and of which none is known. If that is the effect's variable,
+/// or another value of it is known, that is told at once.
+fn run_is_gone<T: Grounded>(
+    task: &T,
+    index: &Index,
+    kept: &[bool],
+    operator: u32,
+    effect: u32,
+    run: &[Fact],
+    marks: &Marks,
+) -> bool
+    requires fit { AreOf (T.says task.now) index.now kept.now marks.now }
+    requires operator { operator < length (T.says task.now).operators }
+    requires effect { effect < length (operator_at (T.says task.now) operator).effects }
+    requires exist { All (FactExists (T.says task.now).variables) run.now }
+    requires one { AreOnOne run.now }
+    requires unknown { All (IsUnknown (operator_at (T.says task.now) operator)
+        (effect_at (operator_at (T.says task.now) operator) effect)) run.now }
+    requires known { AreKnown (T.says task.now) kept.now (known (operator_at (T.says task.now) operator)
+        (effect_at (operator_at (T.says task.now) operator) effect).conditions []) marks.now }
+    ensures yes { IsTrue result → All (IsGone (IsKept (T.says task.now) kept.now) (operator_at (T.says task.now) operator)
+        (effect_at (operator_at (T.says task.now) operator) effect)) run.now }
+    ensures no { IsFalse result → All (IsGone (IsKept (T.says task.now) kept.now) (operator_at (T.says task.now) operator)
+        (effect_at (operator_at (T.says task.now) operator) effect)) run.now → ⊥ }
+{
+    if is_settled(task, operator, effect, run, marks) {
+        return true;
+    }
+    for fact in run {
         if !is_gone(task, index, kept, operator, effect, *fact, marks) {
             return false;
         }
     }
     true
+}
+
+/// Whether the first of the facts is on the effect's variable, or a value of its variable is known.
+fn is_settled<T: Grounded>(
+    task: &T,
+    operator: u32,
+    effect: u32,
+    run: &[Fact],
+    marks: &Marks,
+) -> bool
+    requires operator { operator < length (T.says task.now).operators }
+    requires effect { effect < length (operator_at (T.says task.now) operator).effects }
+    requires values { All (λ (f : Fact). f.var < length marks.now.values) run.now }
+    ensures { IsTrue result → IsSettled (effect_at (operator_at (T.says task.now) operator) effect) run.now marks.now }
+{
+    match run.first() {
+        Some(first) => {
+            task.effect_change(operator, effect).var == first.var
+                || marks.values.as_slice()[first.var as usize].is_some()
+        }
+        None => true,
+    }
 }
 
 /// Whether the fact is on the effect's variable, or doesn't stay where the effect fires.

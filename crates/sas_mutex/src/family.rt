@@ -1,17 +1,19 @@
 // The greatest family of groups that is kept jointly.
 ghost use Rattle.std.specs.Prelude.{◌≡◌, ◌<◌, ◌≤◌, ℕ, ◌+◌, ◌++◌, [], ◌∷◌, false, length, All, Contains, IsTrue, slice_set, vec_capacity};
 ghost use Rattle.sas_core.specs.Grounded.{operator_at, effect_at, group_at};
+ghost use Rattle.sas_core.specs.WellRanged.{WellRanged};
 ghost use Rattle.sas_groups.specs.Clashes.{sets};
 ghost use Rattle.sas_groups.specs.Families.{IsGreatest};
 ghost use Rattle.sas_mutex.specs.Effects.{family_of};
 ghost use Rattle.sas_mutex.specs.Index.{IsIndexOf, AreMentions};
 ghost use Rattle.sas_mutex.specs.Marks.{IsClean};
+ghost use Rattle.sas_mutex.specs.Noting.{IsNotedFor};
 ghost use Rattle.sas_mutex.specs.Falling.{count, HasRoom, AreCandidates, newly, Falls, IsAtRest, IsEffectAtRest, RestsAt};
 
 use crate::directory::Directory;
-use crate::effects::effect_keeps;
+use crate::effects::keeps_by_notes;
 use crate::index::Index;
-use crate::marks::Marks;
+use crate::marks::{Marks, forget_known, note_known};
 use sas_core::{Fact, Grounded, Items};
 
 /// The groups that may still be kept jointly, and those that fell out of them.
@@ -134,7 +136,8 @@ fn look_at<T: Grounded>(
     }
 }
 
-/// Takes from the family the groups that the effect doesn't keep.
+/// Takes from the family the groups that the effect doesn't keep. What is known where it fires is noted once for all of them;
+/// if that clashes, it never fires.
 fn look_at_effect<T: Grounded>(
     task: &T,
     index: &Index,
@@ -155,6 +158,41 @@ fn look_at_effect<T: Grounded>(
 {
     // The contract of this call tells that what the task says is well ranged.
     let _ = task.variables();
+    let known = task.effect_conditions(operator, effect);
+    if !note_known(
+        task,
+        index,
+        family.kept.as_slice(),
+        operator,
+        known,
+        &[],
+        marks,
+    ) {
+        look_at_groups(task, index, operator, effect, family, marks);
+    }
+    forget_known(task, index, operator, known, &[], marks);
+}
+
+/// Takes from the family the groups that the effect doesn't keep, by what is noted.
+fn look_at_groups<T: Grounded>(
+    task: &T,
+    index: &Index,
+    operator: u32,
+    effect: u32,
+    family: &mut Family,
+    marks: &mut Marks,
+)
+    requires ranged { WellRanged (T.says task.now) }
+    requires index { IsIndexOf (T.says task.now) index.now }
+    requires operator { operator < length (T.says task.now).operators }
+    requires effect { effect < length (operator_at (T.says task.now) operator).effects }
+    requires room { HasRoom (T.says task.now) family.old }
+    requires noted { IsNotedFor (T.says task.now) family.old.kept operator effect marks.old }
+    ensures falls { Falls (T.says task.now) family.old family.new }
+    ensures rest { IsEffectAtRest (T.says task.now) family.new.kept (newly family.old family.new) operator effect }
+    ensures room { HasRoom (T.says task.now) family.new }
+    ensures noted { IsNotedFor (T.says task.now) family.new.kept operator effect marks.new }
+{
     let change = task.effect_change(operator, effect);
     let set = Fact {
         var: change.var,
@@ -166,7 +204,7 @@ fn look_at_effect<T: Grounded>(
     }
 }
 
-/// Takes the group from the family if the effect doesn't keep it.
+/// Takes the group from the family if the effect doesn't keep it, by what is noted.
 fn look_at_group<T: Grounded>(
     task: &T,
     index: &Index,
@@ -176,20 +214,21 @@ fn look_at_group<T: Grounded>(
     family: &mut Family,
     marks: &mut Marks,
 )
+    requires ranged { WellRanged (T.says task.now) }
     requires index { IsIndexOf (T.says task.now) index.now }
     requires operator { operator < length (T.says task.now).operators }
     requires effect { effect < length (operator_at (T.says task.now) operator).effects }
     requires group { group < length (T.says task.now).groups }
     requires has { Contains (group_at (T.says task.now) group) (sets (effect_at (operator_at (T.says task.now) operator) effect)) }
     requires room { HasRoom (T.says task.now) family.old }
-    requires clean { IsClean (T.says task.now) marks.old }
+    requires noted { IsNotedFor (T.says task.now) family.old.kept operator effect marks.old }
     ensures falls { Falls (T.says task.now) family.old family.new }
     ensures rest { RestsAt (T.says task.now) family.new.kept (newly family.old family.new) operator effect group }
     ensures room { HasRoom (T.says task.now) family.new }
-    ensures clean { IsClean (T.says task.now) marks.new }
+    ensures noted { IsNotedFor (T.says task.now) family.new.kept operator effect marks.new }
 {
     if family.kept.as_slice()[group as usize]
-        && !effect_keeps(
+        && !keeps_by_notes(
             task,
             index,
             family.kept.as_slice(),

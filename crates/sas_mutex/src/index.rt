@@ -6,7 +6,8 @@ ghost use Rattle.sas_mutex.specs.Index as spec;
 ghost use Rattle.sas_mutex.specs.Index.{IsIndexOf, AreFirstNumbers, facts_below, entries_of_group};
 
 use crate::directory::{Directory, Entry};
-use sas_core::{Fact, Grounded};
+use crate::runs::runs_of_groups;
+use sas_core::{Fact, Grounded, Items};
 use std::alloc::{AllocError, Global};
 
 /// Which groups have which fact. Facts are numbered, variable after variable, so that a look at one takes a fixed time.
@@ -16,6 +17,8 @@ pub struct Index {
     pub firsts: Vec<usize>,
     /// The groups under the number of each fact of theirs.
     pub groups: Directory,
+    /// For each group, how many of its facts stand in a row on one variable.
+    pub runs: Items<Items<u32>>,
 }
 
 impl Index {
@@ -30,7 +33,12 @@ impl Index {
             enter_group(task, firsts.as_slice(), group, &mut entries)?;
         }
         let groups = Directory::new(alloc, entries, facts)?;
-        Ok(Index { firsts, groups })
+        let runs = runs_of_groups(alloc, task)?;
+        Ok(Index {
+            firsts,
+            groups,
+            runs,
+        })
     }
 
     /// The groups that have the fact.

@@ -1,5 +1,5 @@
 -- What the notes tell of the fact decides whether it is gone.
-use Rattle.std.proofs.Common.{◌≡◌, ◌≢◌, length, List, sym, ap, subst, ◌∙◌, inl, inr}
+use Rattle.std.proofs.Common.{length, ap, ◌∙◌, inl, inr}
 use Rattle.sas_core.specs.declared.grounded.Change.{Change}
 use Rattle.sas_core.specs.Grounded.{operator_at, effect_at}
 use Rattle.sas_mutex.proofs.TaskFacts.{groups_below, conditions_exist}

@@ -1,15 +1,18 @@
--- One more fact is gone, or the one that is known.
-use Rattle.std.proofs.Common.{◌≡◌, ◌<◌, ◌≤◌, List, [], length, get_or, Some, sym, ap, subst, ◌∙◌, arith}
-use Rattle.std.specs.List.{All, Contains}
+-- One more run is gone, or the fact that is known.
+use Rattle.std.proofs.Common.{◌≡◌, ◌<◌, ℕ, List, [], length, get_or, drop, None, Some, sym, ap, subst, ◌∙◌, arith}
+use Rattle.std.proofs.lemmas.List.{get_or_default, drop_all}
 use Rattle.std.proofs.lemmas.List.Elements.{All-contains}
 use Rattle.sas_core.specs.declared.parts.Fact.{Fact}
 use Rattle.sas_core.specs.Grounded.{operator_at, effect_at, group_at}
-use Rattle.sas_groups.specs.Lists.{known}
-use Rattle.sas_groups.proofs.Turns.{each_more}
+use Rattle.sas_core.specs.Variables.{FactExists}
 use Rattle.sas_groups.specs.Checks.{IsGone}
+use Rattle.sas_groups.specs.Lists.{known}
 use Rattle.sas_mutex.specs.Effects.{IsKept}
-use Rattle.sas_mutex.specs.Noting.{fact_note}
-use Rattle.sas_mutex.proofs.NotesOfFacts.{fact_note_tells}
+use Rattle.sas_mutex.specs.Noting.{fact_note, IsUnknown}
+use Rattle.sas_mutex.specs.Runs.{AreRuns}
+use Rattle.sas_mutex.proofs.Entering.{group_fact_exists}
+use Rattle.sas_mutex.proofs.GoneRuns.{SuchBefore, such_none, such_all, next_within, next_on_one, next_too, such_more}
+use Rattle.sas_mutex.proofs.NotesOfFacts.{fact_note_tells, no_fact_note_tells}
 use Rattle.sas_mutex.proofs.ToldByNotes.{known_one_is_all}
 use Rattle.sas_mutex.proofs.effects.none_stays.Goals as goal
 
@@ -25,23 +28,78 @@ returns-in-Some-clause-yes g c =
     (c.requires.known.noted.facts place c.requires.group.exists c.requires.group.chosen) at in
     λ t. known_one_is_all p c.args.kept.now o place e c.in-Some.fact c.requires.group here has.among (c.is_gone.ensures.yes t)
 
-pub loop-fact-preserved : goal.loop-fact-preserved
-loop-fact-preserved g c =
+pub loop-length-init : goal.loop-length-init
+loop-length-init g c =
     let p = g.T.Grounded.says c.args.task.now in
     let o = operator_at p c.args.operator in
-    let group = group_at p c.args.group in
-    let n = c.loop-fact.fact-index in
-    let same = c.group-fact-items.ensures in
-    let below : n < length group = subst (λ (facts : List Fact). n < length facts) same c.loop-fact-test.true in
-    each_more (IsGone (IsKept p c.args.kept.now) o (effect_at o c.args.effect)) group n _ below c.loop-fact.invariant
-    (subst (λ (facts : List Fact). IsGone (IsKept p c.args.kept.now) o (effect_at o c.args.effect) (get_or facts n _)) same
-    (c.is_gone-in-loop-fact.ensures.yes c.if-not-is_gone.false))
+    let runs : List (List ℕ) = c.args.index.now.runs in
+    let all = c.requires.fit.indexed.runs in
+    let below : c.args.group < length runs = let lt = c.requires.group.exists in let each = all.one_each in omega arith in
+    let here = c.index-as_slice-group.result in
+    let same : get_or runs c.args.group [] ≡ c.as_slice-length-items.result.now =
+    get_or_default runs c.args.group [] here below ∙ (ap (λ (lists : List (List ℕ)). get_or lists c.args.group here) (sym c.as_slice-2.ensures)
+    ∙ (sym c.index-as_slice-group.is ∙ sym c.as_slice-length-items.ensures)) in
+    such_none (IsGone (IsKept p c.args.kept.now) o (effect_at o c.args.effect)) (group_at p c.args.group) c.group-left.result.now c.as_slice-length-items.result.now c.group-left.ensures
+    (subst (AreRuns (group_at p c.args.group)) same (all.are c.args.group c.requires.group.exists))
+
+pub split_at-requires : goal.split_at-requires
+split_at-requires g c =
+    let p = g.T.Grounded.says c.args.task.now in
+    let o = operator_at p c.args.operator in
+    next_within (IsGone (IsKept p c.args.kept.now) o (effect_at o c.args.effect)) (group_at p c.args.group) c.loop-length.left.now c.as_slice-length-items.result.now
+    c.loop-length.length-index c.loop-length-test.true c.loop-length.invariant
+
+pub run_is_gone-requires-clause-exist : goal.run_is_gone-requires-clause-exist
+run_is_gone-requires-clause-exist g c =
+    let p = g.T.Grounded.says c.args.task.now in
+    let o = operator_at p c.args.operator in
+    next_too (IsGone (IsKept p c.args.kept.now) o (effect_at o c.args.effect)) (group_at p c.args.group) c.loop-length.left.now c.as_slice-length-items.result.now
+    c.loop-length.length-index c.loop-length-test.true c.loop-length.invariant (FactExists p.variables) c.split_at.result.0.now c.split_at.ensures.front
+    (λ f among. group_fact_exists p c.args.group f c.requires.fit.ranged c.requires.group.exists among)
+
+pub run_is_gone-requires-clause-one : goal.run_is_gone-requires-clause-one
+run_is_gone-requires-clause-one g c =
+    let p = g.T.Grounded.says c.args.task.now in
+    let o = operator_at p c.args.operator in
+    next_on_one (IsGone (IsKept p c.args.kept.now) o (effect_at o c.args.effect)) (group_at p c.args.group) c.loop-length.left.now c.as_slice-length-items.result.now
+    c.loop-length.length-index c.loop-length-test.true c.loop-length.invariant c.split_at.result.0.now c.split_at.ensures.front
+
+pub run_is_gone-requires-clause-unknown : goal.run_is_gone-requires-clause-unknown
+run_is_gone-requires-clause-unknown g c =
+    let p = g.T.Grounded.says c.args.task.now in
+    let o = operator_at p c.args.operator in
+    let e = effect_at o c.args.effect in
+    let place = c.args.group in
+    let none : fact_note c.args.marks.now.facts place ≡ None = ap (λ list. fact_note list place) (sym c.as_slice.ensures) ∙ c.in_default.is in
+    next_too (IsGone (IsKept p c.args.kept.now) o e) (group_at p place) c.loop-length.left.now c.as_slice-length-items.result.now
+    c.loop-length.length-index c.loop-length-test.true c.loop-length.invariant (IsUnknown o e) c.split_at.result.0.now c.split_at.ensures.front
+    (λ f among in_known. no_fact_note_tells p (known o e.conditions []) place (fact_note c.args.marks.now.facts place)
+    (c.requires.known.noted.facts place c.requires.group.exists c.requires.group.chosen) none f in_known (record { exists = c.requires.group.exists; among = among }))
+
+pub returns-then-not-run_is_gone-clause-no : goal.returns-then-not-run_is_gone-clause-no
+returns-then-not-run_is_gone-clause-no g c =
+    let p = g.T.Grounded.says c.args.task.now in
+    let o = operator_at p c.args.operator in
+    let Gone : Fact → Type 0 = IsGone (IsKept p c.args.kept.now) o (effect_at o c.args.effect) in
+    λ t gone. c.run_is_gone.ensures.no c.if-not-run_is_gone.true
+    (next_too Gone (group_at p c.args.group) c.loop-length.left.now c.as_slice-length-items.result.now
+    c.loop-length.length-index c.loop-length-test.true c.loop-length.invariant Gone c.split_at.result.0.now c.split_at.ensures.front gone)
+
+pub loop-length-preserved : goal.loop-length-preserved
+loop-length-preserved g c =
+    let p = g.T.Grounded.says c.args.task.now in
+    let o = operator_at p c.args.operator in
+    such_more (IsGone (IsKept p c.args.kept.now) o (effect_at o c.args.effect)) (group_at p c.args.group) c.loop-length.left.now c.as_slice-length-items.result.now
+    c.loop-length.length-index c.loop-length-test.true c.loop-length.invariant c.split_at.result.0.now c.split_at.result.1.now
+    c.split_at.ensures.front c.split_at.ensures.back (c.run_is_gone.ensures.yes c.if-not-run_is_gone.false)
 
 pub returns-clause-yes : goal.returns-clause-yes
 returns-clause-yes g c =
     let p = g.T.Grounded.says c.args.task.now in
     let o = operator_at p c.args.operator in
+    let Gone : Fact → Type 0 = IsGone (IsKept p c.args.kept.now) o (effect_at o c.args.effect) in
     let group = group_at p c.args.group in
-    let end : length group ≤ c.loop-fact.fact-index = subst (λ (facts : List Fact). length facts ≤ c.loop-fact.fact-index) c.group-fact-items.ensures c.loop-fact-test.false in
-    λ t f in_group. All-contains (IsGone (IsKept p c.args.kept.now) o (effect_at o c.args.effect)) group f
-    (λ k d lt. c.loop-fact.invariant k d (omega arith)) in_group
+    let items = c.as_slice-length-items.result.now in
+    let end : drop c.loop-length.length-index items ≡ [] = drop_all c.loop-length.length-index items c.loop-length-test.false in
+    λ t f in_group. All-contains Gone group f
+    (such_all Gone group c.loop-length.left.now (subst (SuchBefore Gone group c.loop-length.left.now) end c.loop-length.invariant)) in_group

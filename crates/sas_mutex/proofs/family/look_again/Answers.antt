@@ -1,10 +1,9 @@
 -- Those that mention a fact of the next group are looked at again.
-use Rattle.std.proofs.Common.{◌≡◌, ℕ, ◌+◌, ◌<◌, List, ◌∷◌, length, get_or, drop, sym, ◌∙◌, ap, subst, arith}
+use Rattle.std.proofs.Common.{◌≡◌, ℕ, ◌+◌, ◌<◌, List, ◌∷◌, length, drop, sym, ◌∙◌, ap, subst, arith}
 use Rattle.std.specs.List.{All, Contains}
 use Rattle.std.proofs.lemmas.List.{drop_more}
 use Rattle.std.proofs.lemmas.List.Elements.{All-get_or}
-use Rattle.sas_mutex.specs.Directories.{under}
-use Rattle.sas_mutex.specs.Falling.{newly, IsAtRest}
+use Rattle.sas_mutex.specs.Falling.{IsAtRest}
 use Rattle.sas_mutex.proofs.FallingGroups.{gone_through, queue_then, falls_then, fallen_exist, fallen_grow, mentioning_exist}
 use Rattle.sas_mutex.proofs.family.look_again.Goals as goal
 use Rattle.sas_mutex.proofs.family.look_again.Given.{Over}

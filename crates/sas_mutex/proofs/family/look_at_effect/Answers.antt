@@ -1,55 +1,36 @@
--- One more group rests, and so in the end all that have the fact.
-use Rattle.std.proofs.Common.{ℕ, ◌<◌, length, get_or, below_more, arith}
-use Rattle.std.specs.List.{Contains}
-use Rattle.std.specs.Prelude.{◌↔◌}
-use Rattle.std.proofs.lemmas.List.Elements.{Contains-get_or}
-use Rattle.sas_core.specs.Grounded.{operator_at, effect_at}
-use Rattle.sas_groups.specs.Clashes.{sets}
-use Rattle.sas_mutex.specs.Falling.{newly, RestsAt}
-use Rattle.sas_mutex.specs.Index.{HasFact}
-use Rattle.sas_mutex.proofs.FallingGroups.{falls_then, rests_later, rests_now}
-use Rattle.sas_mutex.proofs.SetFacts.{groups_setting, at_item}
+-- An effect that never fires keeps all groups.
+use Rattle.std.proofs.Common.{List, [], Bool, sym, subst}
+use Rattle.sas_core.specs.declared.parts.Fact.{Fact}
+use Rattle.sas_core.specs.Grounded.{operator_at, effect_at, group_at}
+use Rattle.sas_groups.specs.Clashes.{Clash}
+use Rattle.sas_groups.specs.Lists.{known}
+use Rattle.sas_mutex.specs.declared.family.Family.{Family}
+use Rattle.sas_mutex.specs.Effects.{IsKept}
+use Rattle.sas_mutex.specs.Falling.{Falls, IsEffectAtRest, newly}
+use Rattle.sas_mutex.proofs.FallingGroups.{none_fell}
+use Rattle.sas_mutex.proofs.ToldByNotes.{clash_keeps}
 use Rattle.sas_mutex.proofs.family.look_at_effect.Goals as goal
-use Rattle.sas_mutex.proofs.family.look_at_effect.Given.{Over}
-use Rattle.sas_mutex.proofs.family.look_at_effect.Goals.{After-groups_of-groups}
+use Rattle.sas_mutex.proofs.family.look_at_effect.Goals.{then-not-note_known, else-not-note_known}
 
--- the groups that have the fact
-setting : (g : Over) (c : After-groups_of-groups g) → (place : ℕ)
-    → Contains c.groups_of-groups.result.now place ↔ HasFact (g.T.Grounded.says c.args.task.now) place (sets (effect_at (operator_at (g.T.Grounded.says c.args.task.now) c.args.operator) c.args.effect))
-setting g c = groups_setting (g.T.Grounded.says c.args.task.now) c.variables.ensures.well_ranged c.args.index.now c.args.operator c.args.effect
-    c.requires.index c.requires.operator c.requires.effect c.groups_of-groups.result.now c.effect_change-change.result c.effect_change-change.ensures c.groups_of-groups.ensures
-
-pub look_at_group-requires-clause-group : goal.look_at_group-requires-clause-group
-look_at_group-requires-clause-group g c =
-    ((setting g (goal.at.look_at_group-requires-clause-group g c).After-groups_of-groups _).0
-    (Contains-get_or c.groups_of-groups.result.now c.loop-group.group-index 0 c.loop-group-test.true)).exists
-
-pub look_at_group-requires-clause-has : goal.look_at_group-requires-clause-has
-look_at_group-requires-clause-has g c =
-    ((setting g (goal.at.look_at_group-requires-clause-has g c).After-groups_of-groups _).0
-    (Contains-get_or c.groups_of-groups.result.now c.loop-group.group-index 0 c.loop-group-test.true)).among
-
-pub loop-group-preserved : goal.loop-group-preserved
-loop-group-preserved g c =
+pub returns-clause-falls : goal.returns-clause-falls
+returns-clause-falls g c =
     let p = g.T.Grounded.says c.args.task.now in
-    let start = c.args.family.now in
-    let before = c.loop-group.family in
-    let after = c.look_at_group.new.family in
-    let inv = c.loop-group.invariant in
-    let turn = c.look_at_group.ensures in
-    record {
-      falls = falls_then p start before after inv.falls turn.falls;
-      room = turn.room;
-      clean = turn.clean;
-      rest = below_more _ _
-          (λ k lt. rests_later p start before after c.args.operator c.args.effect _ c.requires.operator c.requires.effect inv.falls turn.falls (inv.rest k lt))
-          (rests_now p start before after c.args.operator c.args.effect _ inv.falls turn.falls turn.rest);
-    }
+    elim c.if-not-note_known.branch [
+      | then-not-note_known w ↦ subst (Falls p c.args.family.now) (sym w.family-is) w.look_at_groups.ensures.falls
+      | else-not-note_known w ↦ subst (Falls p c.args.family.now) (sym w.family-is) (none_fell p c.args.family.now)
+    ]
 
 pub returns-clause-rest : goal.returns-clause-rest
 returns-clause-rest g c =
     let p = g.T.Grounded.says c.args.task.now in
-    let at_end = (goal.at.returns-clause-rest g c).After-groups_of-groups in
-    λ none place w has. (at_item (RestsAt p c.loop-group.family.kept (newly c.args.family.now c.loop-group.family) c.args.operator c.args.effect)
-    c.groups_of-groups.result.now place (λ k lt. c.loop-group.invariant.rest k (omega arith))
-    ((setting g at_end place).1 (record { exists = w.exists; among = has }))).keeps none w
+    let o = operator_at p c.args.operator in
+    let e = effect_at o c.args.effect in
+    let start = c.args.family.now in
+    let AtRest : Family → Type 0 = λ family. IsEffectAtRest p family.kept (newly start family) c.args.operator c.args.effect in
+    elim c.if-not-note_known.branch [
+      | then-not-note_known w ↦ subst AtRest (sym w.family-is) w.look_at_groups.ensures.rest
+      | else-not-note_known w ↦ subst AtRest (sym w.family-is) (λ none place in_family has. clash_keeps p start.kept o (group_at p place) e
+          (subst (λ (kept : List Bool). Clash (IsKept p kept) (known o e.conditions [])) c.as_slice.ensures
+          (subst (λ (conditions : List Fact). Clash (IsKept p c.as_slice.result.now) (known o conditions [])) c.effect_conditions-known.ensures
+          (c.note_known.ensures.yes w.if-not-note_known.false))))
+    ]

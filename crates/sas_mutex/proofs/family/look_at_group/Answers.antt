@@ -6,21 +6,23 @@ use Rattle.sas_mutex.specs.Effects.{family_of, IsKept, EffectKeeps}
 use Rattle.sas_mutex.proofs.Counting.{count_fell}
 use Rattle.sas_mutex.proofs.FallingGroups.{one_fell, never_jointly}
 use Rattle.sas_mutex.specs.Falling.{count}
+use Rattle.sas_mutex.specs.Noting.{IsNotedFor}
+use Rattle.sas_mutex.proofs.ToldByNotes.{noted_fewer}
 use Rattle.sas_mutex.proofs.family.look_at_group.Goals as goal
 
-pub returns-then-not-effect_keeps-clause-falls : goal.returns-then-not-effect_keeps-clause-falls
-returns-then-not-effect_keeps-clause-falls g c =
+pub returns-then-not-keeps_by_notes-clause-falls : goal.returns-then-not-keeps_by_notes-clause-falls
+returns-then-not-keeps_by_notes-clause-falls g c =
     let p = g.T.Grounded.says c.args.task.now in
     let o = operator_at p c.args.operator in
     let before = c.args.family.now in
     one_fell p before c.take_away.new.self c.args.group c.take_away.ensures.kept c.take_away.ensures.fallen c.requires.group
     (never_jointly p before.kept c.args.operator c.args.effect c.args.group c.requires.operator c.requires.effect c.requires.has
-    (λ keeps. c.effect_keeps.ensures.no c.if-not-effect_keeps.true (subst (λ (kept : List Bool). EffectKeeps (IsKept p kept) o (group_at p c.args.group) (effect_at o c.args.effect))
+    (λ keeps. c.keeps_by_notes.ensures.no c.if-not-keeps_by_notes.true (subst (λ (kept : List Bool). EffectKeeps (IsKept p kept) o (group_at p c.args.group) (effect_at o c.args.effect))
     (sym c.as_slice-then-as_slice-group.ensures) keeps)))
     c.requires.room.one_each
 
-pub returns-then-not-effect_keeps-clause-room : goal.returns-then-not-effect_keeps-clause-room
-returns-then-not-effect_keeps-clause-room g c =
+pub returns-then-not-keeps_by_notes-clause-room : goal.returns-then-not-keeps_by_notes-clause-room
+returns-then-not-keeps_by_notes-clause-room g c =
     let before = c.args.family.now in
     let after = c.take_away.new.self in
     let fell = ap count c.take_away.ensures.kept in
@@ -32,3 +34,10 @@ returns-then-not-effect_keeps-clause-room g c =
       room = omega (arith, c.requires.room.room, c.take_away.ensures.room);
       few = omega (arith, c.requires.room.few);
     }
+
+pub returns-then-not-keeps_by_notes-clause-noted : goal.returns-then-not-keeps_by_notes-clause-noted
+returns-then-not-keeps_by_notes-clause-noted g c =
+    let p = g.T.Grounded.says c.args.task.now in
+    let marks = c.keeps_by_notes.new.marks in
+    noted_fewer p c.args.family.now.kept c.take_away.new.self.kept c.args.operator c.args.effect marks (returns-then-not-keeps_by_notes-clause-falls g c).less
+    (subst (λ (kept : List Bool). IsNotedFor p kept c.args.operator c.args.effect marks) c.as_slice-then-as_slice-group.ensures c.keeps_by_notes.ensures.noted)

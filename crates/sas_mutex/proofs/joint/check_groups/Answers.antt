@@ -1,6 +1,5 @@
 -- There is room for all groups that may fall.
-use Rattle.std.proofs.Common.{◌≡◌, ◌∙◌, List, length, ap, arith}
-use Rattle.sas_groups.specs.declared.verdict.Verdict.{Verdict}
+use Rattle.std.proofs.Common.{◌∙◌, length, ap, arith}
 use Rattle.sas_mutex.proofs.Counting.{count_within}
 use Rattle.sas_mutex.proofs.joint.check_groups.Goals as goal
 

@@ -1,6 +1,6 @@
 -- All operators have told.
 use Rattle.std.proofs.Common.{arith}
-use Rattle.sas_mutex.proofs.Telling.{start_telling, joint_in_the_end}
+use Rattle.sas_mutex.proofs.Telling.{joint_in_the_end}
 use Rattle.sas_mutex.proofs.joint.tell_breaking.Goals as goal
 
 pub returns : goal.returns

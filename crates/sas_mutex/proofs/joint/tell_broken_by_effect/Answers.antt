@@ -1,5 +1,5 @@
 -- The effect has told of one more group, and so in the end of all that have the fact.
-use Rattle.std.proofs.Common.{ℕ, ◌+◌, ◌<◌, Bool, List, length, get_or, inl, inr, sym, ◌∙◌, subst, below_more, arith}
+use Rattle.std.proofs.Common.{ℕ, ◌+◌, Bool, List, get_or, inl, inr, sym, ◌∙◌, subst, below_more, arith}
 use Rattle.std.specs.List.{Contains}
 use Rattle.std.specs.Prelude.{◌↔◌}
 use Rattle.std.proofs.lemmas.Bool.{cases_eq}

@@ -1,8 +1,6 @@
 -- One more fact is forgotten.
-use Rattle.std.proofs.Common.{◌+◌, arith, length, List, [], ◌∷◌, ◌++◌}
-use Rattle.std.specs.List.{All, Contains}
+use Rattle.std.proofs.Common.{arith, length}
 use Rattle.std.proofs.lemmas.List.Elements.{All-contains, All-weaker}
-use Rattle.sas_core.specs.declared.parts.Fact.{Fact}
 use Rattle.sas_core.specs.Grounded.{operator_at}
 use Rattle.sas_core.specs.Variables.{FactExists}
 use Rattle.sas_groups.specs.Lists.{known, known_left}

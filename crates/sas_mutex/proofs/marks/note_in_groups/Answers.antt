@@ -1,10 +1,9 @@
 -- One more group took the fact, or isn't kept.
-use Rattle.std.proofs.Common.{◌≡◌, ℕ, ◌+◌, ◌<◌, List, length, get_or, set, Option, Some, true, IsTrue, sym, subst, ap, ◌∙◌, arith}
+use Rattle.std.proofs.Common.{◌≡◌, ℕ, ◌<◌, length, get_or, set, Some, IsTrue, subst, ◌∙◌, arith}
 use Rattle.std.proofs.lemmas.List.Elements.{Contains-get_or}
-use Rattle.sas_core.specs.declared.parts.Fact.{Fact}
 use Rattle.sas_groups.proofs.Turns.{each_more}
 use Rattle.sas_mutex.specs.Effects.{family_of}
-use Rattle.sas_mutex.specs.Noting.{fact_note, IsFree, Takes, TakenBySome}
+use Rattle.sas_mutex.specs.Noting.{fact_note, IsFree, Takes}
 use Rattle.sas_mutex.proofs.NotesOfFacts.{takes_still, takes_here, taken_more}
 use Rattle.sas_mutex.proofs.marks.note_in_groups.Goals as goal
 use Rattle.sas_mutex.proofs.marks.note_in_groups.Goals.{then-kept-group+else-is_other, else-kept-group}

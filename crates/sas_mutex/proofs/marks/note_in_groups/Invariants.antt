@@ -1,5 +1,5 @@
 -- The groups so far took the fact, if they are kept.
-use Rattle.std.proofs.Common.{◌≡◌, ℕ, ◌<◌, get_or, length, IsTrue}
+use Rattle.std.proofs.Common.{ℕ, ◌<◌, get_or, IsTrue}
 use Rattle.sas_mutex.specs.Effects.{family_of}
 use Rattle.sas_mutex.specs.Noting.{TakenBySome, Takes}
 use Rattle.sas_mutex.proofs.marks.note_in_groups.Given as goal

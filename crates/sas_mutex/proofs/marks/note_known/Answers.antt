@@ -1,9 +1,8 @@
 -- One more fact came.
-use Rattle.std.proofs.Common.{◌+◌, sym, arith, ap, ◌∙◌, length}
-use Rattle.std.specs.List.{All}
+use Rattle.std.proofs.Common.{sym, arith, length}
 use Rattle.std.proofs.lemmas.List.Elements.{All-contains, Contains-append_left}
 use Rattle.std.specs.List.{Contains}
-use Rattle.std.proofs.Common.{List, ◌++◌, subst}
+use Rattle.std.proofs.Common.{List, subst}
 use Rattle.sas_core.specs.declared.parts.Fact.{Fact}
 use Rattle.sas_core.specs.Grounded.{operator_at}
 use Rattle.sas_core.specs.Variables.{FactExists}

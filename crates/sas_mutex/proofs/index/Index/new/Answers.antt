@@ -27,5 +27,6 @@ returns g c =
     record {
       firsts = firsts;
       low = c.in_ok-facts.ensures.low;
-      groups = entered_index p c.loop-group.entries.items (record { firsts = c.number_facts.new.firsts; groups = c.in_ok-groups.groups }) ranged up firsts c.in_ok-groups.ensures;
+      groups = entered_index p c.loop-group.entries.items (record { firsts = c.number_facts.new.firsts; groups = c.in_ok-groups.groups; runs = c.in_ok-runs.runs }) ranged up firsts c.in_ok-groups.ensures;
+      runs = c.in_ok-runs.ensures;
     }

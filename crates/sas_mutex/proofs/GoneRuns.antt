@@ -1,0 +1,96 @@
+-- Facts of a group are gone, run after run.
+use Rattle.std.proofs.Common.{◌≡◌, ℕ, ◌+◌, ◌<◌, ◌≤◌, length, get_or, take, drop, Bool, List, [], ◌∷◌, ◌++◌, Some, refl, sym, ap, subst, ◌∙◌, append_assoc, append-nil, inl, inr, arith}
+use Rattle.std.specs.List.{All, Contains}
+use Rattle.std.proofs.lemmas.Bool.{cases_eq}
+use Rattle.std.proofs.lemmas.List.{take-append-drop, drop_more}
+use Rattle.std.proofs.lemmas.List.Elements.{All-nil, All-append, Contains-append_left, Contains-append_right, Contains-get_or}
+use Rattle.sas_core.specs.declared.parts.Fact.{Fact}
+use Rattle.sas_core.specs.declared.parts.Effect.{Effect}
+use Rattle.sas_core.specs.declared.parts.Operator.{Operator}
+use Rattle.sas_core.specs.declared.parts.Parts.{Parts}
+use Rattle.sas_core.specs.Variables.{FactExists}
+use Rattle.sas_groups.specs.Checks.{IsGone}
+use Rattle.sas_groups.specs.Lists.{known}
+use Rattle.sas_mutex.specs.declared.index.Index.{Index}
+use Rattle.sas_mutex.specs.declared.marks.Marks.{Marks}
+use Rattle.sas_mutex.specs.Effects.{IsKept}
+use Rattle.sas_mutex.specs.Index.{IsIndexOf}
+use Rattle.sas_mutex.specs.Noting.{value_note, AreKnown, IsUnknown, IsSettled}
+use Rattle.sas_mutex.specs.Runs.{AreOnOne, AreRuns}
+use Rattle.sas_mutex.proofs.TaskFacts.{variable_below}
+use Rattle.sas_mutex.proofs.NotesOfFacts.{a_note, value_note_tells}
+use Rattle.sas_mutex.proofs.ToldByNotes.{against_clashes}
+
+-- of the facts of a run that is settled none is known, so that what is noted for their variable is another value
+pub settled_are_gone : (p : Parts) (index : Index) (kept : List Bool) (marks : Marks) (o : Operator) (e : Effect) (run : List Fact)
+    → IsIndexOf p index → AreKnown p kept (known o e.conditions []) marks → All (FactExists p.variables) run → AreOnOne run
+    → All (IsUnknown o e) run → IsSettled e run marks → All (IsGone (IsKept p kept) o e) run
+settled_are_gone p index kept marks o e run indexed are exist (var, on_it) unknown settled k d below on_other =
+    let fact = get_or run k d in
+    let some : 0 < length run = omega arith in
+    let same : (get_or run 0 d).var ≡ fact.var = on_it 0 d some ∙ sym (on_it k d below) in
+    let exists = exist k d below in
+    elim (settled (get_or run 0 d) d some refl) [
+      | inl its ↦ absurd (on_other (its ∙ same))
+      | inr noted ↦ elim (a_note (value_note marks.values fact.var)) [
+        | inl none ↦ absurd (noted (ap (value_note marks.values) same ∙ none))
+        | inr w ↦ elim (cases_eq w.0 fact.value) [
+          | inl its ↦ absurd (unknown k d below (value_note_tells (known o e.conditions []) fact.var fact.value (value_note marks.values fact.var)
+              (are.noted.values fact.var (variable_below p fact exists)) (w.1 ∙ ap (λ v. Some v) its)))
+          | inr differs ↦ inl (against_clashes p index kept marks o e.conditions indexed are fact exists (inl (w.0, w.1, differs)))
+        ]
+      ]
+    ]
+
+-- the facts before those that are left are such; those that are left fall into these runs
+pub record SuchBefore (Such : Fact → Type 0) (facts left : List Fact) (runs : List ℕ) : Type 0 where
+  pub before : List Fact
+  pub all : facts ≡ before ++ left
+  pub such : All Such before
+  pub fall : AreRuns left runs
+
+-- at first, and when none is left
+pub such_none : (Such : Fact → Type 0) (facts left : List Fact) (runs : List ℕ) → left ≡ facts → AreRuns facts runs → SuchBefore Such facts left runs
+such_none Such facts left runs is fall = record {
+  before = [];
+  all = sym is;
+  such = All-nil Such;
+  fall = subst (λ (fs : List Fact). AreRuns fs runs) (sym is) fall;
+}
+
+pub such_all : (Such : Fact → Type 0) (facts left : List Fact) → SuchBefore Such facts left [] → All Such facts
+such_all Such facts left so_far =
+    subst (All Such) (sym (so_far.all ∙ (ap (λ (xs : List Fact). so_far.before ++ xs) so_far.fall ∙ append-nil so_far.before))) so_far.such
+
+-- the next run, and one run more that is such
+module _ (Such : Fact → Type 0) (facts left : List Fact) (runs : List ℕ) (place : ℕ) (below : place < length runs)
+    (so_far : SuchBefore Such facts left (drop place runs)) where
+  abbrev next : List Fact
+  next = take (get_or runs place 0) left
+
+  falls : AreRuns left (get_or runs place 0 ∷ drop (place + 1) runs)
+  falls = subst (AreRuns left) (drop_more runs place 0 below) so_far.fall
+
+  pub next_within : get_or runs place 0 ≤ length left
+  next_within = falls.0
+
+  pub next_on_one : (run : List Fact) → run ≡ next → AreOnOne run
+  next_on_one run is = subst AreOnOne (sym is) falls.1
+
+  next_among : (f : Fact) → Contains next f → Contains facts f
+  next_among f there = subst (λ (fs : List Fact). Contains fs f) (sym so_far.all)
+      (Contains-append_right so_far.before left f (subst (λ (fs : List Fact). Contains fs f) (take-append-drop (get_or runs place 0) left)
+      (Contains-append_left next (drop (get_or runs place 0) left) f there)))
+
+  -- what all the facts have, those of the next run have
+  pub next_too : (P : Fact → Type 0) (run : List Fact) → run ≡ next → ((f : Fact) → Contains facts f → P f) → All P run
+  next_too P run is all = subst (All P) (sym is) (λ k d lt. all (get_or next k d) (next_among (get_or next k d) (Contains-get_or next k d lt)))
+
+  pub such_more : (run rest : List Fact) → run ≡ next → rest ≡ drop (get_or runs place 0) left → All Such run → SuchBefore Such facts rest (drop (place + 1) runs)
+  such_more run rest is is_rest here = subst (λ (fs : List Fact). SuchBefore Such facts fs (drop (place + 1) runs)) (sym is_rest) record {
+    before = so_far.before ++ next;
+    all = so_far.all ∙ (ap (λ (fs : List Fact). so_far.before ++ fs) (sym (take-append-drop (get_or runs place 0) left))
+        ∙ sym (append_assoc so_far.before next (drop (get_or runs place 0) left)));
+    such = All-append Such so_far.before next so_far.such (subst (All Such) is here);
+    fall = falls.2;
+  }

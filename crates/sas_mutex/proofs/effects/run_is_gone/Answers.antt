@@ -1,0 +1,21 @@
+-- A run that is settled is gone, or one fact more.
+use Rattle.sas_core.specs.Grounded.{operator_at, effect_at}
+use Rattle.sas_groups.specs.Checks.{IsGone}
+use Rattle.sas_groups.proofs.Turns.{each_more}
+use Rattle.sas_mutex.specs.Effects.{IsKept}
+use Rattle.sas_mutex.proofs.GoneRuns.{settled_are_gone}
+use Rattle.sas_mutex.proofs.effects.run_is_gone.Goals as goal
+
+pub returns-then-is_settled-clause-yes : goal.returns-then-is_settled-clause-yes
+returns-then-is_settled-clause-yes g c =
+    let p = g.T.Grounded.says c.args.task.now in
+    let o = operator_at p c.args.operator in
+    λ t. settled_are_gone p c.args.index.now c.args.kept.now c.args.marks.now o (effect_at o c.args.effect) c.args.run.now
+    c.requires.fit.indexed c.requires.known c.requires.exist c.requires.one c.requires.unknown (c.is_settled.ensures c.if-is_settled.true)
+
+pub loop-fact-preserved : goal.loop-fact-preserved
+loop-fact-preserved g c =
+    let p = g.T.Grounded.says c.args.task.now in
+    let o = operator_at p c.args.operator in
+    each_more (IsGone (IsKept p c.args.kept.now) o (effect_at o c.args.effect)) c.args.run.now c.loop-fact.fact-index _ c.loop-fact-test.true c.loop-fact.invariant
+    (c.is_gone.ensures.yes c.if-not-is_gone.false)

@@ -1,0 +1,12 @@
+-- The facts so far are gone.
+use Rattle.std.proofs.Common.{ℕ, ◌<◌, get_or}
+use Rattle.sas_core.specs.declared.parts.Fact.{Fact}
+use Rattle.sas_core.specs.Grounded.{operator_at, effect_at}
+use Rattle.sas_groups.specs.Checks.{IsGone}
+use Rattle.sas_mutex.specs.Effects.{IsKept}
+use Rattle.sas_mutex.proofs.effects.run_is_gone.Given as goal
+
+abbrev pub invariant-loop-fact : goal.invariant-loop-fact
+invariant-loop-fact g l = (k : ℕ) (d : Fact) → k < l.fact-index
+    → IsGone (IsKept (g.T.Grounded.says l.task) l.kept) (operator_at (g.T.Grounded.says l.task) l.operator)
+    (effect_at (operator_at (g.T.Grounded.says l.task) l.operator) l.effect) (get_or l.run k d)
