@@ -1,12 +1,16 @@
 -- One step of a reader: it takes a piece up to and with the first line end, or all of it.
-use Rattle.std.proofs.Common.{◌≡◌, ℕ, ◌+◌, ◌≤◌, ◌<◌, Bool, true, false, not, List, [], ◌∷◌, ◌++◌, length, take, refl, sym, ap, subst, ◌∙◌, arith, length-append, Result, Ok, Err}
-use Rattle.std.proofs.lemmas.List.{append-nil, length-take}
-use Rattle.sas_lines.specs.Lines.{lines, unfinished, TakesLine}
+use Rattle.std.proofs.Common.{◌≡◌, ◌≢◌, ℕ, ◌+◌, ◌-◌, ◌≤◌, ◌<◌, Bool, true, false, not, List, [], ◌∷◌, ◌++◌, length, take, drop, refl, sym, ap, subst, ◌∙◌, append_assoc, arith, length-append, length-drop, Result, Ok, Err}
+use Rattle.std.proofs.lemmas.List.{append-nil, length-take, take_all, take-append-drop}
+use Rattle.std.proofs.Math.Seq.{take-add}
+use Rattle.sas_lines.specs.Lines.{lines, unfinished, TakesLine, LineStandsFirst}
 use Rattle.sas_lines.specs.Progress.{Progress, completed}
+use Rattle.sas_reader.specs.declared.fault.Fault.{Fault}
 use Rattle.sas_reader.specs.declared.fault.Kind.{Kind}
+use Rattle.sas_reader.specs.declared.fault.Kind.TheVariants as kinds
 use Rattle.sas_reader.specs.declared.reader.Reader.{Reader}
-use Rattle.sas_reader.specs.Reader.{Reached, Accepted, StopsIn, Advances}
-use Rattle.sas_reader.proofs.Pieces.{takes_bound, front_of, lines_fed, unfinished_fed, reached_part, reached_line, stops_line, stops_wider}
+use Rattle.sas_reader.specs.Faults.{IsOfBytes}
+use Rattle.sas_reader.specs.Reader.{Reached, Accepted, LineIsDue, FaultIn, TookFront, Stopped, Advances}
+use Rattle.sas_reader.proofs.Pieces.{takes_bound, front_of, lines_fed, unfinished_fed, reached_part, reached_line, due_first, due_wider, due_behind, fault_full, fault_over, fault_line, fault_wider}
 
 is_false : (b : Bool) → not b ≡ true → b ≡ false
 is_false true h = absurd cc
@@ -22,15 +26,9 @@ pub record Fed (pending : List ℕ) (next : Progress) (piece : List ℕ) (n : �
   pub lines : lines (pending ++ take n piece) ≡ completed complete next.line
   pub rest : unfinished (pending ++ take n piece) ≡ next.pending
 
--- A line stands whole at the front of a piece.
-pub record StandsWhole (piece line : List ℕ) (n : ℕ) : Type 0 where
-  pub taken : TakesLine piece n true
-  pub one : lines (take n piece) ≡ line ∷ []
-  pub rest : unfinished (take n piece) ≡ []
-
 -- where nothing was pending, it is the line that comes
-fed_whole : (pending piece line : List ℕ) (n : ℕ) → pending ≡ [] → StandsWhole piece line n → Fed pending (record { line = line; pending = [] }) piece n true
-fed_whole pending piece line n p w = record { taken = w.taken; lines = rw p w.one; rest = rw p w.rest }
+fed_whole : (pending piece line : List ℕ) (n : ℕ) → pending ≡ [] → LineStandsFirst piece line n → Fed pending (record { line = line; pending = [] }) piece n true
+fed_whole pending piece line n p w = record { taken = w.taken; lines = rw p w.line; rest = rw p w.rest }
 
 -- what is taken of a piece is some of it
 pub takes_some : (piece : List ℕ) (n : ℕ) (complete : Bool) → TakesLine piece n complete → 0 < length piece → 0 < n
@@ -39,6 +37,29 @@ takes_some piece n false t l = omega (arith, t.1, l)
 
 length_taken : (piece : List ℕ) (n : ℕ) (complete : Bool) → TakesLine piece n complete → length (take n piece) ≡ n
 length_taken piece n complete t = let b = takes_bound piece n complete t in omega (arith, b, length-take n piece)
+
+-- the rest of a piece, as the code slices it
+abbrev pub rest : ℕ → List ℕ → List ℕ
+rest i piece = take (length piece - i) (drop i piece)
+
+pub rest_is : (i : ℕ) (piece : List ℕ) → rest i piece ≡ drop i piece
+rest_is i piece = take_all (length piece - i) (drop i piece) (omega (arith, length-drop i piece))
+
+whole_is : (i : ℕ) (piece : List ℕ) → take i piece ++ rest i piece ≡ piece
+whole_is i piece = ap (λ (x : List ℕ). take i piece ++ x) (rest_is i piece) ∙ take-append-drop i piece
+
+-- bytes, a front of the piece, and a front of its rest
+joined : (bytes piece : List ℕ) (i n : ℕ) → (bytes ++ take i piece) ++ take n (rest i piece) ≡ bytes ++ take (i + n) piece
+joined bytes piece i n =
+    ap (λ (x : List ℕ). (bytes ++ take i piece) ++ take n x) (rest_is i piece) ∙ append_assoc bytes (take i piece) (take n (drop i piece)) ∙ ap (λ (x : List ℕ). bytes ++ x) (sym (take-add i n piece))
+
+-- the front of a piece that the limit leaves room for
+pub within_fits : (limit taken : ℕ) (piece front : List ℕ) → front ≡ take (limit - taken) piece → taken ≤ limit → taken + length front ≤ limit
+within_fits limit taken piece front e l = let n = ap length e ∙ length-take (limit - taken) piece in omega (arith, n, l)
+
+-- it is empty only at the limit
+pub within_none : (limit taken : ℕ) (piece front : List ℕ) → front ≡ take (limit - taken) piece → taken ≤ limit → 0 < length piece → length front ≡ 0 → taken ≡ limit
+within_none limit taken piece front e l some none = let n = ap length e ∙ length-take (limit - taken) piece in omega (arith, n, l, some, none)
 
 module _ {M : Type 0} (led_by : List (List ℕ) → M → Type 0) (ended : M → Type 0) where
   pub accepted_part : (r s : Reader M) (bytes piece : List ℕ) (n : ℕ) (complete : Bool) → Accepted led_by ended r bytes → (ended r.machine → ⊥) → not complete ≡ true → Fed r.pending.pending s.pending piece n complete
@@ -67,56 +88,109 @@ module _ {M : Type 0} (led_by : List (List ℕ) → M → Type 0) (ended : M →
         taken = same_taken ∙ (let l = length_taken piece n complete fed.taken in omega (arith, h.taken, l, length-append bytes (take n piece)));
       }
 
-  pub accepted_whole : (r s : Reader M) (bytes piece line : List ℕ) (room n : ℕ) → Accepted led_by ended r bytes → r.pending.pending ≡ [] → StandsWhole (take room piece) line n → ((before : List (List ℕ)) → led_by before r.machine → led_by (before ++ line ∷ []) s.machine)
-      → s.pending ≡ r.pending → s.lines ≡ r.lines + 1 → s.taken ≡ r.taken + n → Accepted led_by ended s (bytes ++ take n piece)
-  accepted_whole r s bytes piece line room n h nothing whole leads same_pending same_lines same_taken =
-      let fed = fed_whole r.pending.pending (take room piece) line n nothing whole in
-      subst (λ (x : List ℕ). Accepted led_by ended s (bytes ++ x)) (front_of room n piece (takes_bound (take room piece) n true whole.taken))
-      (accepted_line r s bytes (take room piece) line n true s.machine (record { line = line; pending = [] }) h refl fed (λ e. refl) refl leads refl (ap (λ (p : Progress). p.pending) same_pending ∙ nothing) same_lines same_taken)
+-- ---- what a step says
 
 module _ {M : Type 0} (led_by : List (List ℕ) → M → Type 0) (ended : M → Type 0) (rejects : M → List ℕ → Kind → Type 0) where
-  pub stops_rejected : (r : Reader M) (bytes piece line : List ℕ) (n : ℕ) (complete : Bool) (next : Progress) (k : Kind) → Accepted led_by ended r bytes → (ended r.machine → ⊥) → not complete ≡ false → Fed r.pending.pending next piece n complete
-      → line ≡ next.line → r.taken + length piece ≤ r.limit → rejects r.machine line k → StopsIn led_by ended rejects r.limit bytes piece k
-  stops_rejected r bytes piece line n complete next k h going whole fed line_is fits refused =
+  -- nothing was taken
+  pub took_none : (r : Reader M) (piece : List ℕ) → TookFront led_by ended rejects r r piece 0
+  took_none r piece = record { within = omega arith; count = omega arith; accepted = λ bytes h. subst (Accepted led_by ended r) (sym (append-nil bytes)) h }
+
+  -- the first line of the piece was taken, and nothing was pending
+  pub took_whole : (r s : Reader M) (piece line : List ℕ) (n : ℕ) → r.pending.pending ≡ [] → LineStandsFirst piece line n → ((before : List (List ℕ)) → led_by before r.machine → led_by (before ++ line ∷ []) s.machine)
+      → s.pending ≡ r.pending → s.lines ≡ r.lines + 1 → s.taken ≡ r.taken + n → TookFront led_by ended rejects r s piece n
+  took_whole r s piece line n nothing whole leads same_pending same_lines same_taken = record {
+    within = takes_bound piece n true whole.taken;
+    count = same_taken;
+    accepted = λ bytes h. accepted_line led_by ended r s bytes piece line n true s.machine (record { line = line; pending = [] }) h refl (fed_whole r.pending.pending piece line n nothing whole) (λ e. refl) refl leads refl (ap (λ (p : Progress). p.pending) same_pending ∙ nothing) same_lines same_taken;
+  }
+
+  -- the reader may not take the first line of the piece, or has no memory for it
+  pub stopped_at : (r s : Reader M) (piece line : List ℕ) (n : ℕ) (complete : Bool) (next : Progress) (k : Kind) → 0 < length piece → (ended r.machine → ⊥) → not complete ≡ false → Fed r.pending.pending next piece n complete
+      → line ≡ next.line → r.taken + length piece ≤ r.limit → IsOfBytes k → (k ≢ kinds.Memory → rejects r.machine line k) → s.lines ≡ r.lines → Stopped led_by ended rejects r s piece k
+  stopped_at r s piece line n complete next k some going whole fed line_is fits of_bytes refused same =
       let yes = is_true complete whole in
       let takes : TakesLine piece n true = subst (λ b. TakesLine piece n b) yes fed.taken in
       let one : lines (r.pending.pending ++ take n piece) ≡ line ∷ [] = fed.lines ∙ ap (λ b. completed b next.line) yes ∙ ap (λ (x : List ℕ). x ∷ []) (sym line_is) in
       let bound = takes_bound piece n complete fed.taken in
-      stops_line led_by ended rejects r.limit r.machine bytes piece r.pending.pending line n k h.reached going takes h.pending one (omega (arith, h.taken, bound, fits)) refused
+      record {
+        kind = of_bytes;
+        fault = λ ne bytes h. fault_line led_by ended rejects r.limit r.machine bytes piece r.pending.pending line n (record { line = s.lines + 1; kind = k }) h.reached going takes h.pending one (omega (arith, h.taken, bound, fits)) (ap (λ (x : ℕ). x + 1) (same ∙ h.lines)) (refused ne);
+        memory = λ e bytes h. due_first led_by ended r.limit r.machine bytes piece some h.reached going (omega (arith, h.taken, some, fits));
+      }
 
-  pub stops_whole : (r : Reader M) (bytes piece line : List ℕ) (room n : ℕ) (k : Kind) → Accepted led_by ended r bytes → (ended r.machine → ⊥) → r.pending.pending ≡ [] → StandsWhole (take room piece) line n
-      → r.taken + room ≤ r.limit → rejects r.machine line k → StopsIn led_by ended rejects r.limit bytes piece k
-  stops_whole r bytes piece line room n k h going nothing whole fits refused =
-      let fed = fed_whole r.pending.pending (take room piece) line n nothing whole in
-      let within : r.taken + length (take room piece) ≤ r.limit = omega (arith, fits, length-take room piece) in
-      stops_wider led_by ended rejects r.limit bytes piece room k
-      (stops_rejected r bytes (take room piece) line n true (record { line = line; pending = [] }) k h going refl fed refl within refused)
+  -- the same where nothing is pending
+  pub stopped_whole : (r s : Reader M) (piece line : List ℕ) (n : ℕ) (k : Kind) → 0 < length piece → (ended r.machine → ⊥) → r.pending.pending ≡ [] → LineStandsFirst piece line n
+      → r.taken + length piece ≤ r.limit → IsOfBytes k → (k ≢ kinds.Memory → rejects r.machine line k) → s.lines ≡ r.lines → Stopped led_by ended rejects r s piece k
+  stopped_whole r s piece line n k some going nothing whole fits of_bytes refused same =
+      stopped_at r s piece line n true (record { line = line; pending = [] }) k some going refl (fed_whole r.pending.pending piece line n nothing whole) refl fits of_bytes refused same
+
+  -- memory was refused where a line is due
+  pub stopped_memory : (r s : Reader M) (piece : List ℕ) (k : Kind) → 0 < length piece → (ended r.machine → ⊥) → r.taken < r.limit → k ≡ kinds.Memory → Stopped led_by ended rejects r s piece k
+  stopped_memory r s piece k some going room is = record {
+    kind = subst IsOfBytes (sym is) ((λ e. absurd cc), (λ e. absurd cc));
+    fault = λ ne. absurd (ne is);
+    memory = λ e bytes h. due_first led_by ended r.limit r.machine bytes piece some h.reached going (omega (arith, h.taken, room));
+  }
+
+  -- no byte may follow at the limit
+  pub stopped_full : (r : Reader M) (piece : List ℕ) → 0 < length piece → r.taken ≡ r.limit → Stopped led_by ended rejects r r piece kinds.TooLong
+  stopped_full r piece some l = record {
+    kind = ((λ e. absurd cc), (λ e. absurd cc));
+    fault = λ ne bytes h. fault_full led_by ended rejects r.limit r.machine bytes piece (record { line = r.lines + 1; kind = kinds.TooLong }) some h.reached (ap (λ (x : ℕ). x + 1) h.lines) (sym h.taken ∙ l) refl;
+    memory = λ e. absurd cc;
+  }
+
+  -- and none where the machine has ended
+  pub stopped_over : (r : Reader M) (piece : List ℕ) → 0 < length piece → r.taken < r.limit → ended r.machine → Stopped led_by ended rejects r r piece kinds.Trailing
+  stopped_over r piece some room d = record {
+    kind = ((λ e. absurd cc), (λ e. absurd cc));
+    fault = λ ne bytes h. fault_over led_by ended rejects r.limit r.machine bytes piece (record { line = r.lines + 1; kind = kinds.Trailing }) some h.reached (ap (λ (x : ℕ). x + 1) h.lines) (omega (arith, h.taken, room)) d refl;
+    memory = λ e. absurd cc;
+  }
 
   -- ---- a front of a piece
 
   -- what is so of the front of a piece is so of the piece
-  pub advances_wider : (old new : Reader M) (piece : List ℕ) (room : ℕ) (r : Result ℕ Kind) → Advances led_by ended rejects old (take room piece) new r → Advances led_by ended rejects old piece new r
-  advances_wider old new piece room (Ok n) h =
-      let within = h.took.within in
+  took_wider : (old new : Reader M) (piece : List ℕ) (room n : ℕ) → TookFront led_by ended rejects old new (take room piece) n → TookFront led_by ended rejects old new piece n
+  took_wider old new piece room n h = record {
+    within = omega (arith, h.within, length-take room piece);
+    count = h.count;
+    accepted = λ bytes a. subst (λ (x : List ℕ). Accepted led_by ended new (bytes ++ x)) (front_of room n piece h.within) (h.accepted bytes a);
+  }
+
+  stopped_wider : (old new : Reader M) (piece : List ℕ) (room : ℕ) (k : Kind) → Stopped led_by ended rejects old new (take room piece) k → Stopped led_by ended rejects old new piece k
+  stopped_wider old new piece room k h = record {
+    kind = h.kind;
+    fault = λ ne bytes a. fault_wider led_by ended rejects old.limit bytes piece room (record { line = new.lines + 1; kind = k }) (h.fault ne bytes a);
+    memory = λ e bytes a. due_wider led_by ended old.limit bytes piece room (h.memory e bytes a);
+  }
+
+  pub advances_wider : (old new : Reader M) (piece front : List ℕ) (room : ℕ) (r : Result ℕ Kind) → front ≡ take room piece → Advances led_by ended rejects old front new r → Advances led_by ended rejects old piece new r
+  advances_wider old new piece front room (Ok n) e h =
+      record { took = took_wider old new piece room n (subst (λ (x : List ℕ). TookFront led_by ended rejects old new x n) e h.took); stopped = tt; fault = h.fault; limit = h.limit }
+  advances_wider old new piece front room (Err k) e h =
+      record { took = tt; stopped = stopped_wider old new piece room k (subst (λ (x : List ℕ). Stopped led_by ended rejects old new x k) e h.stopped); fault = h.fault; limit = h.limit }
+
+  -- ---- behind a front of the piece that was taken
+
+  pub took_behind : (old mid new : Reader M) (piece : List ℕ) (i n : ℕ) → TookFront led_by ended rejects old mid piece i → TookFront led_by ended rejects mid new (rest i piece) n → TookFront led_by ended rejects old new piece (i + n)
+  took_behind old mid new piece i n a b =
+      let w : n ≤ length (drop i piece) = subst (λ (x : List ℕ). n ≤ length x) (rest_is i piece) b.within in
       record {
-        took = record {
-          some = h.took.some;
-          within = omega (arith, within, length-take room piece);
-          count = h.took.count;
-          accepted = λ bytes a. subst (λ (x : List ℕ). Accepted led_by ended new (bytes ++ x)) (front_of room n piece within) (h.took.accepted bytes a);
-        };
-        stopped = tt;
-        fault = h.fault;
-        limit = h.limit;
+        within = omega (arith, w, length-drop i piece, a.within);
+        count = omega (arith, a.count, b.count);
+        accepted = λ bytes h. subst (Accepted led_by ended new) (joined bytes piece i n) (b.accepted (bytes ++ take i piece) (a.accepted bytes h));
       }
-  advances_wider old new piece room (Err k) h = record {
-    took = tt;
-    stopped = record {
-      lines = h.stopped.lines;
-      kind = h.stopped.kind;
-      stops = λ ne bytes a. stops_wider led_by ended rejects old.limit bytes piece room k (h.stopped.stops ne bytes a);
-      memory = h.stopped.memory;
-    };
-    fault = h.fault;
-    limit = h.limit;
+
+  pub stopped_behind : (old mid new : Reader M) (piece : List ℕ) (i : ℕ) (k : Kind) → TookFront led_by ended rejects old mid piece i → mid.limit ≡ old.limit → Stopped led_by ended rejects mid new (rest i piece) k → Stopped led_by ended rejects old new piece k
+  stopped_behind old mid new piece i k a same b = record {
+    kind = b.kind;
+    fault = λ ne bytes h.
+        let f : Fault = record { line = new.lines + 1; kind = k } in
+        subst (λ (l : ℕ). FaultIn led_by ended rejects l (bytes ++ piece) f) same
+        (subst (λ (x : List ℕ). FaultIn led_by ended rejects mid.limit x f) (append_assoc bytes (take i piece) (rest i piece) ∙ ap (λ (x : List ℕ). bytes ++ x) (whole_is i piece)) (b.fault ne (bytes ++ take i piece) (a.accepted bytes h)));
+    memory = λ e bytes h.
+        due_behind led_by ended old.limit bytes piece i
+        (subst (λ (l : ℕ). LineIsDue led_by ended l (bytes ++ take i piece) (drop i piece)) same
+        (subst (LineIsDue led_by ended mid.limit (bytes ++ take i piece)) (rest_is i piece) (b.memory e (bytes ++ take i piece) (a.accepted bytes h))));
   }

@@ -1,14 +1,15 @@
 -- One line of a piece, or a part of one.
-use Rattle.std.proofs.Common.{◌≡◌, ℕ, suc, ◌+◌, ◌<◌, ◌≤◌, Bool, true, false, List, [], ◌∷◌, ◌++◌, length, take, drop, get_or, refl, sym, ap, subst, ◌∙◌, append_assoc, arith, length-append}
-use Rattle.std.proofs.lemmas.List.{append-nil, length-take, get_or-take, take-append-drop, take-append-le}
-use Rattle.std.proofs.Math.Seq.{split_at, take-append_seam, take-append-add, get_or-append_seam}
+use Rattle.std.proofs.Common.{◌≡◌, ℕ, ◌+◌, ◌<◌, ◌≤◌, Bool, true, false, List, [], ◌∷◌, ◌++◌, length, take, drop, refl, sym, ap, subst, ◌∙◌, append_assoc, arith, length-append, length-drop}
+use Rattle.std.proofs.lemmas.List.{append-nil, length-take, take-append-drop, take-append-le}
+use Rattle.std.proofs.Math.Seq.{take-add, take-append-add}
 use Rattle.sas_lines.specs.Lines.{without_return, lines, unfinished, NoEnd, TakesLine}
 use Rattle.sas_lines.specs.Progress.{completed}
 use Rattle.sas_lines.proofs.Splitting.{lines-none, unfinished-none, lines-append, unfinished-append, lines-part, lines-end, unfinished-plain_all, lines-without}
 use Rattle.sas_reader.specs.declared.fault.Fault.{Fault}
 use Rattle.sas_reader.specs.declared.fault.Kind.{Kind}
 use Rattle.sas_reader.specs.declared.fault.Kind.TheVariants as kinds
-use Rattle.sas_reader.specs.Reader.{Reached, Stops, full, over, rejected, StopsIn, FaultIn}
+use Rattle.sas_reader.specs.Reader.{Reached, Stops, full, over, rejected, FaultIn, LineIsDue}
+use Rattle.sas_reader.proofs.Standing.{FaultIn-more}
 
 -- ---- the front of a piece
 
@@ -55,72 +56,70 @@ module _ {M : Type 0} (led_by : List (List ℕ) → M → Type 0) (ended : M →
     rest = λ d. unfinished_fed bytes t pending [] p u;
   }
 
+  -- ---- a line is due
+
+  pub due_first : (limit : ℕ) (m : M) (bytes piece : List ℕ) → 0 < length piece → Reached led_by ended m bytes → (ended m → ⊥) → length bytes < limit → LineIsDue led_by ended limit bytes piece
+  due_first limit m bytes piece some h going room =
+      let same : bytes ≡ bytes ++ [] = sym (append-nil bytes) in
+      record { machine = m; at = 0; within = some; reached = subst (Reached led_by ended m) same h; open_still = going; room = subst (λ (x : List ℕ). length x < limit) same room }
+
+  -- in the front of a piece
+  pub due_wider : (limit : ℕ) (bytes piece : List ℕ) (m : ℕ) → LineIsDue led_by ended limit bytes (take m piece) → LineIsDue led_by ended limit bytes piece
+  due_wider limit bytes piece m d =
+      let same : take d.at (take m piece) ≡ take d.at piece = front_of m d.at piece (omega (arith, d.within)) in
+      record {
+        machine = d.machine;
+        at = d.at;
+        within = omega (arith, d.within, length-take m piece);
+        reached = subst (λ (x : List ℕ). Reached led_by ended d.machine (bytes ++ x)) same d.reached;
+        open_still = d.open_still;
+        room = subst (λ (x : List ℕ). length (bytes ++ x) < limit) same d.room;
+      }
+
+  -- behind the front of a piece
+  pub due_behind : (limit : ℕ) (bytes piece : List ℕ) (i : ℕ) → LineIsDue led_by ended limit (bytes ++ take i piece) (drop i piece) → LineIsDue led_by ended limit bytes piece
+  due_behind limit bytes piece i d =
+      let same : (bytes ++ take i piece) ++ take d.at (drop i piece) ≡ bytes ++ take (i + d.at) piece = append_assoc bytes (take i piece) (take d.at (drop i piece)) ∙ ap (λ (x : List ℕ). bytes ++ x) (sym (take-add i d.at piece)) in
+      record {
+        machine = d.machine;
+        at = i + d.at;
+        within = omega (arith, d.within, length-drop i piece);
+        reached = subst (Reached led_by ended d.machine) same d.reached;
+        open_still = d.open_still;
+        room = subst (λ (x : List ℕ). length x < limit) same d.room;
+      }
+
 module _ {M : Type 0} (led_by : List (List ℕ) → M → Type 0) (ended : M → Type 0) (rejects : M → List ℕ → Kind → Type 0) where
   -- the first byte of a piece is one too many
-  stops_first : (limit : ℕ) (m : M) (bytes piece : List ℕ) (k : Kind) → 0 < length piece → Reached led_by ended m bytes → ((byte : ℕ) → Stops led_by ended rejects limit m bytes byte k) → StopsIn led_by ended rejects limit bytes piece k
-  stops_first limit m bytes piece k some h stops = record {
-    machine = m;
-    at = 0;
-    within = some;
-    reached = subst (Reached led_by ended m) (sym (append-nil bytes)) h;
-    same_line = ap (λ (x : List ℕ). length (lines x)) (append-nil bytes);
-    stops = subst (λ (x : List ℕ). Stops led_by ended rejects limit m x (get_or piece 0 0) k) (sym (append-nil bytes)) (stops (get_or piece 0 0));
-  }
+  fault_first : (limit : ℕ) (m : M) (bytes piece : List ℕ) (f : Fault) → 0 < length piece → Reached led_by ended m bytes → f.line ≡ length (lines bytes) + 1 → ((byte : ℕ) → Stops led_by ended rejects limit m bytes byte f.kind) → FaultIn led_by ended rejects limit (bytes ++ piece) f
+  fault_first limit m bytes [] f some h line stops = absurd (omega arith)
+  fault_first limit m bytes (byte ∷ after) f some h line stops = record { machine = m; before = bytes; byte = byte; after = after; whole = refl; reached = h; line = line; stops = stops byte }
 
-  pub stops_full : (limit : ℕ) (m : M) (bytes piece : List ℕ) → 0 < length piece → Reached led_by ended m bytes → length bytes ≡ limit → StopsIn led_by ended rejects limit bytes piece kinds.TooLong
-  stops_full limit m bytes piece some h l = stops_first limit m bytes piece kinds.TooLong some h (λ byte. full l refl)
+  pub fault_full : (limit : ℕ) (m : M) (bytes piece : List ℕ) (f : Fault) → 0 < length piece → Reached led_by ended m bytes → f.line ≡ length (lines bytes) + 1 → length bytes ≡ limit → f.kind ≡ kinds.TooLong → FaultIn led_by ended rejects limit (bytes ++ piece) f
+  fault_full limit m bytes piece f some h line l k = fault_first limit m bytes piece f some h line (λ byte. full l k)
 
-  pub stops_over : (limit : ℕ) (m : M) (bytes piece : List ℕ) → 0 < length piece → Reached led_by ended m bytes → length bytes + 1 ≤ limit → ended m → StopsIn led_by ended rejects limit bytes piece kinds.Trailing
-  stops_over limit m bytes piece some h l d = stops_first limit m bytes piece kinds.Trailing some h (λ byte. over l d refl)
+  pub fault_over : (limit : ℕ) (m : M) (bytes piece : List ℕ) (f : Fault) → 0 < length piece → Reached led_by ended m bytes → f.line ≡ length (lines bytes) + 1 → length bytes + 1 ≤ limit → ended m → f.kind ≡ kinds.Trailing → FaultIn led_by ended rejects limit (bytes ++ piece) f
+  fault_over limit m bytes piece f some h line l d k = fault_first limit m bytes piece f some h line (λ byte. over l d k)
 
   -- its first line is rejected
-  pub stops_line : (limit : ℕ) (m : M) (bytes piece pending line : List ℕ) (n : ℕ) (k : Kind) → Reached led_by ended m bytes → (ended m → ⊥) → TakesLine piece n true → pending ≡ unfinished bytes → lines (pending ++ take n piece) ≡ line ∷ [] → length bytes + n ≤ limit → rejects m line k → StopsIn led_by ended rejects limit bytes piece k
-  stops_line limit m bytes piece pending line n k h going t p e room r =
+  pub fault_line : (limit : ℕ) (m : M) (bytes piece pending line : List ℕ) (n : ℕ) (f : Fault) → Reached led_by ended m bytes → (ended m → ⊥) → TakesLine piece n true → pending ≡ unfinished bytes → lines (pending ++ take n piece) ≡ line ∷ [] → length bytes + n ≤ limit → f.line ≡ length (lines bytes) + 1 → rejects m line f.kind → FaultIn led_by ended rejects limit (bytes ++ piece) f
+  fault_line limit m bytes piece pending line n f h going t p e room at_line r =
       let front = t.0 in
       let taken : take n piece ≡ front ++ 10 ∷ [] = ap (λ (x : ℕ). take x piece) t.4 ∙ ap (take (length front + 1)) t.3 ∙ take-append-add front (10 ∷ t.1) 1 in
-      let at_front : take (length front) piece ≡ front = ap (take (length front)) t.3 ∙ take-append_seam front (10 ∷ t.1) in
-      let byte : get_or piece (length front) 0 ≡ 10 = ap (λ (x : List ℕ). get_or x (length front) 0) t.3 ∙ get_or-append_seam front 10 t.1 0 in
-      let long : length piece ≡ length front + length (10 ∷ t.1) = ap length t.3 ∙ length-append front (10 ∷ t.1) in
-      let part : Reached led_by ended m (bytes ++ front) = record { led = subst (λ (l : List (List ℕ)). led_by l m) (sym (lines-part bytes front t.2)) h.led; rest = λ d. absurd (going d) } in
+      let same : lines (bytes ++ front) ≡ lines bytes = lines-part bytes front t.2 in
       let is : line ≡ without_return (unfinished (bytes ++ front)) = line_is bytes front line t.2 (ap (λ (x : List ℕ). lines (unfinished bytes ++ x)) (sym taken) ∙ ap (λ (x : List ℕ). lines (x ++ take n piece)) (sym p) ∙ e) in
       record {
         machine = m;
-        at = length front;
-        within = omega (arith, long);
-        reached = subst (λ (x : List ℕ). Reached led_by ended m (bytes ++ x)) (sym at_front) part;
-        same_line = ap (λ (x : List ℕ). length (lines (bytes ++ x))) at_front ∙ ap length (lines-part bytes front t.2);
-        stops = subst (λ (x : List ℕ). Stops led_by ended rejects limit m (bytes ++ x) (get_or piece (length front) 0) k) (sym at_front) (rejected (omega (arith, length-append bytes front, room, t.4)) going byte (subst (λ (x : List ℕ). rejects m x k) is r));
+        before = bytes ++ front;
+        byte = 10;
+        after = t.1;
+        whole = ap (λ (x : List ℕ). bytes ++ x) t.3 ∙ sym (append_assoc bytes front (10 ∷ t.1));
+        reached = record { led = subst (λ (l : List (List ℕ)). led_by l m) (sym same) h.led; rest = λ d. absurd (going d) };
+        line = at_line ∙ ap (λ (l : List (List ℕ)). length l + 1) (sym same);
+        stops = rejected (omega (arith, length-append bytes front, room, t.4)) going refl (subst (λ (x : List ℕ). rejects m x f.kind) is r);
       }
 
-  -- a byte that may not follow, in the front of a piece
-  pub stops_wider : (limit : ℕ) (bytes piece : List ℕ) (m : ℕ) (k : Kind) → StopsIn led_by ended rejects limit bytes (take m piece) k → StopsIn led_by ended rejects limit bytes piece k
-  stops_wider limit bytes piece m k s =
-      let before : take s.at (take m piece) ≡ take s.at piece = front_of m s.at piece (omega (arith, s.within)) in
-      let low : s.at < m = omega (arith, s.within, length-take m piece) in
-      let byte : get_or (take m piece) s.at 0 ≡ get_or piece s.at 0 = get_or-take m piece s.at 0 low in
-      record {
-        machine = s.machine;
-        at = s.at;
-        within = omega (arith, s.within, length-take m piece);
-        reached = subst (λ (x : List ℕ). Reached led_by ended s.machine (bytes ++ x)) before s.reached;
-        same_line = ap (λ (x : List ℕ). length (lines (bytes ++ x))) (sym before) ∙ s.same_line;
-        stops = subst (λ (x : ℕ). Stops led_by ended rejects limit s.machine (bytes ++ take s.at piece) x k) byte (subst (λ (x : List ℕ). Stops led_by ended rejects limit s.machine (bytes ++ x) (get_or (take m piece) s.at 0) k) before s.stops);
-      }
-
--- A byte that may not follow, in the rest of a piece, is the fault of the bytes and the piece.
-module _ {M : Type 0} (led_by : List (List ℕ) → M → Type 0) (ended : M → Type 0) (rejects : M → List ℕ → Kind → Type 0) where
-  pub fault_in_rest : (limit : ℕ) (bytes piece : List ℕ) (i : ℕ) (f : Fault) → StopsIn led_by ended rejects limit (bytes ++ take i piece) (drop i piece) f.kind → f.line ≡ length (lines (bytes ++ take i piece)) + 1 → FaultIn led_by ended rejects limit (bytes ++ piece) f
-  fault_in_rest limit bytes piece i f s line =
-      let rest = drop i piece in
-      let tail = get_or rest s.at 0 ∷ drop (suc s.at) rest in
-      let cut : rest ≡ take s.at rest ++ tail = split_at rest s.at 0 s.within in
-      record {
-        machine = s.machine;
-        before = (bytes ++ take i piece) ++ take s.at rest;
-        byte = get_or rest s.at 0;
-        after = drop (suc s.at) rest;
-        whole = ap (λ (x : List ℕ). bytes ++ x) (sym (take-append-drop i piece)) ∙ sym (append_assoc bytes (take i piece) rest) ∙ ap (λ (x : List ℕ). (bytes ++ take i piece) ++ x) cut ∙ sym (append_assoc (bytes ++ take i piece) (take s.at rest) tail);
-        reached = s.reached;
-        line = line ∙ ap (λ (n : ℕ). n + 1) (sym s.same_line);
-        stops = s.stops;
-      }
+  -- a fault in the front of a piece
+  pub fault_wider : (limit : ℕ) (bytes piece : List ℕ) (m : ℕ) (f : Fault) → FaultIn led_by ended rejects limit (bytes ++ take m piece) f → FaultIn led_by ended rejects limit (bytes ++ piece) f
+  fault_wider limit bytes piece m f h =
+      subst (λ (x : List ℕ). FaultIn led_by ended rejects limit x f) (append_assoc bytes (take m piece) (drop m piece) ∙ ap (λ (x : List ℕ). bytes ++ x) (take-append-drop m piece)) (FaultIn-more led_by ended rejects limit (bytes ++ take m piece) (drop m piece) f h)

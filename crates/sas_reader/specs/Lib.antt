@@ -3,6 +3,7 @@ pub mod Format
 pub mod Laws
 pub mod System
 pub mod Limit
+pub mod Machine
 pub mod Reader
 pub mod Reading
 pub mod Devices

@@ -1,5 +1,5 @@
 -- What a reader that takes a text in pieces stands for.
-use Rattle.std.specs.Prelude.{◌≡◌, ◌≢◌, ◌⊎◌, ◌↔◌, ℕ, ◌+◌, ◌<◌, ◌≤◌, List, [], ◌∷◌, ◌++◌, length, take, slice_index, Option, Some, None, Result, Err, IfOk, IfErr, OnOk, IsErrAnd, IsTrue}
+use Rattle.std.specs.Prelude.{◌≡◌, ◌≢◌, ◌⊎◌, ◌↔◌, ℕ, ◌+◌, ◌<◌, ◌≤◌, List, [], ◌∷◌, ◌++◌, length, take, Option, Some, None, Result, Err, IfOk, IfErr, OnOk, IsErrAnd, IsTrue}
 use Rattle.std.specs.Io.KnownBytes.{Consumes, IsAtEnd}
 use Rattle.sas_lines.specs.Device.{Device}
 use Rattle.sas_lines.specs.Lines.{lines, unfinished, without_return}
@@ -50,15 +50,6 @@ module _ {M : Type 0} (led_by : List (List ℕ) → M → Type 0) (ended : M →
     rejected : length bytes + 1 ≤ limit → (ended machine → ⊥) → byte ≡ 10
         → rejects machine (without_return (unfinished bytes)) k → Stops limit machine bytes byte k
 
-  -- the byte at some place of the piece may not follow the bytes and what is before it
-  pub record StopsIn (limit : ℕ) (bytes piece : List ℕ) (k : Kind) : Type 0 where
-    pub machine : M
-    pub at : ℕ
-    pub within : at < length piece
-    pub reached : Reached led_by ended machine (bytes ++ take at piece)
-    pub same_line : length (lines (bytes ++ take at piece)) ≡ length (lines bytes)
-    pub stops : Stops limit machine (bytes ++ take at piece) (slice_index piece at) k
-
   -- the bytes have this fault
   pub record FaultIn (limit : ℕ) (bytes : List ℕ) (f : Fault) : Type 0 where
     pub machine : M
@@ -78,24 +69,23 @@ module _ {M : Type 0} (led_by : List (List ℕ) → M → Type 0) (ended : M →
   unfoldable pub Stands : Reader M → List ℕ → Type 0
   Stands r bytes = StandsAt r.fault r bytes
 
-  -- ---- one step
+  -- ---- steps
 
-  -- the reader took the first n bytes of the piece, at least one
+  -- the reader took the first n bytes of the piece
   pub record TookFront (old new : Reader M) (piece : List ℕ) (n : ℕ) : Type 0 where
-    pub some : 0 < n
     pub within : n ≤ length piece
     pub count : new.taken ≡ old.taken + n
     pub accepted : (bytes : List ℕ) → Accepted led_by ended old bytes → Accepted led_by ended new (bytes ++ take n piece)
 
-  -- The reader was stopped in the piece: a byte of it may not follow, or memory was refused. That comes only where there
-  -- is room below the limit and a line is due.
+  -- the reader was stopped in the piece: a byte of it may not follow, or memory was refused where a line is due
   pub record Stopped (old new : Reader M) (piece : List ℕ) (k : Kind) : Type 0 where
-    pub lines : new.lines ≡ old.lines
     pub kind : IsOfBytes k
-    pub stops : k ≢ kinds.Memory → (bytes : List ℕ) → Accepted led_by ended old bytes → StopsIn old.limit bytes piece k
-    pub memory : k ≡ kinds.Memory → (old.taken < old.limit) × (ended old.machine → ⊥)
+    pub fault : k ≢ kinds.Memory → (bytes : List ℕ) → Accepted led_by ended old bytes
+        → FaultIn old.limit (bytes ++ piece) (record { line = new.lines + 1; kind = k })
+    pub memory : k ≡ kinds.Memory → (bytes : List ℕ) → Accepted led_by ended old bytes
+        → LineIsDue led_by ended old.limit bytes piece
 
-  -- what one step of a reader says: it took some bytes of the piece, or was stopped
+  -- what a step of a reader says: it took so many bytes of the piece, or was stopped
   pub record Advances (old : Reader M) (piece : List ℕ) (new : Reader M) (result : Result ℕ Kind) : Type 0 where
     pub took : IfOk result (λ n. TookFront old new piece n)
     pub stopped : IfErr result (λ k. Stopped old new piece k)

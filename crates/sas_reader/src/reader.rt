@@ -1,7 +1,8 @@
 // Reads a text that comes in pieces, whichever its format: a machine judges one line after another.
-ghost use Rattle.std.specs.Prelude.{◌≡◌, ◌≢◌, ◌≤◌, ◌<◌, ◌+◌, ◌^◌, ◌↔◌, ℕ, List, [], ◌∷◌, ◌++◌, length, Some, None, Err, IfErr, IfSome, IfNone, OnOk, IsTrue};
+ghost use Rattle.std.specs.Prelude.{◌≡◌, ◌≢◌, ◌≤◌, ◌<◌, ◌+◌, ◌-◌, ◌^◌, ◌↔◌, ℕ, List, [], ◌∷◌, ◌++◌, length, take, Some, None, Err, IfOk, IfErr, IfSome, IfNone, OnOk, IsTrue};
 ghost use Rattle.sas_reader.specs.Faults.{IsOfBytes};
 ghost use Rattle.sas_reader.specs.Limit.{most_bytes};
+ghost use Rattle.sas_reader.specs.Machine.{AcceptsAhead};
 
 use crate::fault::{Fault, Kind};
 use sas_lines::{Lines, first_line};
@@ -34,6 +35,15 @@ pub trait Machine: Drop {
             ((before : List (List ℕ)) → led_by before self.old → led_by (before ++ line.now ∷ []) self.new) }
         ensures rejects { IfErr result (λ k. k ≢ Kind.Memory → rejects self.old line.now k) }
         ensures kind { IfErr result IsOfBytes };
+
+    /// Takes the first line of the bytes where it is quick to see that the line may stand here, and tells how many of the
+    /// bytes it takes with its end. Else it takes nothing, and tells 0: `accept` then has to judge the line.
+    fn accept_ahead(&mut self, bytes: &[u8]) -> Result<usize, Kind>
+        requires { ended self.old → ⊥ }
+        ensures { AcceptsAhead led_by self.old bytes.now self.new result }
+    {
+        Ok(0)
+    }
 }
 
 /// A text that comes in pieces: where its lines have led, the line that has begun, and the first fault.
@@ -76,7 +86,8 @@ impl<M: Machine> Reader<M> {
         requires some { 0 < length piece.now }
         requires room { self.old.taken + length piece.now ≤ self.old.limit }
         requires going { M.ended self.old.machine → ⊥ }
-        ensures { Advances M.led_by M.ended M.rejects self.old piece.now self.new result }
+        ensures advances { Advances M.led_by M.ended M.rejects self.old piece.now self.new result }
+        ensures some { IfOk result (λ n. 0 < n) }
     {
         match self.pending.feed(piece) {
             Err(_) => Err(Kind::Memory),
@@ -95,19 +106,27 @@ impl<M: Machine> Reader<M> {
         }
     }
 
-    /// Takes the bytes up to and with the first LF, or all of them, as far as the limit leaves room.
-    fn advance(&mut self, piece: &[u8]) -> Result<usize, Kind>
-        requires some { 0 < length piece.now }
-        ensures { Advances M.led_by M.ended M.rejects self.old piece.now self.new result }
+    /// The bytes of the piece that the limit leaves room for.
+    fn within_limit<'a>(&self, piece: &'a [u8]) -> &'a [u8]
+        ensures { result.now ≡ take (self.now.limit - self.now.taken) piece.now }
     {
         let room = self.limit - self.taken;
-        if room == 0 {
+        &piece[..piece.len().min(room as usize)]
+    }
+
+    /// Takes the bytes up to and with the first LF, or all of them, as far as the limit leaves room.
+    fn take_line(&mut self, piece: &[u8]) -> Result<usize, Kind>
+        requires some { 0 < length piece.now }
+        ensures advances { Advances M.led_by M.ended M.rejects self.old piece.now self.new result }
+        ensures some { IfOk result (λ n. 0 < n) }
+    {
+        let within = self.within_limit(piece);
+        if within.is_empty() {
             return Err(Kind::TooLong);
         }
         if self.machine.has_ended() {
             return Err(Kind::Trailing);
         }
-        let within = &piece[..piece.len().min(room as usize)];
         // A line that stands whole in the piece is judged there. Only one that is cut is copied.
         if !self.pending.pending().is_empty() {
             return self.go_on(within);
@@ -122,6 +141,66 @@ impl<M: Machine> Reader<M> {
                 self.taken += first.taken as u64;
                 Ok(first.taken)
             }
+        }
+    }
+
+    /// Takes the first line of the piece if the machine is quick to see that it may stand here, else nothing.
+    fn take_ahead(&mut self, piece: &[u8]) -> Result<usize, Kind>
+        requires some { 0 < length piece.now }
+        requires room { self.old.taken + length piece.now ≤ self.old.limit }
+        requires whole { self.old.pending.pending ≡ [] }
+        ensures advances { Advances M.led_by M.ended M.rejects self.old piece.now self.new result }
+        ensures pending { self.new.pending ≡ self.old.pending }
+    {
+        if self.machine.has_ended() {
+            return Ok(0);
+        }
+        match self.machine.accept_ahead(piece) {
+            Err(kind) => Err(kind),
+            Ok(0) => Ok(0),
+            Ok(taken) => {
+                self.lines += 1;
+                self.taken += taken as u64;
+                Ok(taken)
+            }
+        }
+    }
+
+    /// Takes line after line ahead, as long as that goes and the limit leaves room.
+    fn go_ahead(&mut self, piece: &[u8]) -> Result<usize, Kind>
+        ensures { Advances M.led_by M.ended M.rejects self.old piece.now self.new result }
+    {
+        if !self.pending.pending().is_empty() {
+            return Ok(0);
+        }
+        let within = self.within_limit(piece);
+        let mut at = 0;
+        while at < within.len() {
+            match self.take_ahead(&within[at..]) {
+                Err(kind) => return Err(kind),
+                Ok(0) => return Ok(at),
+                Ok(taken) => at += taken,
+            }
+        }
+        Ok(at)
+    }
+
+    /// Takes some bytes of the piece: the lines that can be taken ahead, and those up to and with the next LF.
+    fn advance(&mut self, piece: &[u8]) -> Result<usize, Kind>
+        requires some { 0 < length piece.now }
+        ensures advances { Advances M.led_by M.ended M.rejects self.old piece.now self.new result }
+        ensures some { IfOk result (λ n. 0 < n) }
+    {
+        let ahead = match self.go_ahead(piece) {
+            Err(kind) => return Err(kind),
+            Ok(ahead) => ahead,
+        };
+        if ahead == piece.len() {
+            return Ok(ahead);
+        }
+        match self.take_line(&piece[ahead..]) {
+            Err(kind) => Err(kind),
+            Ok(taken) => Ok(ahead + taken),
         }
     }
 
