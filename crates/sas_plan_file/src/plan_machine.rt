@@ -1,7 +1,7 @@
 // What takes the lines of a plan file, one after another.
 ghost use Rattle.std.specs.Prelude.{◌≡◌, OnOk, IfErr};
 
-use crate::plan_line::{PlanLine, plan_line};
+use crate::plan_line::{PlanLine, plan_line, step_ahead};
 use sas_core::{CostKind, Items, Plan};
 use sas_reader::{Kind, Machine};
 use std::alloc::Global;
@@ -95,6 +95,17 @@ impl Machine for PlanMachine {
                 Ok(())
             }
             Ok(PlanLine::Step(name)) => self.add_step(name),
+        }
+    }
+
+    fn accept_ahead(&mut self, bytes: &[u8]) -> Result<usize, Kind> {
+        let Some(name) = step_ahead(bytes) else {
+            return Ok(0);
+        };
+        match self.add_step(name) {
+            Err(kind) => Err(kind),
+            // The parentheses and LF.
+            Ok(()) => Ok(name.len() + 3),
         }
     }
 }
