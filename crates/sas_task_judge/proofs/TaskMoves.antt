@@ -1,6 +1,6 @@
 -- One line of a task moves the judge on.
 use Rattle.std.proofs.Common.{IsTrue, ◌≡◌, ◌≢◌, ℕ, zero, suc, ◌<◌, ◌≤◌, ◌-◌, Bool, nat_lt, length, List, [], ◌∷◌, ◌++◌, refl, sym, ap, subst, ◌∙◌, arith, codes, Result, Ok, Err}
-use Rattle.std.specs.Prelude.{drop, Option, Some, None}
+use Rattle.std.specs.Prelude.{take, drop, Option, Some, None}
 use Rattle.std.specs.Result.{result_err}
 use Rattle.std.proofs.lemmas.Option.{none-some}
 use Rattle.sas_reader.specs.declared.fault.Kind.{Kind}
@@ -24,6 +24,7 @@ use Rattle.sas_task_judge.specs.TaskMachine.{LedBy}
 use Rattle.sas_task_judge.specs.TaskPlaces.{state_values, state_values_of, goal_begin}
 use Rattle.sas_task_judge.specs.TaskJudge.{state_at, state_of, KnownTo, LeadsOn, RejectsLine, TakesMemory, Moves, MovesBy, MovesAhead}
 use Rattle.sas_core.specs.declared.parts.Effect.{Effect}
+use Rattle.sas_lines.specs.Lines.{LineStandsFirst}
 use Rattle.sas_task_line.specs.declared.task_line.Change.{Change}
 use Rattle.sas_task_line.specs.Ahead.{SpellsAhead, plain_effect}
 use Rattle.sas_task_line.specs.TaskRanges.{change_in, effect_in_ranges}
@@ -124,6 +125,14 @@ module _ (j k : TaskJudge) (bytes : List ℕ) (event : Event) (n : ℕ) where
     before_end = spells.before_end;
     moves = by (task_line_bytes i) (record { slot = refl; fits = spells.fits; good = good }, refl);
   }
+
+  -- the line is what stands before the last byte that was taken
+  pub taken_line : MovesAhead j bytes k event n → LineStandsFirst bytes (take (n - 1) bytes) n × Moves j (take (n - 1) bytes) k (Ok event)
+  taken_line h = (subst (λ (l : List ℕ). LineStandsFirst bytes l n) h.before_end h.first, subst (λ (l : List ℕ). Moves j l k (Ok event)) h.before_end h.moves)
+
+  -- at least LF was taken
+  pub some_taken : MovesAhead j bytes k event n → 0 < n
+  some_taken h = omega (arith, h.first.taken.4)
 
   -- the effect that it says was noted before the judge went on
   pub effect_moves_ahead : (said : Said) (change : Change) → said.effect ≡ plain_effect change → SpellsAhead (effect (plain_effect change)) bytes n → IsTrue (change_in j.ranges change.var change.old change.new)
