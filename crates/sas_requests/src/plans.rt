@@ -10,12 +10,12 @@ use crate::answers::{Answer, refuse};
 use crate::layers::refuse_layers;
 use crate::{Status, ToolFault};
 use sas_axioms::Worklist;
-use sas_core::Plan;
-use sas_flat::FlatTask;
+use sas_flat::{FlatPlan, FlatTask};
+use sas_grounded::Stepwise;
 use sas_lines::{Watched, push_line, push_number};
 use sas_meaning::{LayerFault, Layered};
 use sas_run::{PlanFault, Runner, Valid};
-use sas_text::{read_flat_task, read_plan};
+use sas_text::{read_flat_plan, read_flat_task};
 use std::alloc::{AllocError, Global};
 use std::io::Read;
 
@@ -56,7 +56,7 @@ fn judge<P: Read>(
     requires { plan.old.failed ≡ false }
     ensures { AnswersFile P.remaining (VerdictOut layered.now) plan.old plan.new result }
 {
-    let read = match read_plan(alloc, plan) {
+    let read = match read_flat_plan(alloc, plan) {
         Ok(read) => read,
         Err(fault) => return refuse(alloc, "plan", fault),
     };
@@ -64,12 +64,16 @@ fn judge<P: Read>(
 }
 
 /// The answer about whether the plan is valid.
-fn verdict(alloc: Global, layered: &Layered<FlatTask>, plan: &Plan) -> Result<Answer, AllocError>
+fn verdict(
+    alloc: Global,
+    layered: &Layered<FlatTask>,
+    plan: &FlatPlan,
+) -> Result<Answer, AllocError>
     ensures { IfOk result (λ a. VerdictAnswer layered.now plan.now (output_of a)) }
 {
     match check_plan(alloc, layered, plan) {
         Ok(_) => Ok(Answer {
-            text: valid_text(alloc, plan.steps().len(), plan.cost())?,
+            text: valid_text(alloc, plan.steps(), plan.cost())?,
             status: Status::Yes,
         }),
         Err(fault) => refuse_plan(alloc, plan.cost(), fault),
@@ -77,7 +81,11 @@ fn verdict(alloc: Global, layered: &Layered<FlatTask>, plan: &Plan) -> Result<An
 }
 
 /// Whether the plan is valid, by an evaluator that counts.
-fn check_plan(alloc: Global, layered: &Layered<FlatTask>, plan: &Plan) -> Result<Valid, PlanFault>
+fn check_plan(
+    alloc: Global,
+    layered: &Layered<FlatTask>,
+    plan: &FlatPlan,
+) -> Result<Valid, PlanFault>
     ensures valid { IfOk result (λ v. IsValid layered.now plan.now v.operators.items) }
     ensures fault { IfErr result (λ f. f ≢ PlanFault.Memory → IsFaultOf layered.now plan.now f) }
 {

@@ -7,8 +7,7 @@ ghost use Rattle.sas_run.specs.Verdicts.{IsFaultOf};
 ghost use Rattle.sas_run.specs.Running.{GoesOn, StopsAt, GoesThrough};
 
 use crate::runner::{Choice, Runner};
-use sas_core::{Items, Plan};
-use sas_grounded::Grounded;
+use sas_grounded::{Grounded, Stepwise};
 use sas_meaning::{Settle, State};
 use std::alloc::{AllocError, Global};
 
@@ -49,15 +48,15 @@ impl From<AllocError> for PlanFault {
 impl<'a, E: Settle<T> + Drop, T: Grounded> Runner<'a, E, T> {
     /// Whether the plan is valid: its operators and its cost, or its fault. A step means the lowest-numbered operator of its
     /// name that is applicable. All memory is asked for before the first step.
-    pub fn check_plan(&mut self, alloc: Global, plan: &Plan) -> Result<Valid, PlanFault>
-        ensures valid { IfOk result (λ v. IsValid self.old plan.now v.operators.items) }
-        ensures cost { IfOk result (λ v. v.cost ≡ plan.now.cost) }
-        ensures fault { IfErr result (λ f. f ≢ PlanFault.Memory → IsFaultOf self.old plan.now f) }
+    pub fn check_plan<P: Stepwise>(&mut self, alloc: Global, plan: &P) -> Result<Valid, PlanFault>
+        ensures valid { IfOk result (λ v. IsValid self.old (P.says plan.now) v.operators.items) }
+        ensures cost { IfOk result (λ v. v.cost ≡ (P.says plan.now).cost) }
+        ensures fault { IfErr result (λ f. f ≢ PlanFault.Memory → IsFaultOf self.old (P.says plan.now) f) }
         ensures same { self.new ≡ self.old }
     {
-        let mut operators = Vec::with_capacity(alloc, plan.steps().len())?;
+        let mut operators = Vec::with_capacity(alloc, plan.steps())?;
         let mut state = self.initial(alloc)?;
-        if let Err(fault) = self.go_through(plan.steps().as_slice(), &mut state, &mut operators) {
+        if let Err(fault) = self.go_through(plan, &mut state, &mut operators) {
             return Err(fault);
         }
         if let Some(index) = self.goal(&state) {
@@ -73,21 +72,21 @@ impl<'a, E: Settle<T> + Drop, T: Grounded> Runner<'a, E, T> {
         })
     }
 
-    /// Makes the steps in turn, and adds their operators, for which there is room.
-    fn go_through(
+    /// Makes the plan's steps in turn, and adds their operators, for which there is room.
+    fn go_through<P: Stepwise>(
         &mut self,
-        steps: &[Items<u8>],
+        plan: &P,
         state: &mut State,
         operators: &mut Vec<u32>,
     ) -> Result<(), PlanFault>
         requires state { IsState self.old.variables state.old }
-        requires room { length steps.now ≤ vec_capacity operators.old }
+        requires room { length (P.says plan.now).steps ≤ vec_capacity operators.old }
         requires empty { operators.old.items ≡ [] }
-        ensures goes { GoesThrough self.old state.old steps.now operators.new.items state.new result }
+        ensures goes { GoesThrough self.old state.old (P.says plan.now).steps operators.new.items state.new result }
         ensures same { self.new ≡ self.old }
     {
-        for (before, name) in steps.iter().enumerate() {
-            match self.go_on(name.as_slice(), before + 1, state) {
+        for before in 0..plan.steps() {
+            match self.go_on(plan.step(before), before + 1, state) {
                 Ok(operator) => operators.push(operator).unwrap(),
                 Err(fault) => return Err(fault),
             }

@@ -1,7 +1,9 @@
 //! The two formats of text, the task file and the plan file: read in pieces with each fault at its exact place, and written.
 #![tactic(auto)]
 
-pub use sas_plan_file::{PlanReader, encode_plan, plan_laws, read_plan, read_plan_text};
+pub use sas_plan_file::{
+    PlanReader, encode_plan, plan_laws, read_flat_plan, read_plan, read_plan_text,
+};
 pub use sas_reader::{Fault, Kind, LIMIT};
 pub use sas_task_format::task_laws;
 pub use sas_task_reader::{

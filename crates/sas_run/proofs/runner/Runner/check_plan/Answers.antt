@@ -1,11 +1,9 @@
 -- Where a step stops, that is the fault of the plan.
-use Rattle.std.proofs.Common.{◌≡◌, ◌∙◌}
 use Rattle.sas_run.proofs.Going.{stop_is_fault}
 use Rattle.sas_run.proofs.runner.Runner.check_plan.Goals as goal
 
 pub returns-in-Err-clause-fault : goal.returns-in-Err-clause-fault
 returns-in-Err-clause-fault g c not_memory =
     let p = c.args.self.now in
-    let steps : c.as_slice.result.now ≡ c.args.plan.now.steps = c.as_slice.ensures ∙ c.steps-2.ensures.steps in
-    let goes = rw (steps, c.in_ok-state.ensures.same) at c.in-Err.ensures.goes in
-    stop_is_fault p c.args.plan.now c.in_ok-state.state c.go_through.new.operators.items c.go_through.new.state c.in-Err.fault c.in_ok-state.ensures.initial goes
+    let goes = rw c.in_ok-state.ensures.same at c.in-Err.ensures.goes in
+    stop_is_fault p (g.P.Stepwise.says c.args.plan.now) c.in_ok-state.state c.go_through.new.operators.items c.go_through.new.state c.in-Err.fault c.in_ok-state.ensures.initial goes

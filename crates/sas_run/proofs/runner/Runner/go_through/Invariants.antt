@@ -9,9 +9,9 @@ use Rattle.sas_run.proofs.runner.Runner.go_through.Given as goal
 abbrev pub invariant-loop-before : goal.invariant-loop-before
 invariant-loop-before g l = record {
   same : l.self ≡ l.fn.self;
-  goes : GoThrough l.self l.fn.state (take l.before l.steps) l.operators.items l.state;
+  goes : GoThrough l.self l.fn.state (take l.before (g.P.Stepwise.says l.plan).steps) l.operators.items l.state;
   state : IsState l.self.variables l.state;
   exist : All (λ (o : ℕ). o < length l.self.operators) l.operators.items;
   one_each : length l.operators.items ≡ l.before;
-  room : length l.steps ≤ vec_capacity l.operators;
+  room : length (g.P.Stepwise.says l.plan).steps ≤ vec_capacity l.operators;
 }
