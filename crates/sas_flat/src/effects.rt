@@ -41,14 +41,14 @@ impl Effects {
     }
 
     /// How many effects there are.
-    pub fn len(&self) -> usize
+    pub(crate) fn len(&self) -> usize
         ensures { result ≡ length self.now }
     {
         self.changes.len()
     }
 
     /// What the effect changes.
-    pub fn change(&self, index: usize) -> Change
+    pub(crate) fn change(&self, index: usize) -> Change
         requires { index < length self.now }
         ensures { result ≡ grounded.effect_change (effect_in self.now index) }
     {
@@ -56,7 +56,7 @@ impl Effects {
     }
 
     /// The conditions of the effect.
-    pub fn conditions(&self, index: usize) -> &[Fact]
+    pub(crate) fn conditions(&self, index: usize) -> &[Fact]
         requires { index < length self.now }
         ensures { result.now ≡ (effect_in self.now index).conditions }
     {
@@ -75,7 +75,7 @@ impl Effects {
     }
 
     /// All these effects more. After an `Err` those that there were are still there, and maybe some of these behind them.
-    pub fn append(&mut self, more: &Effects) -> Result<(), AllocError>
+    pub(crate) fn append(&mut self, more: &Effects) -> Result<(), AllocError>
         ensures kept { Kept self.old self.new }
         ensures ok { OnOk result (self.new ≡ self.old ++ more.now) }
     {
@@ -86,7 +86,7 @@ impl Effects {
     }
 
     /// Leaves so many effects, the first ones.
-    pub fn truncate(&mut self, count: usize)
+    pub(crate) fn truncate(&mut self, count: usize)
         requires { count ≤ length self.old }
         ensures { self.new ≡ take count self.old }
     {

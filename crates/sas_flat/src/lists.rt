@@ -80,7 +80,7 @@ impl<T: Copy> Lists<T> {
     }
 
     /// All these lists more. After an `Err` those that there were are still there, and maybe some of these behind them.
-    pub fn append(&mut self, more: &Lists<T>) -> Result<(), AllocError>
+    pub(crate) fn append(&mut self, more: &Lists<T>) -> Result<(), AllocError>
         ensures kept { Kept self.old self.new }
         ensures ok { OnOk result (self.new ≡ self.old ++ more.now) }
     {
@@ -91,7 +91,7 @@ impl<T: Copy> Lists<T> {
     }
 
     /// Leaves so many lists, the first ones.
-    pub fn truncate(&mut self, count: usize)
+    pub(crate) fn truncate(&mut self, count: usize)
         requires { count ≤ length self.old }
         ensures { self.new ≡ take count self.old }
     {

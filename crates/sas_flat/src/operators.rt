@@ -104,7 +104,7 @@ impl Operators {
     }
 
     /// How many operators there are.
-    pub fn len(&self) -> usize
+    pub(crate) fn len(&self) -> usize
         ensures { result ≡ length self.now }
     {
         self.columns.costs.len()
@@ -133,7 +133,7 @@ impl Operators {
     }
 
     /// The operator's name.
-    pub fn name(&self, operator: usize) -> &[u8]
+    pub(crate) fn name(&self, operator: usize) -> &[u8]
         requires { operator < length self.now }
         ensures { result.now ≡ (operator_in self.now operator).name }
     {
@@ -141,7 +141,7 @@ impl Operators {
     }
 
     /// The operator's prevail conditions.
-    pub fn prevail(&self, operator: usize) -> &[Fact]
+    pub(crate) fn prevail(&self, operator: usize) -> &[Fact]
         requires { operator < length self.now }
         ensures { result.now ≡ (operator_in self.now operator).prevail }
     {
@@ -149,7 +149,7 @@ impl Operators {
     }
 
     /// What the operator's cost line says.
-    pub fn cost(&self, operator: usize) -> u32
+    pub(crate) fn cost(&self, operator: usize) -> u32
         requires { operator < length self.now }
         ensures { result ≡ (operator_in self.now operator).cost }
     {
@@ -157,7 +157,7 @@ impl Operators {
     }
 
     /// How many effects the operator has.
-    pub fn effects(&self, operator: usize) -> usize
+    pub(crate) fn effects(&self, operator: usize) -> usize
         requires { operator < length self.now }
         ensures { result ≡ length (operator_in self.now operator).effects }
     {
@@ -165,7 +165,7 @@ impl Operators {
     }
 
     /// What the operator's effect changes.
-    pub fn change(&self, operator: usize, effect: usize) -> Change
+    pub(crate) fn change(&self, operator: usize, effect: usize) -> Change
         requires operator { operator < length self.now }
         requires effect { effect < length (operator_in self.now operator).effects }
         ensures { result ≡ grounded.effect_change (effect_in (operator_in self.now operator).effects effect) }
@@ -178,7 +178,7 @@ impl Operators {
     }
 
     /// The conditions of the operator's effect.
-    pub fn conditions(&self, operator: usize, effect: usize) -> &[Fact]
+    pub(crate) fn conditions(&self, operator: usize, effect: usize) -> &[Fact]
         requires operator { operator < length self.now }
         requires effect { effect < length (operator_in self.now operator).effects }
         ensures { result.now ≡ (effect_in (operator_in self.now operator).effects effect).conditions }

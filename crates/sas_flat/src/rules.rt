@@ -36,14 +36,14 @@ impl Rules {
     }
 
     /// How many rules there are.
-    pub fn len(&self) -> usize
+    pub(crate) fn len(&self) -> usize
         ensures { result ≡ length self.now }
     {
         self.effects.len()
     }
 
     /// What the rule changes.
-    pub fn change(&self, index: usize) -> Change
+    pub(crate) fn change(&self, index: usize) -> Change
         requires { index < length self.now }
         ensures { result ≡ grounded.rule_change (rule_in self.now index) }
     {
@@ -51,7 +51,7 @@ impl Rules {
     }
 
     /// The conditions of the rule.
-    pub fn conditions(&self, index: usize) -> &[Fact]
+    pub(crate) fn conditions(&self, index: usize) -> &[Fact]
         requires { index < length self.now }
         ensures { result.now ≡ (rule_in self.now index).conditions }
     {

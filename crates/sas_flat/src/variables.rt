@@ -91,7 +91,7 @@ impl Variables {
     }
 
     /// How many variables there are.
-    pub fn len(&self) -> usize
+    pub(crate) fn len(&self) -> usize
         ensures { result ≡ length self.now }
     {
         self.columns.ends.len()
@@ -119,7 +119,7 @@ impl Variables {
     }
 
     /// How many values the variable has.
-    pub fn range(&self, var: usize) -> usize
+    pub(crate) fn range(&self, var: usize) -> usize
         requires { var < length self.now }
         ensures { result ≡ range_of self.now var }
     {
@@ -127,7 +127,7 @@ impl Variables {
     }
 
     /// The layer of a derived variable; a basic one has none.
-    pub fn layer(&self, var: usize) -> Option<u32>
+    pub(crate) fn layer(&self, var: usize) -> Option<u32>
         requires { var < length self.now }
         ensures { result ≡ layer_of self.now var }
     {

@@ -53,6 +53,14 @@ joined : (bytes piece : List ℕ) (i n : ℕ) → (bytes ++ take i piece) ++ tak
 joined bytes piece i n =
     ap (λ (x : List ℕ). (bytes ++ take i piece) ++ take n x) (rest_is i piece) ∙ append_assoc bytes (take i piece) (take n (drop i piece)) ∙ ap (λ (x : List ℕ). bytes ++ x) (sym (take-add i n piece))
 
+-- the front of a piece that the limit leaves room for
+pub within_fits : (limit taken : ℕ) (piece front : List ℕ) → front ≡ take (limit - taken) piece → taken ≤ limit → taken + length front ≤ limit
+within_fits limit taken piece front e l = let n = ap length e ∙ length-take (limit - taken) piece in omega (arith, n, l)
+
+-- it is empty only at the limit
+pub within_none : (limit taken : ℕ) (piece front : List ℕ) → front ≡ take (limit - taken) piece → taken ≤ limit → 0 < length piece → length front ≡ 0 → taken ≡ limit
+within_none limit taken piece front e l some none = let n = ap length e ∙ length-take (limit - taken) piece in omega (arith, n, l, some, none)
+
 module _ {M : Type 0} (led_by : List (List ℕ) → M → Type 0) (ended : M → Type 0) where
   pub accepted_part : (r s : Reader M) (bytes piece : List ℕ) (n : ℕ) (complete : Bool) → Accepted led_by ended r bytes → (ended r.machine → ⊥) → not complete ≡ true → Fed r.pending.pending s.pending piece n complete
       → s.machine ≡ r.machine → s.lines ≡ r.lines → s.taken ≡ r.taken + n → Accepted led_by ended s (bytes ++ take n piece)
@@ -143,23 +151,25 @@ module _ {M : Type 0} (led_by : List (List ℕ) → M → Type 0) (ended : M →
   -- ---- a front of a piece
 
   -- what is so of the front of a piece is so of the piece
-  pub took_wider : (old new : Reader M) (piece : List ℕ) (room n : ℕ) → TookFront led_by ended rejects old new (take room piece) n → TookFront led_by ended rejects old new piece n
+  took_wider : (old new : Reader M) (piece : List ℕ) (room n : ℕ) → TookFront led_by ended rejects old new (take room piece) n → TookFront led_by ended rejects old new piece n
   took_wider old new piece room n h = record {
     within = omega (arith, h.within, length-take room piece);
     count = h.count;
     accepted = λ bytes a. subst (λ (x : List ℕ). Accepted led_by ended new (bytes ++ x)) (front_of room n piece h.within) (h.accepted bytes a);
   }
 
-  pub stopped_wider : (old new : Reader M) (piece : List ℕ) (room : ℕ) (k : Kind) → Stopped led_by ended rejects old new (take room piece) k → Stopped led_by ended rejects old new piece k
+  stopped_wider : (old new : Reader M) (piece : List ℕ) (room : ℕ) (k : Kind) → Stopped led_by ended rejects old new (take room piece) k → Stopped led_by ended rejects old new piece k
   stopped_wider old new piece room k h = record {
     kind = h.kind;
     fault = λ ne bytes a. fault_wider led_by ended rejects old.limit bytes piece room (record { line = new.lines + 1; kind = k }) (h.fault ne bytes a);
     memory = λ e bytes a. due_wider led_by ended old.limit bytes piece room (h.memory e bytes a);
   }
 
-  pub advances_wider : (old new : Reader M) (piece : List ℕ) (room : ℕ) (r : Result ℕ Kind) → Advances led_by ended rejects old (take room piece) new r → Advances led_by ended rejects old piece new r
-  advances_wider old new piece room (Ok n) h = record { took = took_wider old new piece room n h.took; stopped = tt; fault = h.fault; limit = h.limit }
-  advances_wider old new piece room (Err k) h = record { took = tt; stopped = stopped_wider old new piece room k h.stopped; fault = h.fault; limit = h.limit }
+  pub advances_wider : (old new : Reader M) (piece front : List ℕ) (room : ℕ) (r : Result ℕ Kind) → front ≡ take room piece → Advances led_by ended rejects old front new r → Advances led_by ended rejects old piece new r
+  advances_wider old new piece front room (Ok n) e h =
+      record { took = took_wider old new piece room n (subst (λ (x : List ℕ). TookFront led_by ended rejects old new x n) e h.took); stopped = tt; fault = h.fault; limit = h.limit }
+  advances_wider old new piece front room (Err k) e h =
+      record { took = tt; stopped = stopped_wider old new piece room k (subst (λ (x : List ℕ). Stopped led_by ended rejects old new x k) e h.stopped); fault = h.fault; limit = h.limit }
 
   -- ---- behind a front of the piece that was taken
 

@@ -1,5 +1,5 @@
 // Reads a text that comes in pieces, whichever its format: a machine judges one line after another.
-ghost use Rattle.std.specs.Prelude.{◌≡◌, ◌≢◌, ◌≤◌, ◌<◌, ◌+◌, ◌^◌, ◌↔◌, ℕ, List, [], ◌∷◌, ◌++◌, length, Some, None, Err, IfOk, IfErr, IfSome, IfNone, OnOk, IsTrue};
+ghost use Rattle.std.specs.Prelude.{◌≡◌, ◌≢◌, ◌≤◌, ◌<◌, ◌+◌, ◌-◌, ◌^◌, ◌↔◌, ℕ, List, [], ◌∷◌, ◌++◌, length, take, Some, None, Err, IfOk, IfErr, IfSome, IfNone, OnOk, IsTrue};
 ghost use Rattle.sas_reader.specs.Faults.{IsOfBytes};
 ghost use Rattle.sas_reader.specs.Limit.{most_bytes};
 ghost use Rattle.sas_reader.specs.Machine.{AcceptsAhead};
@@ -106,20 +106,27 @@ impl<M: Machine> Reader<M> {
         }
     }
 
+    /// The bytes of the piece that the limit leaves room for.
+    fn within_limit<'a>(&self, piece: &'a [u8]) -> &'a [u8]
+        ensures { result.now ≡ take (self.now.limit - self.now.taken) piece.now }
+    {
+        let room = self.limit - self.taken;
+        &piece[..piece.len().min(room as usize)]
+    }
+
     /// Takes the bytes up to and with the first LF, or all of them, as far as the limit leaves room.
     fn take_line(&mut self, piece: &[u8]) -> Result<usize, Kind>
         requires some { 0 < length piece.now }
         ensures advances { Advances M.led_by M.ended M.rejects self.old piece.now self.new result }
         ensures some { IfOk result (λ n. 0 < n) }
     {
-        let room = self.limit - self.taken;
-        if room == 0 {
+        let within = self.within_limit(piece);
+        if within.is_empty() {
             return Err(Kind::TooLong);
         }
         if self.machine.has_ended() {
             return Err(Kind::Trailing);
         }
-        let within = &piece[..piece.len().min(room as usize)];
         // A line that stands whole in the piece is judged there. Only one that is cut is copied.
         if !self.pending.pending().is_empty() {
             return self.go_on(within);
@@ -166,8 +173,7 @@ impl<M: Machine> Reader<M> {
         if !self.pending.pending().is_empty() {
             return Ok(0);
         }
-        let room = self.limit - self.taken;
-        let within = &piece[..piece.len().min(room as usize)];
+        let within = self.within_limit(piece);
         let mut at = 0;
         while at < within.len() {
             match self.take_ahead(&within[at..]) {

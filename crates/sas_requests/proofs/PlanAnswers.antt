@@ -1,6 +1,6 @@
 -- What is said of a task and a plan: one thing, and always something.
 use Rattle.std.proofs.Common.{◌≡◌, ◌≢◌, ℕ, ◌<◌, ◌⊎◌, Bool, true, false, List, [], length, codes, refl, sym, ap, subst, ◌∙◌, inl, inr, Option, Some, None, Result, Ok, Err}
-use Rattle.std.specs.Prelude.{◌↔◌, ◌||◌, IsTrue}
+use Rattle.std.specs.Prelude.{◌↔◌, ◌||◌, IsTrue, IfOk, IfErr}
 use Rattle.std.proofs.lemmas.Option.{none-some}
 use Rattle.sas_core.specs.declared.parts.Parts.{Parts}
 use Rattle.sas_core.specs.Checks.{first_fault}
@@ -27,6 +27,7 @@ use Rattle.sas_run.specs.Verdicts.{IsFaultOf}
 use Rattle.sas_run.proofs.PlanVerdicts.{some_verdict, valid_has_no_fault, fault_is_one}
 use Rattle.sas_requests.specs.declared.answers.Answer.{Answer}
 use Rattle.sas_requests.specs.declared.ToolFault.{ToolFault}
+use Rattle.sas_requests.specs.declared.ToolFault.TheVariants as tool_fault
 use Rattle.sas_requests.specs.Answering.{Answers, AnswersFile, AnswersFiles, output_of}
 use Rattle.sas_requests.specs.Output.{Output, IsAnswerOrRefusal, FileOut, layers_refusal, layers_verdict, valid_answer, invalid_answer, VerdictAnswer, VerdictOut, LayersOut, JudgedOut, PlanOut}
 use Rattle.sas_requests.proofs.Outputs.{OneAnswer, SomeAnswer, takes_nothing, one_file_output, some_file_output, no_file_output, plan_worded, task_worded}
@@ -183,10 +184,10 @@ module _ {T P : Type 0} (left_task : T → Option (List ℕ)) (left_plan : P →
       writes = answer.writes;
     }
 
-    -- a task that isn't layered is refused, and the plan waits
-    pub unlayered_files : (plan : Device P) (fault : LayerFault) (a : Answer) → plan.failed ≡ false → (fault ≢ layer_fault.Memory → first_fault (layer_checks p) ≡ Some fault)
+    -- the refusal of a task that isn't layered is the output
+    refused_layers : (plan : Device P) (fault : LayerFault) (a : Answer) → plan.failed ≡ false → (fault ≢ layer_fault.Memory → first_fault (layer_checks p) ≡ Some fault)
         → layers_refusal fault ≡ Some (output_of a) → AnswersFiles left_task left_plan PlanOut old new plan plan (Ok a)
-    unlayered_files plan fault a working first told =
+    refused_layers plan fault a working first told =
         let is_first = first (told_fault fault (output_of a) told) in
         record {
           output = λ b c known known_plan. unlayered_out p fault b c (output_of a) (known_answer left_task task_format (ValueOf task_format) old new p b read known) is_first told;
@@ -197,3 +198,20 @@ module _ {T P : Type 0} (left_task : T → Option (List ℕ)) (left_plan : P →
           reads = (λ e. absurd cc, λ t. absurd (read.note.1 ((first_alone new.failed plan.failed working).0 t)));
           writes = tt;
         }
+
+    -- where memory is refused, nothing is said of the output
+    starved_files : (plan : Device P) (why : ToolFault) → plan.failed ≡ false → why ≡ tool_fault.Memory
+        → AnswersFiles left_task left_plan PlanOut old new plan plan (Err why)
+    starved_files plan why working starved = subst (λ (e : ToolFault). AnswersFiles left_task left_plan PlanOut old new plan plan (Err e)) (sym starved) (record {
+      output = λ b c known known_plan long. absurd cc;
+      taken = λ decided. absurd decided;
+      waits = λ b known none. refl;
+      reads = (λ e. absurd cc, λ t. absurd (read.note.1 ((first_alone new.failed plan.failed working).0 t)));
+      writes = λ is. is;
+    })
+
+    -- a task that isn't layered is refused, and the plan waits
+    pub unlayered_files : (plan : Device P) (fault : LayerFault) (r : Result Answer ToolFault) → plan.failed ≡ false → (fault ≢ layer_fault.Memory → first_fault (layer_checks p) ≡ Some fault)
+        → IfOk r (λ a. layers_refusal fault ≡ Some (output_of a)) → IfErr r (λ e. e ≡ tool_fault.Memory) → AnswersFiles left_task left_plan PlanOut old new plan plan r
+    unlayered_files plan fault (Ok a) working first told starved = refused_layers plan fault a working first told
+    unlayered_files plan fault (Err why) working first told starved = starved_files plan why working starved

@@ -11,7 +11,7 @@ use crate::plans::plan_answer;
 use crate::summary::summary_text;
 use crate::{Request, Status, ToolFault};
 use sas_lines::{Watched, push_line, push_number};
-use sas_text::{Fault, Kind, read_outline, read_plan_text, read_task, read_task_text};
+use sas_text::{Fault, Kind, read_flat_task, read_outline, read_plan_text, read_task_text};
 use std::alloc::{AllocError, Global};
 use std::io::Read;
 
@@ -102,7 +102,7 @@ fn check<R: Read>(alloc: Global, reader: &mut Watched<R>) -> Result<Answer, Tool
     requires { reader.old.failed ≡ false }
     ensures { AnswersFile R.remaining CheckOut reader.old reader.new result }
 {
-    let task = match read_task(alloc, reader) {
+    let task = match read_flat_task(alloc, reader) {
         Ok(task) => task,
         Err(fault) => return refuse(alloc, "task", fault),
     };
@@ -114,7 +114,7 @@ fn mutex<R: Read>(alloc: Global, reader: &mut Watched<R>) -> Result<Answer, Tool
     requires { reader.old.failed ≡ false }
     ensures { AnswersFile R.remaining MutexOut reader.old reader.new result }
 {
-    let task = match read_task(alloc, reader) {
+    let task = match read_flat_task(alloc, reader) {
         Ok(task) => task,
         Err(fault) => return refuse(alloc, "task", fault),
     };

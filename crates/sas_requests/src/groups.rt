@@ -9,14 +9,14 @@ ghost use Rattle.sas_requests.specs.Output.{MutexAnswer};
 use crate::Status;
 use crate::answers::Answer;
 use crate::layers::refuse_layers;
-use sas_core::Task;
+use sas_flat::FlatTask;
 use sas_lines::{push_line, push_number};
 use sas_meaning::Layered;
 use sas_mutex::{Verdict, check_groups};
 use std::alloc::{AllocError, Global};
 
 /// The answer about the mutex groups of a task.
-pub fn groups_answer(alloc: Global, task: Task) -> Result<Answer, AllocError>
+pub fn groups_answer(alloc: Global, task: FlatTask) -> Result<Answer, AllocError>
     ensures { IfOk result (λ a. MutexAnswer task (output_of a)) }
 {
     match Layered::new(alloc, task) {

@@ -6,13 +6,13 @@ ghost use Rattle.sas_requests.specs.Output.{CheckAnswer, layers_refusal};
 
 use crate::Status;
 use crate::answers::Answer;
-use sas_core::Task;
+use sas_flat::FlatTask;
 use sas_lines::{push_line, push_number};
 use sas_meaning::{LayerFault, Layered};
 use std::alloc::{AllocError, Global};
 
 /// The answer about the layers of a task.
-pub fn layers_answer(alloc: Global, task: Task) -> Result<Answer, AllocError>
+pub fn layers_answer(alloc: Global, task: FlatTask) -> Result<Answer, AllocError>
     ensures { IfOk result (λ a. CheckAnswer task (output_of a)) }
 {
     match Layered::new(alloc, task) {

@@ -3,7 +3,7 @@ ghost use Rattle.std.specs.Prelude.{◌≡◌, ◌≢◌, option_map, Some, IfOk
 ghost use Rattle.sas_run.specs.Plans.{IsValid};
 ghost use Rattle.sas_run.specs.Verdicts.{IsFaultOf};
 ghost use Rattle.sas_requests.specs.Answering.{AnswersFile, AnswersFiles, output_of};
-ghost use Rattle.sas_requests.specs.Output.{PlanOut, VerdictAnswer, VerdictOut, invalid_answer};
+ghost use Rattle.sas_requests.specs.Output.{PlanOut, VerdictAnswer, VerdictOut, invalid_answer, layers_refusal};
 ghost use Rattle.sas_requests.specs.PlanWords.{valid_line, fault_words, step_words, goal_words, cost_words, invalid_line};
 
 use crate::answers::{Answer, refuse};
@@ -11,10 +11,11 @@ use crate::layers::refuse_layers;
 use crate::{Status, ToolFault};
 use sas_axioms::Worklist;
 use sas_core::Plan;
+use sas_flat::FlatTask;
 use sas_lines::{Watched, push_line, push_number};
-use sas_meaning::Layered;
+use sas_meaning::{LayerFault, Layered};
 use sas_run::{PlanFault, Runner, Valid};
-use sas_text::{read_plan, read_task};
+use sas_text::{read_flat_task, read_plan};
 use std::alloc::{AllocError, Global};
 use std::io::Read;
 
@@ -28,20 +29,28 @@ pub fn plan_answer<T: Read, P: Read>(
     requires plan { plan.old.failed ≡ false }
     ensures { AnswersFiles T.remaining P.remaining PlanOut task.old task.new plan.old plan.new result }
 {
-    let read = match read_task(alloc, task) {
+    let read = match read_flat_task(alloc, task) {
         Ok(read) => read,
         Err(fault) => return refuse(alloc, "task", fault),
     };
     match Layered::new(alloc, read) {
         Ok(layered) => judge(alloc, &layered, plan),
-        Err((_, fault)) => Ok(refuse_layers(alloc, fault)?),
+        Err((_, fault)) => refuse_task(alloc, fault),
     }
+}
+
+/// The refusal of a task for a fault of its layers, in a run that can end otherwise.
+fn refuse_task(alloc: Global, fault: LayerFault) -> Result<Answer, ToolFault>
+    ensures ok { IfOk result (λ a. layers_refusal fault ≡ Some (output_of a)) }
+    ensures err { IfErr result (λ e. e ≡ ToolFault.Memory) }
+{
+    Ok(refuse_layers(alloc, fault)?)
 }
 
 /// The answer about a plan of a layered task.
 fn judge<P: Read>(
     alloc: Global,
-    layered: &Layered,
+    layered: &Layered<FlatTask>,
     plan: &mut Watched<P>,
 ) -> Result<Answer, ToolFault>
     requires { plan.old.failed ≡ false }
@@ -55,7 +64,7 @@ fn judge<P: Read>(
 }
 
 /// The answer about whether the plan is valid.
-fn verdict(alloc: Global, layered: &Layered, plan: &Plan) -> Result<Answer, AllocError>
+fn verdict(alloc: Global, layered: &Layered<FlatTask>, plan: &Plan) -> Result<Answer, AllocError>
     ensures { IfOk result (λ a. VerdictAnswer layered.now plan.now (output_of a)) }
 {
     match check_plan(alloc, layered, plan) {
@@ -68,7 +77,7 @@ fn verdict(alloc: Global, layered: &Layered, plan: &Plan) -> Result<Answer, Allo
 }
 
 /// Whether the plan is valid, by an evaluator that counts.
-fn check_plan(alloc: Global, layered: &Layered, plan: &Plan) -> Result<Valid, PlanFault>
+fn check_plan(alloc: Global, layered: &Layered<FlatTask>, plan: &Plan) -> Result<Valid, PlanFault>
     ensures valid { IfOk result (λ v. IsValid layered.now plan.now v.operators.items) }
     ensures fault { IfErr result (λ f. f ≢ PlanFault.Memory → IsFaultOf layered.now plan.now f) }
 {

@@ -16,5 +16,5 @@ returns-in-Ok-new g c =
 
 pub returns : goal.returns
 returns g c =
-    unlayered_files g.T.Read.remaining g.P.Read.remaining _ _ c.in-Ok.read c.in-Ok.ensures _ c.in-Err-new.fault _ c.requires.plan
-    c.in-Err-new.ensures.first c.in_ok-refuse_layers-in-Err-new.ensures
+    unlayered_files g.T.Read.remaining g.P.Read.remaining _ _ c.in-Ok.read c.in-Ok.ensures _ c.in-Err-new.fault c.refuse_task.result c.requires.plan
+    c.in-Err-new.ensures.first c.refuse_task.ensures.ok c.refuse_task.ensures.err
