@@ -3,7 +3,7 @@ ghost use Rattle.std.specs.Prelude.{◌≡◌};
 ghost use Rattle.std.specs.List.{list_all};
 ghost use Rattle.sas_core.specs.Names as spec;
 
-use memchr::memchr2;
+use memchr::memchr;
 
 /// Whether the bytes are a name: at least one byte, and neither LF nor CR.
 pub fn is_name(bytes: &[u8]) -> bool
@@ -16,5 +16,5 @@ pub fn is_name(bytes: &[u8]) -> bool
 fn is_one_line(bytes: &[u8]) -> bool
     ensures { result ≡ list_all spec.is_plain bytes.now }
 {
-    memchr2(b'\n', b'\r', bytes).is_none()
+    memchr(b'\n', bytes).is_none() && memchr(b'\r', bytes).is_none()
 }

@@ -9,11 +9,6 @@ use Rattle.sas_flat.specs.Table.{table}
 use Rattle.sas_flat.specs.Lists.{start_of, list_at, lists_of, AreEnds}
 use Rattle.sas_flat.proofs.Tables.{length-table, table_same, table_more, get_or-table, take-table}
 
--- a list that isn't the first starts where the one before it ends
-pub start_after : (ends : List ℕ) (k : ℕ) → 0 < k → start_of ends k ≡ slice_index ends (k - 1)
-start_after ends zero h = absurd (omega arith)
-start_after ends (suc k) h = ap (λ i. slice_index ends i) (omega arith)
-
 start_same : (ends more : List ℕ) (k : ℕ) → k ≤ length ends → start_of (ends ++ more) k ≡ start_of ends k
 start_same ends more zero h = refl
 start_same ends more (suc k) h = get_or-append ends more 0 k (omega arith)

@@ -1,7 +1,6 @@
 -- Effects in columns: the effect at a place, one effect more, and fewer.
 use Rattle.std.proofs.Common.{◌≡◌, ℕ, ◌+◌, ◌<◌, ◌≤◌, List, [], ◌∷◌, ◌++◌, length, take, get_or, sym, ap, ◌∙◌, arith, length-append}
-use Rattle.std.specs.Prelude.{None}
-use Rattle.std.proofs.lemmas.List.{length-take-le, get_or-take, map-append, length-map}
+use Rattle.std.proofs.lemmas.List.{length-take-le, get_or-take}
 use Rattle.std.proofs.Math.ListN.{get_or-append}
 use Rattle.std.proofs.Math.Seq.{get_or-append_seam}
 use Rattle.sas_grounded.specs.declared.grounded.Change.{Change}
@@ -16,9 +15,6 @@ no_effect cs ds none = table_none (length cs) _ (ap length none)
 
 same_effect : (c c' : Change) (d d' : List Fact) → c ≡ c' → d ≡ d' → effect c d ≡ effect c' d'
 same_effect c c' d d' changes conditions = ap (λ x. effect x d) changes ∙ ap (λ x. effect c' x) conditions
-
-no_change : Change
-no_change = record { var = 0; old = None; new = 0 }
 
 module _ (cs : List Change) (ds : List (List Fact)) (es : List Effect) (is : effects_of cs ds ≡ es) where
   pub effect_count : length cs ≡ length es

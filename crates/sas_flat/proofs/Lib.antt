@@ -1,5 +1,4 @@
 mod Tables
-mod Growing
 mod Blocks
 mod EffectRows
 mod Rows

@@ -74,7 +74,7 @@ impl Effects {
         Ok(())
     }
 
-    /// All these effects more. After an `Err` those that there were are still there, and maybe some of these behind them.
+    /// All these effects more. After an `Err` those that there were are still there, maybe with some of these behind.
     pub(crate) fn append(&mut self, more: &Effects) -> Result<(), AllocError>
         ensures kept { Kept self.old self.new }
         ensures ok { OnOk result (self.new ≡ self.old ++ more.now) }

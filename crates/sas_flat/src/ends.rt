@@ -5,7 +5,7 @@ ghost use Rattle.sas_flat.specs.Lists.{start_of};
 use std::alloc::{AllocError, Global};
 use std::marker::Model;
 
-/// The places where lists in one block end, one for each list. They grow. In a contract they are the list of the places.
+/// The places where lists in one block end, one for each list. They grow. In a contract they are the list of them.
 #[derive(Debug, Drop)]
 pub struct Ends {
     places: Vec<usize>,

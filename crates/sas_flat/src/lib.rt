@@ -1,10 +1,11 @@
-//! A task in a few blocks of memory: it takes as many allocations as there are columns, however large it is.
+//! A task or a plan in a few blocks of memory: it takes as many allocations as there are columns, however large it is.
 #![tactic(auto)]
 
 mod effects;
 mod ends;
 mod lists;
 mod operators;
+mod plan;
 mod rules;
 mod task;
 mod variables;
@@ -12,6 +13,7 @@ mod variables;
 pub use effects::Effects;
 pub use lists::Lists;
 pub use operators::Operators;
+pub use plan::FlatPlan;
 pub use rules::Rules;
 pub use task::FlatTask;
 pub use variables::Variables;

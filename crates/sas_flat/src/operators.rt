@@ -14,8 +14,8 @@ use sas_grounded::Change;
 use std::alloc::{AllocError, Global};
 use std::marker::Model;
 
-/// The columns of operators. The effects of all operators stand one behind the other, and `ends` says where those of each
-/// operator end.
+/// The columns of operators. The effects of all operators stand one behind the other, and `ends` says where those of
+/// each operator end.
 #[derive(Debug, Drop)]
 pub struct Columns {
     names: Lists<u8>,

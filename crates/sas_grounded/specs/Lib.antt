@@ -1,1 +1,2 @@
 pub mod Grounded
+pub mod Stepwise

@@ -7,3 +7,4 @@ pub mod PlanSteps
 pub mod PlanStanding
 pub mod PlanKeeping
 pub mod PlanLaws
+pub mod PlanAhead

@@ -63,7 +63,7 @@ plain-words : (k : CostKind) → IsPlain (cost_words k)
 plain-words costs.Unit = plain_bytes (cost_words costs.Unit) refl
 plain-words costs.General = plain_bytes (cost_words costs.General) refl
 
-plain-step : (name : List ℕ) → IsName name → IsPlain (plan_line_bytes (step name))
+pub plain-step : (name : List ℕ) → IsName name → IsPlain (plan_line_bytes (step name))
 plain-step name h = plain-append (codes "(") (name ++ codes ")") (plain_bytes (codes "(") refl) (plain-append name (codes ")") (plain-name name h) (plain_bytes (codes ")") refl))
 
 plain-cost_line : (n : ℕ) (k : CostKind) → IsPlanCost n → IsPlain (plan_line_bytes (cost n k))

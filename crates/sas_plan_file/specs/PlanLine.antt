@@ -1,5 +1,5 @@
 -- What the code reads off a line of a plan file.
-use Rattle.std.specs.Prelude.{◌≡◌, ℕ, List, ◌++◌, codes, Result, Ok, Err}
+use Rattle.std.specs.Prelude.{◌≡◌, ℕ, List, ◌∷◌, ◌++◌, codes, Result, Ok, Err}
 use Rattle.std.specs.Fmt.{decimal}
 use Rattle.sas_core.specs.declared.plan.CostKind.{CostKind}
 use Rattle.sas_core.specs.Names.{IsName}
@@ -29,3 +29,9 @@ abbrev pub JudgesPlanLine : List ℕ → Result code.PlanLine Kind → Type 0
 JudgesPlanLine line (Ok said) =
     Takes plan_format PlanLineFits tt plan_line_ok (line_said said) × (plan_line_bytes (line_said said) ≡ line)
 JudgesPlanLine line (Err kind) = Judged plan_format PlanLineFits tt plan_line_ok line kind
+
+-- the line of this step stands first in the bytes, and LF behind it
+pub record StepStandsFirst (bytes name : List ℕ) : Type 0 where
+  pub is_name : IsName name
+  pub rest : List ℕ
+  pub whole : bytes ≡ plan_line_bytes (step name) ++ 10 ∷ rest

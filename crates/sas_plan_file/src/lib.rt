@@ -8,9 +8,11 @@ mod plan_machine;
 mod plan_reader;
 mod plan_text;
 mod plan_writer;
+mod step_names;
 
 pub use laws::plan_laws;
-pub use plan::{read_plan, read_plan_text};
+pub use plan::{read_flat_plan, read_plan, read_plan_text};
 pub use plan_machine::PlanMachine;
 pub use plan_reader::PlanReader;
 pub use plan_writer::encode_plan;
+pub use step_names::StepNames;

@@ -6,6 +6,7 @@ ghost use Rattle.sas_plan_file.specs.PlanFormat.{plan_format};
 use crate::plan_machine::PlanMachine;
 use crate::plan_text::PlanText;
 use sas_core::Plan;
+use sas_flat::FlatPlan;
 use sas_lines::Watched;
 use sas_reader::{Fault, LIMIT, read_all};
 use std::alloc::Global;
@@ -22,6 +23,17 @@ pub fn read_plan<R: Read>(alloc: Global, reader: &mut Watched<R>) -> Result<Plan
 {
     match read_all(alloc, PlanMachine::new(alloc), LIMIT, reader) {
         Ok(machine) => Ok(machine.into_plan()),
+        Err(fault) => Err(fault),
+    }
+}
+
+/// Reads a plan from a device as `read_plan` does, into one block of memory for all names.
+pub fn read_flat_plan<R: Read>(alloc: Global, reader: &mut Watched<R>) -> Result<FlatPlan, Fault>
+    requires { reader.old.failed ≡ false }
+    ensures { ReadsAll R.remaining plan_format (ValueOf plan_format) reader.old reader.new result }
+{
+    match read_all(alloc, PlanMachine::new_flat(alloc), LIMIT, reader) {
+        Ok(machine) => Ok(machine.into_flat_plan()),
         Err(fault) => Err(fault),
     }
 }

@@ -1,10 +1,11 @@
 // One line of a plan file.
-ghost use Rattle.std.specs.Prelude.{◌≡◌, ◌++◌, ℕ, List, MatchOption, IfSome, IfNone};
+ghost use Rattle.std.specs.Prelude.{◌≡◌, ◌<◌, ◌++◌, ℕ, List, codes, length, MatchOption, IfSome, IfNone};
 ghost use Rattle.std.specs.Fmt.{decimal};
 ghost use Rattle.sas_core.specs.Numbers.{IsPlanCost};
 ghost use Rattle.sas_plan_file.specs.PlanFormat.{BeginsWith};
-ghost use Rattle.sas_plan_file.specs.PlanLine.{Names, Costs, JudgesPlanLine};
+ghost use Rattle.sas_plan_file.specs.PlanLine.{Names, Costs, JudgesPlanLine, StepStandsFirst};
 
+use memchr::memchr2;
 use sas_core::{CostKind, is_name};
 use sas_lines::cost;
 use sas_reader::Kind;
@@ -83,5 +84,28 @@ pub fn plan_line(line: &[u8]) -> Result<PlanLine<'_>, Kind>
             Some((n, kind)) => Ok(PlanLine::Cost(n, kind)),
             None => Err(Kind::Shape),
         },
+    }
+}
+
+/// What stands in parentheses, which the line begins and ends with, if that is something.
+fn in_parentheses(line: &[u8]) -> Option<&[u8]>
+    ensures { IfSome result (λ name. 0 < length name.now × (line.now ≡ codes "(" ++ (name.now ++ codes ")"))) }
+{
+    match line {
+        [b'(', name @ .., b')'] if !name.is_empty() => Some(name),
+        _ => None,
+    }
+}
+
+/// The name of the step whose line stands first in the bytes, where that is quick to see: there is no CR before its LF. All
+/// else is left to `plan_line`.
+pub fn step_ahead(bytes: &[u8]) -> Option<&[u8]>
+    ensures { IfSome result (λ name. StepStandsFirst bytes.now name.now) }
+{
+    let end = memchr2(b'\n', b'\r', bytes)?;
+    if bytes[end] == b'\n' {
+        in_parentheses(&bytes[..end])
+    } else {
+        None
     }
 }

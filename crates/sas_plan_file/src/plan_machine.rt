@@ -1,43 +1,47 @@
 // What takes the lines of a plan file, one after another.
-ghost use Rattle.std.specs.Prelude.{◌≡◌, OnOk, IfErr};
+ghost use Rattle.std.specs.Prelude.{◌≡◌, [], OnOk, IfErr};
+ghost use Rattle.std.specs.List.{AllByRecursion};
 
-use crate::plan_line::{PlanLine, plan_line};
+use crate::plan_line::{PlanLine, plan_line, step_ahead};
+use crate::step_names::StepNames;
 use sas_core::{CostKind, Items, Plan};
+use sas_flat::{FlatPlan, Lists};
 use sas_reader::{Kind, Machine};
 use std::alloc::Global;
 use std::marker::Model;
 
 /// The steps so far, and the cost once it has come.
 #[derive(Drop)]
-pub struct PlanMachine {
+pub struct PlanMachine<S: StepNames = Items<Items<u8>>> {
     alloc: Global,
-    steps: Items<Items<u8>>,
+    steps: S,
     cost: Option<(u64, CostKind)>,
 }
 
-impl Model for PlanMachine {
+impl<S: StepNames> Model for PlanMachine<S> {
     ghost use Rattle.std.specs.List.{AllByRecursion};
     ghost use Rattle.sas_core.specs.Names.{IsName};
     ghost use Rattle.sas_plan_file.specs.PlanMachine.{PlanState, plan_state};
 
     ghost Value = { PlanState };
 
-    ghost view = { λ m. plan_state m.steps m.cost };
+    ghost view = { λ m. plan_state (S.names m.steps) m.cost };
 
-    ghost invariant = { λ m. AllByRecursion IsName m.steps };
+    ghost invariant = { λ m. AllByRecursion IsName (S.names m.steps) };
 }
 
-impl PlanMachine {
+impl<S: StepNames> PlanMachine<S> {
     ghost use Rattle.sas_core.specs.Names.{IsName};
     ghost use Rattle.sas_plan_file.specs.PlanMachine.{closed, plan_start, IsClosed, StepsOn};
 
-    /// Nothing has come.
-    pub fn new(alloc: Global) -> Self
+    /// Nothing has come: there are no steps yet.
+    fn of_none(alloc: Global, steps: S) -> Self
+        requires { S.names steps ≡ [] }
         ensures { result ≡ plan_start }
     {
         PlanMachine {
             alloc,
-            steps: Items::new(alloc),
+            steps,
             cost: None,
         }
     }
@@ -49,14 +53,34 @@ impl PlanMachine {
         ensures ok { OnOk result (StepsOn self.old name.now self.new) }
         ensures err { IfErr result (λ k. k ≡ Kind.Memory) }
     {
-        let name = match Vec::from_slice(self.alloc, name) {
-            Ok(name) => Items::from_vec(name),
-            Err(_) => return Err(Kind::Memory),
-        };
-        match self.steps.push(name) {
+        match self.steps.add(self.alloc, name) {
             Ok(()) => Ok(()),
             Err(_) => Err(Kind::Memory),
         }
+    }
+
+    /// The steps, the cost and its words, once all lines have come.
+    fn into_parts(self) -> (S, u64, CostKind)
+        requires { IsClosed self }
+        ensures names { AllByRecursion IsName (S.names result.0) }
+        ensures parts { self ≡ closed (record { steps = S.names result.0; cost = result.1; kind = result.2 }) }
+    {
+        let PlanMachine { steps, cost, .. } = self;
+        match cost {
+            Some((cost, kind)) => (steps, cost, kind),
+            None => unreachable!(),
+        }
+    }
+}
+
+impl PlanMachine<Items<Items<u8>>> {
+    ghost use Rattle.sas_plan_file.specs.PlanMachine.{closed, plan_start, IsClosed};
+
+    /// Nothing has come.
+    pub fn new(alloc: Global) -> Self
+        ensures { result ≡ plan_start }
+    {
+        PlanMachine::of_none(alloc, Items::new(alloc))
     }
 
     /// The plan whose lines have all come.
@@ -64,15 +88,32 @@ impl PlanMachine {
         requires { IsClosed self }
         ensures { self ≡ closed result }
     {
-        let PlanMachine { steps, cost, .. } = self;
-        match cost {
-            Some((cost, kind)) => Plan::of_names(steps, cost, kind),
-            None => unreachable!(),
-        }
+        let (steps, cost, kind) = self.into_parts();
+        Plan::of_names(steps, cost, kind)
     }
 }
 
-impl Machine for PlanMachine {
+impl PlanMachine<Lists<u8>> {
+    ghost use Rattle.sas_plan_file.specs.PlanMachine.{closed, plan_start, IsClosed};
+
+    /// Nothing has come, and the names will stand in one block of memory.
+    pub fn new_flat(alloc: Global) -> Self
+        ensures { result ≡ plan_start }
+    {
+        PlanMachine::of_none(alloc, Lists::new(alloc))
+    }
+
+    /// The plan whose lines have all come.
+    pub fn into_flat_plan(self) -> FlatPlan
+        requires { IsClosed self }
+        ensures { self ≡ closed result }
+    {
+        let (steps, cost, kind) = self.into_parts();
+        FlatPlan::of_names(steps, cost, kind)
+    }
+}
+
+impl<S: StepNames> Machine for PlanMachine<S> {
     ghost use Rattle.sas_plan_file.specs.PlanFormat.{plan_format, PlanLineFits};
     ghost use Rattle.sas_plan_file.specs.PlanMachine.{plan_node, plan_start, IsClosed};
     ghost use Rattle.sas_reader.specs.System.{Leads, Rejects};
@@ -95,6 +136,17 @@ impl Machine for PlanMachine {
                 Ok(())
             }
             Ok(PlanLine::Step(name)) => self.add_step(name),
+        }
+    }
+
+    fn accept_ahead(&mut self, bytes: &[u8]) -> Result<usize, Kind> {
+        let Some(name) = step_ahead(bytes) else {
+            return Ok(0);
+        };
+        match self.add_step(name) {
+            Err(kind) => Err(kind),
+            // The parentheses and LF.
+            Ok(()) => Ok(name.len() + 3),
         }
     }
 }

@@ -1,7 +1,7 @@
 // What takes the lines of a plan file and keeps them as a text, without a plan.
 ghost use Rattle.std.specs.Prelude.{◌≡◌, [], ◌∷◌, ◌++◌, IsTrue, OnOk, IfErr, false};
 
-use crate::plan_line::{PlanLine, plan_line};
+use crate::plan_line::{PlanLine, plan_line, step_ahead};
 use sas_lines::push_line;
 use sas_reader::{Kind, Machine};
 use std::alloc::Global;
@@ -75,6 +75,18 @@ impl Machine for PlanText {
                     Ok(())
                 }
             },
+        }
+    }
+
+    fn accept_ahead(&mut self, bytes: &[u8]) -> Result<usize, Kind> {
+        let Some(name) = step_ahead(bytes) else {
+            return Ok(0);
+        };
+        // The parentheses and LF.
+        let taken = name.len() + 3;
+        match self.text.extend_from_slice(&bytes[..taken]) {
+            Err(_) => Err(Kind::Memory),
+            Ok(()) => Ok(taken),
         }
     }
 }

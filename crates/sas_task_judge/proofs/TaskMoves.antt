@@ -1,6 +1,6 @@
 -- One line of a task moves the judge on.
-use Rattle.std.proofs.Common.{◌≡◌, ◌≢◌, ℕ, zero, suc, ◌<◌, ◌≤◌, ◌-◌, Bool, nat_lt, length, List, [], ◌∷◌, ◌++◌, refl, sym, ap, subst, ◌∙◌, arith, codes, Result, Ok, Err}
-use Rattle.std.specs.Prelude.{drop, Option, Some, None}
+use Rattle.std.proofs.Common.{IsTrue, ◌≡◌, ◌≢◌, ℕ, zero, suc, ◌<◌, ◌≤◌, ◌-◌, Bool, nat_lt, length, List, [], ◌∷◌, ◌++◌, refl, sym, ap, subst, ◌∙◌, arith, codes, Result, Ok, Err}
+use Rattle.std.specs.Prelude.{take, drop, Option, Some, None}
 use Rattle.std.specs.Result.{result_err}
 use Rattle.std.proofs.lemmas.Option.{none-some}
 use Rattle.sas_reader.specs.declared.fault.Kind.{Kind}
@@ -8,7 +8,7 @@ use Rattle.sas_reader.specs.declared.fault.Kind.TheVariants as kinds
 use Rattle.sas_reader.specs.Faults.{IsOfBytes}
 use Rattle.sas_reader.specs.System.{Takes, OneLine, Judged, Rejects}
 use Rattle.sas_task_format.specs.Process.{read, process_node}
-use Rattle.sas_task_format.specs.TaskFormat.{TaskLine, TaskSlot, number_slot, task_line_bytes, task_format, TaskLineFits}
+use Rattle.sas_task_format.specs.TaskFormat.{TaskLine, effect, TaskSlot, number_slot, task_line_bytes, task_format, TaskLineFits}
 use Rattle.sas_core.specs.declared.parts.Parts.{Parts}
 use Rattle.sas_core.specs.declared.parts.Variable.{Variable}
 use Rattle.sas_core.specs.Variables.{range_of}
@@ -22,12 +22,17 @@ use Rattle.sas_task_judge.specs.declared.task_machine.TaskMachine.{TaskMachine}
 use Rattle.sas_task_judge.specs.TaskEvents.{after}
 use Rattle.sas_task_judge.specs.TaskMachine.{LedBy}
 use Rattle.sas_task_judge.specs.TaskPlaces.{state_values, state_values_of, goal_begin}
-use Rattle.sas_task_judge.specs.TaskJudge.{state_at, state_of, KnownTo, LeadsOn, RejectsLine, TakesMemory, Moves}
+use Rattle.sas_task_judge.specs.TaskJudge.{state_at, state_of, KnownTo, LeadsOn, RejectsLine, TakesMemory, Moves, MovesBy, MovesAhead}
+use Rattle.sas_core.specs.declared.parts.Effect.{Effect}
+use Rattle.sas_lines.specs.Lines.{LineStandsFirst}
+use Rattle.sas_task_line.specs.declared.task_line.Change.{Change}
+use Rattle.sas_task_line.specs.Ahead.{SpellsAhead, plain_effect}
+use Rattle.sas_task_line.specs.TaskRanges.{change_in, effect_in_ranges}
 use Rattle.sas_task_line.specs.TaskLine.{IsOfLine}
 use Rattle.sas_task_judge.proofs.TaskRanges.{many_same}
 use Rattle.sas_task_judge.proofs.TaskSteps.{line_led}
 use Rattle.sas_task_judge.proofs.VariablesBehind.{behind}
-use Rattle.sas_task_format.specs.TaskProcess.{TaskProcess, a_word, a_number, number_in}
+use Rattle.sas_task_format.specs.TaskProcess.{TaskProcess, a_word, a_number, number_in, effect_in}
 
 -- a line that may stand leads on
 pub on : (p q : TaskProcess) (slot : TaskSlot) (test : TaskLine → Bool) (next : TaskLine → TaskProcess) (i : TaskLine) (line : List ℕ)
@@ -103,3 +108,36 @@ led_on keeps before m j said kept event line h moves keeps_on =
       known = record { ranges = moved.0.ranges; valued = moved.0.valued; range = moved.0.range };
       kept = keeps_on before h.so_far h.kept;
     }
+
+-- ---- what was said before doesn't matter
+
+pub said_apart : (j k : TaskJudge) (said : Said) (line : List ℕ) (event : Event) → Moves (record j { said = said }) line k (Ok event) → Moves j line k (Ok event)
+said_apart j k said line event moves = λ s f. moves s (record { ranges = f.ranges; valued = f.valued; range = f.range })
+
+-- ---- the first line of some bytes
+
+module _ (j k : TaskJudge) (bytes : List ℕ) (event : Event) (n : ℕ) where
+  -- a line that stands first says this, and that may stand under the test
+  pub moves_ahead : (test : TaskLine → Bool) (i : TaskLine) → SpellsAhead i bytes n → IsTrue (test i) → MovesBy j test i k event → MovesAhead j bytes k event n
+  moves_ahead test i spells good by = record {
+    line = task_line_bytes i;
+    first = spells.first;
+    before_end = spells.before_end;
+    moves = by (task_line_bytes i) (record { slot = refl; fits = spells.fits; good = good }, refl);
+  }
+
+  -- the line is what stands before the last byte that was taken
+  pub taken_line : MovesAhead j bytes k event n → LineStandsFirst bytes (take (n - 1) bytes) n × Moves j (take (n - 1) bytes) k (Ok event)
+  taken_line h = (subst (λ (l : List ℕ). LineStandsFirst bytes l n) h.before_end h.first, subst (λ (l : List ℕ). Moves j l k (Ok event)) h.before_end h.moves)
+
+  -- at least LF was taken
+  pub some_taken : MovesAhead j bytes k event n → 0 < n
+  some_taken h = omega (arith, h.first.taken.4)
+
+  -- the effect that it says was noted before the judge went on
+  pub effect_moves_ahead : (said : Said) (change : Change) → said.effect ≡ plain_effect change → SpellsAhead (effect (plain_effect change)) bytes n → IsTrue (change_in j.ranges change.var change.old change.new)
+      → MovesBy (record j { said = said }) (λ i. effect_in_ranges j.ranges (effect_in i)) (effect said.effect) k event → MovesAhead j bytes k event n
+  effect_moves_ahead said change e spells good by =
+      let test : TaskLine → Bool = λ i. effect_in_ranges j.ranges (effect_in i) in
+      let by_change : MovesBy (record j { said = said }) test (effect (plain_effect change)) k event = subst (λ (f : Effect). MovesBy (record j { said = said }) test (effect f) k event) e by in
+      moves_ahead test (effect (plain_effect change)) spells good (λ line says. said_apart j k said line event (by_change line says))

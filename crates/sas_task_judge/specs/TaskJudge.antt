@@ -1,6 +1,7 @@
 -- What judges the lines of a task file stands for: what may still come, by what has come.
-use Rattle.std.specs.Prelude.{◌≡◌, ◌≢◌, ◌⊎◌, ◌<◌, ℕ, ◌+◌, List, length, Result, Ok, Err, codes}
+use Rattle.std.specs.Prelude.{◌≡◌, ◌≢◌, ◌⊎◌, ◌<◌, ℕ, ◌+◌, ◌-◌, Bool, List, length, take, Result, Ok, Err, codes}
 use Rattle.sas_core.specs.declared.parts.Variable.{Variable}
+use Rattle.sas_lines.specs.Lines.{LineStandsFirst}
 use Rattle.sas_reader.specs.declared.fault.Kind.{Kind}
 use Rattle.sas_reader.specs.declared.fault.Kind.TheVariants as kinds
 use Rattle.sas_task_judge.specs.declared.task_events.Event.{Event}
@@ -10,9 +11,9 @@ use Rattle.sas_task_judge.specs.declared.task_judge.Place.TheVariants as at
 use Rattle.sas_task_judge.specs.declared.task_judge.TaskJudge.{TaskJudge}
 use Rattle.sas_reader.specs.Faults.{IsOfBytes}
 use Rattle.sas_task_format.specs.Process.{process_node, ◌>>◌}
-use Rattle.sas_reader.specs.System.{OneLine, Rejects}
+use Rattle.sas_reader.specs.System.{OneLine, Rejects, Takes}
 use Rattle.sas_task_judge.specs.TaskEvents.{after}
-use Rattle.sas_task_format.specs.TaskFormat.{TaskLine, task_line_bytes, task_format, TaskLineFits}
+use Rattle.sas_task_format.specs.TaskFormat.{TaskLine, task_slot, task_line_bytes, task_format, TaskLineFits}
 use Rattle.sas_task_format.specs.TaskProcess.{TaskProcess, TaskPart, a_word}
 use Rattle.sas_task_line.specs.TaskRanges.{ranges_of}
 use Rattle.sas_task_judge.specs.TaskPlaces.{version_begin, version_number, version_end, metric_begin, metric_number, metric_end, variable_count, variable_begin, variable_name, variable_layer, variable_range, variable_values, group_begin, group_size, group_facts, state_values, goal_begin, goal_size, goal_facts, operator_count, operator_begin, operator_name, operator_prevail_count, operator_prevail, operator_effects, rule_begin, rule_size, rule_conditions}
@@ -98,3 +99,16 @@ Moves j line k (Err kind) =
     IsOfBytes kind
     × (kind ≡ kinds.Memory → TakesMemory j)
     × (kind ≢ kinds.Memory → RejectsLine j line kind)
+
+-- a line that says this moves the judge on, where it may stand under the test
+abbrev pub MovesBy : TaskJudge → (TaskLine → Bool) → TaskLine → TaskJudge → Event → Type 0
+MovesBy j test i k event = (line : List ℕ)
+    → Takes task_format TaskLineFits (task_slot i) test i × (task_line_bytes i ≡ line) → Moves j line k (Ok event)
+
+-- A line stands first in the bytes, takes so many of them with its end, which is LF, and leads from what has come to that
+-- with what it adds.
+pub record MovesAhead (j : TaskJudge) (bytes : List ℕ) (k : TaskJudge) (event : Event) (n : ℕ) : Type 0 where
+  pub line : List ℕ
+  pub first : LineStandsFirst bytes line n
+  pub before_end : line ≡ take (n - 1) bytes
+  pub moves : Moves j line k (Ok event)

@@ -1,4 +1,7 @@
 // What a line of a task file says.
+ghost use Rattle.std.specs.Prelude.{◌≡◌};
+ghost use Rattle.sas_task_line.specs.Ahead.{plain_effect};
+
 use sas_core::{Effect, Fact, Items};
 use sas_task_line::Change;
 use std::alloc::Global;
@@ -71,5 +74,14 @@ impl Said {
                 new: 0,
             },
         }
+    }
+    /// Says an effect without conditions. It takes no memory.
+    pub fn say_effect(&mut self, change: Change)
+        ensures { self.new.effect ≡ plain_effect change }
+    {
+        self.effect.conditions.clear();
+        self.effect.var = change.var;
+        self.effect.old = change.old;
+        self.effect.new = change.new;
     }
 }

@@ -1,15 +1,18 @@
 // What judges the lines of a task file, one after another: whether each may stand where it stands, and what it adds.
-ghost use Rattle.std.specs.Prelude.{◌≡◌, ◌≢◌, ◌<◌, ◌≤◌, ◌-◌, ◌^◌, ◌↔◌, length, IsTrue, [], ◌∷◌, ◌++◌};
+ghost use Rattle.std.specs.Prelude.{◌≡◌, ◌≢◌, ◌<◌, ◌≤◌, ◌-◌, ◌^◌, ◌↔◌, length, nat_lt, IsTrue, [], ◌∷◌, ◌++◌};
 ghost use Rattle.sas_task_judge.specs.declared.so_far.SoFar.{SoFar};
-ghost use Rattle.sas_task_format.specs.TaskProcess.{a_word, a_number, a_fact, any};
-ghost use Rattle.sas_task_line.specs.TaskRanges.{range_in};
-ghost use Rattle.sas_task_judge.specs.TaskJudge.{Due, Moves, HasEnded};
+ghost use Rattle.sas_task_format.specs.TaskFormat as format;
+ghost use Rattle.sas_task_format.specs.TaskProcess.{a_word, a_number, a_fact, any, number_in, fact_in, effect_in, head_in};
+ghost use Rattle.sas_task_line.specs.TaskRanges.{range_in, fact_in_ranges, effect_in_ranges, head_in_ranges};
+ghost use Rattle.sas_task_judge.specs.TaskJudge.{Due, Moves, MovesBy, HasEnded};
+
+mod ahead;
 
 use crate::task_events::{Event, Said};
-use sas_core::Items;
+use sas_core::{Fact, Items};
 use sas_reader::Kind;
 use sas_task_line::{
-    effect_at, fact_at, head_at, name_at, number_at, number_below, positive_at, signed_at,
+    Change, effect_at, fact_at, head_at, name_at, number_at, number_below, positive_at, signed_at,
     version_at, word_at,
 };
 use std::alloc::Global;
@@ -225,6 +228,18 @@ impl TaskJudge {
         }
     }
 
+    /// Goes on behind the number of facts that are due next, or of conditions.
+    fn took_fact_count(&mut self, count: u32, next: Place) -> Event
+        requires apart { next ≢ Place.VariableValues }
+        requires due { Due self.old (λ _. a_number any)
+            (λ n. record self.old { more = n; place = next }) (λ _ s. record s { facts = [] }) }
+        ensures { MovesBy self.old (λ i. any (number_in i)) (format.number count) self.new result }
+    {
+        self.more = count;
+        self.place = next;
+        Event::Facts
+    }
+
     /// Takes the number of facts that are due next, or of conditions.
     fn fact_count(&mut self, line: &[u8], next: Place) -> Result<Event, Kind>
         requires apart { next ≢ Place.VariableValues }
@@ -232,9 +247,21 @@ impl TaskJudge {
             (λ n. record self.old { more = n; place = next }) (λ _ s. record s { facts = [] }) }
         ensures { Moves self.old line.now self.new result }
     {
-        self.more = number_at(line)?;
-        self.place = next;
-        Ok(Event::Facts)
+        let count = number_at(line)?;
+        Ok(self.took_fact_count(count, next))
+    }
+
+    /// Goes on behind a fact of a group, a prevail condition, or a condition of a rule.
+    fn took_fact(&mut self, fact: Fact) -> Event
+        requires apart { self.old.place ≢ Place.VariableValues }
+        requires more { 0 < self.old.more }
+        requires due { Due self.old a_fact
+            (λ _. record self.old { more = self.old.more - 1 }) (λ f s. record s { facts = s.facts ++ f ∷ [] }) }
+        ensures { MovesBy self.old (λ i. fact_in_ranges self.old.ranges (fact_in i)) (format.fact fact) self.new result }
+    {
+        self.said.fact = fact;
+        self.more -= 1;
+        Event::Fact
     }
 
     /// Takes a fact of a group, a prevail condition, or a condition of a rule.
@@ -245,9 +272,8 @@ impl TaskJudge {
             (λ _. record self.old { more = self.old.more - 1 }) (λ f s. record s { facts = s.facts ++ f ∷ [] }) }
         ensures { Moves self.old line.now self.new result }
     {
-        self.said.fact = fact_at(&self.ranges, line)?;
-        self.more -= 1;
-        Ok(Event::Fact)
+        let fact = fact_at(&self.ranges, line)?;
+        Ok(self.took_fact(fact))
     }
 
     /// Takes the last word of a group.
@@ -271,6 +297,19 @@ impl TaskJudge {
         }
     }
 
+    /// Goes on behind the value of the next variable.
+    fn took_state_value(&mut self, value: u32) -> Event
+        requires place { self.old.place ≡ Place.StateValues }
+        requires more { self.old.valued < length self.old.ranges }
+        requires few { length self.old.ranges < 2 ^ 64 }
+        ensures { MovesBy self.old (λ i. nat_lt (number_in i) (range_in self.old.ranges self.old.valued))
+            (format.number value) self.new result }
+    {
+        self.said.number = value;
+        self.valued += 1;
+        Event::State
+    }
+
     /// Takes the value of the next variable.
     fn state_value(&mut self, line: &[u8]) -> Result<Event, Kind>
         requires place { self.old.place ≡ Place.StateValues }
@@ -278,9 +317,8 @@ impl TaskJudge {
         requires few { length self.old.ranges < 2 ^ 64 }
         ensures { Moves self.old line.now self.new result }
     {
-        self.said.number = number_below(line, self.next_range())?;
-        self.valued += 1;
-        Ok(Event::State)
+        let value = number_below(line, self.next_range())?;
+        Ok(self.took_state_value(value))
     }
 
     /// Takes the last word of the initial state.
@@ -334,15 +372,36 @@ impl TaskJudge {
         Ok(Event::Name)
     }
 
+    /// Goes on behind the number of an operator's effects.
+    fn took_effect_count(&mut self, count: u32) -> Event
+        requires place { self.old.place ≡ Place.Prevail }
+        requires all { self.old.more ≡ 0 }
+        ensures { MovesBy self.old (λ i. any (number_in i)) (format.number count) self.new result }
+    {
+        self.more = count;
+        self.place = Place::Effects;
+        Event::Effects
+    }
+
     /// Takes the number of an operator's effects.
     fn effect_count(&mut self, line: &[u8]) -> Result<Event, Kind>
         requires place { self.old.place ≡ Place.Prevail }
         requires all { self.old.more ≡ 0 }
         ensures { Moves self.old line.now self.new result }
     {
-        self.more = number_at(line)?;
-        self.place = Place::Effects;
-        Ok(Event::Effects)
+        let count = number_at(line)?;
+        Ok(self.took_effect_count(count))
+    }
+
+    /// Goes on behind the effect that was said.
+    fn took_effect(&mut self) -> Event
+        requires place { self.old.place ≡ Place.Effects }
+        requires more { 0 < self.old.more }
+        ensures { MovesBy self.old (λ i. effect_in_ranges self.old.ranges (effect_in i))
+            (format.effect self.old.said.effect) self.new result }
+    {
+        self.more -= 1;
+        Event::Effect
     }
 
     fn effect(&mut self, line: &[u8]) -> Result<Event, Kind>
@@ -351,8 +410,18 @@ impl TaskJudge {
         ensures { Moves self.old line.now self.new result }
     {
         effect_at(&mut self.said.effect, &self.ranges, line)?;
-        self.more -= 1;
-        Ok(Event::Effect)
+        Ok(self.took_effect())
+    }
+
+    /// Goes on behind the cost of an operator.
+    fn took_cost(&mut self, cost: u32) -> Event
+        requires place { self.old.place ≡ Place.Effects }
+        requires all { self.old.more ≡ 0 }
+        ensures { MovesBy self.old (λ i. any (number_in i)) (format.number cost) self.new result }
+    {
+        self.said.number = cost;
+        self.place = Place::OperatorEnd;
+        Event::Operator
     }
 
     /// Takes the cost of an operator.
@@ -361,9 +430,20 @@ impl TaskJudge {
         requires all { self.old.more ≡ 0 }
         ensures { Moves self.old line.now self.new result }
     {
-        self.said.number = number_at(line)?;
-        self.place = Place::OperatorEnd;
-        Ok(Event::Operator)
+        let cost = number_at(line)?;
+        Ok(self.took_cost(cost))
+    }
+
+    /// Goes on behind the head of a rule.
+    fn took_head(&mut self, head: Change) -> Event
+        requires place { self.old.place ≡ Place.RuleConditions }
+        requires all { self.old.more ≡ 0 }
+        ensures { MovesBy self.old (λ i. head_in_ranges self.old.ranges (head_in i))
+            (format.head head.var head.old head.new) self.new result }
+    {
+        self.said.head = head;
+        self.place = Place::RuleEnd;
+        Event::Rule
     }
 
     /// Takes the head of a rule.
@@ -372,9 +452,8 @@ impl TaskJudge {
         requires all { self.old.more ≡ 0 }
         ensures { Moves self.old line.now self.new result }
     {
-        self.said.head = head_at(&self.ranges, line)?;
-        self.place = Place::RuleEnd;
-        Ok(Event::Rule)
+        let head = head_at(&self.ranges, line)?;
+        Ok(self.took_head(head))
     }
 
     /// Takes the next line.

@@ -72,4 +72,15 @@ impl<K: Keeper> Machine for TaskMachine<K> {
         let event = self.judge.take(line)?;
         self.kept.keep(line, event, &mut self.judge.said)
     }
+
+    fn accept_ahead(&mut self, bytes: &[u8]) -> Result<usize, Kind> {
+        let Some(ahead) = self.judge.take_ahead(bytes) else {
+            return Ok(0);
+        };
+        let line = &bytes[..ahead.taken - 1];
+        match self.kept.keep(line, ahead.said, &mut self.judge.said) {
+            Ok(()) => Ok(ahead.taken),
+            Err(kind) => Err(kind),
+        }
+    }
 }

@@ -1,4 +1,4 @@
-use Rattle.std.proofs.Common.{◌<◌, length, sym, ap, ◌∙◌, arith}
+use Rattle.std.proofs.Common.{sym, ap, ◌∙◌, arith}
 use Rattle.sas_core.specs.declared.parts.Effect.{Effect}
 use Rattle.sas_flat.proofs.EffectRows.{effect_count, effect_at_place}
 use Rattle.sas_flat.proofs.effects.Effects.conditions.Goals as goal

@@ -1,4 +1,4 @@
-use Rattle.std.proofs.Common.{◌≤◌, take, length, ap, ◌∙◌, arith}
+use Rattle.std.proofs.Common.{take, ap, ◌∙◌, arith}
 use Rattle.sas_flat.proofs.EffectRows.{effect_count, effects_taken}
 use Rattle.sas_flat.proofs.effects.Effects.truncate.Goals as goal
 

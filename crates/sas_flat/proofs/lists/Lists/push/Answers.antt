@@ -1,4 +1,4 @@
-use Rattle.std.proofs.Common.{◌∷◌, [], ◌++◌, ap, ◌∙◌, arith, length-append}
+use Rattle.std.proofs.Common.{◌∷◌, [], ◌++◌, ap, ◌∙◌, arith}
 use Rattle.sas_flat.proofs.Blocks.{lists_more}
 use Rattle.sas_flat.proofs.lists.Lists.push.Goals as goal
 

@@ -1,4 +1,4 @@
-use Rattle.std.proofs.Common.{◌<◌, length, sym, ap, ◌∙◌, arith, slice_index}
+use Rattle.std.proofs.Common.{sym, ap, ◌∙◌, arith, slice_index}
 use Rattle.sas_core.specs.declared.parts.Operator.{Operator}
 use Rattle.sas_flat.proofs.FoundOperators.{found, as_many}
 use Rattle.sas_flat.proofs.operators.Operators.cost.Goals as goal

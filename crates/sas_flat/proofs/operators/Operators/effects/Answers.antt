@@ -1,4 +1,4 @@
-use Rattle.std.proofs.Common.{sym, ◌∙◌, arith}
+use Rattle.std.proofs.Common.{arith}
 use Rattle.sas_flat.proofs.FoundOperators.{as_many, effects_ordered, effect_number}
 use Rattle.sas_flat.proofs.operators.Operators.effects.Goals as goal
 

@@ -23,7 +23,7 @@ returns-in-Err-accept-clause-advances g c =
     let fed = c.in-Ok.ensures in
     record {
       took = tt;
-      stopped = stopped_at g.M.Machine.led_by g.M.Machine.ended g.M.Machine.rejects c.args.self.now _ c.args.piece.now c.line.result.now c.in-Ok.fed.taken c.in-Ok.fed.complete c.feed.new.self c.in-Err-accept.kind c.requires.some c.requires.going c.if-not-fed.false
+      stopped = stopped_at g.M.Machine.led_by g.M.Machine.ended g.M.Machine.rejects c.args.self.now _ c.args.piece.now c.line.result.now c.in-Ok.fed.taken c.in-Ok.fed.complete c.feed.new.self _ c.requires.some c.requires.going c.if-not-fed.false
           (record { taken = fed.taken; lines = fed.lines; rest = fed.pending }) c.line.ensures c.requires.room c.in-Err-accept.ensures.kind c.in-Err-accept.ensures.rejects refl;
       fault = refl;
       limit = refl;

@@ -1,9 +1,9 @@
-use Rattle.std.proofs.Common.{rules, inr, ◌≡◌, sym, ap, ◌∙◌, ◌∷◌, [], ◌++◌, ◌-◌}
+use Rattle.std.proofs.Common.{rules, inr, ◌≡◌, ap, ◌∙◌}
 use Rattle.std.specs.Prelude.{Some}
 use Rattle.std.specs.Result.{result_err}
 use Rattle.sas_task_judge.specs.TaskJudge.{state_at}
-use Rattle.sas_task_judge.proofs.TaskMoves.{on, off, next_of, refused}
-use Rattle.sas_task_judge.proofs.TaskRanges.{takes_as, judged_as, effect_same}
+use Rattle.sas_task_judge.proofs.TaskMoves.{said_apart, off, next_of, refused}
+use Rattle.sas_task_judge.proofs.TaskRanges.{judged_as, effect_same}
 use Rattle.sas_task_judge.specs.TaskPlaces.{operator_effects}
 use Rattle.sas_task_judge.proofs.task_judge.TaskJudge.effect.Goals as goal
 
@@ -13,7 +13,4 @@ returns-in_err-effect_at c =
     refused c.args.self.now _ c.args.line.now _ _ same (c.in_err-effect_at.ensures.0, λ m. inr (c.requires.place, c.requires.more), λ n s f. off _ _ _ _ _ _ ((ap (λ place. state_at place c.args.self.now.left c.args.self.now.more s) c.requires.place) ∙ ap (λ more. operator_effects c.args.self.now.left s.parts s.name s.facts more s.effects) (next_of _ c.requires.more)) (judged_as _ _ _ (effect_same s c.args.self.now f) _ _ (c.in_err-effect_at.ensures.1 n)))
 
 pub returns : goal.returns
-returns c = λ s f. (
-  record { ranges = f.ranges; valued = f.valued; range = λ h. absurd (let other = sym c.requires.place ∙ h in cc) },
-  on _ _ _ _ _ _ _ ((ap (λ place. state_at place c.args.self.now.left c.args.self.now.more s) c.requires.place) ∙ ap (λ more. operator_effects c.args.self.now.left s.parts s.name s.facts more s.effects) (next_of _ c.requires.more)) (takes_as _ _ _ (effect_same s c.args.self.now f) _ c.in_ok-effect_at.ensures.0, c.in_ok-effect_at.ensures.1) (ap (λ place. state_at place c.args.self.now.left (c.args.self.now.more - 1) (record s { effects = s.effects ++ c.effect_at.new.effect ∷ [] })) (sym c.requires.place)),
-)
+returns c = said_apart _ _ _ _ _ (c.took_effect.ensures _ c.in_ok-effect_at.ensures)

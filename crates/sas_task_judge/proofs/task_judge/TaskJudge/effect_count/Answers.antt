@@ -1,8 +1,4 @@
-use Rattle.std.proofs.Common.{refl, ap, ◌∙◌}
-use Rattle.sas_task_judge.specs.TaskJudge.{state_at}
-use Rattle.sas_task_judge.specs.TaskPlaces.{operator_prevail}
-use Rattle.sas_task_judge.proofs.TaskMoves.{on}
 use Rattle.sas_task_judge.proofs.task_judge.TaskJudge.effect_count.Goals as goal
 
 pub returns : goal.returns
-returns c = λ s f. (record { ranges = f.ranges; valued = f.valued; range = λ h. absurd cc }, on _ _ _ _ _ _ _ ((ap (λ place. state_at place c.args.self.now.left c.args.self.now.more s) c.requires.place) ∙ ap (λ more. operator_prevail c.args.self.now.left s.parts s.name more s.facts) c.requires.all) c.in_ok-self.ensures refl)
+returns c = c.took_effect_count.ensures _ c.in_ok-count.ensures

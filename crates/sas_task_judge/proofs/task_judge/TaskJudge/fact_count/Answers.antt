@@ -1,6 +1,4 @@
-use Rattle.std.proofs.Common.{refl}
-use Rattle.sas_task_judge.proofs.TaskMoves.{on}
 use Rattle.sas_task_judge.proofs.task_judge.TaskJudge.fact_count.Goals as goal
 
 pub returns : goal.returns
-returns c = λ s f. (record { ranges = f.ranges; valued = f.valued; range = λ h. absurd (c.requires.apart h) }, on _ _ _ _ _ _ _ (c.requires.due s f) c.in_ok-self.ensures refl)
+returns c = c.took_fact_count.ensures _ c.in_ok-count.ensures

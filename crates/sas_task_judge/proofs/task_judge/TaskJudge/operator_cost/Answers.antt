@@ -1,8 +1,4 @@
-use Rattle.std.proofs.Common.{refl, ap, ◌∙◌}
-use Rattle.sas_task_judge.specs.TaskJudge.{state_at}
-use Rattle.sas_task_judge.specs.TaskPlaces.{operator_effects}
-use Rattle.sas_task_judge.proofs.TaskMoves.{on}
 use Rattle.sas_task_judge.proofs.task_judge.TaskJudge.operator_cost.Goals as goal
 
 pub returns : goal.returns
-returns c = λ s f. (record { ranges = f.ranges; valued = f.valued; range = λ h. absurd cc }, on _ _ _ _ _ _ _ ((ap (λ place. state_at place c.args.self.now.left c.args.self.now.more s) c.requires.place) ∙ ap (λ more. operator_effects c.args.self.now.left s.parts s.name s.facts more s.effects) c.requires.all) c.in_ok-self.ensures refl)
+returns c = c.took_cost.ensures _ c.in_ok-cost.ensures

@@ -1,12 +1,4 @@
-use Rattle.std.proofs.Common.{refl, ap, ◌∙◌}
-use Rattle.sas_task_judge.specs.TaskJudge.{state_at}
-use Rattle.sas_task_judge.specs.TaskPlaces.{rule_conditions}
-use Rattle.sas_task_judge.proofs.TaskMoves.{on}
-use Rattle.sas_task_judge.proofs.TaskRanges.{takes_as, head_same}
 use Rattle.sas_task_judge.proofs.task_judge.TaskJudge.rule_head.Goals as goal
 
 pub returns : goal.returns
-returns c = λ s f. (
-  record { ranges = f.ranges; valued = f.valued; range = λ h. absurd cc },
-  on _ _ _ _ _ _ _ ((ap (λ place. state_at place c.args.self.now.left c.args.self.now.more s) c.requires.place) ∙ ap (λ more. rule_conditions c.args.self.now.left s.parts more s.facts) c.requires.all) (takes_as _ _ _ (head_same s c.args.self.now f) _ c.in_ok-self.ensures.0, c.in_ok-self.ensures.1) refl,
-)
+returns c = c.took_head.ensures _ c.in_ok-head.ensures

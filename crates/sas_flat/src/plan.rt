@@ -1,0 +1,62 @@
+// Flat plans.
+ghost use Rattle.std.specs.Prelude.{◌≡◌};
+ghost use Rattle.std.specs.List.{AllByRecursion};
+ghost use Rattle.sas_core.specs.Names.{IsName};
+
+use crate::lists::Lists;
+use sas_core::CostKind;
+use sas_grounded::Stepwise;
+use std::marker::Model;
+
+/// A plan whose names stand in one block of memory. In a contract it is its parts.
+#[derive(Debug, Drop)]
+pub struct FlatPlan {
+    steps: Lists<u8>,
+    cost: u64,
+    kind: CostKind,
+}
+
+impl Model for FlatPlan {
+    ghost use Rattle.sas_core.specs.PlanParts.{PlanParts};
+    ghost use Rattle.sas_core.specs.Plans.{WellNamed};
+
+    ghost Value = { PlanParts };
+
+    ghost view = { λ p. record { steps = p.steps; cost = p.cost; kind = p.kind } };
+
+    ghost invariant = { λ p. WellNamed (record { steps = p.steps; cost = p.cost; kind = p.kind }) };
+}
+
+impl FlatPlan {
+    /// The plan of these steps, where each of them is known to be a name. It takes no memory and looks at no step.
+    pub fn of_names(steps: Lists<u8>, cost: u64, kind: CostKind) -> FlatPlan
+        requires { AllByRecursion IsName steps }
+        ensures { result ≡ record { steps = steps; cost = cost; kind = kind } }
+    {
+        FlatPlan { steps, cost, kind }
+    }
+
+    /// The words behind the cost.
+    pub fn kind(&self) -> CostKind
+        ensures { result ≡ self.now.kind }
+    {
+        self.kind
+    }
+}
+
+/// Each call reads a fixed number of words.
+impl Stepwise for FlatPlan {
+    ghost says = { λ p. p };
+
+    fn steps(&self) -> usize {
+        self.steps.len()
+    }
+
+    fn step(&self, index: usize) -> &[u8] {
+        self.steps.get(index)
+    }
+
+    fn cost(&self) -> u64 {
+        self.cost
+    }
+}

@@ -1,0 +1,6 @@
+use Rattle.std.proofs.Common.{refl}
+use Rattle.sas_task_judge.proofs.TaskMoves.{on}
+use Rattle.sas_task_judge.proofs.task_judge.TaskJudge.took_fact_count.Goals as goal
+
+pub returns : goal.returns
+returns c = λ line says s f. (record { ranges = f.ranges; valued = f.valued; range = λ h. absurd (c.requires.apart h) }, on _ _ _ _ _ _ _ (c.requires.due s f) says refl)

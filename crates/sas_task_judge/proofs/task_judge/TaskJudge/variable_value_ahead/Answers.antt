@@ -1,0 +1,20 @@
+use Rattle.std.proofs.Common.{refl, sym, ap, ◌∙◌, ◌∷◌, [], ◌++◌, ◌-◌, arith, length-append}
+use Rattle.sas_task_judge.specs.TaskJudge.{state_at}
+use Rattle.sas_task_judge.specs.TaskPlaces.{variable_values}
+use Rattle.sas_task_judge.proofs.TaskMoves.{on, next_of}
+use Rattle.sas_task_format.specs.TaskFormat.{name}
+use Rattle.sas_task_judge.proofs.task_judge.TaskJudge.variable_value_ahead.Goals as goal
+
+pub returns-clause-some : goal.returns-clause-some
+returns-clause-some c =
+    let spells = c.in_ok-name.ensures.1 in
+    let line = c.in_ok-name.name.now in
+    record {
+      line = line;
+      first = spells.first;
+      before_end = spells.before_end;
+      moves = λ s f. (
+        record { ranges = f.ranges; valued = f.valued; range = λ h. omega (arith, f.range c.requires.place, c.requires.more, length-append s.values (line ∷ [])) },
+        on _ _ _ _ _ (name line) _ ((ap (λ place. state_at place c.args.self.now.left c.args.self.now.more s) c.requires.place) ∙ ap (λ more. variable_values c.args.self.now.left s.parts s.name s.layer more s.values) (next_of _ c.requires.more)) (record { slot = refl; fits = tt; good = c.in_ok-name.ensures.0 }, refl) (ap (λ place. state_at place c.args.self.now.left (c.args.self.now.more - 1) (record s { values = s.values ++ line ∷ [] })) (sym c.requires.place)),
+      );
+    }
