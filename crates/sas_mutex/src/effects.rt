@@ -50,7 +50,7 @@ pub fn effect_keeps<T: Grounded>(
     keeps
 }
 
-/// Whether the effect keeps the group, which is in the family, where what is known where it fires is noted and doesn't clash.
+/// Whether the effect keeps the group, which is in the family. What is known where it fires is noted, and doesn't clash.
 pub fn keeps_by_notes<T: Grounded>(
     task: &T,
     index: &Index,

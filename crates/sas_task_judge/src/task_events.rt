@@ -75,6 +75,7 @@ impl Said {
             },
         }
     }
+
     /// Says an effect without conditions. It takes no memory.
     pub fn say_effect(&mut self, change: Change)
         ensures { self.new.effect ≡ plain_effect change }
