@@ -9,8 +9,8 @@ that another one of the call: from one before it, over each of it, to one behind
 `wanting`, where the call wants memory and all stands that has to stand then, and then the answer of the call. A reader that
 wants memory answers that to each piece behind it, too.
 
-Each `rt try` builds its program and then runs it for one case after another, so a program with many runs is built more than
-once, and its runs are shared out: about as many run side by side as there are cores.
+Each `rt try` builds its program and then runs it for one case after another. So the runs are shared out: as many `rt try` work
+side by side as there are cores, more than one over a program that has many runs.
 
 Each call that fails has a line, and the last line is 'N passed, M failed'. The exit status is 0 where none failed.
 """
@@ -29,7 +29,7 @@ WANTING = re.compile(rb"(taken\n)*(wanting\n)+")
 
 
 def refused_calls():
-    """Each call that is to be refused memory, with how many runs are enough."""
+    """Each call that is to be refused memory, with the runs that are enough."""
     for program, groups in table("calls.json").items():
         for group in groups:
             for given, answer in group["rows"] if "refused" in group else ():
@@ -39,7 +39,7 @@ def refused_calls():
                     "call": group["call"].encode(),
                     "given": as_bytes(given),
                     "answer": as_bytes(answer),
-                    "runs": group["refused"],
+                    "runs": range(group.get("before", 0), group["refused"]),
                 }
 
 
@@ -48,7 +48,7 @@ def shares(calls):
     refused is one before the call, the call's first, its second and so on."""
     runs = {}
     for number, call in enumerate(calls):
-        for run in range(call["runs"]):
+        for run in call["runs"]:
             given = b"%s %d\n%s" % (call["call"], REFUSED - 1 - run, call["given"])
             runs.setdefault(call["program"], []).append((f"{number} {run}", given))
     total = sum(map(len, runs.values()))
@@ -87,8 +87,10 @@ def main():
         said = dict(itertools.chain.from_iterable(pool.map(answers, shares(calls))))
     wrong = []
     for number, call in enumerate(calls):
-        came = "".join(outcome(said.get(f"{number} {run}"), call["answer"]) for run in range(call["runs"]))
-        wrong.append([] if re.fullmatch("b*w+a+", came) else [came])
+        came = "".join(outcome(said.get(f"{number} {run}"), call["answer"]) for run in call["runs"])
+        # where runs are left out, one has to show that these refuse nothing of the call
+        wanted = "b+w+a+" if call["runs"].start else "b*w+a+"
+        wrong.append([] if re.fullmatch(wanted, came) else [came])
     report.end(calls, wrong)
 
 
