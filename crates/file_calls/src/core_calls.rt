@@ -1,7 +1,8 @@
-// Calls of `sas_core`: names, lists and plans.
+// Calls of `sas_core`: names, lists and plans, and those on tasks.
 ghost use Rattle.std.specs.Prelude.{◌≡◌, ◌↔◌, IsTrue};
 
 use crate::readers::read_plan_of;
+use crate::task_calls::call_of_tasks;
 use call_words::{
     Asked, cut, number_in, say, say_bytes, say_either, say_number, say_whole, spend, text_of,
 };
@@ -17,7 +18,7 @@ pub fn call_of_core<R: AllocGlobal + Print>(rt: &R, asked: &Asked<'_>) -> Result
         "new-plan" => new_plan(rt, asked.number, asked.bytes)?,
         "plan-parts" => say_plan(rt, asked.bytes),
         "same-plans" => say_same_plans(rt, asked.bytes),
-        _ => return Ok(false),
+        _ => return call_of_tasks(rt, asked),
     }
     Ok(true)
 }

@@ -21,13 +21,13 @@ pub fn call_of_lines<R: AllocGlobal + Print>(
         "numbers" => say_parts(rt, asked.bytes),
         "first-line" => say_first_line(rt, asked.bytes),
         "lines" => say_lines(rt, asked.bytes)?,
-        _ => return Ok(false),
+        _ => return call_over_devices(rt, asked),
     }
     Ok(true)
 }
 
 /// Makes the call, if it is one of these, over devices or without memory: whether it is.
-pub fn call_over_devices<R: AllocGlobal + Print>(
+fn call_over_devices<R: AllocGlobal + Print>(
     rt: &R,
     asked: &Asked<'_>,
 ) -> Result<bool, AllocError> {

@@ -13,23 +13,13 @@ mod task_calls;
 
 use call_words::{Asked, LONGEST, asked_by, say, say_made};
 use core_calls::call_of_core;
-use limits::call_within_limits;
-use line_calls::{call_of_lines, call_over_devices};
-use reader_calls::{call_in_pieces, call_of_readers};
+use line_calls::call_of_lines;
+use reader_calls::call_of_readers;
 use std::alloc::AllocError;
-use task_calls::call_of_tasks;
 
 /// Makes the call: whether it is known.
 fn call<R: AllocGlobal + Print>(rt: &R, asked: &Asked<'_>) -> Result<bool, AllocError> {
-    Ok(
-        call_of_core(rt, asked)?
-            || call_of_tasks(rt, asked)?
-            || call_of_lines(rt, asked)?
-            || call_over_devices(rt, asked)?
-            || call_of_readers(rt, asked)?
-            || call_in_pieces(rt, asked)?
-            || call_within_limits(rt, asked),
-    )
+    Ok(call_of_core(rt, asked)? || call_of_lines(rt, asked)? || call_of_readers(rt, asked)?)
 }
 
 fn main(rt: HostRuntime) {

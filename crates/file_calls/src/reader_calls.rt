@@ -1,5 +1,6 @@
 // Calls of `sas_text`: files that come from devices and in pieces.
 use crate::fault_words::{say_fault, say_read};
+use crate::limits::call_within_limits;
 use crate::readers::{Pieces, Way, read_from, way_of};
 use call_words::{Asked, say, say_either, say_right, spend};
 use sas_lines::trial::Breaks;
@@ -11,31 +12,36 @@ pub fn call_of_readers<R: AllocGlobal + Print>(
     rt: &R,
     asked: &Asked<'_>,
 ) -> Result<bool, AllocError> {
-    let way = way_of(asked.kind);
     match asked.call {
-        "read" => read(rt, asked.number, way, asked.bytes)?,
-        "read-fronts" => say_right(rt, wrong_front(rt.alloc(), way, asked.bytes)),
-        "read-broken" => read_broken(rt, way, asked.bytes),
-        "read-broken-fronts" => say_right(rt, wrong_failure(rt.alloc(), way, asked.bytes)),
+        "read" => read(rt, asked.number, way_of(asked.kind), asked.bytes)?,
+        "read-broken" => read_broken(rt, way_of(asked.kind), asked.bytes),
         "feed-plan" => feed::<R, PlanReader>(rt, asked.number, asked.bytes)?,
         "feed-task" => feed::<R, TaskReader>(rt, asked.number, asked.bytes)?,
-        _ => return Ok(false),
+        "laws" => say_laws(rt),
+        _ => return call_of_fronts(rt, asked),
+    }
+    Ok(true)
+}
+
+/// Makes the call, if it is one of these, on fronts of files: whether it is.
+fn call_of_fronts<R: AllocGlobal + Print>(rt: &R, asked: &Asked<'_>) -> Result<bool, AllocError> {
+    let way = way_of(asked.kind);
+    match asked.call {
+        "read-fronts" => say_right(rt, wrong_front(rt.alloc(), way, asked.bytes)),
+        "read-broken-fronts" => say_right(rt, wrong_failure(rt.alloc(), way, asked.bytes)),
+        _ => return call_in_pieces(rt, asked),
     }
     Ok(true)
 }
 
 /// Makes the call, if it is one of these, on files in all pieces: whether it is.
-pub fn call_in_pieces<R: AllocGlobal + Print>(
-    rt: &R,
-    asked: &Asked<'_>,
-) -> Result<bool, AllocError> {
+fn call_in_pieces<R: AllocGlobal + Print>(rt: &R, asked: &Asked<'_>) -> Result<bool, AllocError> {
     match asked.call {
         "cut-plan" => say_right(rt, wrong_cut::<PlanReader>(rt.alloc(), asked.bytes)?),
         "cut-task" => say_right(rt, wrong_cut::<TaskReader>(rt.alloc(), asked.bytes)?),
         "behind-plan" => say_right(rt, wrong_byte::<PlanReader>(rt.alloc(), asked.bytes)),
         "behind-task" => say_right(rt, wrong_byte::<TaskReader>(rt.alloc(), asked.bytes)),
-        "laws" => say_laws(rt),
-        _ => return Ok(false),
+        _ => return Ok(call_within_limits(rt, asked)),
     }
     Ok(true)
 }
