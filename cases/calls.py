@@ -1,13 +1,16 @@
 #!/usr/bin/env python3
-"""Runs calls of the libraries over the program crates/call_tests.
+"""Runs calls of the libraries over the programs that make them.
 
-    python3 cases/calls.py crates/call_tests/out/call_tests
+    python3 cases/calls.py PROGRAM ..
 
-calls.json: what a call says, in groups of the same call.
+The programs are those that the crates `file_calls`, `verdict_calls` and `request_calls` are built to, and have their names.
+
+calls.json: for each program what its calls say, in groups of the same call.
 
     call         its name, and for some calls a word that says of which kind
     about        what is shown
     refused      left out, or so many runs are enough to refuse each allocation of the call in turn, in memory.py
+    before       so many of these runs are left out: they would refuse allocations before the call
     rows         [INPUT, ANSWER]: the bytes that the call is about, and what the program prints
 
 The calls over the files of tasks.json, lines.json, plans.json, verdicts.json and groups.json are made here, and those over
@@ -29,21 +32,29 @@ from walks import walked_calls, walked_plans
 SECONDS = 60
 # the program reads no more than 8,192 bytes
 LONGEST = 8000
+FILES, VERDICTS, REQUESTS = "file_calls", "verdict_calls", "request_calls"
 RIGHT = "right\n"
 LAYERED = "layered\nkept\n"
 EVALUATORS = ("rounds", "worklist")
 
 
-def case(call, given, answer, about=""):
-    """A call that is made at once, without an allocation before it."""
-    return {"name": f"{call}, {about}", "input": b"%s 0\n%s" % (call.encode(), as_bytes(given)), "answer": as_bytes(answer)}
+def case(program, call, given, answer, about=""):
+    """A call of a program that is made at once, without an allocation before it."""
+    return {
+        "program": program,
+        "name": f"{call}, {about}",
+        "input": b"%s 0\n%s" % (call.encode(), as_bytes(given)),
+        "answer": as_bytes(answer),
+    }
 
 
 def written_cases():
     """The calls of calls.json."""
-    for group in table("calls.json"):
-        for given, answer in group["rows"]:
-            yield case(group["call"], given, answer, f"{group.get('about', '')} {as_bytes(given)[:60]!r}")
+    for program, groups in table("calls.json").items():
+        for group in groups:
+            for given, answer in group["rows"]:
+                about = f"{group.get('about', '')} {as_bytes(given)[:60]!r}"
+                yield case(program, group["call"], given, answer, about)
 
 
 def task_cases():
@@ -51,31 +62,31 @@ def task_cases():
     for task in table("tasks.json"):
         name, held = task["file"], as_bytes({"file": task["file"]})
         whole = ["whole\n", {"file": name}, "\n"]
-        yield case("new-task", ["|", {"file": name}], ["kept\n", whole], name)
-        yield case("same-parts", ["|", {"file": name}], "equal\nequal tasks\n", name)
+        yield case(FILES, "new-task", ["|", {"file": name}], ["kept\n", whole], name)
+        yield case(FILES, "same-parts", ["|", {"file": name}], "equal\nequal tasks\n", name)
         if task["check"] == "task layered":
-            yield case("layered", {"file": name}, LAYERED, name)
+            yield case(VERDICTS, "layered", {"file": name}, LAYERED, name)
         for ends in ("\n", "\r\n"):
             given, about = {"file": name, "ends": ends}, f"{name} {ends!r}"
             for way in ("task", "task-text"):
-                yield case(f"read {way}", given, whole, about)
-            yield case("cut-task", given, RIGHT, about)
+                yield case(FILES, f"read {way}", given, whole, about)
+            yield case(FILES, "cut-task", given, RIGHT, about)
             for way in ("task", "task-text", "outline"):
-                yield case(f"read-fronts {way}", given, RIGHT, about)
+                yield case(FILES, f"read-fronts {way}", given, RIGHT, about)
         if len(held) < 600:
             ways, requests = ("task", "task-text", "outline"), ("print", "show", "check", "mutex")
             yield from device_cases("task", ways, requests, name, held)
-            yield case("run-broken-fronts plan", held, RIGHT, name)
+            yield case(REQUESTS, "run-broken-fronts plan", held, RIGHT, name)
 
 
 def device_cases(reader, ways, requests, name, held):
     """A file that something follows, and devices that fail behind each front of it, or before all is written."""
-    yield case(f"behind-{reader}", held, RIGHT, name)
+    yield case(FILES, f"behind-{reader}", held, RIGHT, name)
     for way in ways:
-        yield case(f"read-broken-fronts {way}", held, RIGHT, name)
+        yield case(FILES, f"read-broken-fronts {way}", held, RIGHT, name)
     for request in requests:
-        yield case(f"run-broken-fronts {request}", held, RIGHT, name)
-        yield case(f"run-narrow {request}", held, RIGHT, name)
+        yield case(REQUESTS, f"run-broken-fronts {request}", held, RIGHT, name)
+        yield case(REQUESTS, f"run-narrow {request}", held, RIGHT, name)
 
 
 def line_cases():
@@ -86,7 +97,7 @@ def line_cases():
         whole = ["whole\n", changed["task"], "\n"]
         answer = whole if changed["fault"] is None else f"{changed['fault']}\n"
         for way in ("task", "outline")[: 1 if changed["fault"] is None else 2]:
-            yield case(f"read {way}", changed["task"], answer, changed["name"])
+            yield case(FILES, f"read {way}", changed["task"], answer, changed["name"])
 
 
 def plan_cases():
@@ -100,12 +111,12 @@ def plan_cases():
         else:
             answer = b"whole\n" + output + b"\n"
         for way in ("plan", "plan-text"):
-            yield case(f"read {way}", held, answer, plan["name"])
+            yield case(FILES, f"read {way}", held, answer, plan["name"])
         if plan["status"] == 0:
-            yield case("cut-plan", held, RIGHT, plan["name"])
+            yield case(FILES, "cut-plan", held, RIGHT, plan["name"])
         if plan.get("cut_off"):
             for way in ("plan", "plan-text"):
-                yield case(f"read-fronts {way}", held, RIGHT, plan["name"])
+                yield case(FILES, f"read-fronts {way}", held, RIGHT, plan["name"])
             yield from device_cases("plan", ("plan", "plan-text"), ("steps",), plan["name"], held)
 
 
@@ -117,21 +128,21 @@ def verdict_cases():
             continue
         answer = f"{state_line(made['initial'])}\n{made['call']}"
         for way in EVALUATORS:
-            yield case(f"plan {way}", [made["plan"], "|", made["task"]], answer, made["name"])
+            yield case(VERDICTS, f"plan {way}", [made["plan"], "|", made["task"]], answer, made["name"])
 
 
 def step_cases():
     """Calls of runners on tasks made at random, through each evaluator."""
     for made in walked_calls():
         for way in EVALUATORS:
-            yield case(f"steps {way}", [made["calls"], "|", made["task"]], made["answers"], made["name"])
+            yield case(VERDICTS, f"steps {way}", [made["calls"], "|", made["task"]], made["answers"], made["name"])
 
 
 def group_cases():
     """The groups of each task that isn't too long, and of those made at random: the joint verdicts, and each by itself."""
     for made in (*table("groups.json"), *grouped_tasks()):
         if len(as_bytes(made["task"])) <= LONGEST:
-            yield case("check-groups", made["task"], made["call"], made["name"])
+            yield case(VERDICTS, "check-groups", made["task"], made["call"], made["name"])
 
 
 def numbers(values):
@@ -145,14 +156,14 @@ def settled_cases():
         given = [";".join(map(numbers, made["states"])), "|", made["task"]]
         answer = "".join(f"state {numbers(values)}\n" for values in made["settled"])
         for way in EVALUATORS:
-            yield case(f"settle {way}", given, answer, f"random task {number}")
+            yield case(VERDICTS, f"settle {way}", given, answer, f"random task {number}")
 
 
 def layer_cases():
     """The layers of tasks made at random."""
     for number, made in enumerate(spoiled_tasks()):
         answer = f"kept\n{made['fault']}\n" if made["fault"] else LAYERED
-        yield case("layered", made["task"], answer, f"random task {number}")
+        yield case(VERDICTS, "layered", made["task"], answer, f"random task {number}")
 
 
 def cases():
@@ -161,8 +172,11 @@ def cases():
     return [*written_cases(), *files, *settled_cases(), *layer_cases(), *step_cases(), *group_cases()]
 
 
-def faults(program, call):
-    """What is wrong with the program's answer to a call."""
+def faults(programs, call):
+    """What is wrong with the answer of a program to a call of it."""
+    if call["program"] not in programs:
+        return [f"{call['program']} is none of the programs"]
+    program = programs[call["program"]]
     try:
         ran = subprocess.run([program], input=call["input"], capture_output=True, timeout=SECONDS, check=False)
     except subprocess.TimeoutExpired:
@@ -176,11 +190,12 @@ def faults(program, call):
 
 
 def main():
-    if len(sys.argv) != 2:
+    if len(sys.argv) < 2:
         sys.exit(__doc__)
-    program, calls = os.path.abspath(sys.argv[1]), cases()
+    programs = {os.path.basename(path): os.path.abspath(path) for path in sys.argv[1:]}
+    calls = cases()
     with ThreadPoolExecutor(os.cpu_count()) as pool:
-        wrong = list(pool.map(lambda call: faults(program, call), calls))
+        wrong = list(pool.map(lambda call: faults(programs, call), calls))
     report.end(calls, wrong)
 
 

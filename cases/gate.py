@@ -14,9 +14,10 @@ import sys
 import time
 
 TOP = os.path.dirname(os.path.dirname(os.path.abspath(__file__)))
+CALLS = [f"crates/{name}/out/{name}" for name in ("file_calls", "verdict_calls", "request_calls")]
 PARTS = [
     ["cases/memory.py"],
-    ["cases/calls.py", "crates/call_tests/out/call_tests"],
+    ["cases/calls.py", *CALLS],
     ["cases/run.py", "sas"],
 ]
 

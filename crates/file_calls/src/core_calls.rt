@@ -1,0 +1,155 @@
+// Calls of `sas_core`: names, lists and plans, and those on tasks.
+ghost use Rattle.std.specs.Prelude.{◌≡◌, ◌↔◌, IsTrue};
+
+use crate::readers::read_plan_of;
+use crate::task_calls::call_of_tasks;
+use call_words::{
+    Asked, cut, number_in, say, say_bytes, say_either, say_number, say_whole, spend, text_of,
+};
+use sas_core::{BadName, CostKind, Items, Plan, is_name};
+use sas_text::encode_plan;
+use std::alloc::{AllocError, Global};
+
+/// Makes the call, if it is one of these: whether it is.
+pub fn call_of_core<R: AllocGlobal + Print>(rt: &R, asked: &Asked<'_>) -> Result<bool, AllocError> {
+    match asked.call {
+        "is-name" => say_name(rt, asked.bytes),
+        "items" => say_items(rt, asked.bytes)?,
+        "new-plan" => new_plan(rt, asked.number, asked.bytes)?,
+        "plan-parts" => say_plan(rt, asked.bytes),
+        "same-plans" => say_same_plans(rt, asked.bytes),
+        _ => return call_of_tasks(rt, asked),
+    }
+    Ok(true)
+}
+
+/// `is_name`. It could show that the definition of a name allows a byte too many, or forbids one.
+fn say_name<P: Print>(out: &P, bytes: &[u8]) {
+    say_either(out, is_name(bytes), "name", "no name");
+}
+
+/// The list of some bytes, which then come a second time.
+fn list_of(alloc: Global, bytes: &[u8]) -> Result<Items<u8>, AllocError> {
+    let mut list = Items::new(alloc);
+    for byte in bytes {
+        list.push(*byte)?;
+    }
+    list.extend_from_slice(bytes)?;
+    Ok(list)
+}
+
+/// The methods of `Items`, each once. It could show that one of them always wants memory.
+fn say_items<R: AllocGlobal + Print>(rt: &R, bytes: &[u8]) -> Result<(), AllocError> {
+    let list = list_of(rt.alloc(), bytes)?;
+    say_number(rt, "items", list.len() as u64);
+    say_bytes(rt, list.as_slice());
+    say(rt, "");
+    let found = list.get(0).copied();
+    say_number(rt, "first", u64::from(found.unwrap_or(0)));
+    say_either(rt, list.get(list.len()).is_none(), "none behind", "WRONG");
+    let mut list = Items::from(list.into_vec());
+    say_either(rt, list.is_empty(), "WRONG", "some");
+    list.clear();
+    say_either(rt, list == Items::new(rt.alloc()), "empty", "WRONG");
+    Ok(())
+}
+
+/// The names that stand between `|`.
+fn names_of(alloc: Global, bytes: &[u8]) -> Result<Items<Items<u8>>, AllocError> {
+    let mut names = Items::new(alloc);
+    for name in bytes.split(|&byte| byte == b'|') {
+        names.push(Items::from_vec(Vec::from_slice(alloc, name)?))?;
+    }
+    Ok(names)
+}
+
+/// The words behind a cost.
+fn kind_of(word: &str) -> CostKind {
+    match word {
+        "unit" => CostKind::Unit,
+        _ => CostKind::General,
+    }
+}
+
+/// What `Plan::new` says of these steps.
+fn plan_of(
+    names: Items<Items<u8>>,
+    cost: u64,
+    kind: CostKind,
+) -> Result<Plan, (Items<Items<u8>>, BadName)> {
+    Plan::new(names, cost, kind)
+}
+
+/// Whether two lists of names are the same.
+fn are_same_names(names: &Items<Items<u8>>, others: &Items<Items<u8>>) -> bool {
+    names == others
+}
+
+/// `Plan::new` of steps with `|` between them, behind a cost and its words: the text of the plan. It could show that the
+/// definition of a plan allows another step, or counts steps from 0.
+fn new_plan<R: AllocGlobal + Print>(rt: &R, count: usize, words: &[u8]) -> Result<(), AllocError> {
+    let (cost, words) = cut(words, b' ');
+    let (kind, names) = cut(words, b' ');
+    let steps = names_of(rt.alloc(), names)?;
+    let cost = u64::from(number_in(cost).unwrap_or(0));
+    match plan_of(steps, cost, kind_of(text_of(kind))) {
+        Ok(plan) => say_encoded(rt, count, &plan),
+        Err((back, fault)) => {
+            let same = are_same_names(&back, &names_of(rt.alloc(), names)?);
+            say_number(
+                rt,
+                if same { "bad name" } else { "WRONG" },
+                fault.step as u64,
+            );
+            Ok(())
+        }
+    }
+}
+
+/// `encode_plan`.
+fn say_encoded<R: AllocGlobal + Print>(
+    rt: &R,
+    count: usize,
+    plan: &Plan,
+) -> Result<(), AllocError> {
+    spend(rt.alloc(), count)?;
+    match encode_plan(rt.alloc(), plan) {
+        Ok(text) => say_whole(rt, text.as_slice()),
+        Err(_) => say(rt, "wanting"),
+    }
+    Ok(())
+}
+
+/// The parts of the plan of a file. It could show a format whose reader and writer make the same mistake, as a name that
+/// keeps its brackets.
+fn say_plan<R: AllocGlobal + Print>(rt: &R, file: &[u8]) {
+    let Ok(plan) = read_plan_of(rt.alloc(), file) else {
+        return say(rt, "WRONG: no plan");
+    };
+    for step in plan.steps().as_slice() {
+        say_bytes(rt, step.as_slice());
+        say(rt, "|");
+    }
+    let kind = plan.kind();
+    say_either(rt, kind == CostKind::Unit, "unit", "general");
+    say_number(rt, "cost", plan.cost());
+}
+
+/// Whether two plans are equal, whose files have `|` between them. It could show an equality that forgets a field.
+fn say_same_plans<R: AllocGlobal + Print>(rt: &R, files: &[u8]) {
+    let (file, other) = cut(files, b'|');
+    let Ok(plan) = read_plan_of(rt.alloc(), file) else {
+        return say(rt, "WRONG: no plan");
+    };
+    let Ok(other) = read_plan_of(rt.alloc(), other) else {
+        return say(rt, "WRONG: no other plan");
+    };
+    say_either(rt, is_same_plan(&plan, &other), "equal", "different");
+}
+
+/// Whether two plans are equal: exactly if they say the same.
+fn is_same_plan(plan: &Plan, other: &Plan) -> bool
+    ensures { IsTrue result ↔ (plan.now ≡ other.now) }
+{
+    plan == other
+}

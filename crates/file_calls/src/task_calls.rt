@@ -1,0 +1,191 @@
+// Calls of `sas_core` on tasks and their parts. The parts are those of a file, behind changes of them and a `|`.
+use crate::changes::change_all;
+use crate::fault_words::say_read;
+use crate::parts_text::text_of_parts;
+use crate::readers::{read_task_of, text_of_task};
+use call_words::{
+    Asked, cut, fact_of, is_same_task, number_in, say, say_either, say_number, say_whole, spend,
+};
+use sas_core::{Fact, Parts, PartsFault, Task};
+use std::alloc::{AllocError, Global};
+
+/// Makes the call, if it is one of these: whether it is.
+pub fn call_of_tasks<R: AllocGlobal + Print>(
+    rt: &R,
+    asked: &Asked<'_>,
+) -> Result<bool, AllocError> {
+    match asked.call {
+        "new-task" => new_task(rt, asked.bytes)?,
+        "encode-task" => encode(rt, asked.number, asked.bytes)?,
+        "same-parts" => say_same(rt, asked.bytes)?,
+        "task-parts" => say_task_parts(rt, asked.bytes)?,
+        "costs" => say_costs(rt, asked.bytes),
+        "variables" => say_variables(rt, asked.bytes),
+        "facts" => say_facts(rt, asked.bytes),
+        _ => return Ok(false),
+    }
+    Ok(true)
+}
+
+/// The changed parts, where the bytes are those of a task.
+fn parts_of(alloc: Global, bytes: &[u8]) -> Result<Option<Parts>, AllocError> {
+    let (changes, file) = cut(bytes, b'|');
+    let Ok(task) = read_task_of(alloc, file) else {
+        return Ok(None);
+    };
+    changed(alloc, task.into_parts(), changes)
+}
+
+/// The parts with these changes.
+fn changed(alloc: Global, parts: Parts, changes: &[u8]) -> Result<Option<Parts>, AllocError> {
+    let mut parts = parts;
+    match change_all(alloc, &mut parts, changes) {
+        Ok(()) => Ok(Some(parts)),
+        Err(error) => Err(error),
+    }
+}
+
+/// What `Task::new` says of the parts.
+fn task_of(parts: Parts) -> Result<Task, (Parts, PartsFault)> {
+    Task::new(parts)
+}
+
+/// Whether the parts are the same.
+fn are_same(parts: &Parts, others: &Parts) -> bool {
+    parts == others
+}
+
+/// Says whether the parts that came back are those that were given.
+fn say_kept<P: Print>(out: &P, parts: &Parts, given: &Parts) {
+    say_either(out, are_same(parts, given), "kept", "WRONG: other parts");
+}
+
+/// The task of the parts of a task.
+fn made_again(task: Task) -> Task {
+    Task::of_parts(task.into_parts())
+}
+
+/// `Task::new`: the text of the task, or the first fault. It could show a rule of the format that its definition lacks, or an
+/// order of faults that isn't that of the file.
+fn new_task<R: AllocGlobal + Print>(rt: &R, bytes: &[u8]) -> Result<(), AllocError> {
+    let Some(same) = parts_of(rt.alloc(), bytes)? else {
+        say(rt, "WRONG: no task");
+        return Ok(());
+    };
+    if let Some(parts) = parts_of(rt.alloc(), bytes)? {
+        say_made(rt, task_of(parts), &same);
+    }
+    Ok(())
+}
+
+/// Says what `Task::new` answered about such parts.
+fn say_made<R: AllocGlobal + Print>(
+    rt: &R,
+    made: Result<Task, (Parts, PartsFault)>,
+    given: &Parts,
+) {
+    match made {
+        Ok(task) => {
+            say_kept(rt, task.parts(), given);
+            say_read(rt, text_of_task(rt.alloc(), &made_again(task)));
+        }
+        Err((back, fault)) => {
+            say_kept(rt, &back, given);
+            let _ = println!(rt; "{fault:?}");
+        }
+    }
+}
+
+/// `encode_task`. It could show that it always wants memory.
+fn encode<R: AllocGlobal + Print>(rt: &R, count: usize, file: &[u8]) -> Result<(), AllocError> {
+    let Ok(task) = read_task_of(rt.alloc(), file) else {
+        say(rt, "WRONG: no task");
+        return Ok(());
+    };
+    spend(rt.alloc(), count)?;
+    say_read(rt, text_of_task(rt.alloc(), &task));
+    Ok(())
+}
+
+/// Whether the parts are the same without their changes, and the tasks of both, where they are tasks. It could show an
+/// equality that forgets a field.
+fn say_same<R: AllocGlobal + Print>(rt: &R, bytes: &[u8]) -> Result<(), AllocError> {
+    let (_, file) = cut(bytes, b'|');
+    let Ok(task) = read_task_of(rt.alloc(), file) else {
+        say(rt, "WRONG: no task");
+        return Ok(());
+    };
+    if let Some(parts) = parts_of(rt.alloc(), bytes)? {
+        say_either(rt, are_same(&parts, task.parts()), "equal", "different");
+        say_same_tasks(rt, &task, task_of(parts));
+    }
+    Ok(())
+}
+
+/// Says whether the task that was made of the other parts, if one was, is equal.
+fn say_same_tasks<P: Print>(out: &P, task: &Task, made: Result<Task, (Parts, PartsFault)>) {
+    if let Ok(other) = made {
+        say_either(
+            out,
+            is_same_task(task, &other),
+            "equal tasks",
+            "different tasks",
+        );
+    }
+}
+
+/// The parts of the task of a file. It could show a format whose reader and writer make the same mistake, as an old value in
+/// place of a new one.
+fn say_task_parts<R: AllocGlobal + Print>(rt: &R, file: &[u8]) -> Result<(), AllocError> {
+    match read_task_of(rt.alloc(), file) {
+        Ok(task) => say_whole(rt, text_of_parts(rt.alloc(), task.parts())?.as_slice()),
+        Err(_) => say(rt, "WRONG: no task"),
+    }
+    Ok(())
+}
+
+/// `Task::cost` of each operator. It could show a definition that counts cost lines under metric 0.
+fn say_costs<R: AllocGlobal + Print>(rt: &R, file: &[u8]) {
+    let Ok(task) = read_task_of(rt.alloc(), file) else {
+        return say(rt, "WRONG: no task");
+    };
+    for operator in 0..u32::MAX {
+        if operator as usize >= task.parts().operators.len() {
+            return;
+        }
+        say_number(rt, "cost", u64::from(task.cost(operator)));
+    }
+}
+
+/// `Task::range` and `Task::derived` of each variable. It could show a definition by which a variable on layer 0 is basic.
+fn say_variables<R: AllocGlobal + Print>(rt: &R, file: &[u8]) {
+    let Ok(task) = read_task_of(rt.alloc(), file) else {
+        return say(rt, "WRONG: no task");
+    };
+    for var in 0..u32::MAX {
+        if var as usize >= task.parts().variables.len() {
+            return;
+        }
+        let word = if task.derived(var) {
+            "derived"
+        } else {
+            "basic"
+        };
+        say_number(rt, word, u64::from(task.range(var)));
+    }
+}
+
+/// `Task::has_fact` of each of the facts, which stand with `;` between them before a `|` and a file. It could show that the
+/// definition of a fact counts from 1.
+fn say_facts<R: AllocGlobal + Print>(rt: &R, bytes: &[u8]) {
+    let (facts, file) = cut(bytes, b'|');
+    let Ok(task) = read_task_of(rt.alloc(), file) else {
+        return say(rt, "WRONG: no task");
+    };
+    for words in facts.split(|&byte| byte == b';') {
+        let Some(fact) = fact_of(words) else {
+            return say(rt, "WRONG: no fact");
+        };
+        say_either(rt, task.has_fact(fact), "exists", "doesn't exist");
+    }
+}
