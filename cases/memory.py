@@ -53,7 +53,7 @@ def shares(calls):
             runs.setdefault(call["program"], []).append((f"{number} {run}", given))
     total = sum(map(len, runs.values()))
     for program, its in runs.items():
-        count = max(1, round(os.cpu_count() * len(its) / total))
+        count = max(1, os.cpu_count() * len(its) // total)
         yield from ((program, its[first::count]) for first in range(count))
 
 
