@@ -32,7 +32,7 @@ NOTHING = Best(None, None)
 
 
 def launcher(command, report, stdout):
-    """Starts the command under launch.py, in a session of its own, so that both can be stopped together."""
+    """Starts the command under launch.py, in a process group of its own, so that both can be stopped together."""
     return subprocess.Popen([sys.executable, "-I", "-S", LAUNCH, str(report), *command], stdin=subprocess.DEVNULL,
                             stdout=stdout, pass_fds=[report], start_new_session=True)
 
