@@ -1,12 +1,13 @@
 -- What stands first in some bytes: a number, a line.
-use Rattle.std.proofs.Common.{◌≡◌, ℕ, ◌+◌, ◌*◌, ◌-◌, ◌<◌, ◌≤◌, List, [], ◌∷◌, ◌++◌, length, get_or, take, refl, sym, ap, subst, ◌∙◌, append_assoc, arith}
+use Rattle.std.proofs.Common.{◌≡◌, ℕ, ◌+◌, ◌*◌, ◌-◌, ◌<◌, ◌≤◌, List, [], ◌∷◌, ◌++◌, length, length-append, get_or, take, refl, sym, ap, subst, ◌∙◌, append_assoc, arith}
 use Rattle.std.specs.Str.Parse.{AllDigits, digits_value}
 use Rattle.std.proofs.lemmas.Int.Digits.{digits_more, digits_value_more}
 use Rattle.std.proofs.lemmas.List.{length-take, take-take, take_at, length_push}
-use Rattle.sas_lines.specs.Lines.{lines, unfinished, LineStandsFirst}
+use Rattle.std.specs.List.{AllByRecursion}
+use Rattle.sas_lines.specs.Lines.{lines, unfinished, text, LineStandsFirst, LinesStandFirst}
 use Rattle.sas_lines.specs.Numerals.{NumberStandsFirst, DigitsStandFirst}
 use Rattle.sas_lines.proofs.Digits.{HasLeadingZero, digit_in, so_far_below, are_decimal}
-use Rattle.sas_lines.proofs.Splitting.{Plain, lines-one, unfinished-one}
+use Rattle.sas_lines.proofs.Splitting.{Plain, lines-one, unfinished-one, lines-text, unfinished-text}
 
 -- ---- a number
 
@@ -45,4 +46,20 @@ stands_first bytes line rest plain e =
       taken = (line, rest, plain.no_end, e, refl);
       line = ap lines up_to ∙ lines-one line plain.no_end ∙ ap (λ (l : List ℕ). l ∷ []) plain.no_return;
       rest = ap unfinished up_to ∙ unfinished-one line plain.no_end;
+    }
+
+-- one line is some lines
+pub one_stands_first : (bytes line : List ℕ) (n : ℕ) → LineStandsFirst bytes line n → LinesStandFirst bytes (line ∷ []) n
+one_stands_first bytes line n h =
+    let t = h.taken in
+    record { within = omega (arith, ap length t.3, length-append t.0 (10 ∷ t.1), t.4); lines = h.line; rest = h.rest }
+
+-- lines, each with its end, and the rest
+pub lines_stand_first : (bytes rest : List ℕ) (ls : List (List ℕ)) → AllByRecursion Plain ls → bytes ≡ text ls ++ rest → LinesStandFirst bytes ls (length (text ls))
+lines_stand_first bytes rest ls plain e =
+    let up_to : take (length (text ls)) bytes ≡ text ls = ap (take (length (text ls))) e ∙ take_at (text ls) rest (length (text ls)) refl in
+    record {
+      within = omega (arith, ap length e, length-append (text ls) rest);
+      lines = ap lines up_to ∙ lines-text ls plain;
+      rest = ap unfinished up_to ∙ unfinished-text ls;
     }

@@ -1,9 +1,9 @@
 -- Byte lists in a row, and their lines.
-use Rattle.std.proofs.Common.{◌≡◌, ℕ, ◌≢◌, List, [], ◌∷◌, ◌++◌, refl, sym, ap, ◌∙◌}
+use Rattle.std.proofs.Common.{◌≡◌, ℕ, suc, ◌≤◌, ◌≢◌, Bool, true, false, ◌==◌, if◌then◌else◌, length, List, [], ◌∷◌, ◌++◌, refl, sym, ap, ◌∙◌, arith}
 use Rattle.std.specs.List.{AllByRecursion}
 use Rattle.std.proofs.lemmas.Bool.{ne_eqb}
 use Rattle.std.proofs.lemmas.List.{append-nil}
-use Rattle.sas_lines.specs.Parts.{parts}
+use Rattle.sas_lines.specs.Parts.{parts, onto_first}
 use Rattle.sas_lines.specs.Lines.{without_return, lines_among, rest_among, lines, unfinished, text, NoEnd}
 use Rattle.sas_lines.proofs.Separated.{Without-append, parts-first, parts-only, parts-some, front, parts-append, last-without}
 
@@ -112,3 +112,31 @@ lines-text (l ∷ ls) h =
 pub unfinished-text : (ls : List (List ℕ)) → unfinished (text ls) ≡ []
 unfinished-text [] = unfinished-none
 unfinished-text (l ∷ ls) = unfinished-append (l ++ 10 ∷ []) (text ls) ∙ ap (λ (u : List ℕ). unfinished (u ++ text ls)) (unfinished-end l) ∙ unfinished-text ls
+
+-- ---- how many lines there are
+
+onto_first_few : (byte : ℕ) (ps : List (List ℕ)) (n : ℕ) → length ps ≤ n → length (onto_first byte ps) ≤ suc n
+onto_first_few byte [] n h = omega arith
+onto_first_few byte (p ∷ ps) n h = omega (arith, h)
+
+split_few : (ends : Bool) (byte : ℕ) (ps : List (List ℕ)) (n : ℕ) → length ps ≤ n → length (if ends then [] ∷ ps else onto_first byte ps) ≤ suc n
+split_few true byte ps n h = omega (arith, h)
+split_few false byte ps n h = onto_first_few byte ps n h
+
+parts_few : (bytes : List ℕ) → length (parts 10 bytes) ≤ suc (length bytes)
+unfolding parts
+parts_few [] = omega arith
+parts_few (b ∷ bytes) = split_few (b == 10) b (parts 10 bytes) (suc (length bytes)) (parts_few bytes)
+
+among_few : (part : List ℕ) (ps : List (List ℕ)) → length (lines_among (part ∷ ps)) ≡ length ps
+among_few part [] = refl
+among_few part (p ∷ ps) = ap suc (among_few p ps)
+
+among_fewer : (ps : List (List ℕ)) (n : ℕ) → length ps ≤ suc n → length (lines_among ps) ≤ n
+among_fewer [] n h = omega arith
+among_fewer (p ∷ ps) n h = omega (arith, among_few p ps, h)
+
+-- no more than there are bytes
+pub lines-few : (bytes : List ℕ) → length (lines bytes) ≤ length bytes
+unfolding lines
+lines-few bytes = among_fewer (parts 10 bytes) (length bytes) (parts_few bytes)

@@ -1,5 +1,5 @@
 -- Lines: every byte list is some complete lines, each with its line end, and a rest without LF.
-use Rattle.std.specs.Prelude.{◌≡◌, ◌≢◌, ℕ, ◌+◌, Bool, true, false, length, List, [], ◌∷◌, ◌++◌, ◌==◌, if◌then◌else◌, take}
+use Rattle.std.specs.Prelude.{◌≡◌, ◌≢◌, ℕ, ◌+◌, ◌≤◌, Bool, true, false, length, List, [], ◌∷◌, ◌++◌, ◌==◌, if◌then◌else◌, take}
 use Rattle.std.specs.List.{flat_map, AllByRecursion}
 use Rattle.sas_lines.specs.Parts.{parts}
 
@@ -48,4 +48,10 @@ pub record LineStandsFirst (bytes first : List ℕ) (n : ℕ) : Type 0 where
   pub taken : TakesLine bytes n true
   -- and they are this line and its end
   pub line : lines (take n bytes) ≡ first ∷ []
+  pub rest : unfinished (take n bytes) ≡ []
+
+-- these lines stand first in the bytes, and take n of them with their ends
+pub record LinesStandFirst (bytes : List ℕ) (first : List (List ℕ)) (n : ℕ) : Type 0 where
+  pub within : n ≤ length bytes
+  pub lines : lines (take n bytes) ≡ first
   pub rest : unfinished (take n bytes) ≡ []

@@ -10,7 +10,7 @@ use Rattle.memchr.specs.Find.{Nowhere, NoneBefore, Passes, is_byte2}
 use Rattle.sas_core.specs.Names.{is_plain}
 use Rattle.sas_core.proofs.PlainBytes.{is_none-search}
 use Rattle.sas_lines.specs.Lines.{without_return, NoEnd, LineStandsFirst}
-use Rattle.sas_lines.proofs.Beginnings.{stands_first}
+use Rattle.sas_lines.proofs.Beginnings.{stands_first, one_stands_first}
 use Rattle.sas_lines.proofs.Splitting.{Plain}
 use Rattle.sas_reader.specs.Machine.{AcceptsAhead}
 use Rattle.sas_reader.specs.System.{IsPlain, Takes}
@@ -93,5 +93,5 @@ module _ (bytes name : List ℕ) (h : StepStandsFirst bytes name) where
   -- a machine that the step leads on takes its line
   pub accepts_step : {M : Type 0} (led_by : List (List ℕ) → M → Type 0) (old new : M)
       → ((before : List (List ℕ)) → led_by before old → led_by (before ++ plan_line_bytes (step name) ∷ []) new)
-      → AcceptsAhead led_by old bytes new (Ok (length name + 3))
-  accepts_step led_by old new on = record { took = λ some. (plan_line_bytes (step name), line_first, on); none = λ e. absurd (omega (arith, e)); memory = tt }
+      → AcceptsAhead led_by old bytes new (Ok (record { lines = 1; bytes = length name + 3 }))
+  accepts_step led_by old new on = record { took = λ some. (plan_line_bytes (step name) ∷ [], record { stand = one_stands_first bytes (plan_line_bytes (step name)) (length name + 3) line_first; many = refl }, on); none = λ e. absurd (omega (arith, e)); memory = tt }

@@ -6,7 +6,7 @@ use crate::plan_line::{PlanLine, plan_line, step_ahead};
 use crate::step_names::StepNames;
 use sas_core::{CostKind, Items, Plan};
 use sas_flat::{FlatPlan, Lists};
-use sas_reader::{Kind, Machine};
+use sas_reader::{Front, Kind, Machine};
 use std::alloc::Global;
 use std::marker::Model;
 
@@ -139,14 +139,17 @@ impl<S: StepNames> Machine for PlanMachine<S> {
         }
     }
 
-    fn accept_ahead(&mut self, bytes: &[u8]) -> Result<usize, Kind> {
+    fn accept_ahead(&mut self, bytes: &[u8]) -> Result<Front, Kind> {
         let Some(name) = step_ahead(bytes) else {
-            return Ok(0);
+            return Ok(Front::EMPTY);
         };
         match self.add_step(name) {
             Err(kind) => Err(kind),
             // The parentheses and LF.
-            Ok(()) => Ok(name.len() + 3),
+            Ok(()) => Ok(Front {
+                lines: 1,
+                bytes: name.len() + 3,
+            }),
         }
     }
 }

@@ -3,7 +3,7 @@ ghost use Rattle.std.specs.Prelude.{◌≡◌, [], ◌∷◌, ◌++◌, IsTrue, 
 
 use crate::plan_line::{PlanLine, plan_line, step_ahead};
 use sas_lines::push_line;
-use sas_reader::{Kind, Machine};
+use sas_reader::{Front, Kind, Machine};
 use std::alloc::Global;
 
 /// The lines so far, each ended by LF, and whether the cost has come.
@@ -78,15 +78,18 @@ impl Machine for PlanText {
         }
     }
 
-    fn accept_ahead(&mut self, bytes: &[u8]) -> Result<usize, Kind> {
+    fn accept_ahead(&mut self, bytes: &[u8]) -> Result<Front, Kind> {
         let Some(name) = step_ahead(bytes) else {
-            return Ok(0);
+            return Ok(Front::EMPTY);
         };
         // The parentheses and LF.
         let taken = name.len() + 3;
         match self.text.extend_from_slice(&bytes[..taken]) {
             Err(_) => Err(Kind::Memory),
-            Ok(()) => Ok(taken),
+            Ok(()) => Ok(Front {
+                lines: 1,
+                bytes: taken,
+            }),
         }
     }
 }

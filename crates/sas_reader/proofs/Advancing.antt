@@ -2,13 +2,16 @@
 use Rattle.std.proofs.Common.{◌≡◌, ◌≢◌, ℕ, ◌+◌, ◌-◌, ◌≤◌, ◌<◌, Bool, true, false, not, List, [], ◌∷◌, ◌++◌, length, take, drop, refl, sym, ap, subst, ◌∙◌, append_assoc, arith, length-append, length-drop, Result, Ok, Err}
 use Rattle.std.proofs.lemmas.List.{append-nil, length-take, take_all, take-append-drop}
 use Rattle.std.proofs.Math.Seq.{take-add}
-use Rattle.sas_lines.specs.Lines.{lines, unfinished, TakesLine, LineStandsFirst}
+use Rattle.sas_lines.specs.Lines.{lines, unfinished, TakesLine, LineStandsFirst, LinesStandFirst}
+use Rattle.sas_lines.proofs.Splitting.{lines-append, unfinished-append, lines-few}
 use Rattle.sas_lines.specs.Progress.{Progress, completed}
 use Rattle.sas_reader.specs.declared.fault.Fault.{Fault}
 use Rattle.sas_reader.specs.declared.fault.Kind.{Kind}
 use Rattle.sas_reader.specs.declared.fault.Kind.TheVariants as kinds
 use Rattle.sas_reader.specs.declared.reader.Reader.{Reader}
+use Rattle.sas_reader.specs.declared.reader.Front.{Front}
 use Rattle.sas_reader.specs.Faults.{IsOfBytes}
+use Rattle.sas_reader.specs.Machine.{IsFront}
 use Rattle.sas_reader.specs.Reader.{Reached, Accepted, LineIsDue, FaultIn, TookFront, Stopped, Advances}
 use Rattle.sas_reader.proofs.Pieces.{takes_bound, front_of, lines_fed, unfinished_fed, reached_part, reached_line, due_first, due_wider, due_behind, fault_full, fault_over, fault_line, fault_wider}
 
@@ -29,6 +32,12 @@ pub record Fed (pending : List ℕ) (next : Progress) (piece : List ℕ) (n : �
 -- where nothing was pending, it is the line that comes
 fed_whole : (pending piece line : List ℕ) (n : ℕ) → pending ≡ [] → LineStandsFirst piece line n → Fed pending (record { line = line; pending = [] }) piece n true
 fed_whole pending piece line n p w = record { taken = w.taken; lines = rw p w.line; rest = rw p w.rest }
+
+-- a front has no more lines than bytes, and no more of these than there are
+pub front_few : (first : List (List ℕ)) (bytes : List ℕ) (front : Front) → IsFront first bytes front → front.lines ≤ front.bytes
+front_few first bytes front h =
+    let l = lines-few (take front.bytes bytes) in
+    omega (arith, h.many, ap length h.stand.lines, l, length-take front.bytes bytes)
 
 -- what is taken of a piece is some of it
 pub takes_some : (piece : List ℕ) (n : ℕ) (complete : Bool) → TakesLine piece n complete → 0 < length piece → 0 < n
@@ -94,6 +103,24 @@ module _ {M : Type 0} (led_by : List (List ℕ) → M → Type 0) (ended : M →
   -- nothing was taken
   pub took_none : (r : Reader M) (piece : List ℕ) → TookFront led_by ended rejects r r piece 0
   took_none r piece = record { within = omega arith; count = omega arith; accepted = λ bytes h. subst (Accepted led_by ended r) (sym (append-nil bytes)) h }
+
+  -- the first lines of the piece were taken, and nothing was pending
+  pub took_lines : (r s : Reader M) (piece : List ℕ) (first : List (List ℕ)) (n : ℕ) → r.pending.pending ≡ [] → LinesStandFirst piece first n → ((before : List (List ℕ)) → led_by before r.machine → led_by (before ++ first) s.machine)
+      → s.pending ≡ r.pending → s.lines ≡ r.lines + length first → s.taken ≡ r.taken + n → TookFront led_by ended rejects r s piece n
+  took_lines r s piece first n nothing stand leads same_pending same_lines same_taken = record {
+    within = stand.within;
+    count = same_taken;
+    accepted = λ bytes h.
+        let whole : unfinished bytes ≡ [] = sym h.pending ∙ nothing in
+        let more : lines (bytes ++ take n piece) ≡ lines bytes ++ first = lines-append bytes (take n piece) ∙ ap (λ (x : List ℕ). lines bytes ++ lines (x ++ take n piece)) whole ∙ ap (λ (x : List (List ℕ)). lines bytes ++ x) stand.lines in
+        let none : unfinished (bytes ++ take n piece) ≡ [] = unfinished-append bytes (take n piece) ∙ ap (λ (x : List ℕ). unfinished (x ++ take n piece)) whole ∙ stand.rest in
+        record {
+          reached = record { led = subst (λ (l : List (List ℕ)). led_by l s.machine) (sym more) (leads (lines bytes) h.reached.led); rest = λ e. none };
+          pending = ap (λ (p : Progress). p.pending) same_pending ∙ nothing ∙ sym none;
+          lines = same_lines ∙ (let e : length (lines (bytes ++ take n piece)) ≡ length (lines bytes) + length first = ap length more ∙ length-append (lines bytes) first in omega (arith, h.lines, e));
+          taken = same_taken ∙ (let l = length-take n piece in omega (arith, h.taken, l, stand.within, length-append bytes (take n piece)));
+        };
+  }
 
   -- the first line of the piece was taken, and nothing was pending
   pub took_whole : (r s : Reader M) (piece line : List ℕ) (n : ℕ) → r.pending.pending ≡ [] → LineStandsFirst piece line n → ((before : List (List ℕ)) → led_by before r.machine → led_by (before ++ line ∷ []) s.machine)

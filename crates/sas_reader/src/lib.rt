@@ -7,4 +7,4 @@ mod reader;
 
 pub use devices::read_all;
 pub use fault::{Fault, Kind};
-pub use reader::{LIMIT, Machine, Reader, limit_law};
+pub use reader::{Front, LIMIT, Machine, Reader, limit_law};

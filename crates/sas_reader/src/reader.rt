@@ -11,6 +11,18 @@ use std::alloc::Global;
 /// The most bytes that are read of an input, a task or a plan: 4 GiB.
 pub const LIMIT: u64 = 4_294_967_296;
 
+/// Whole lines that stand first in some bytes: how many they are, and how many of the bytes they take with their ends.
+#[derive(Clone, Copy, Debug, PartialEq, Eq)]
+pub struct Front {
+    pub lines: u64,
+    pub bytes: usize,
+}
+
+impl Front {
+    /// No line.
+    pub const EMPTY: Front = Front { lines: 0, bytes: 0 };
+}
+
 /// What judges the lines of a text, one after another.
 pub trait Machine: Drop {
     ghost use Rattle.sas_reader.specs.declared.fault.Kind.{Kind};
@@ -36,13 +48,13 @@ pub trait Machine: Drop {
         ensures rejects { IfErr result (λ k. k ≢ Kind.Memory → rejects self.old line.now k) }
         ensures kind { IfErr result IsOfBytes };
 
-    /// Takes the first line of the bytes where it is quick to see that the line may stand here, and tells how many of the
-    /// bytes it takes with its end. Else it takes nothing, and tells 0: `accept` then has to judge the line.
-    fn accept_ahead(&mut self, bytes: &[u8]) -> Result<usize, Kind>
+    /// Takes one or more of the first lines of the bytes where it is quick to see that they may stand here, and tells
+    /// how long they are. Else it takes nothing, and tells an empty front: `accept` then has to judge the next line.
+    fn accept_ahead(&mut self, bytes: &[u8]) -> Result<Front, Kind>
         requires { ended self.old → ⊥ }
         ensures { AcceptsAhead led_by self.old bytes.now self.new result }
     {
-        Ok(0)
+        Ok(Front::EMPTY)
     }
 }
 
@@ -144,7 +156,7 @@ impl<M: Machine> Reader<M> {
         }
     }
 
-    /// Takes the first line of the piece if the machine is quick to see that it may stand here, else nothing.
+    /// Takes some of the first lines of the piece if the machine is quick to see that they may stand here, else nothing.
     fn take_ahead(&mut self, piece: &[u8]) -> Result<usize, Kind>
         requires some { 0 < length piece.now }
         requires room { self.old.taken + length piece.now ≤ self.old.limit }
@@ -155,18 +167,19 @@ impl<M: Machine> Reader<M> {
         if self.machine.has_ended() {
             return Ok(0);
         }
-        match self.machine.accept_ahead(piece) {
-            Err(kind) => Err(kind),
-            Ok(0) => Ok(0),
-            Ok(taken) => {
-                self.lines += 1;
-                self.taken += taken as u64;
-                Ok(taken)
-            }
+        let front = match self.machine.accept_ahead(piece) {
+            Ok(front) => front,
+            Err(kind) => return Err(kind),
+        };
+        if front.bytes == 0 {
+            return Ok(0);
         }
+        self.lines += front.lines;
+        self.taken += front.bytes as u64;
+        Ok(front.bytes)
     }
 
-    /// Takes line after line ahead, as long as that goes and the limit leaves room.
+    /// Takes lines ahead, as long as that goes and the limit leaves room.
     fn go_ahead(&mut self, piece: &[u8]) -> Result<usize, Kind>
         ensures { Advances M.led_by M.ended M.rejects self.old piece.now self.new result }
     {

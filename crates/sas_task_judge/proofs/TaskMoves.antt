@@ -25,7 +25,7 @@ use Rattle.sas_task_judge.specs.TaskPlaces.{state_values, state_values_of, goal_
 use Rattle.sas_task_judge.specs.TaskJudge.{state_at, state_of, KnownTo, LeadsOn, RejectsLine, TakesMemory, Moves, MovesBy, MovesAhead}
 use Rattle.sas_core.specs.declared.parts.Effect.{Effect}
 use Rattle.sas_lines.specs.Lines.{LineStandsFirst}
-use Rattle.sas_task_line.specs.declared.task_line.Change.{Change}
+use Rattle.sas_grounded.specs.declared.grounded.Change.{Change}
 use Rattle.sas_task_line.specs.Ahead.{SpellsAhead, plain_effect}
 use Rattle.sas_task_line.specs.TaskRanges.{change_in, effect_in_ranges}
 use Rattle.sas_task_line.specs.TaskLine.{IsOfLine}

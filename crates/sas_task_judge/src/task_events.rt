@@ -3,7 +3,7 @@ ghost use Rattle.std.specs.Prelude.{◌≡◌};
 ghost use Rattle.sas_task_line.specs.Ahead.{plain_effect};
 
 use sas_core::{Effect, Fact, Items};
-use sas_task_line::Change;
+use sas_grounded::Change;
 use std::alloc::Global;
 
 /// What a line adds to what has come. A name is the line itself, and other values stand beside, in `Said`.

@@ -10,9 +10,10 @@ mod ahead;
 
 use crate::task_events::{Event, Said};
 use sas_core::{Fact, Items};
+use sas_grounded::Change;
 use sas_reader::Kind;
 use sas_task_line::{
-    Change, effect_at, fact_at, head_at, name_at, number_at, number_below, positive_at, signed_at,
+    effect_at, fact_at, head_at, name_at, number_at, number_below, positive_at, signed_at,
     version_at, word_at,
 };
 use std::alloc::Global;

@@ -5,13 +5,15 @@ ghost use Rattle.sas_task_judge.specs.TaskMachine.{LedBy};
 
 use crate::task_events::{Event, Said};
 use crate::task_judge::TaskJudge;
-use sas_reader::{Kind, Machine};
+use sas_core::Items;
+use sas_reader::{Front, Kind, Machine};
 use std::alloc::Global;
 
 /// What is kept of a task as its lines come.
 pub trait Keeper: Drop {
     ghost use Rattle.sas_task_judge.specs.declared.so_far.SoFar.{SoFar};
     ghost use Rattle.sas_task_judge.specs.TaskEvents.{after};
+    ghost use Rattle.sas_task_judge.specs.Sections.{KeepsOperator, KeepsRule};
 
     /// It keeps what it is asked to of these lines, with which so much of a task has come.
     ghost keeps: { List (List ℕ) → SoFar → Self → Type 0 };
@@ -21,6 +23,21 @@ pub trait Keeper: Drop {
         ensures kept { OnOk result ((lines : List (List ℕ)) (s : SoFar)
             → keeps lines s self.old → keeps (lines ++ line.now ∷ []) (after s event said.old line.now) self.new) }
         ensures err { IfErr result (λ k. k ≡ Kind.Memory) };
+
+    /// Keeps the operator that stands first in the bytes, all its lines at once, where it is quick to see that it may
+    /// stand there for variables with these ranges. It tells how long the lines are, or an empty front if it kept nothing.
+    fn keep_operator(&mut self, ranges: &Items<u32>, bytes: &[u8]) -> Result<Front, Kind>
+        ensures { KeepsOperator keeps ranges.now bytes.now self.old self.new result }
+    {
+        Ok(Front::EMPTY)
+    }
+
+    /// Keeps the rule that stands first in the bytes likewise.
+    fn keep_rule(&mut self, ranges: &Items<u32>, bytes: &[u8]) -> Result<Front, Kind>
+        ensures { KeepsRule keeps ranges.now bytes.now self.old self.new result }
+    {
+        Ok(Front::EMPTY)
+    }
 }
 
 /// The judge of the lines, and what is kept of them.
@@ -73,13 +90,16 @@ impl<K: Keeper> Machine for TaskMachine<K> {
         self.kept.keep(line, event, &mut self.judge.said)
     }
 
-    fn accept_ahead(&mut self, bytes: &[u8]) -> Result<usize, Kind> {
+    fn accept_ahead(&mut self, bytes: &[u8]) -> Result<Front, Kind> {
         let Some(ahead) = self.judge.take_ahead(bytes) else {
-            return Ok(0);
+            return Ok(Front::EMPTY);
         };
         let line = &bytes[..ahead.taken - 1];
         match self.kept.keep(line, ahead.said, &mut self.judge.said) {
-            Ok(()) => Ok(ahead.taken),
+            Ok(()) => Ok(Front {
+                lines: 1,
+                bytes: ahead.taken,
+            }),
             Err(kind) => Err(kind),
         }
     }

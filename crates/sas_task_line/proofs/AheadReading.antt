@@ -15,7 +15,7 @@ use Rattle.sas_lines.proofs.Splitting.{Plain}
 use Rattle.sas_reader.specs.System.{IsPlain}
 use Rattle.sas_task_format.specs.TaskFormat.{TaskLine, word, name, number, fact, effect, head, task_line_bytes, TaskLineFits, EffectNumbers}
 use Rattle.sas_task_format.proofs.TaskPlain.{Sayable, plain-line}
-use Rattle.sas_task_line.specs.declared.task_line.Change.{Change}
+use Rattle.sas_grounded.specs.declared.grounded.Change.{Change}
 use Rattle.sas_task_line.specs.Ahead.{SpellsAhead, NumberAhead, ChangeAhead, plain_effect}
 
 -- ---- a line and its LF

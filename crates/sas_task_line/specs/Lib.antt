@@ -2,3 +2,4 @@ pub mod TaskLine
 pub mod TaskWords
 pub mod TaskRanges
 pub mod Ahead
+pub mod Sections

@@ -5,9 +5,9 @@ ghost use Rattle.sas_core.specs.Names.{IsName};
 ghost use Rattle.sas_task_format.specs.TaskFormat as format;
 ghost use Rattle.sas_task_line.specs.Ahead.{SpellsAhead, NumberAhead, SignedAhead, ChangeAhead, plain_effect};
 
-use crate::task_line::Change;
 use memchr::memchr2;
 use sas_core::Fact;
+use sas_grounded::Change;
 use sas_lines::first_numeral;
 
 /// What the first line of some bytes says, and how many of the bytes the line takes with its LF.

@@ -2,12 +2,14 @@
 #![tactic(auto)]
 
 mod ahead;
+mod sections;
 mod task_line;
 
 pub use ahead::{
     Ahead, effect_ahead, fact_ahead, head_ahead, name_ahead, number_ahead, word_ahead,
 };
+pub use sections::{Gathered, OperatorFound, RuleFound, operator_found, rule_found};
 pub use task_line::{
-    Change, change_in, effect_at, fact_at, head_at, name_at, number_at, number_below, positive_at,
+    change_in, effect_at, fact_at, head_at, name_at, number_at, number_below, positive_at,
     signed_at, value_in, version_at, word_at,
 };

@@ -9,21 +9,13 @@ ghost use Rattle.sas_task_line.specs.TaskLine.{Says, SaysOrWants};
 ghost use Rattle.sas_task_line.specs.TaskWords.{Spells, TakesNumber, TakesSigned, TakesFact, TakesFacts, TakesHead};
 
 use sas_core::{Effect, Fact, Items, is_name};
+use sas_grounded::Change;
 use sas_lines::{Numbers, number, signed};
 use sas_reader::Kind;
 use std::alloc::AllocError;
 
 /// The version of the format.
 const VERSION: u32 = 3;
-
-/// What the head of a rule says, or the end of an effect: its variable, the old value that it asks for, if any, and its
-/// new one.
-#[derive(Clone, Copy, Debug, PartialEq, Eq)]
-pub struct Change {
-    pub var: u32,
-    pub old: Option<u32>,
-    pub new: u32,
-}
 
 /// The fixed word.
 pub fn word_at(line: &[u8], word: &[u8]) -> Result<(), Kind>

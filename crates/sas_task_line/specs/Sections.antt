@@ -1,0 +1,54 @@
+-- Whole sections that stand first in some bytes: an operator, a rule.
+use Rattle.std.specs.Prelude.{◌≡◌, ℕ, List, ◌∷◌, map, take, IsTrue}
+use Rattle.std.specs.List.{AllByRecursion, list_all}
+use Rattle.sas_core.specs.declared.parts.Fact.{Fact}
+use Rattle.sas_core.specs.declared.parts.Effect.{Effect}
+use Rattle.sas_core.specs.declared.parts.Operator.{Operator}
+use Rattle.sas_core.specs.declared.parts.Rule.{Rule}
+use Rattle.sas_core.specs.Names.{IsName}
+use Rattle.sas_grounded.specs.declared.grounded.Change.{Change}
+use Rattle.sas_lines.specs.Lines.{text}
+use Rattle.sas_reader.specs.declared.reader.Front.{Front}
+use Rattle.sas_reader.specs.Machine.{IsFront}
+use Rattle.sas_task_format.specs.TaskFormat.{TaskLine, task_line_bytes, TaskLineFits, operator_lines, rule_lines}
+use Rattle.sas_task_line.specs.declared.sections.Gathered.{Gathered}
+use Rattle.sas_task_line.specs.Ahead.{plain_effect}
+use Rattle.sas_task_line.specs.TaskRanges.{fact_in_ranges, effect_in_ranges, change_in}
+
+-- the bytes of each of the lines
+abbrev pub spelled : List TaskLine → List (List ℕ)
+spelled items = map task_line_bytes items
+
+-- the bytes begin with these lines, their numbers being numbers that a file can say, and the front is as long as they are
+pub record LinesAhead (items : List TaskLine) (bytes : List ℕ) (front : Front) : Type 0 where
+  pub fits : AllByRecursion TaskLineFits items
+  pub stands : IsFront (spelled items) bytes front
+  pub whole : take front.bytes bytes ≡ text (spelled items)
+
+-- the operator has a name, and each of its facts exists
+pub record OperatorInRanges (ranges : List ℕ) (o : Operator) : Type 0 where
+  pub name : IsName o.name
+  pub prevail : IsTrue (list_all (fact_in_ranges ranges) o.prevail)
+  pub effects : IsTrue (list_all (effect_in_ranges ranges) o.effects)
+
+-- each fact of the rule exists
+pub record RuleInRanges (ranges : List ℕ) (r : Rule) : Type 0 where
+  pub conditions : IsTrue (list_all (fact_in_ranges ranges) r.conditions)
+  pub change : IsTrue (change_in ranges r.var r.old r.new)
+
+-- the operator stands first in the bytes, and its facts exist
+abbrev pub OperatorAhead : List ℕ → List ℕ → Operator → Front → Type 0
+OperatorAhead ranges bytes o front = OperatorInRanges ranges o × LinesAhead (operator_lines o) bytes front
+
+-- the rule stands first in the bytes, and its facts exist
+abbrev pub RuleAhead : List ℕ → List ℕ → Rule → Front → Type 0
+RuleAhead ranges bytes r front = RuleInRanges ranges r × LinesAhead (rule_lines r) bytes front
+
+-- the operator of this name and cost, with the facts and the changes that were gathered
+abbrev pub gathered_operator : List ℕ → ℕ → Gathered → Operator
+gathered_operator name cost g =
+    record { name = name; prevail = g.facts; effects = map plain_effect g.changes; cost = cost }
+
+-- the rule of this head, with the facts that were gathered
+abbrev pub gathered_rule : Change → Gathered → Rule
+gathered_rule head g = record { conditions = g.facts; var = head.var; old = head.old; new = head.new }
