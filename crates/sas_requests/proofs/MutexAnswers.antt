@@ -19,7 +19,7 @@ use Rattle.sas_mutex.proofs.JointLists.{one_list, some_list}
 use Rattle.sas_requests.specs.declared.Status.{Status}
 use Rattle.sas_requests.specs.declared.Status.TheVariants.{No}
 use Rattle.sas_requests.specs.GroupWords.{group_line, group_lines_from, group_lines, groups_status}
-use Rattle.sas_requests.specs.Output.{Output, CheckAnswer, LayeredGroupsAnswer, MutexAnswer}
+use Rattle.sas_requests.specs.Output.{Output, CheckAnswer, GroupsAnswer, LayeredGroupsAnswer, MutexAnswer}
 use Rattle.sas_requests.proofs.Outputs.{OneAnswer, SomeAnswer}
 use Rattle.sas_requests.proofs.CheckAnswers.{some_check_answer}
 
@@ -77,11 +77,5 @@ some_mutex_answer p = some_of p (first_fault (layer_checks p)) refl
 
 -- ---- how the answer comes about
 
-same_output : (o : Output) (bytes : List ℕ) (status : Status) → o.text ≡ bytes → o.status ≡ status → o ≡ record { text = bytes; status = status }
-same_output o bytes status e f =
-    ap (λ (x : List ℕ). record { text = x; status = o.status }) e ∙ ap (λ (x : Status). record { text = bytes; status = x }) f
-
-pub groups_answered : (p : Parts) (verdicts : List Verdict) (o : Output) → IsLayered p → AreJointVerdicts p verdicts
-    → o.text ≡ text (group_lines verdicts) → o.status ≡ groups_status verdicts → MutexAnswer p o
-groups_answered p verdicts o layered are e f =
-    subst (λ (first : Option LayerFault). LayeredGroupsAnswer p first o) (sym ((checks_are_rules p).1 layered)) (verdicts, are, same_output o (text (group_lines verdicts)) (groups_status verdicts) e f)
+pub groups_answered : (p : Parts) (o : Output) → IsLayered p → GroupsAnswer p o → MutexAnswer p o
+groups_answered p o layered told = subst (λ (first : Option LayerFault). LayeredGroupsAnswer p first o) (sym ((checks_are_rules p).1 layered)) told

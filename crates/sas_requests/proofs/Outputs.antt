@@ -21,6 +21,11 @@ use Rattle.sas_requests.specs.Answering.{Answers, AnswersFile, output_of}
 use Rattle.sas_requests.specs.Ending.{IsDecided, IsWrite}
 use Rattle.sas_requests.specs.Output.{Output, word_of, refusal, IsAnswerOrRefusal, FileOut}
 
+-- what is so of the value is so in other words
+pub so_if_ok : {A E : Type 0} {P Q : A → Type 0} (r : Result A E) → IfOk r P → ((a : A) → P a → Q a) → IfOk r Q
+so_if_ok (Ok a) h so = so a h
+so_if_ok (Err e) h so = tt
+
 -- no word, no refusal
 no_word : (word : Option (List ℕ)) (said : List ℕ → Output) → None ≡ option_map said word → word ≡ None
 no_word None said e = refl

@@ -4,7 +4,7 @@ ghost use Rattle.sas_lines.specs.Lines.{text};
 ghost use Rattle.sas_requests.specs.Answering.{output_of};
 ghost use Rattle.sas_requests.specs.GroupWords as spec;
 ghost use Rattle.sas_requests.specs.GroupWords.{group_lines};
-ghost use Rattle.sas_requests.specs.Output.{MutexAnswer};
+ghost use Rattle.sas_requests.specs.Output.{GroupsAnswer, MutexAnswer};
 
 use crate::Status;
 use crate::answers::Answer;
@@ -21,14 +21,26 @@ pub fn groups_answer(alloc: Global, task: FlatTask) -> Result<Answer, AllocError
 {
     match Layered::new(alloc, task) {
         Ok(layered) => {
-            let verdicts = check_groups(alloc, &layered)?;
-            Ok(Answer {
-                text: groups_text(alloc, verdicts.as_slice())?,
-                status: groups_status(verdicts.as_slice()),
-            })
+            let answer = verdicts_answer(alloc, &layered);
+            drop(layered);
+            answer
         }
-        Err((_, fault)) => refuse_layers(alloc, fault),
+        Err((task, fault)) => {
+            drop(task);
+            refuse_layers(alloc, fault)
+        }
     }
+}
+
+/// The answer about the mutex groups of a layered task.
+fn verdicts_answer(alloc: Global, layered: &Layered<FlatTask>) -> Result<Answer, AllocError>
+    ensures { IfOk result (λ a. GroupsAnswer layered.now (output_of a)) }
+{
+    let verdicts = check_groups(alloc, layered)?;
+    Ok(Answer {
+        text: groups_text(alloc, verdicts.as_slice())?,
+        status: groups_status(verdicts.as_slice()),
+    })
 }
 
 /// The lines of the verdicts, each ended by LF.

@@ -1,8 +1,8 @@
 // Whether a task is layered, as an answer.
-ghost use Rattle.std.specs.Prelude.{◌≡◌, Some, IfOk, option_map};
+ghost use Rattle.std.specs.Prelude.{◌≡◌, Some, None, IfOk, option_map};
 ghost use Rattle.sas_requests.specs.Answering.{output_of};
 ghost use Rattle.sas_requests.specs.LayerWords.{layer_words, layers_line, part_words};
-ghost use Rattle.sas_requests.specs.Output.{CheckAnswer, layers_refusal};
+ghost use Rattle.sas_requests.specs.Output.{CheckAnswer, layers_refusal, layers_verdict};
 
 use crate::Status;
 use crate::answers::Answer;
@@ -16,12 +16,25 @@ pub fn layers_answer(alloc: Global, task: FlatTask) -> Result<Answer, AllocError
     ensures { IfOk result (λ a. CheckAnswer task (output_of a)) }
 {
     match Layered::new(alloc, task) {
-        Ok(_) => Ok(Answer {
-            text: Vec::from_slice(alloc, b"task layered\n")?,
-            status: Status::Yes,
-        }),
-        Err((_, fault)) => refuse_layers(alloc, fault),
+        Ok(layered) => {
+            drop(layered);
+            layered_answer(alloc)
+        }
+        Err((task, fault)) => {
+            drop(task);
+            refuse_layers(alloc, fault)
+        }
     }
+}
+
+/// The answer about a task that is layered.
+fn layered_answer(alloc: Global) -> Result<Answer, AllocError>
+    ensures { IfOk result (λ a. layers_verdict None ≡ Some (output_of a)) }
+{
+    Ok(Answer {
+        text: Vec::from_slice(alloc, b"task layered\n")?,
+        status: Status::Yes,
+    })
 }
 
 /// The refusal of a task for a fault of its layers.

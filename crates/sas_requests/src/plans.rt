@@ -34,8 +34,15 @@ pub fn plan_answer<T: Read, P: Read>(
         Err(fault) => return refuse(alloc, "task", fault),
     };
     match Layered::new(alloc, read) {
-        Ok(layered) => judge(alloc, &layered, plan),
-        Err((_, fault)) => refuse_task(alloc, fault),
+        Ok(layered) => {
+            let answer = judge(alloc, &layered, plan);
+            drop(layered);
+            answer
+        }
+        Err((task, fault)) => {
+            drop(task);
+            refuse_task(alloc, fault)
+        }
     }
 }
 

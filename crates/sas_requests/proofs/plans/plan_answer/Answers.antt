@@ -11,10 +11,10 @@ returns-in-Err g c =
 
 pub returns-in-Ok-new : goal.returns-in-Ok-new
 returns-in-Ok-new g c =
-    judged_files g.T.Read.remaining g.P.Read.remaining _ _ c.in-Ok.read c.in-Ok.ensures _ _ c.judge.result
-    (rw c.in-Ok-new.ensures.task at c.in-Ok-new.ensures.layered) (rw c.in-Ok-new.ensures.task at c.judge.ensures)
+    judged_files g.T.Read.remaining g.P.Read.remaining _ _ c.in-Ok.read c.in-Ok.ensures _ _ c.judge-answer.result
+    (rw c.in-Ok-new.ensures.task at c.in-Ok-new.ensures.layered) (rw c.in-Ok-new.ensures.task at c.judge-answer.ensures)
 
-pub returns : goal.returns
-returns g c =
+pub returns-in-Err-new : goal.returns-in-Err-new
+returns-in-Err-new g c =
     unlayered_files g.T.Read.remaining g.P.Read.remaining _ _ c.in-Ok.read c.in-Ok.ensures _ c.in-Err-new.fault c.refuse_task.result c.requires.plan
     c.in-Err-new.ensures.first c.refuse_task.ensures.ok c.refuse_task.ensures.err
