@@ -1,8 +1,8 @@
 -- Reading the first line of some bytes up to its LF.
-use Rattle.std.proofs.Common.{◌≡◌, ℕ, ◌+◌, ◌-◌, ◌<◌, ◌≤◌, List, [], ◌∷◌, ◌++◌, length, take, drop, refl, sym, ap, subst, ◌∙◌, append_assoc, length-append, arith, None, get_or, true, false, Bool, not, ◌&&◌, ◌==◌, IsTrue}
+use Rattle.std.proofs.Common.{◌≡◌, ℕ, ◌+◌, ◌*◌, ◌/◌, ◌%◌, ◌-◌, ◌<◌, ◌≤◌, List, [], ◌∷◌, ◌++◌, length, take, drop, refl, sym, ap, subst, ◌∙◌, append_assoc, length-append, arith, None, get_or, true, false, Bool, not, ◌&&◌, ◌==◌, IsTrue}
 use Rattle.std.specs.Fmt.{decimal}
 use Rattle.std.specs.List.{list_all}
-use Rattle.std.proofs.lemmas.Fmt.{decimal_digit}
+use Rattle.std.proofs.lemmas.Fmt.{decimal_digit, decimal_step}
 use Rattle.std.proofs.lemmas.List.{length-take-le, take_rest, take_at, get_or-take, take-append-drop, drop_more}
 use Rattle.memchr.specs.Find.{Nowhere, NoneBefore, Passes, is_byte2}
 use Rattle.sas_core.specs.Names.{is_plain, IsName}
@@ -63,6 +63,38 @@ bytes_in_front bytes first second l h g = rw (take_rest bytes 2) (in_front bytes
     in_front [] l h g = absurd (omega arith)
     in_front (a ∷ []) l h g = absurd (omega arith)
     in_front (a ∷ b ∷ bytes) l h g = cc
+
+three_in_front : (bytes : List ℕ) (first second third : ℕ) → 3 ≤ length bytes → get_or bytes 0 0 ≡ first → get_or bytes 1 0 ≡ second → get_or bytes 2 0 ≡ third → bytes ≡ first ∷ second ∷ third ∷ take (length bytes - 3) (drop 3 bytes)
+three_in_front [] first second third l f s t = absurd (omega arith)
+three_in_front (a ∷ bytes) first second third l f s t =
+    let behind = bytes_in_front bytes second third (omega arith) s t in
+    let left : length bytes - 2 ≡ length (a ∷ bytes) - 3 = omega arith in
+    ap (λ (x : ℕ). x ∷ bytes) f ∙ ap (λ (x : List ℕ). first ∷ x) (behind ∙ ap (λ (n : ℕ). second ∷ third ∷ take n (drop 2 bytes)) left)
+
+-- ---- a number of one digit, of two
+
+digit_is : (d : ℕ) → 48 ≤ d → d ≤ 57 → decimal (d - 48) ≡ d ∷ []
+digit_is d low high =
+    let same : 48 + (d - 48) ≡ d = omega arith in
+    decimal_digit (d - 48) (omega arith) ∙ ap (λ (x : ℕ). x ∷ []) same
+
+pub one_digit_ahead : (bytes : List ℕ) (end : ℕ) → 2 ≤ length bytes → 48 ≤ get_or bytes 0 0 → get_or bytes 0 0 ≤ 57 → get_or bytes 1 0 ≡ end → NumberAhead bytes (get_or bytes 0 0 - 48) end (take (length bytes - 2) (drop 2 bytes))
+one_digit_ahead bytes end long low high next =
+    let d = get_or bytes 0 0 in
+    (omega arith, bytes_in_front bytes d end long refl next ∙ ap (λ (x : List ℕ). x ++ end ∷ take (length bytes - 2) (drop 2 bytes)) (sym (digit_is d low high)))
+
+two_digits_are : (a b : ℕ) → 48 < a → a ≤ 57 → 48 ≤ b → b ≤ 57 → decimal ((a - 48) * 10 + (b - 48)) ≡ a ∷ b ∷ []
+two_digits_are a b some high low below =
+    let n = (a - 48) * 10 + (b - 48) in
+    let tens : n / 10 ≡ a - 48 = omega arith in
+    let units : 48 + n % 10 ≡ b = omega arith in
+    decimal_step n (omega arith) (omega arith) ∙ ap (λ (x : ℕ). decimal x ++ (48 + n % 10) ∷ []) tens ∙ ap (λ (x : ℕ). decimal (a - 48) ++ x ∷ []) units ∙ ap (λ (x : List ℕ). x ++ b ∷ []) (digit_is a (omega arith) high)
+
+pub two_digits_ahead : (bytes : List ℕ) (end : ℕ) → 3 ≤ length bytes → 48 < get_or bytes 0 0 → get_or bytes 0 0 ≤ 57 → 48 ≤ get_or bytes 1 0 → get_or bytes 1 0 ≤ 57 → get_or bytes 2 0 ≡ end → NumberAhead bytes ((get_or bytes 0 0 - 48) * 10 + (get_or bytes 1 0 - 48)) end (take (length bytes - 3) (drop 3 bytes))
+two_digits_ahead bytes end long some high low below next =
+    let a = get_or bytes 0 0 in
+    let b = get_or bytes 1 0 in
+    (omega arith, three_in_front bytes a b end long refl refl next ∙ ap (λ (x : List ℕ). x ++ end ∷ take (length bytes - 3) (drop 3 bytes)) (sym (two_digits_are a b some high low below)))
 
 -- ---- numbers, one after another
 

@@ -17,14 +17,31 @@ pub struct Ahead<A> {
     pub taken: usize,
 }
 
-/// A number that stands before this byte, and what follows that.
-pub(crate) fn number_before(bytes: &[u8], end: u8) -> Option<(u32, &[u8])>
+/// A number of any length that stands before this byte, and what follows that.
+fn numeral_before(bytes: &[u8], end: u8) -> Option<(u32, &[u8])>
     ensures { IfSome result (λ found. NumberAhead bytes.now found.0 end found.1.now) }
 {
     let numeral = first_numeral(bytes)?;
     match &bytes[numeral.taken..] {
         [byte, rest @ ..] if *byte == end => Some((numeral.value, rest)),
         _ => None,
+    }
+}
+
+/// A number that stands before this byte, and what follows that.
+pub(crate) fn number_before(bytes: &[u8], end: u8) -> Option<(u32, &[u8])>
+    ensures { IfSome result (λ found. NumberAhead bytes.now found.0 end found.1.now) }
+{
+    // Most numbers have one digit or two.
+    match bytes {
+        [unit, byte, rest @ ..] if unit.is_ascii_digit() && *byte == end => {
+            Some(((*unit - b'0') as u32, rest))
+        }
+        [ten, unit, byte, rest @ ..]
+            if ten.is_ascii_digit() && *ten != b'0' && unit.is_ascii_digit() && *byte == end => {
+            Some(((*ten - b'0') as u32 * 10 + (*unit - b'0') as u32, rest))
+        }
+        _ => numeral_before(bytes, end),
     }
 }
 
