@@ -7,6 +7,9 @@ ghost use Rattle.sas_task_line.specs.TaskRanges.{range_in, fact_in_ranges, effec
 ghost use Rattle.sas_task_judge.specs.TaskJudge.{Due, Moves, MovesBy, HasEnded};
 
 mod ahead;
+mod sections;
+
+pub(crate) use sections::Section;
 
 use crate::task_events::{Event, Said};
 use sas_core::{Fact, Items};
