@@ -80,13 +80,22 @@ operator_lines_are o =
 
 operator_on : (vs : List Variable) (k : Operator → TaskProcess) (o : Operator) → OperatorInRanges (ranges_of vs) o → AllFit (operator_items o) → GoesOn (an_operator vs k) (operator_items o) (k o)
 operator_on vs k o good fits =
-    let fits_counted = fits.1.1 in
-    (record { slot = refl; fits = tt; good = refl },
-    (record { slot = refl; fits = tt; good = good.name },
-    (record { slot = refl; fits = fits_counted.0; good = refl },
-    facts_on vs _ o.prevail _ (k o) fits_counted.1 good.prevail (λ f. (record { slot = refl; fits = f.0; good = refl },
-    effects_on vs _ o.effects _ (k o) f.1 good.effects (λ g. (record { slot = refl; fits = g.0; good = refl },
-    (record { slot = refl; fits = tt; good = refl }, refl))))))))
+    let fits_counted = fits.1.1 in (
+      record { slot = refl; fits = tt; good = refl },
+      (
+        record { slot = refl; fits = tt; good = good.name },
+        (
+          record { slot = refl; fits = fits_counted.0; good = refl },
+          facts_on vs _ o.prevail _ (k o) fits_counted.1 good.prevail (λ f. (
+            record { slot = refl; fits = f.0; good = refl },
+            effects_on vs _ o.effects _ (k o) f.1 good.effects (λ g. (
+              record { slot = refl; fits = g.0; good = refl },
+              (record { slot = refl; fits = tt; good = refl }, refl),
+            )),
+          )),
+        ),
+      ),
+    )
 
 -- ---- a rule
 
@@ -102,11 +111,16 @@ rule_lines_are r =
     (append_assoc (flat_map (line fact) r.conditions) (head r.var r.old r.new ∷ []) (word (codes "end_rule") ∷ []))
 
 rule_on : (vs : List Variable) (k : Rule → TaskProcess) (r : Rule) → RuleInRanges (ranges_of vs) r → AllFit (rule_items r) → GoesOn (a_rule vs k) (rule_items r) (k r)
-rule_on vs k r good fits =
-    (record { slot = refl; fits = tt; good = refl },
-    (record { slot = refl; fits = fits.1.0; good = refl },
-    facts_on vs _ r.conditions _ (k r) fits.1.1 good.conditions (λ f. (record { slot = refl; fits = f.0; good = subst IsTrue (change_is vs r.var r.old r.new) good.change },
-    (record { slot = refl; fits = tt; good = refl }, refl)))))
+rule_on vs k r good fits = (
+  record { slot = refl; fits = tt; good = refl },
+  (
+    record { slot = refl; fits = fits.1.0; good = refl },
+    facts_on vs _ r.conditions _ (k r) fits.1.1 good.conditions (λ f. (
+      record { slot = refl; fits = f.0; good = subst IsTrue (change_is vs r.var r.old r.new) good.change },
+      (record { slot = refl; fits = tt; good = refl }, refl),
+    )),
+  ),
+)
 
 -- ---- the judge
 

@@ -9,8 +9,6 @@ ghost use Rattle.sas_task_judge.specs.TaskJudge.{Due, Moves, MovesBy, HasEnded};
 mod ahead;
 mod sections;
 
-pub(crate) use sections::Section;
-
 use crate::task_events::{Event, Said};
 use sas_core::{Fact, Items};
 use sas_grounded::Change;
@@ -19,6 +17,7 @@ use sas_task_line::{
     effect_at, fact_at, head_at, name_at, number_at, number_below, positive_at, signed_at,
     version_at, word_at,
 };
+pub(crate) use sections::Section;
 use std::alloc::Global;
 
 /// What comes next.

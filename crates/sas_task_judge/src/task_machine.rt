@@ -80,7 +80,7 @@ impl<K: Keeper> TaskMachine<K> {
         match self.kept.keep_operator(self.judge.ranges(), bytes) {
             Ok(front) => {
                 if front.bytes > 0 {
-                    self.judge.go_behind_section();
+                    self.judge.pass_section();
                 }
                 Ok(front)
             }
@@ -96,7 +96,7 @@ impl<K: Keeper> TaskMachine<K> {
         match self.kept.keep_rule(self.judge.ranges(), bytes) {
             Ok(front) => {
                 if front.bytes > 0 {
-                    self.judge.go_behind_section();
+                    self.judge.pass_section();
                 }
                 Ok(front)
             }
@@ -154,10 +154,7 @@ impl<K: Keeper> Machine for TaskMachine<K> {
     }
 
     fn accept_ahead(&mut self, bytes: &[u8]) -> Result<Front, Kind> {
-        let section = match self.section_ahead(bytes) {
-            Ok(front) => front,
-            Err(kind) => return Err(kind),
-        };
+        let section = self.section_ahead(bytes)?;
         if section.bytes > 0 {
             return Ok(section);
         }

@@ -6,7 +6,6 @@ use super::{Place, TaskJudge};
 use sas_core::Items;
 
 /// What may be kept whole.
-#[derive(Clone, Copy, Debug, PartialEq, Eq)]
 pub(crate) enum Section {
     Operator,
     Rule,
@@ -33,7 +32,7 @@ impl TaskJudge {
     }
 
     /// Goes on behind the section that was due.
-    pub(crate) fn go_behind_section(&mut self)
+    pub(crate) fn pass_section(&mut self)
         requires { 0 < self.old.left }
         ensures { self.new ≡ record self.old { left = self.old.left - 1 } }
     {
