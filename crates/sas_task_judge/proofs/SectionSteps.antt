@@ -34,6 +34,7 @@ use Rattle.sas_task_judge.proofs.TaskRanges.{facts_are, effects_are, change_is}
 abbrev pub GoesOn : TaskProcess → List TaskLine → TaskProcess → Type 0
 GoesOn p items q = After task_format TaskLineFits process_node p items q
 
+-- each number on each of the lines is one that a file can say
 abbrev AllFit : List TaskLine → Type 0
 AllFit items = AllByRecursion TaskLineFits items
 
@@ -145,7 +146,7 @@ known_behind j s t variables init apart f = record {
   range = λ h. absurd (apart h);
 }
 
--- where the judge is at this place
+-- lines that lead behind the section at a place do where the judge is at that place, with a section left
 at_place : (j : TaskJudge) (s t : SoFar) (place : Place) (items is : List TaskLine) → j.place ≡ place → 0 < j.left → is ≡ items
     → GoesOn (state_at place (suc (j.left - 1)) j.more s) items (state_at place (j.left - 1) j.more t) → GoesOn (state_of j s) is (state_of (behind_section j) t)
 at_place j s t place items is here left same on =
