@@ -2,4 +2,5 @@ pub mod TaskMoves
 pub mod TaskRanges
 pub mod TaskEnds
 pub mod TaskSteps
+pub mod SectionSteps
 pub mod VariablesBehind

@@ -34,7 +34,7 @@ value_is vs var value = ap (nat_lt value) (range_is vs var)
 pub fact_is : (vs : List Variable) (f : Fact) → fact_in_ranges (ranges_of vs) f ≡ fact_exists vs f
 fact_is vs f = value_is vs f.var f.value
 
-facts_are : (vs : List Variable) (fs : List Fact) → list_all (fact_in_ranges (ranges_of vs)) fs ≡ list_all (fact_exists vs) fs
+pub facts_are : (vs : List Variable) (fs : List Fact) → list_all (fact_in_ranges (ranges_of vs)) fs ≡ list_all (fact_exists vs) fs
 facts_are vs [] = refl
 facts_are vs (f ∷ fs) = ap (λ (b : Bool). b && list_all (fact_in_ranges (ranges_of vs)) fs) (fact_is vs f) ∙ ap (λ (b : Bool). fact_exists vs f && b) (facts_are vs fs)
 
@@ -44,6 +44,10 @@ change_is vs var (Some old) new = ap (λ (b : Bool). b && value_in (ranges_of vs
 
 pub effect_is : (vs : List Variable) (e : Effect) → effect_in_ranges (ranges_of vs) e ≡ effect_may_stand vs e
 effect_is vs e = ap (λ (b : Bool). b && change_in (ranges_of vs) e.var e.old e.new) (facts_are vs e.conditions) ∙ ap (λ (b : Bool). list_all (fact_exists vs) e.conditions && b) (change_is vs e.var e.old e.new)
+
+pub effects_are : (vs : List Variable) (es : List Effect) → list_all (effect_in_ranges (ranges_of vs)) es ≡ list_all (effect_may_stand vs) es
+effects_are vs [] = refl
+effects_are vs (e ∷ es) = ap (λ (b : Bool). b && list_all (effect_in_ranges (ranges_of vs)) es) (effect_is vs e) ∙ ap (λ (b : Bool). effect_may_stand vs e && b) (effects_are vs es)
 
 module _ (slot : TaskSlot) (test same : TaskLine → Bool) (is : (i : TaskLine) → test i ≡ same i) where
   -- what may stand under a test may stand under one that tells the same

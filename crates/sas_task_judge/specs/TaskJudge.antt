@@ -8,6 +8,8 @@ use Rattle.sas_task_judge.specs.declared.task_events.Event.{Event}
 use Rattle.sas_task_judge.specs.declared.so_far.SoFar.{SoFar}
 use Rattle.sas_task_judge.specs.declared.task_judge.Place.{Place}
 use Rattle.sas_task_judge.specs.declared.task_judge.Place.TheVariants as at
+use Rattle.sas_task_judge.specs.declared.task_judge.sections.Section.{Section}
+use Rattle.sas_task_judge.specs.declared.task_judge.sections.Section.TheVariants as section
 use Rattle.sas_task_judge.specs.declared.task_judge.TaskJudge.{TaskJudge}
 use Rattle.sas_reader.specs.Faults.{IsOfBytes}
 use Rattle.sas_task_format.specs.Process.{process_node, ◌>>◌}
@@ -61,6 +63,11 @@ state_of j s = state_at j.place j.left j.more s
 -- all has come
 abbrev pub HasEnded : TaskJudge → Type 0
 HasEnded j = (j.place ≡ at.Rules) × (j.left ≡ 0)
+
+-- the first line of such a section is due
+abbrev pub SectionDue : TaskJudge → Section → Type 0
+SectionDue j section.Operator = (j.place ≡ at.Operators) × (0 < j.left)
+SectionDue j section.Rule = (j.place ≡ at.Rules) × (0 < j.left)
 
 -- ---- one line
 

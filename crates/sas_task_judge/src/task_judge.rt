@@ -7,6 +7,7 @@ ghost use Rattle.sas_task_line.specs.TaskRanges.{range_in, fact_in_ranges, effec
 ghost use Rattle.sas_task_judge.specs.TaskJudge.{Due, Moves, MovesBy, HasEnded};
 
 mod ahead;
+mod sections;
 
 use crate::task_events::{Event, Said};
 use sas_core::{Fact, Items};
@@ -16,6 +17,7 @@ use sas_task_line::{
     effect_at, fact_at, head_at, name_at, number_at, number_below, positive_at, signed_at,
     version_at, word_at,
 };
+pub(crate) use sections::Section;
 use std::alloc::Global;
 
 /// What comes next.

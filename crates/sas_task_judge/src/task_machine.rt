@@ -4,7 +4,7 @@ ghost use Rattle.sas_task_judge.specs.TaskJudge.{HasEnded};
 ghost use Rattle.sas_task_judge.specs.TaskMachine.{LedBy};
 
 use crate::task_events::{Event, Said};
-use crate::task_judge::TaskJudge;
+use crate::task_judge::{Section, TaskJudge};
 use sas_core::Items;
 use sas_reader::{Front, Kind, Machine};
 use std::alloc::Global;
@@ -49,6 +49,8 @@ pub struct TaskMachine<K> {
 
 impl<K: Keeper> TaskMachine<K> {
     ghost use Rattle.std.specs.Prelude.{[]};
+    ghost use Rattle.sas_reader.specs.Machine.{AcceptsAhead};
+    ghost use Rattle.sas_task_judge.specs.TaskJudge.{HasEnded, SectionDue};
     ghost use Rattle.sas_task_judge.specs.TaskMachine.{LedBy, IsFresh};
 
     /// Nothing has come.
@@ -68,6 +70,67 @@ impl<K: Keeper> TaskMachine<K> {
     {
         let TaskMachine { kept, .. } = self;
         kept
+    }
+
+    /// Has the operator kept that is due, where it stands first in the bytes, and goes on behind it.
+    fn operator_ahead(&mut self, bytes: &[u8]) -> Result<Front, Kind>
+        requires { SectionDue self.old.judge Section.Operator }
+        ensures { AcceptsAhead (LedBy K.keeps) self.old bytes.now self.new result }
+    {
+        match self.kept.keep_operator(self.judge.ranges(), bytes) {
+            Ok(front) => {
+                if front.bytes > 0 {
+                    self.judge.pass_section();
+                }
+                Ok(front)
+            }
+            Err(kind) => Err(kind),
+        }
+    }
+
+    /// Has the rule kept that is due likewise.
+    fn rule_ahead(&mut self, bytes: &[u8]) -> Result<Front, Kind>
+        requires { SectionDue self.old.judge Section.Rule }
+        ensures { AcceptsAhead (LedBy K.keeps) self.old bytes.now self.new result }
+    {
+        match self.kept.keep_rule(self.judge.ranges(), bytes) {
+            Ok(front) => {
+                if front.bytes > 0 {
+                    self.judge.pass_section();
+                }
+                Ok(front)
+            }
+            Err(kind) => Err(kind),
+        }
+    }
+
+    /// Takes the whole section that is due and stands first in the bytes, if its keeper keeps it. Else it takes nothing.
+    fn section_ahead(&mut self, bytes: &[u8]) -> Result<Front, Kind>
+        ensures { AcceptsAhead (LedBy K.keeps) self.old bytes.now self.new result }
+    {
+        match self.judge.section_due() {
+            Some(Section::Operator) => self.operator_ahead(bytes),
+            Some(Section::Rule) => self.rule_ahead(bytes),
+            None => Ok(Front::EMPTY),
+        }
+    }
+
+    /// Takes the first line of the bytes, where it is quick to see that it may stand here. Else it takes nothing.
+    fn line_ahead(&mut self, bytes: &[u8]) -> Result<Front, Kind>
+        requires { HasEnded self.old.judge → ⊥ }
+        ensures { AcceptsAhead (LedBy K.keeps) self.old bytes.now self.new result }
+    {
+        let Some(ahead) = self.judge.take_ahead(bytes) else {
+            return Ok(Front::EMPTY);
+        };
+        let line = &bytes[..ahead.taken - 1];
+        match self.kept.keep(line, ahead.said, &mut self.judge.said) {
+            Ok(()) => Ok(Front {
+                lines: 1,
+                bytes: ahead.taken,
+            }),
+            Err(kind) => Err(kind),
+        }
     }
 }
 
@@ -91,16 +154,10 @@ impl<K: Keeper> Machine for TaskMachine<K> {
     }
 
     fn accept_ahead(&mut self, bytes: &[u8]) -> Result<Front, Kind> {
-        let Some(ahead) = self.judge.take_ahead(bytes) else {
-            return Ok(Front::EMPTY);
-        };
-        let line = &bytes[..ahead.taken - 1];
-        match self.kept.keep(line, ahead.said, &mut self.judge.said) {
-            Ok(()) => Ok(Front {
-                lines: 1,
-                bytes: ahead.taken,
-            }),
-            Err(kind) => Err(kind),
+        let section = self.section_ahead(bytes)?;
+        if section.bytes > 0 {
+            return Ok(section);
         }
+        self.line_ahead(bytes)
     }
 }

@@ -1,8 +1,8 @@
 -- Reading the first line of some bytes up to its LF.
-use Rattle.std.proofs.Common.{◌≡◌, ℕ, ◌+◌, ◌-◌, ◌<◌, ◌≤◌, List, [], ◌∷◌, ◌++◌, length, take, drop, refl, sym, ap, subst, ◌∙◌, append_assoc, length-append, arith, None, get_or, true, false, Bool, not, ◌&&◌, ◌==◌, IsTrue}
+use Rattle.std.proofs.Common.{◌≡◌, ℕ, ◌+◌, ◌*◌, ◌/◌, ◌%◌, ◌-◌, ◌<◌, ◌≤◌, List, [], ◌∷◌, ◌++◌, length, take, drop, refl, sym, ap, subst, ◌∙◌, append_assoc, length-append, arith, None, get_or, true, false, Bool, not, ◌&&◌, ◌==◌, IsTrue}
 use Rattle.std.specs.Fmt.{decimal}
 use Rattle.std.specs.List.{list_all}
-use Rattle.std.proofs.lemmas.Fmt.{decimal_digit}
+use Rattle.std.proofs.lemmas.Fmt.{decimal_digit, decimal_step}
 use Rattle.std.proofs.lemmas.List.{length-take-le, take_rest, take_at, get_or-take, take-append-drop, drop_more}
 use Rattle.memchr.specs.Find.{Nowhere, NoneBefore, Passes, is_byte2}
 use Rattle.sas_core.specs.Names.{is_plain, IsName}
@@ -16,11 +16,11 @@ use Rattle.sas_reader.specs.System.{IsPlain}
 use Rattle.sas_task_format.specs.TaskFormat.{TaskLine, word, name, number, fact, effect, head, task_line_bytes, TaskLineFits, EffectNumbers}
 use Rattle.sas_task_format.proofs.TaskPlain.{Sayable, plain-line}
 use Rattle.sas_grounded.specs.declared.grounded.Change.{Change}
-use Rattle.sas_task_line.specs.Ahead.{SpellsAhead, NumberAhead, ChangeAhead, plain_effect}
+use Rattle.sas_task_line.specs.Ahead.{SpellsAhead, LineAhead, NumberAhead, ChangeAhead, plain_effect}
 
 -- ---- a line and its LF
 
-plain : (line : List ℕ) → IsPlain line → Plain line
+pub plain : (line : List ℕ) → IsPlain line → Plain line
 plain line h = record { no_end = no_end line h; no_return = no_return line h }
   where
     no_end : (line : List ℕ) → IsPlain line → NoEnd line
@@ -32,19 +32,23 @@ plain line h = record { no_end = no_end line h; no_return = no_return line h }
     no_return (b ∷ []) h = rw (ne_eqb b 13 h.0.1) refl
     no_return (b ∷ c ∷ line) h = ap (λ (x : List ℕ). b ∷ x) (no_return (c ∷ line) h.1)
 
--- a line that stands whole before LF
-pub line_is_ahead : (i : TaskLine) (bytes rest : List ℕ) (taken : ℕ) → TaskLineFits i → Sayable i → bytes ≡ task_line_bytes i ++ 10 ∷ rest → length (task_line_bytes i) + 1 ≡ taken → SpellsAhead i bytes taken
-line_is_ahead i bytes rest taken fits says e n =
+-- a line that is said before LF
+pub says_line : (i : TaskLine) (bytes rest : List ℕ) → TaskLineFits i → Sayable i → bytes ≡ task_line_bytes i ++ 10 ∷ rest → LineAhead i bytes rest
+says_line i bytes rest fits says e = record { fits = fits; plain = plain-line i says; before = e }
+
+-- what a line takes with its LF
+pub line_is_ahead : (i : TaskLine) (bytes rest : List ℕ) (taken : ℕ) → LineAhead i bytes rest → length (task_line_bytes i) + 1 ≡ taken → SpellsAhead i bytes taken
+line_is_ahead i bytes rest taken h n =
     let line = task_line_bytes i in
     record {
-      fits = fits;
-      first = subst (LineStandsFirst bytes line) n (stands_first bytes line rest (plain line (plain-line i says)) e);
-      before_end = sym (ap (take (taken - 1)) e ∙ take_at line (10 ∷ rest) (taken - 1) (omega arith));
+      fits = h.fits;
+      first = subst (LineStandsFirst bytes line) n (stands_first bytes line rest (plain line h.plain) h.before);
+      before_end = sym (ap (take (taken - 1)) h.before ∙ take_at line (10 ∷ rest) (taken - 1) (omega arith));
     }
 
 -- the same where the rest tells how many bytes were taken
-spells_ahead : (i : TaskLine) (bytes rest : List ℕ) (taken : ℕ) → TaskLineFits i → Sayable i → bytes ≡ task_line_bytes i ++ 10 ∷ rest → taken ≡ length bytes - length rest → SpellsAhead i bytes taken
-spells_ahead i bytes rest taken fits says e n = line_is_ahead i bytes rest taken fits says e (omega (arith, n, ap length e, length-append (task_line_bytes i) (10 ∷ rest)))
+pub spells_ahead : (i : TaskLine) (bytes rest : List ℕ) (taken : ℕ) → LineAhead i bytes rest → taken ≡ length bytes - length rest → SpellsAhead i bytes taken
+spells_ahead i bytes rest taken h n = line_is_ahead i bytes rest taken h (omega (arith, n, ap length h.before, length-append (task_line_bytes i) (10 ∷ rest)))
 
 -- ---- bytes in front
 
@@ -60,26 +64,58 @@ bytes_in_front bytes first second l h g = rw (take_rest bytes 2) (in_front bytes
     in_front (a ∷ []) l h g = absurd (omega arith)
     in_front (a ∷ b ∷ bytes) l h g = cc
 
+three_in_front : (bytes : List ℕ) (first second third : ℕ) → 3 ≤ length bytes → get_or bytes 0 0 ≡ first → get_or bytes 1 0 ≡ second → get_or bytes 2 0 ≡ third → bytes ≡ first ∷ second ∷ third ∷ take (length bytes - 3) (drop 3 bytes)
+three_in_front [] first second third l f s t = absurd (omega arith)
+three_in_front (a ∷ bytes) first second third l f s t =
+    let behind = bytes_in_front bytes second third (omega arith) s t in
+    let left : length bytes - 2 ≡ length (a ∷ bytes) - 3 = omega arith in
+    ap (λ (x : ℕ). x ∷ bytes) f ∙ ap (λ (x : List ℕ). first ∷ x) (behind ∙ ap (λ (n : ℕ). second ∷ third ∷ take n (drop 2 bytes)) left)
+
+-- ---- a number of one digit, of two
+
+digit_is : (d : ℕ) → 48 ≤ d → d ≤ 57 → decimal (d - 48) ≡ d ∷ []
+digit_is d low high =
+    let same : 48 + (d - 48) ≡ d = omega arith in
+    decimal_digit (d - 48) (omega arith) ∙ ap (λ (x : ℕ). x ∷ []) same
+
+pub one_digit_ahead : (bytes : List ℕ) (end : ℕ) → 2 ≤ length bytes → 48 ≤ get_or bytes 0 0 → get_or bytes 0 0 ≤ 57 → get_or bytes 1 0 ≡ end → NumberAhead bytes (get_or bytes 0 0 - 48) end (take (length bytes - 2) (drop 2 bytes))
+one_digit_ahead bytes end long low high next =
+    let d = get_or bytes 0 0 in
+    (omega arith, bytes_in_front bytes d end long refl next ∙ ap (λ (x : List ℕ). x ++ end ∷ take (length bytes - 2) (drop 2 bytes)) (sym (digit_is d low high)))
+
+two_digits_are : (a b : ℕ) → 48 < a → a ≤ 57 → 48 ≤ b → b ≤ 57 → decimal ((a - 48) * 10 + (b - 48)) ≡ a ∷ b ∷ []
+two_digits_are a b some high low below =
+    let n = (a - 48) * 10 + (b - 48) in
+    let tens : n / 10 ≡ a - 48 = omega arith in
+    let units : 48 + n % 10 ≡ b = omega arith in
+    decimal_step n (omega arith) (omega arith) ∙ ap (λ (x : ℕ). decimal x ++ (48 + n % 10) ∷ []) tens ∙ ap (λ (x : ℕ). decimal (a - 48) ++ x ∷ []) units ∙ ap (λ (x : List ℕ). x ++ b ∷ []) (digit_is a (omega arith) high)
+
+pub two_digits_ahead : (bytes : List ℕ) (end : ℕ) → 3 ≤ length bytes → 48 < get_or bytes 0 0 → get_or bytes 0 0 ≤ 57 → 48 ≤ get_or bytes 1 0 → get_or bytes 1 0 ≤ 57 → get_or bytes 2 0 ≡ end → NumberAhead bytes ((get_or bytes 0 0 - 48) * 10 + (get_or bytes 1 0 - 48)) end (take (length bytes - 3) (drop 3 bytes))
+two_digits_ahead bytes end long some high low below next =
+    let a = get_or bytes 0 0 in
+    let b = get_or bytes 1 0 in
+    (omega arith, three_in_front bytes a b end long refl refl next ∙ ap (λ (x : List ℕ). x ++ end ∷ take (length bytes - 3) (drop 3 bytes)) (sym (two_digits_are a b some high low below)))
+
 -- ---- numbers, one after another
 
 -- two texts with a byte between them, and the rest
 then : (a b bytes more rest : List ℕ) (byte : ℕ) → bytes ≡ a ++ byte ∷ more → more ≡ b ++ rest → bytes ≡ (a ++ byte ∷ b) ++ rest
 then a b bytes more rest byte e f = e ∙ ap (λ (x : List ℕ). a ++ byte ∷ x) f ∙ sym (append_assoc a (byte ∷ b) rest)
 
-pub number_is_ahead : (bytes rest : List ℕ) (n taken : ℕ) → NumberAhead bytes n 10 rest → taken ≡ length bytes - length rest → SpellsAhead (number n) bytes taken
-number_is_ahead bytes rest n taken h l = spells_ahead (number n) bytes rest taken h.0 h.0 h.1 l
+pub number_is_ahead : (bytes rest : List ℕ) (n : ℕ) → NumberAhead bytes n 10 rest → LineAhead (number n) bytes rest
+number_is_ahead bytes rest n h = says_line (number n) bytes rest h.0 h.0 h.1
 
-pub fact_is_ahead : (bytes more rest : List ℕ) (f : Fact) (taken : ℕ) → NumberAhead bytes f.var 32 more → NumberAhead more f.value 10 rest → taken ≡ length bytes - length rest → SpellsAhead (fact f) bytes taken
-fact_is_ahead bytes more rest f taken h g l = spells_ahead (fact f) bytes rest taken (h.0, g.0) (h.0, g.0) (then _ _ bytes more (10 ∷ rest) 32 h.1 g.1) l
+pub fact_is_ahead : (bytes more rest : List ℕ) (f : Fact) → NumberAhead bytes f.var 32 more → NumberAhead more f.value 10 rest → LineAhead (fact f) bytes rest
+fact_is_ahead bytes more rest f h g = says_line (fact f) bytes rest (h.0, g.0) (h.0, g.0) (then _ _ bytes more (10 ∷ rest) 32 h.1 g.1)
 
-pub head_is_ahead : (bytes rest : List ℕ) (c : Change) (taken : ℕ) → ChangeAhead bytes c rest → taken ≡ length bytes - length rest → SpellsAhead (head c.var c.old c.new) bytes taken
-head_is_ahead bytes rest c taken h l = spells_ahead (head c.var c.old c.new) bytes rest taken h.0 h.0 h.1 l
+pub head_is_ahead : (bytes rest : List ℕ) (c : Change) → ChangeAhead bytes c rest → LineAhead (head c.var c.old c.new) bytes rest
+head_is_ahead bytes rest c h = says_line (head c.var c.old c.new) bytes rest h.0 h.0 h.1
 
-pub effect_is_ahead : (bytes more rest : List ℕ) (c : Change) (taken : ℕ) → bytes ≡ 48 ∷ 32 ∷ more → ChangeAhead more c rest → taken ≡ length bytes - length rest → SpellsAhead (effect (plain_effect c)) bytes taken
-effect_is_ahead bytes more rest c taken e h l =
+pub effect_is_ahead : (bytes more rest : List ℕ) (c : Change) → bytes ≡ 48 ∷ 32 ∷ more → ChangeAhead more c rest → LineAhead (effect (plain_effect c)) bytes rest
+effect_is_ahead bytes more rest c e h =
     let numbers : EffectNumbers (plain_effect c) = record { count = omega arith; conditions = tt; head = h.0 } in
     let zero_is : decimal 0 ≡ 48 ∷ [] = decimal_digit 0 (omega arith) in
-    spells_ahead (effect (plain_effect c)) bytes rest taken numbers numbers (then _ _ bytes more (10 ∷ rest) 32 (e ∙ ap (λ (x : List ℕ). x ++ 32 ∷ more) (sym zero_is)) h.1) l
+    says_line (effect (plain_effect c)) bytes rest numbers numbers (then _ _ bytes more (10 ∷ rest) 32 (e ∙ ap (λ (x : List ℕ). x ++ 32 ∷ more) (sym zero_is)) h.1)
 
 -- ---- a word, a name
 
@@ -90,10 +126,10 @@ both false b h = absurd cc
 Name_all : (w : List ℕ) → IsName w → IsTrue (list_all is_plain w)
 Name_all w h = both (not (length w == 0)) (list_all is_plain w) h
 
-pub word_is_ahead : (bytes w rest : List ℕ) → IsName w → bytes ≡ w ++ 10 ∷ rest → SpellsAhead (word w) bytes (length w + 1)
-word_is_ahead bytes w rest h e = line_is_ahead (word w) bytes rest _ tt (Name_all w h) e refl
+pub word_is_ahead : (bytes w rest : List ℕ) → IsName w → bytes ≡ w ++ 10 ∷ rest → LineAhead (word w) bytes rest
+word_is_ahead bytes w rest h e = says_line (word w) bytes rest tt (Name_all w h) e
 
-pub name_is_ahead : (bytes : List ℕ) (end : ℕ) → 0 < end → NoneBefore (Passes (is_byte2 10 13) bytes) 0 (length bytes) end → get_or bytes end 0 ≡ 10 → IsName (take end bytes) × SpellsAhead (name (take end bytes)) bytes (length (take end bytes) + 1)
+pub name_is_ahead : (bytes : List ℕ) (end : ℕ) → 0 < end → NoneBefore (Passes (is_byte2 10 13) bytes) 0 (length bytes) end → get_or bytes end 0 ≡ 10 → IsName (take end bytes) × LineAhead (name (take end bytes)) bytes (drop (end + 1) bytes)
 name_is_ahead bytes end some first here =
     let w = take end bytes in
     let l : length w ≡ end = length-take-le end bytes (omega (arith, first.high)) in
@@ -101,4 +137,4 @@ name_is_ahead bytes end some first here =
     let one_line = is_none-search w None true nowhere refl in
     let many : (length w == 0) ≡ false = ne_eqb (length w) 0 (λ e. omega (arith, e, l, some)) in
     let h : IsName w = ap (λ (b : Bool). not b && list_all is_plain w) many ∙ sym one_line in
-    (h, line_is_ahead (name w) bytes (drop (end + 1) bytes) _ tt h (sym (take-append-drop end bytes) ∙ ap (λ (x : List ℕ). w ++ x) (drop_more bytes end 0 first.high ∙ ap (λ (b : ℕ). b ∷ drop (end + 1) bytes) here)) refl)
+    (h, says_line (name w) bytes (drop (end + 1) bytes) tt h (sym (take-append-drop end bytes) ∙ ap (λ (x : List ℕ). w ++ x) (drop_more bytes end 0 first.high ∙ ap (λ (b : ℕ). b ∷ drop (end + 1) bytes) here)))

@@ -1,3 +1,4 @@
 pub mod TaskReading
 pub mod TaskJudging
 mod AheadReading
+mod LinesReading

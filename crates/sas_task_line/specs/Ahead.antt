@@ -5,6 +5,7 @@ use Rattle.sas_core.specs.declared.parts.Effect.{Effect}
 use Rattle.sas_core.specs.Numbers.{IsNumber, IsSigned}
 use Rattle.sas_lines.specs.Lines.{LineStandsFirst}
 use Rattle.sas_lines.specs.Spelling.{signed_decimal, joined}
+use Rattle.sas_reader.specs.System.{IsPlain}
 use Rattle.sas_task_format.specs.TaskFormat.{TaskLine, task_line_bytes, TaskLineFits, head_words, HeadNumbers}
 use Rattle.sas_grounded.specs.declared.grounded.Change.{Change}
 
@@ -13,6 +14,12 @@ pub record SpellsAhead (i : TaskLine) (bytes : List ℕ) (taken : ℕ) : Type 0 
   pub fits : TaskLineFits i
   pub first : LineStandsFirst bytes (task_line_bytes i) taken
   pub before_end : task_line_bytes i ≡ take (taken - 1) bytes
+
+-- the bytes are this line, its numbers being numbers that a file can say, LF, and the rest
+pub record LineAhead (i : TaskLine) (bytes rest : List ℕ) : Type 0 where
+  pub fits : TaskLineFits i
+  pub plain : IsPlain (task_line_bytes i)
+  pub before : bytes ≡ task_line_bytes i ++ 10 ∷ rest
 
 -- an effect that makes this change, without conditions
 abbrev pub plain_effect : Change → Effect

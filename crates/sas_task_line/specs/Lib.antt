@@ -3,3 +3,4 @@ pub mod TaskWords
 pub mod TaskRanges
 pub mod Ahead
 pub mod Sections
+pub mod LinesBefore

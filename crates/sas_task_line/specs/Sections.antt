@@ -1,8 +1,6 @@
 -- Whole sections that stand first in some bytes: an operator, a rule.
-use Rattle.std.specs.Prelude.{◌≡◌, ℕ, List, ◌∷◌, map, take, IsTrue}
+use Rattle.std.specs.Prelude.{◌≡◌, ℕ, List, map, take, IsTrue}
 use Rattle.std.specs.List.{AllByRecursion, list_all}
-use Rattle.sas_core.specs.declared.parts.Fact.{Fact}
-use Rattle.sas_core.specs.declared.parts.Effect.{Effect}
 use Rattle.sas_core.specs.declared.parts.Operator.{Operator}
 use Rattle.sas_core.specs.declared.parts.Rule.{Rule}
 use Rattle.sas_core.specs.Names.{IsName}

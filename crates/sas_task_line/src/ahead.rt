@@ -3,7 +3,7 @@
 ghost use Rattle.std.specs.Prelude.{◌≡◌, ◌+◌, length, IfSome};
 ghost use Rattle.sas_core.specs.Names.{IsName};
 ghost use Rattle.sas_task_format.specs.TaskFormat as format;
-ghost use Rattle.sas_task_line.specs.Ahead.{SpellsAhead, NumberAhead, SignedAhead, ChangeAhead, plain_effect};
+ghost use Rattle.sas_task_line.specs.Ahead.{SpellsAhead, LineAhead, NumberAhead, SignedAhead, ChangeAhead, plain_effect};
 
 use memchr::memchr2;
 use sas_core::Fact;
@@ -17,14 +17,31 @@ pub struct Ahead<A> {
     pub taken: usize,
 }
 
-/// A number that stands before this byte, and what follows that.
-fn number_before(bytes: &[u8], end: u8) -> Option<(u32, &[u8])>
+/// A number of any length that stands before this byte, and what follows that.
+fn numeral_before(bytes: &[u8], end: u8) -> Option<(u32, &[u8])>
     ensures { IfSome result (λ found. NumberAhead bytes.now found.0 end found.1.now) }
 {
     let numeral = first_numeral(bytes)?;
     match &bytes[numeral.taken..] {
         [byte, rest @ ..] if *byte == end => Some((numeral.value, rest)),
         _ => None,
+    }
+}
+
+/// A number that stands before this byte, and what follows that.
+pub(crate) fn number_before(bytes: &[u8], end: u8) -> Option<(u32, &[u8])>
+    ensures { IfSome result (λ found. NumberAhead bytes.now found.0 end found.1.now) }
+{
+    // Most numbers have one digit or two.
+    match bytes {
+        [unit, byte, rest @ ..] if unit.is_ascii_digit() && *byte == end => {
+            Some(((*unit - b'0') as u32, rest))
+        }
+        [ten, unit, byte, rest @ ..]
+            if ten.is_ascii_digit() && *ten != b'0' && unit.is_ascii_digit() && *byte == end => {
+            Some(((*ten - b'0') as u32 * 10 + (*unit - b'0') as u32, rest))
+        }
+        _ => numeral_before(bytes, end),
     }
 }
 
@@ -44,13 +61,57 @@ fn signed_before(bytes: &[u8], end: u8) -> Option<(Option<u32>, &[u8])>
 }
 
 /// A change that stands before LF, and what follows that.
-fn change_before(bytes: &[u8]) -> Option<(Change, &[u8])>
+pub(crate) fn change_before(bytes: &[u8]) -> Option<(Change, &[u8])>
     ensures { IfSome result (λ found. ChangeAhead bytes.now found.0 found.1.now) }
 {
     let (var, rest) = number_before(bytes, b' ')?;
     let (old, rest) = signed_before(rest, b' ')?;
     let (new, rest) = number_before(rest, b'\n')?;
     Some((Change { var, old, new }, rest))
+}
+
+/// A fact that stands before LF, whether it exists or not, and what follows that.
+pub(crate) fn fact_before(bytes: &[u8]) -> Option<(Fact, &[u8])>
+    ensures { IfSome result (λ found. LineAhead (format.fact found.0) bytes.now found.1.now) }
+{
+    let (var, rest) = number_before(bytes, b' ')?;
+    let (value, rest) = number_before(rest, b'\n')?;
+    Some((Fact { var, value }, rest))
+}
+
+/// An effect without conditions that stands before LF, by its change, whether its facts exist or not, and what follows
+/// that.
+pub(crate) fn effect_before(bytes: &[u8]) -> Option<(Change, &[u8])>
+    ensures { IfSome result (λ found. LineAhead (format.effect (plain_effect found.0)) bytes.now found.1.now) }
+{
+    let [b'0', b' ', rest @ ..] = bytes else {
+        return None;
+    };
+    change_before(rest)
+}
+
+/// What follows the fixed word and LF.
+pub(crate) fn word_before<'a>(bytes: &'a [u8], word: &[u8]) -> Option<&'a [u8]>
+    requires { IsName word.now }
+    ensures { IfSome result (λ rest. LineAhead (format.word word.now) bytes.now rest.now) }
+{
+    match bytes.strip_prefix(word)? {
+        [b'\n', rest @ ..] => Some(rest),
+        _ => None,
+    }
+}
+
+/// A name that stands before LF, and what follows that.
+pub(crate) fn name_before(bytes: &[u8]) -> Option<(&[u8], &[u8])>
+    ensures { IfSome result (λ found.
+        IsName found.0.now × LineAhead (format.name found.0.now) bytes.now found.1.now) }
+{
+    let end = memchr2(b'\n', b'\r', bytes)?;
+    if end > 0 && bytes[end] == b'\n' {
+        Some((&bytes[..end], &bytes[end + 1..]))
+    } else {
+        None
+    }
 }
 
 /// A number.
@@ -68,10 +129,9 @@ pub fn number_ahead(bytes: &[u8]) -> Option<Ahead<u32>>
 pub fn fact_ahead(bytes: &[u8]) -> Option<Ahead<Fact>>
     ensures { IfSome result (λ a. SpellsAhead (format.fact a.said) bytes.now a.taken) }
 {
-    let (var, rest) = number_before(bytes, b' ')?;
-    let (value, rest) = number_before(rest, b'\n')?;
+    let (said, rest) = fact_before(bytes)?;
     Some(Ahead {
-        said: Fact { var, value },
+        said,
         taken: bytes.len() - rest.len(),
     })
 }
@@ -80,10 +140,7 @@ pub fn fact_ahead(bytes: &[u8]) -> Option<Ahead<Fact>>
 pub fn effect_ahead(bytes: &[u8]) -> Option<Ahead<Change>>
     ensures { IfSome result (λ a. SpellsAhead (format.effect (plain_effect a.said)) bytes.now a.taken) }
 {
-    let [b'0', b' ', rest @ ..] = bytes else {
-        return None;
-    };
-    let (said, rest) = change_before(rest)?;
+    let (said, rest) = effect_before(bytes)?;
     Some(Ahead {
         said,
         taken: bytes.len() - rest.len(),
@@ -106,10 +163,8 @@ pub fn word_ahead(bytes: &[u8], word: &[u8]) -> Option<usize>
     requires { IsName word.now }
     ensures { IfSome result (λ taken. SpellsAhead (format.word word.now) bytes.now taken) }
 {
-    match bytes.strip_prefix(word)? {
-        [b'\n', ..] => Some(word.len() + 1),
-        _ => None,
-    }
+    let rest = word_before(bytes, word)?;
+    Some(bytes.len() - rest.len())
 }
 
 /// A name.
@@ -117,10 +172,6 @@ pub fn name_ahead(bytes: &[u8]) -> Option<&[u8]>
     ensures { IfSome result (λ name.
         IsName name.now × SpellsAhead (format.name name.now) bytes.now (length name.now + 1)) }
 {
-    let end = memchr2(b'\n', b'\r', bytes)?;
-    if end > 0 && bytes[end] == b'\n' {
-        Some(&bytes[..end])
-    } else {
-        None
-    }
+    let (name, _) = name_before(bytes)?;
+    Some(name)
 }

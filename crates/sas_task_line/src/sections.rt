@@ -1,8 +1,16 @@
 // An operator or a rule that stands whole and first in some bytes, read in one go: most of a large file is these. All
 // else, and all faults, are left to what takes line by line.
-ghost use Rattle.std.specs.Prelude.{◌≡◌, IfOk, IfSome};
+ghost use Rattle.std.specs.Prelude.{◌≡◌, [], ◌∷◌, length, codes, IsTrue, IfOk, IfSome};
+ghost use Rattle.sas_core.specs.Names.{IsName};
+ghost use Rattle.sas_task_format.specs.TaskFormat as format;
+ghost use Rattle.sas_task_line.specs.LinesBefore.{LinesBefore, FactsBefore, ChangesBefore};
+ghost use Rattle.sas_task_line.specs.TaskRanges.{change_in};
 ghost use Rattle.sas_task_line.specs.Sections.{OperatorAhead, RuleAhead, gathered_operator, gathered_rule};
 
+use crate::ahead::{
+    change_before, effect_before, fact_before, name_before, number_before, word_before,
+};
+use crate::task_line::{change_in, value_in};
 use sas_core::{Fact, Items};
 use sas_grounded::Change;
 use sas_reader::Front;
@@ -41,6 +49,76 @@ pub struct RuleFound {
     pub front: Front,
 }
 
+/// Takes the facts that stand with their number before some rest, where each exists: the rest.
+fn facts_before<'a>(
+    ranges: &Items<u32>,
+    bytes: &'a [u8],
+    facts: &mut Items<Fact>,
+) -> Result<Option<&'a [u8]>, AllocError>
+    ensures { IfOk result (λ found. IfSome found (λ rest. FactsBefore ranges.now (length facts.new) facts.new bytes.now rest.now)) }
+{
+    facts.clear();
+    let Some((count, mut rest)) = number_before(bytes, b'\n') else {
+        return Ok(None);
+    };
+    for _i in 0..count {
+        let Some((fact, more)) = fact_before(rest) else {
+            return Ok(None);
+        };
+        if !value_in(ranges, fact.var, fact.value) {
+            return Ok(None);
+        }
+        facts.push(fact)?;
+        rest = more;
+    }
+    Ok(Some(rest))
+}
+
+/// Takes the changes of the effects without conditions that stand with their number before some rest, where the facts
+/// of each exist: the rest.
+fn changes_before<'a>(
+    ranges: &Items<u32>,
+    bytes: &'a [u8],
+    changes: &mut Items<Change>,
+) -> Result<Option<&'a [u8]>, AllocError>
+    ensures { IfOk result (λ found. IfSome found (λ rest. ChangesBefore ranges.now (length changes.new) changes.new bytes.now rest.now)) }
+{
+    changes.clear();
+    let Some((count, mut rest)) = number_before(bytes, b'\n') else {
+        return Ok(None);
+    };
+    for _i in 0..count {
+        let Some((change, more)) = effect_before(rest) else {
+            return Ok(None);
+        };
+        if !change_in(ranges, change.var, change.old, change.new) {
+            return Ok(None);
+        }
+        changes.push(change)?;
+        rest = more;
+    }
+    Ok(Some(rest))
+}
+
+/// The cost that stands before the last word of an operator, and the rest.
+fn end_before(bytes: &[u8]) -> Option<(u32, &[u8])>
+    ensures { IfSome result (λ found.
+        LinesBefore (format.number found.0 ∷ format.word (codes "end_operator") ∷ []) bytes.now found.1.now) }
+{
+    let (cost, rest) = number_before(bytes, b'\n')?;
+    let rest = word_before(rest, b"end_operator")?;
+    Some((cost, rest))
+}
+
+/// The name behind the first word of an operator, and the rest.
+fn begin_before(bytes: &[u8]) -> Option<(&[u8], &[u8])>
+    ensures { IfSome result (λ found. IsName found.0.now
+        × LinesBefore (format.word (codes "begin_operator") ∷ format.name found.0.now ∷ []) bytes.now found.1.now) }
+{
+    let rest = word_before(bytes, b"begin_operator")?;
+    name_before(rest)
+}
+
 /// The operator that stands first in the bytes, where it is quick to see that its facts exist and its effects have no
 /// conditions. Its prevail conditions and changes are gathered. After `None` or an `Err` anything may be gathered.
 pub fn operator_found<'a>(
@@ -51,7 +129,37 @@ pub fn operator_found<'a>(
     ensures { IfOk result (λ found. IfSome found (λ o.
         OperatorAhead ranges.now bytes.now (gathered_operator o.name.now o.cost gathered.new) o.front)) }
 {
-    Ok(None)
+    let Some((name, rest)) = begin_before(bytes) else {
+        return Ok(None);
+    };
+    let Some(rest) = facts_before(ranges, rest, &mut gathered.facts)? else {
+        return Ok(None);
+    };
+    let Some(rest) = changes_before(ranges, rest, &mut gathered.changes)? else {
+        return Ok(None);
+    };
+    let Some((cost, rest)) = end_before(rest) else {
+        return Ok(None);
+    };
+    let front = Front {
+        lines: 6 + gathered.facts.len() as u64 + gathered.changes.len() as u64,
+        bytes: bytes.len() - rest.len(),
+    };
+    Ok(Some(OperatorFound { name, cost, front }))
+}
+
+/// The head of a rule whose facts exist that stands before the last word, and the rest.
+fn head_before<'a>(ranges: &Items<u32>, bytes: &'a [u8]) -> Option<(Change, &'a [u8])>
+    ensures { IfSome result (λ found. IsTrue (change_in ranges.now found.0.var found.0.old found.0.new)
+        × LinesBefore (format.head found.0.var found.0.old found.0.new ∷ format.word (codes "end_rule") ∷ [])
+        bytes.now found.1.now) }
+{
+    let (head, rest) = change_before(bytes)?;
+    if !change_in(ranges, head.var, head.old, head.new) {
+        return None;
+    }
+    let rest = word_before(rest, b"end_rule")?;
+    Some((head, rest))
 }
 
 /// The rule that stands first in the bytes, where it is quick to see that its facts exist. Its conditions are gathered.
@@ -64,5 +172,18 @@ pub fn rule_found(
     ensures { IfOk result (λ found. IfSome found (λ r.
         RuleAhead ranges.now bytes.now (gathered_rule r.head gathered.new) r.front)) }
 {
-    Ok(None)
+    let Some(rest) = word_before(bytes, b"begin_rule") else {
+        return Ok(None);
+    };
+    let Some(rest) = facts_before(ranges, rest, &mut gathered.facts)? else {
+        return Ok(None);
+    };
+    let Some((head, rest)) = head_before(ranges, rest) else {
+        return Ok(None);
+    };
+    let front = Front {
+        lines: 4 + gathered.facts.len() as u64,
+        bytes: bytes.len() - rest.len(),
+    };
+    Ok(Some(RuleFound { head, front }))
 }

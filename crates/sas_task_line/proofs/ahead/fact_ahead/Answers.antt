@@ -1,6 +1,6 @@
 use Rattle.std.proofs.Common.{refl}
-use Rattle.sas_task_line.proofs.AheadReading.{fact_is_ahead}
+use Rattle.sas_task_line.proofs.AheadReading.{spells_ahead}
 use Rattle.sas_task_line.proofs.ahead.fact_ahead.Goals as goal
 
 pub returns : goal.returns
-returns c = fact_is_ahead c.args.bytes.now c.in_ok-var.rest.now c.in_ok-value.rest.now (record { var = c.in_ok-var.var; value = c.in_ok-value.value }) _ c.in_ok-var.ensures c.in_ok-value.ensures refl
+returns c = spells_ahead _ c.args.bytes.now c.in_ok-said.rest.now _ c.in_ok-said.ensures refl

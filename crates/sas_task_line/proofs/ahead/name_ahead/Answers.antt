@@ -1,5 +1,6 @@
-use Rattle.sas_task_line.proofs.AheadReading.{name_is_ahead}
+use Rattle.std.proofs.Common.{refl}
+use Rattle.sas_task_line.proofs.AheadReading.{line_is_ahead}
 use Rattle.sas_task_line.proofs.ahead.name_ahead.Goals as goal
 
-pub returns-then-bytes-end-eq10 : goal.returns-then-bytes-end-eq10
-returns-then-bytes-end-eq10 c = name_is_ahead c.args.bytes.now c.in_ok-end.end c.if-end-gt0.true c.in_ok-end.ensures.0 c.if-bytes-end-eq10.true
+pub returns : goal.returns
+returns c = let h = c.in_ok-name.ensures in (h.0, line_is_ahead _ c.args.bytes.now c.in_ok-name.field-0-1.now _ h.1 refl)

@@ -1,0 +1,124 @@
+-- Reading several lines, each up to its LF.
+use Rattle.std.proofs.Common.{◌≡◌, ℕ, ◌+◌, ◌-◌, Bool, ◌&&◌, List, [], ◌∷◌, ◌++◌, length, map, take, refl, sym, ap, subst, ◌∙◌, append_assoc, length-append, arith, IsTrue, codes}
+use Rattle.std.specs.List.{flat_map, list_all, AllByRecursion}
+use Rattle.std.proofs.lemmas.Grind.{flat_map-append}
+use Rattle.std.proofs.lemmas.List.{map-append, take_at, length-map}
+use Rattle.std.proofs.lemmas.List.Folds.{list_all-append}
+use Rattle.sas_core.specs.Names.{IsName}
+use Rattle.sas_grounded.specs.declared.grounded.Change.{Change}
+use Rattle.sas_lines.specs.Lines.{LinesStandFirst, text}
+use Rattle.sas_lines.proofs.Beginnings.{lines_stand_first}
+use Rattle.sas_lines.proofs.Splitting.{Plain}
+use Rattle.sas_reader.specs.declared.reader.Front.{Front}
+use Rattle.sas_reader.specs.System.{IsPlain}
+use Rattle.sas_task_format.specs.TaskFormat.{TaskLine, word, name, number, fact, effect, head, line, task_line_bytes, TaskLineFits, operator_lines, rule_lines}
+use Rattle.sas_task_line.specs.declared.sections.Gathered.{Gathered}
+use Rattle.sas_task_line.specs.Ahead.{LineAhead, NumberAhead, plain_effect}
+use Rattle.sas_task_line.specs.LinesBefore.{LinesBefore, CountedBefore, FactsBefore, ChangesBefore}
+use Rattle.sas_task_line.specs.Sections.{spelled, LinesAhead, OperatorAhead, RuleAhead, gathered_operator, gathered_rule}
+use Rattle.sas_task_line.specs.TaskRanges.{effect_in_ranges, change_in}
+use Rattle.sas_task_line.proofs.AheadReading.{plain, number_is_ahead}
+
+-- ---- some lines, then more
+
+All-append : {A : Type 0} (P : A → Type 0) (xs ys : List A) → AllByRecursion P xs → AllByRecursion P ys → AllByRecursion P (xs ++ ys)
+All-append P [] ys h g = g
+All-append P (x ∷ xs) ys h g = (h.0, All-append P xs ys h.1 g)
+
+spelled-append : (a b : List TaskLine) → spelled (a ++ b) ≡ spelled a ++ spelled b
+spelled-append a b = map-append task_line_bytes a b
+
+text-append : (a b : List (List ℕ)) → text (a ++ b) ≡ text a ++ text b
+text-append a b = flat_map-append (λ (l : List ℕ). l ++ 10 ∷ []) a b
+
+pub lines_then : {a b : List TaskLine} {bytes more rest : List ℕ} → LinesBefore a bytes more → LinesBefore b more rest → LinesBefore (a ++ b) bytes rest
+lines_then {a = a} {b = b} {bytes = bytes} {more = more} {rest = rest} h g =
+    let both : text (spelled (a ++ b)) ≡ text (spelled a) ++ text (spelled b) = ap text (spelled-append a b) ∙ text-append (spelled a) (spelled b) in
+    record {
+      fits = All-append TaskLineFits a b h.fits g.fits;
+      plain = subst (AllByRecursion IsPlain) (sym (spelled-append a b)) (All-append IsPlain (spelled a) (spelled b) h.plain g.plain);
+      before = h.before ∙ ap (λ (x : List ℕ). text (spelled a) ++ x) g.before ∙ sym (append_assoc (text (spelled a)) (text (spelled b)) rest) ∙ ap (λ (x : List ℕ). x ++ rest) (sym both);
+    }
+
+pub one_line : {i : TaskLine} {bytes rest : List ℕ} → LineAhead i bytes rest → LinesBefore (i ∷ []) bytes rest
+one_line {i = i} {rest = rest} h =
+    let whole : text (spelled (i ∷ [])) ++ rest ≡ task_line_bytes i ++ 10 ∷ rest = append_assoc (task_line_bytes i ++ 10 ∷ []) [] rest ∙ append_assoc (task_line_bytes i) (10 ∷ []) rest in
+    record { fits = (h.fits, tt); plain = (h.plain, tt); before = h.before ∙ sym whole }
+
+pub two_lines : {i j : TaskLine} {bytes more rest : List ℕ} → LineAhead i bytes more → LineAhead j more rest → LinesBefore (i ∷ j ∷ []) bytes rest
+two_lines h g = lines_then (one_line h) (one_line g)
+
+-- ---- a number, and so many lines
+
+module _ {A : Type 0} (says : A → TaskLine) (may_stand : A → Bool) where
+  pub none_yet : (count : ℕ) {bytes rest : List ℕ} → NumberAhead bytes count 10 rest → CountedBefore says may_stand count [] bytes rest
+  none_yet count h = record { lines = one_line (number_is_ahead _ _ count h); stand = refl }
+
+  both_true : (a b : Bool) → IsTrue a → IsTrue b → IsTrue (a && b)
+  both_true a b h g = cc
+
+  pub one_more : {count : ℕ} (xs : List A) (x : A) {bytes more rest : List ℕ} → CountedBefore says may_stand count xs bytes more → LineAhead (says x) more rest → IsTrue (may_stand x) → CountedBefore says may_stand count (xs ++ x ∷ []) bytes rest
+  one_more {count = count} xs x {bytes = bytes} {rest = rest} h g may =
+      let more_lines : number count ∷ flat_map (line says) (xs ++ x ∷ []) ≡ (number count ∷ flat_map (line says) xs) ++ says x ∷ [] = ap (λ l. number count ∷ l) (flat_map-append (line says) xs (x ∷ [])) in
+      record {
+        lines = subst (λ l. LinesBefore l bytes rest) (sym more_lines) (lines_then h.lines (one_line g));
+        stand = list_all-append may_stand xs (x ∷ []) ∙ both_true (list_all may_stand xs) (list_all may_stand (x ∷ [])) h.stand (both_true (may_stand x) _ may refl);
+      }
+
+pub one_change_more : (ranges : List ℕ) {count : ℕ} (changes : List Change) (c : Change) {bytes more rest : List ℕ} → ChangesBefore ranges count changes bytes more → LineAhead (effect (plain_effect c)) more rest → IsTrue (change_in ranges c.var c.old c.new) → ChangesBefore ranges count (changes ++ c ∷ []) bytes rest
+one_change_more ranges changes c h g exist = rw (map-append plain_effect changes (c ∷ [])) (one_more effect (effect_in_ranges ranges) (map plain_effect changes) (plain_effect c) h g exist)
+
+-- ---- from the first byte on
+
+plain_lines : (ls : List (List ℕ)) → AllByRecursion IsPlain ls → AllByRecursion Plain ls
+plain_lines [] h = tt
+plain_lines (l ∷ ls) h = (plain l h.0, plain_lines ls h.1)
+
+pub lines_are_ahead : (items : List TaskLine) (bytes rest : List ℕ) (front : Front) → LinesBefore items bytes rest → front.bytes ≡ length bytes - length rest → front.lines ≡ length items → LinesAhead items bytes front
+lines_are_ahead items bytes rest front h taken many =
+    let long : front.bytes ≡ length (text (spelled items)) = omega (arith, taken, ap length h.before, length-append (text (spelled items)) rest) in
+    record {
+      fits = h.fits;
+      stands = record {
+        stand = subst (LinesStandFirst bytes (spelled items)) (sym long) (lines_stand_first bytes rest (spelled items) (plain_lines (spelled items) h.plain) h.before);
+        many = length-map items task_line_bytes ∙ sym many;
+      };
+      whole = ap (take front.bytes) h.before ∙ take_at (text (spelled items)) rest front.bytes (sym long);
+    }
+
+one_each : {A : Type 0} (says : A → TaskLine) (xs : List A) → length (flat_map (line says) xs) ≡ length xs
+one_each says [] = refl
+one_each says (x ∷ xs) = let e = one_each says xs in omega (arith, e)
+
+-- ---- an operator, a rule
+
+abbrev begin_lines : List ℕ → List TaskLine
+begin_lines label = word (codes "begin_operator") ∷ name label ∷ []
+
+abbrev end_lines : ℕ → List TaskLine
+end_lines cost = number cost ∷ word (codes "end_operator") ∷ []
+
+pub operator_is_ahead : (ranges label : List ℕ) (cost : ℕ) (g : Gathered) (front : Front) {bytes facts_on changes_on end_on rest : List ℕ} → IsName label × LinesBefore (begin_lines label) bytes facts_on → FactsBefore ranges (length g.facts) g.facts facts_on changes_on → ChangesBefore ranges (length g.changes) g.changes changes_on end_on → LinesBefore (end_lines cost) end_on rest → front.bytes ≡ length bytes - length rest → front.lines ≡ 6 + length g.facts + length g.changes → OperatorAhead ranges bytes (gathered_operator label cost g) front
+operator_is_ahead ranges label cost g front {bytes = bytes} {changes_on = changes_on} {end_on = end_on} {rest = rest} begins facts changes ends taken many =
+    let effects = map plain_effect g.changes in
+    let as_many : length effects ≡ length g.changes = length-map g.changes plain_effect in
+    let fact_lines : List TaskLine = number (length g.facts) ∷ flat_map (line fact) g.facts in
+    let effect_lines : List TaskLine = number (length effects) ∷ flat_map (line effect) effects in
+    let counted_effects : LinesBefore effect_lines changes_on end_on = rw as_many changes.lines in
+    let items = operator_lines (gathered_operator label cost g) in
+    let all = lines_then (lines_then (lines_then begins.1 facts.lines) counted_effects) ends in
+    let same : begin_lines label ++ fact_lines ++ effect_lines ++ end_lines cost ≡ items = ap (λ l. word (codes "begin_operator") ∷ name label ∷ l) (sym (append_assoc (fact_lines ++ effect_lines) (number cost ∷ []) (word (codes "end_operator") ∷ []))) in
+    let long : length items ≡ 6 + length g.facts + length g.changes = omega (arith, ap length same, length-append (begin_lines label ++ fact_lines ++ effect_lines) (end_lines cost), length-append (begin_lines label ++ fact_lines) effect_lines, length-append (begin_lines label) fact_lines, one_each fact g.facts, one_each effect effects, as_many) in
+    (record { name = begins.0; prevail = facts.stand; effects = changes.stand }, lines_are_ahead items bytes rest front (subst (λ l. LinesBefore l bytes rest) same all) taken (many ∙ sym long))
+
+abbrev last_lines : Change → List TaskLine
+last_lines c = head c.var c.old c.new ∷ word (codes "end_rule") ∷ []
+
+pub rule_is_ahead : (ranges : List ℕ) (c : Change) (g : Gathered) (front : Front) {bytes facts_on head_on rest : List ℕ} → LineAhead (word (codes "begin_rule")) bytes facts_on → FactsBefore ranges (length g.facts) g.facts facts_on head_on → IsTrue (change_in ranges c.var c.old c.new) × LinesBefore (last_lines c) head_on rest → front.bytes ≡ length bytes - length rest → front.lines ≡ 4 + length g.facts → RuleAhead ranges bytes (gathered_rule c g) front
+rule_is_ahead ranges c g front {bytes = bytes} {rest = rest} begins facts ends taken many =
+    let fact_lines : List TaskLine = number (length g.facts) ∷ flat_map (line fact) g.facts in
+    let items = rule_lines (gathered_rule c g) in
+    let all = lines_then (lines_then (one_line begins) facts.lines) ends.1 in
+    let same : word (codes "begin_rule") ∷ (fact_lines ++ last_lines c) ≡ items = ap (λ l. word (codes "begin_rule") ∷ l) (sym (append_assoc fact_lines (head c.var c.old c.new ∷ []) (word (codes "end_rule") ∷ []))) in
+    let long : length items ≡ 4 + length g.facts = omega (arith, ap length same, length-append fact_lines (last_lines c), one_each fact g.facts) in
+    (record { conditions = facts.stand; change = ends.0 }, lines_are_ahead items bytes rest front (subst (λ l. LinesBefore l bytes rest) same all) taken (many ∙ sym long))
