@@ -1,5 +1,5 @@
 -- One list more behind the others.
-use Rattle.std.proofs.Common.{◌≡◌, ℕ, zero, suc, ◌+◌, ◌-◌, ◌<◌, ◌≤◌, ◌⊎◌, inl, inr, List, [], ◌∷◌, ◌++◌, length, get_or, take, drop, refl, sym, ap, subst, ◌∙◌, arith, length-append, length-drop}
+use Rattle.std.proofs.Common.{◌≡◌, ℕ, zero, suc, ◌+◌, ◌-◌, ◌<◌, ◌≤◌, ◌⊎◌, inl, inr, List, [], ◌∷◌, ◌++◌, length, get_or, take, drop, replicate, refl, sym, ap, subst, ◌∙◌, arith, append-nil, append_assoc, length-append, length-drop}
 use Rattle.std.specs.Prelude.{slice_index, slice_range}
 use Rattle.std.proofs.lemmas.List.{take-append-le, drop-append-le, take-append-drop, length-take-le, get_or-take, get_or-drop}
 use Rattle.std.proofs.Math.Nat.{eq-or-lt_of_le}
@@ -79,6 +79,29 @@ module _ {X : Type 0} (items list : List X) (ends : List ℕ) (end : ℕ) (are :
         (omega (arith, last_end, length-append items list));
     closed = ap (λ k. start_of (ends ++ end ∷ []) k) more_suc ∙ last_end ∙ is ∙ sym (length-append items list);
   }
+
+-- ---- empty lists behind the others
+
+module _ {X : Type 0} (items : List X) where
+  one_empty : (ends : List ℕ) → AreEnds ends (length items) → lists_of items (ends ++ length items ∷ []) ≡ lists_of items ends ++ [] ∷ []
+  one_empty ends are =
+      ap (λ (l : List X). lists_of l (ends ++ length items ∷ [])) (sym (append-nil items))
+      ∙ lists_more items [] ends (length items) are (omega arith)
+
+  ends_one_empty : (ends : List ℕ) → AreEnds ends (length items) → AreEnds (ends ++ length items ∷ []) (length items)
+  ends_one_empty ends are =
+      subst (λ (l : List X). AreEnds (ends ++ length items ∷ []) (length l)) (append-nil items)
+      (ends_more items [] ends (length items) are (omega arith))
+
+  -- so many of them
+  pub empty_more : (n : ℕ) (ends : List ℕ) → AreEnds ends (length items)
+      → lists_of items (ends ++ replicate n (length items)) ≡ lists_of items ends ++ replicate n []
+  empty_more zero ends are = ap (λ e. lists_of items e) (append-nil ends) ∙ sym (append-nil (lists_of items ends))
+  empty_more (suc n) ends are =
+      ap (λ e. lists_of items e) (sym (append_assoc ends (length items ∷ []) (replicate n (length items))))
+      ∙ empty_more n (ends ++ length items ∷ []) (ends_one_empty ends are)
+      ∙ ap (λ l. l ++ replicate n []) (one_empty ends are)
+      ∙ append_assoc (lists_of items ends) ([] ∷ []) (replicate n [])
 
 -- ---- fewer lists
 

@@ -1,5 +1,5 @@
 -- Effects in columns: the effect at a place, one effect more, and fewer.
-use Rattle.std.proofs.Common.{◌≡◌, ℕ, ◌+◌, ◌<◌, ◌≤◌, List, [], ◌∷◌, ◌++◌, length, take, get_or, sym, ap, ◌∙◌, arith, length-append}
+use Rattle.std.proofs.Common.{◌≡◌, ℕ, ◌<◌, ◌≤◌, List, [], ◌∷◌, ◌++◌, length, take, replicate, get_or, sym, ap, ◌∙◌, arith, append-nil, append_assoc, length-append}
 use Rattle.std.proofs.lemmas.List.{length-take-le, get_or-take}
 use Rattle.std.proofs.Math.ListN.{get_or-append}
 use Rattle.std.proofs.Math.Seq.{get_or-append_seam}
@@ -7,7 +7,7 @@ use Rattle.sas_grounded.specs.declared.grounded.Change.{Change}
 use Rattle.sas_core.specs.declared.parts.Fact.{Fact}
 use Rattle.sas_core.specs.declared.parts.Effect.{Effect}
 use Rattle.sas_flat.specs.Table.{table}
-use Rattle.sas_flat.specs.Effects.{effect, change_in, effects_of, effect_in}
+use Rattle.sas_flat.specs.Effects.{effect, plain_effects, change_in, effects_of, effect_in}
 use Rattle.sas_flat.proofs.Tables.{length-table, table_same, table_none, table_more, get_or-table, take-table}
 
 pub no_effect : (cs : List Change) (ds : List (List Fact)) → cs ≡ [] → effects_of cs ds ≡ []
@@ -28,6 +28,18 @@ pub effects_more : (cs : List Change) (ds : List (List Fact)) (c : Change) (d : 
 effects_more cs ds c d pairs = table_more (length cs) (length (cs ++ c ∷ [])) _ _ (effect c d) (omega (arith, length-append cs (c ∷ [])))
     (λ i h. same_effect _ _ _ _ (get_or-append cs (c ∷ []) _ i h) (get_or-append ds (d ∷ []) [] i (omega (arith, pairs))))
     (same_effect _ _ _ _ (get_or-append_seam cs c [] _) (ap (λ n. get_or (ds ++ d ∷ []) n []) (sym pairs) ∙ get_or-append_seam ds d [] []))
+
+-- effects without conditions behind the others
+pub plain_more : (more cs : List Change) (ds : List (List Fact)) → length ds ≡ length cs
+    → effects_of (cs ++ more) (ds ++ replicate (length more) []) ≡ effects_of cs ds ++ plain_effects more
+plain_more [] cs ds pairs =
+    ap (λ l. effects_of l (ds ++ [])) (append-nil cs) ∙ ap (λ l. effects_of cs l) (append-nil ds) ∙ sym (append-nil (effects_of cs ds))
+plain_more (c ∷ more) cs ds pairs =
+    ap (λ l. effects_of l (ds ++ [] ∷ replicate (length more) [])) (sym (append_assoc cs (c ∷ []) more))
+    ∙ ap (λ l. effects_of ((cs ++ c ∷ []) ++ more) l) (sym (append_assoc ds ([] ∷ []) (replicate (length more) [])))
+    ∙ plain_more more (cs ++ c ∷ []) (ds ++ [] ∷ []) (omega (arith, pairs, length-append cs (c ∷ []), length-append ds ([] ∷ [])))
+    ∙ ap (λ l. l ++ plain_effects more) (effects_more cs ds c [] pairs)
+    ∙ append_assoc (effects_of cs ds) (effect c [] ∷ []) (plain_effects more)
 
 pub effects_taken : (cs : List Change) (ds : List (List Fact)) (n : ℕ) → length ds ≡ length cs → n ≤ length cs
     → effects_of (take n cs) (take n ds) ≡ take n (effects_of cs ds)

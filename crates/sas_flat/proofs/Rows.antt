@@ -1,5 +1,5 @@
 -- Operators and variables in columns: the one at a place, and one more.
-use Rattle.std.proofs.Common.{◌≡◌, ℕ, ◌+◌, ◌<◌, List, [], ◌∷◌, ◌++◌, length, get_or, sym, ap, ◌∙◌, arith, length-append}
+use Rattle.std.proofs.Common.{◌≡◌, ℕ, ◌<◌, List, [], ◌∷◌, ◌++◌, length, get_or, sym, ap, ◌∙◌, arith, length-append}
 use Rattle.std.specs.Prelude.{slice_get, Option, Some, None, option_and_then}
 use Rattle.std.specs.Option.{option_map_or}
 use Rattle.std.proofs.Math.ListN.{get_or-append}
@@ -9,9 +9,7 @@ use Rattle.sas_core.specs.declared.parts.Effect.{Effect}
 use Rattle.sas_core.specs.declared.parts.Variable.{Variable}
 use Rattle.sas_core.specs.declared.parts.Operator.{Operator}
 use Rattle.sas_core.specs.Variables.{range_of, layer_of}
-use Rattle.sas_flat.specs.Operators as operators
 use Rattle.sas_flat.specs.Operators.{operator, operators_of, operator_in}
-use Rattle.sas_flat.specs.Variables as variables
 use Rattle.sas_flat.specs.Variables.{variable, variables_of}
 use Rattle.sas_flat.proofs.Tables.{length-table, table_none, table_more, get_or-table, slice_get-table}
 

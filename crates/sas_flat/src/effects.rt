@@ -1,7 +1,7 @@
 // Effects in a few blocks of memory.
 ghost use Rattle.std.specs.Prelude.{◌≡◌, ◌<◌, ◌≤◌, [], ◌∷◌, ◌++◌, length, take, OnOk, OnErr};
 ghost use Rattle.sas_grounded.specs.Grounded as grounded;
-ghost use Rattle.sas_flat.specs.Effects.{effect, effect_in};
+ghost use Rattle.sas_flat.specs.Effects.{effect, plain_effects, effect_in};
 ghost use Rattle.sas_flat.specs.Growing.{Kept};
 
 use crate::lists::Lists;
@@ -71,6 +71,17 @@ impl Effects {
         self.changes.reserve(1)?;
         self.conditions.push(conditions)?;
         self.changes.push(change)?;
+        Ok(())
+    }
+
+    /// Effects more that make these changes without conditions. After an `Err` the effects are as they were.
+    pub(crate) fn append_plain(&mut self, changes: &[Change]) -> Result<(), AllocError>
+        ensures ok { OnOk result (self.new ≡ self.old ++ plain_effects changes.now) }
+        ensures err { OnErr result (self.new ≡ self.old) }
+    {
+        self.changes.reserve(changes.len())?;
+        self.conditions.push_empty(changes.len())?;
+        self.changes.extend_from_slice(changes)?;
         Ok(())
     }
 

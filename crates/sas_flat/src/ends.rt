@@ -1,5 +1,5 @@
 // Where lists that stand one behind the other end.
-ghost use Rattle.std.specs.Prelude.{◌≡◌, ◌<◌, ◌≤◌, [], ◌∷◌, ◌++◌, length, take, OnOk, OnErr, slice_index};
+ghost use Rattle.std.specs.Prelude.{◌≡◌, ◌<◌, ◌≤◌, [], ◌∷◌, ◌++◌, length, take, replicate, OnOk, OnErr, slice_index};
 ghost use Rattle.sas_flat.specs.Lists.{start_of};
 
 use std::alloc::{AllocError, Global};
@@ -64,6 +64,16 @@ impl Ends {
     {
         self.places.push(place)?;
         Ok(())
+    }
+
+    /// So many lists more, which all end at this place. After an `Err` the lists are as they were.
+    pub fn push_same(&mut self, place: usize, count: usize) -> Result<(), AllocError>
+        requires { start_of self.old (length self.old) ≤ place }
+        ensures ok { OnOk result (self.new ≡ self.old ++ replicate count place) }
+        ensures err { OnErr result (self.new ≡ self.old) }
+    {
+        self.places.reserve(count)?;
+        self.places.resize(self.places.len() + count, place)
     }
 
     /// Leaves so many lists of those that there are, the first ones.

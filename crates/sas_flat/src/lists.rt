@@ -1,5 +1,5 @@
 // Lists that stand one behind the other in one block of memory.
-ghost use Rattle.std.specs.Prelude.{◌≡◌, ◌<◌, ◌≤◌, [], ◌∷◌, ◌++◌, length, take, OnOk, OnErr, slice_range};
+ghost use Rattle.std.specs.Prelude.{◌≡◌, ◌<◌, ◌≤◌, [], ◌∷◌, ◌++◌, length, take, replicate, OnOk, OnErr, slice_range};
 ghost use Rattle.std.specs.List.{slice_index_or};
 ghost use Rattle.sas_flat.specs.Growing.{Kept};
 
@@ -77,6 +77,15 @@ impl<T: Copy> Lists<T> {
                 Err(error)
             }
         }
+    }
+
+    /// So many empty lists more. After an `Err` the lists are as they were.
+    pub(crate) fn push_empty(&mut self, count: usize) -> Result<(), AllocError>
+        ensures ok { OnOk result (self.new ≡ self.old ++ replicate count []) }
+        ensures err { OnErr result (self.new ≡ self.old) }
+    {
+        self.ends.push_same(self.items.len(), count)?;
+        Ok(())
     }
 
     /// All these lists more. After an `Err` those that there were are still there, and maybe some of these behind them.

@@ -1,9 +1,9 @@
 // Operators in a few blocks of memory.
 ghost use Rattle.std.specs.Prelude.{◌≡◌, ◌<◌, ◌≤◌, [], ◌∷◌, ◌++◌, length, take, OnOk, OnErr};
 ghost use Rattle.sas_grounded.specs.Grounded as grounded;
-ghost use Rattle.sas_flat.specs.Effects.{effect_in};
+ghost use Rattle.sas_flat.specs.Effects.{effect_in, plain_effects};
 ghost use Rattle.sas_flat.specs.Growing.{Kept};
-ghost use Rattle.sas_flat.specs.Lists.{AreEnds};
+ghost use Rattle.sas_flat.specs.Lists.{start_of, AreEnds};
 ghost use Rattle.sas_flat.specs.Operators.{operator, operator_in, OneMore};
 
 use crate::effects::Effects;
@@ -60,9 +60,57 @@ impl Columns {
         ensures costs { Kept self.old.costs.items self.new.costs.items }
         ensures ok { OnOk result (OneMore self.old self.new (operator name.now prevail.now effects.now cost)) }
     {
-        self.names.push(name)?;
-        self.prevail.push(prevail)?;
+        self.push_head(name, prevail)?;
         self.effects.append(effects)?;
+        self.push_end(cost)
+    }
+
+    /// The same for an operator whose effects make these changes without conditions.
+    fn push_plain(
+        &mut self,
+        name: &[u8],
+        prevail: &[Fact],
+        changes: &[Change],
+        cost: u32,
+    ) -> Result<(), AllocError>
+        requires { AreEnds self.old.ends (length self.old.effects) }
+        ensures names { Kept self.old.names self.new.names }
+        ensures prevail { Kept self.old.prevail self.new.prevail }
+        ensures effects { Kept self.old.effects self.new.effects }
+        ensures ends { Kept self.old.ends self.new.ends }
+        ensures costs { Kept self.old.costs.items self.new.costs.items }
+        ensures ok { OnOk result (OneMore self.old self.new (operator name.now prevail.now (plain_effects changes.now) cost)) }
+    {
+        self.push_head(name, prevail)?;
+        self.effects.append_plain(changes)?;
+        self.push_end(cost)
+    }
+
+    /// The name and the prevail conditions of one operator more.
+    fn push_head(&mut self, name: &[u8], prevail: &[Fact]) -> Result<(), AllocError>
+        ensures names { Kept self.old.names self.new.names }
+        ensures prevail { Kept self.old.prevail self.new.prevail }
+        ensures effects { self.new.effects ≡ self.old.effects }
+        ensures ends { self.new.ends ≡ self.old.ends }
+        ensures costs { self.new.costs.items ≡ self.old.costs.items }
+        ensures name_ok { OnOk result (self.new.names ≡ self.old.names ++ name.now ∷ []) }
+        ensures prevail_ok { OnOk result (self.new.prevail ≡ self.old.prevail ++ prevail.now ∷ []) }
+    {
+        self.names.push(name)?;
+        self.prevail.push(prevail)
+    }
+
+    /// The end of the effects of the operator that has come, and its cost.
+    fn push_end(&mut self, cost: u32) -> Result<(), AllocError>
+        requires { start_of self.old.ends (length self.old.ends) ≤ length self.old.effects }
+        ensures names { self.new.names ≡ self.old.names }
+        ensures prevail { self.new.prevail ≡ self.old.prevail }
+        ensures effects { self.new.effects ≡ self.old.effects }
+        ensures ends { Kept self.old.ends self.new.ends }
+        ensures costs { Kept self.old.costs.items self.new.costs.items }
+        ensures end_ok { OnOk result (self.new.ends ≡ self.old.ends ++ length self.old.effects ∷ []) }
+        ensures cost_ok { OnOk result (self.new.costs.items ≡ self.old.costs.items ++ cost ∷ []) }
+    {
         self.ends.push(self.effects.len())?;
         self.costs.push(cost)?;
         Ok(())
@@ -127,6 +175,28 @@ impl Operators {
             Ok(()) => Ok(()),
             Err(error) => {
                 self.columns.truncate(operators, all_effects);
+                Err(error)
+            }
+        }
+    }
+
+    /// One operator more whose effects make these changes without conditions. After an `Err` the operators are as they were.
+    pub fn push_plain(
+        &mut self,
+        name: &[u8],
+        prevail: &[Fact],
+        changes: &[Change],
+        cost: u32,
+    ) -> Result<(), AllocError>
+        ensures ok { OnOk result (self.new ≡ self.old ++ operator name.now prevail.now (plain_effects changes.now) cost ∷ []) }
+        ensures err { OnErr result (self.new ≡ self.old) }
+    {
+        let operators = self.columns.costs.len();
+        let effects = self.columns.effects.len();
+        match self.columns.push_plain(name, prevail, changes, cost) {
+            Ok(()) => Ok(()),
+            Err(error) => {
+                self.columns.truncate(operators, effects);
                 Err(error)
             }
         }

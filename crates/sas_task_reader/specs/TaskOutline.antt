@@ -2,14 +2,14 @@
 use Rattle.std.specs.Prelude.{ℕ, ◌-◌, ◌^◌, min, List, [], length}
 use Rattle.sas_task_reader.specs.declared.outline.Outline.{Outline}
 use Rattle.sas_task_judge.specs.declared.so_far.SoFar.{SoFar}
-use Rattle.sas_task_reader.specs.declared.task_outline.TaskOutline.{TaskOutline}
+use Rattle.sas_task_reader.specs.declared.task_outline.Seen.{Seen}
 
 -- how many there are, as far as 32 bits count; no task has more
 abbrev pub as_far_as_counted : {A : Type 0} → List A → ℕ
 as_far_as_counted items = min (length items) (2 ^ 32 - 1)
 
 -- what is kept of what has come
-abbrev pub seen : SoFar → TaskOutline
+abbrev pub seen : SoFar → Seen
 seen s = record {
   rest = record s { parts = record s.parts { groups = []; operators = []; rules = [] }; facts = []; effects = [] };
   groups = as_far_as_counted s.parts.groups;
@@ -18,7 +18,7 @@ seen s = record {
 }
 
 -- the outline that is kept
-abbrev pub outline_in : TaskOutline → Outline
+abbrev pub outline_in : Seen → Outline
 outline_in kept = record {
   metric = kept.rest.parts.metric;
   variables = kept.rest.parts.variables;

@@ -1,15 +1,20 @@
 // What keeps all that a task file says, in a few blocks of memory.
-ghost use Rattle.std.specs.Prelude.{◌≡◌, [], OnOk};
+ghost use Rattle.std.specs.Prelude.{◌≡◌, ◌<◌, [], OnOk, IfOk};
+ghost use Rattle.sas_core.specs.declared.parts.Operator.{Operator};
+ghost use Rattle.sas_core.specs.declared.parts.Rule.{Rule};
 ghost use Rattle.sas_core.specs.WellRanged.{WellRanged};
 ghost use Rattle.sas_task_judge.specs.declared.task_events.Event.TheVariants as event;
 ghost use Rattle.sas_task_judge.specs.declared.task_events.Said.{Said};
+ghost use Rattle.sas_task_line.specs.Sections.{OperatorAhead, RuleAhead};
 ghost use Rattle.sas_task_judge.specs.TaskEvents.{nothing_yet, after};
+ghost use Rattle.sas_task_judge.specs.Sections.{behind_operator, behind_rule};
 
 use sas_core::{Fact, Items};
 use sas_flat::{Effects, FlatTask, Lists, Operators, Rules, Variables};
 use sas_grounded::Change;
-use sas_reader::Kind;
+use sas_reader::{Front, Kind};
 use sas_task_judge::{Event, Keeper, Said};
+use sas_task_line::{Gathered, OperatorFound, RuleFound, operator_found, rule_found};
 use std::alloc::{AllocError, Global};
 use std::marker::Model;
 
@@ -32,6 +37,8 @@ pub struct FlatSoFar {
     /// The facts of a group, the prevail conditions of an operator, or the conditions of a rule.
     facts: Items<Fact>,
     effects: Effects,
+    /// What is read of an operator or a rule whose lines come at once.
+    gathered: Gathered,
 }
 
 impl Model for FlatSoFar {
@@ -70,6 +77,7 @@ impl FlatSoFar {
             values: Lists::new(alloc),
             facts: Items::new(alloc),
             effects: Effects::new(alloc),
+            gathered: Gathered::new(alloc),
         }
     }
 
@@ -145,14 +153,45 @@ impl FlatSoFar {
     fn rule(&mut self, said: &Said) -> Result<(), AllocError>
         ensures { OnOk result (self.new ≡ after self.old event.Rule said.now []) }
     {
-        let change = Change {
-            var: said.head.var,
-            old: said.head.old,
-            new: said.head.new,
-        };
-        self.rules.push(self.facts.as_slice(), change)?;
+        self.rules.push(self.facts.as_slice(), said.head)?;
         self.facts.clear();
         Ok(())
+    }
+
+    /// Takes the operator that stands first in the bytes, all its lines at once, where it is found. It tells how long they
+    /// are. After an `Err` anything may have been taken.
+    fn operator_ahead(&mut self, ranges: &Items<u32>, bytes: &[u8]) -> Result<Front, AllocError>
+        ensures took { IfOk result (λ front. 0 < front.bytes → (o : Operator) × OperatorAhead ranges.now bytes.now o front × (self.new ≡ behind_operator self.old o)) }
+        ensures none { IfOk result (λ front. front.bytes ≡ 0 → self.new ≡ self.old) }
+    {
+        let found = operator_found(ranges, bytes, &mut self.gathered)?;
+        let Some(OperatorFound { name, cost, front }) = found else {
+            return Ok(Front::EMPTY);
+        };
+        self.operators.push_plain(
+            name,
+            self.gathered.facts.as_slice(),
+            self.gathered.changes.as_slice(),
+            cost,
+        )?;
+        self.name.clear();
+        self.facts.clear();
+        self.effects.clear();
+        Ok(front)
+    }
+
+    /// Takes the rule that stands first in the bytes likewise.
+    fn rule_ahead(&mut self, ranges: &Items<u32>, bytes: &[u8]) -> Result<Front, AllocError>
+        ensures took { IfOk result (λ front. 0 < front.bytes → (r : Rule) × RuleAhead ranges.now bytes.now r front × (self.new ≡ behind_rule self.old r)) }
+        ensures none { IfOk result (λ front. front.bytes ≡ 0 → self.new ≡ self.old) }
+    {
+        let found = rule_found(ranges, bytes, &mut self.gathered)?;
+        let Some(RuleFound { head, front }) = found else {
+            return Ok(Front::EMPTY);
+        };
+        self.rules.push(self.gathered.facts.as_slice(), head)?;
+        self.facts.clear();
+        Ok(front)
     }
 
     /// Takes what the line says.
@@ -189,6 +228,20 @@ impl Keeper for FlatSoFar {
     fn keep(&mut self, line: &[u8], event: Event, said: &mut Said) -> Result<(), Kind> {
         match self.add(line, event, said) {
             Ok(()) => Ok(()),
+            Err(_) => Err(Kind::Memory),
+        }
+    }
+
+    fn keep_operator(&mut self, ranges: &Items<u32>, bytes: &[u8]) -> Result<Front, Kind> {
+        match self.operator_ahead(ranges, bytes) {
+            Ok(front) => Ok(front),
+            Err(_) => Err(Kind::Memory),
+        }
+    }
+
+    fn keep_rule(&mut self, ranges: &Items<u32>, bytes: &[u8]) -> Result<Front, Kind> {
+        match self.rule_ahead(ranges, bytes) {
+            Ok(front) => Ok(front),
             Err(_) => Err(Kind::Memory),
         }
     }

@@ -3,6 +3,7 @@
 
 mod flat_so_far;
 mod flat_task;
+mod fronts;
 mod outline;
 mod task;
 mod task_outline;

@@ -1,20 +1,61 @@
 // What keeps the outline of a task as its lines come: no group, no operator and no rule.
 ghost use Rattle.std.specs.Prelude.{◌≡◌};
+ghost use Rattle.sas_core.specs.declared.parts.Operator.{Operator};
+ghost use Rattle.sas_core.specs.declared.parts.Rule.{Rule};
+ghost use Rattle.sas_task_judge.specs.declared.so_far.SoFar.{SoFar};
 ghost use Rattle.sas_task_judge.specs.TaskEvents.{nothing_yet};
+ghost use Rattle.sas_task_judge.specs.Sections.{behind_operator, behind_rule};
 ghost use Rattle.sas_task_reader.specs.TaskOutline.{outline_in, seen};
 
+use crate::fronts::{operator_front, rule_front};
 use crate::outline::Outline;
-use sas_reader::Kind;
+use sas_core::Items;
+use sas_reader::{Front, Kind};
 use sas_task_judge::{Event, Keeper, Said, SoFar};
+use sas_task_line::Gathered;
 use std::alloc::Global;
+use std::marker::Model;
 
 /// What has come, without groups, operators and rules, and how many of these have come.
 #[derive(Drop)]
-pub struct TaskOutline {
+pub struct Seen {
     rest: SoFar,
     groups: u32,
     operators: u32,
     rules: u32,
+}
+
+/// What keeps what was seen. In a contract it is this.
+#[derive(Drop)]
+pub struct TaskOutline {
+    seen: Seen,
+    /// What is read of an operator or a rule whose lines come at once.
+    gathered: Gathered,
+}
+
+impl Model for TaskOutline {
+    ghost use Rattle.sas_task_reader.specs.declared.task_outline.Seen.{Seen};
+
+    ghost Value = { Seen };
+
+    ghost view = { λ o. o.seen };
+}
+
+impl Seen {
+    /// An operator more has come. The name was the operator's, and goes with it.
+    fn operator(&mut self)
+        ensures { (s : SoFar) (o : Operator) → self.old ≡ seen s → self.new ≡ seen (behind_operator s o) }
+    {
+        self.rest.name.clear();
+        self.operators = self.operators.saturating_add(1);
+    }
+
+    /// A rule more has come.
+    fn rule(&mut self)
+        ensures { (s : SoFar) (r : Rule) → self.old ≡ seen s → self.new ≡ seen (behind_rule s r) }
+    {
+        self.rules = self.rules.saturating_add(1);
+    }
 }
 
 impl TaskOutline {
@@ -23,10 +64,13 @@ impl TaskOutline {
         ensures { result ≡ seen (nothing_yet alloc) }
     {
         TaskOutline {
-            rest: SoFar::new(alloc),
-            groups: 0,
-            operators: 0,
-            rules: 0,
+            seen: Seen {
+                rest: SoFar::new(alloc),
+                groups: 0,
+                operators: 0,
+                rules: 0,
+            },
+            gathered: Gathered::new(alloc),
         }
     }
 
@@ -34,12 +78,13 @@ impl TaskOutline {
     pub fn into_outline(self) -> Outline
         ensures { result ≡ outline_in self }
     {
-        let TaskOutline {
+        let TaskOutline { seen, .. } = self;
+        let Seen {
             rest,
             groups,
             operators,
             rules,
-        } = self;
+        } = seen;
         let parts = rest.into_parts();
         Outline {
             metric: parts.metric,
@@ -61,16 +106,28 @@ impl Keeper for TaskOutline {
 
     fn keep(&mut self, line: &[u8], event: Event, said: &mut Said) -> Result<(), Kind> {
         match event {
-            Event::Group => self.groups = self.groups.saturating_add(1),
-            Event::Operator => {
-                // The name was the operator's, and goes with it.
-                self.rest.name.clear();
-                self.operators = self.operators.saturating_add(1);
-            }
-            Event::Rule => self.rules = self.rules.saturating_add(1),
+            Event::Group => self.seen.groups = self.seen.groups.saturating_add(1),
+            Event::Operator => self.seen.operator(),
+            Event::Rule => self.seen.rule(),
             Event::Facts | Event::Fact | Event::Effects | Event::Effect => {}
-            other => return self.rest.add(line, other, said),
+            other => return self.seen.rest.add(line, other, said),
         }
         Ok(())
+    }
+
+    fn keep_operator(&mut self, ranges: &Items<u32>, bytes: &[u8]) -> Result<Front, Kind> {
+        let Some(front) = operator_front(ranges, bytes, &mut self.gathered)? else {
+            return Ok(Front::EMPTY);
+        };
+        self.seen.operator();
+        Ok(front)
+    }
+
+    fn keep_rule(&mut self, ranges: &Items<u32>, bytes: &[u8]) -> Result<Front, Kind> {
+        let Some(front) = rule_front(ranges, bytes, &mut self.gathered)? else {
+            return Ok(Front::EMPTY);
+        };
+        self.seen.rule();
+        Ok(front)
     }
 }

@@ -1,33 +1,60 @@
 // What keeps the text of a task file, and nothing of the task.
-ghost use Rattle.std.specs.Prelude.{◌≡◌, []};
+ghost use Rattle.std.specs.Prelude.{◌≡◌, ◌++◌, ◌≤◌, [], length, take, OnOk, IfErr};
 
+use crate::fronts::{operator_front, rule_front};
+use sas_core::Items;
 use sas_lines::push_line;
-use sas_reader::Kind;
+use sas_reader::{Front, Kind};
 use sas_task_judge::{Event, Keeper, Said};
+use sas_task_line::Gathered;
 use std::alloc::Global;
+use std::marker::Model;
 
-/// The lines so far, each ended by LF.
+/// The lines so far, each ended by LF. In a contract it is this text.
 #[derive(Drop)]
 pub struct TaskText {
     text: Vec<u8>,
+    /// What is read of an operator or a rule whose lines come at once.
+    gathered: Gathered,
+}
+
+impl Model for TaskText {
+    ghost use Rattle.std.specs.Prelude.{List, ℕ};
+
+    ghost Value = { List ℕ };
+
+    ghost view = { λ t. t.text.items };
 }
 
 impl TaskText {
     /// Nothing has come.
     pub fn new(alloc: Global) -> Self
-        ensures { result.text.items ≡ [] }
+        ensures { result ≡ [] }
     {
         TaskText {
             text: Vec::new(alloc),
+            gathered: Gathered::new(alloc),
         }
     }
 
     /// The text so far.
     pub fn into_text(self) -> Vec<u8>
-        ensures { result.items ≡ self.text.items }
+        ensures { result.items ≡ self }
     {
-        let TaskText { text } = self;
+        let TaskText { text, .. } = self;
         text
+    }
+
+    /// Takes so many of the bytes, which are whole lines.
+    fn take(&mut self, bytes: &[u8], count: usize) -> Result<(), Kind>
+        requires { count ≤ length bytes.now }
+        ensures ok { OnOk result (self.new ≡ self.old ++ take count bytes.now) }
+        ensures err { IfErr result (λ k. k ≡ Kind.Memory) }
+    {
+        match self.text.extend_from_slice(&bytes[..count]) {
+            Ok(()) => Ok(()),
+            Err(_) => Err(Kind::Memory),
+        }
     }
 }
 
@@ -35,12 +62,28 @@ impl Keeper for TaskText {
     ghost use Rattle.std.specs.Prelude.{◌≡◌};
     ghost use Rattle.sas_lines.specs.Lines.{text};
 
-    ghost keeps = { λ lines _ kept. kept.text.items ≡ text lines };
+    ghost keeps = { λ lines _ kept. kept ≡ text lines };
 
     fn keep(&mut self, line: &[u8], _event: Event, _said: &mut Said) -> Result<(), Kind> {
         match push_line(&mut self.text, line) {
             Ok(()) => Ok(()),
             Err(_) => Err(Kind::Memory),
         }
+    }
+
+    fn keep_operator(&mut self, ranges: &Items<u32>, bytes: &[u8]) -> Result<Front, Kind> {
+        let Some(front) = operator_front(ranges, bytes, &mut self.gathered)? else {
+            return Ok(Front::EMPTY);
+        };
+        self.take(bytes, front.bytes)?;
+        Ok(front)
+    }
+
+    fn keep_rule(&mut self, ranges: &Items<u32>, bytes: &[u8]) -> Result<Front, Kind> {
+        let Some(front) = rule_front(ranges, bytes, &mut self.gathered)? else {
+            return Ok(Front::EMPTY);
+        };
+        self.take(bytes, front.bytes)?;
+        Ok(front)
     }
 }

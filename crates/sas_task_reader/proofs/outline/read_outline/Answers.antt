@@ -2,7 +2,7 @@ use Rattle.std.proofs.Common.{◌≡◌, ◌-◌, ◌^◌, List, ℕ, length, ar
 use Rattle.std.specs.Prelude.{min}
 use Rattle.sas_core.specs.Numbers.{IsNumber}
 use Rattle.sas_core.specs.WellRanged.{WellRanged}
-use Rattle.sas_task_reader.specs.declared.task_outline.TaskOutline.{TaskOutline}
+use Rattle.sas_task_reader.specs.declared.task_outline.Seen.{Seen}
 use Rattle.sas_task_reader.specs.Outline.{outline_of}
 use Rattle.sas_task_reader.specs.TaskOutline.{outline_in, seen}
 use Rattle.sas_reader.specs.declared.fault.Kind.{Kind}
@@ -19,13 +19,13 @@ use Rattle.sas_reader.proofs.Reading.{reads_all, refuses_all}
 use Rattle.sas_task_reader.proofs.outline.read_outline.Goals as goal
 
 -- what the machine keeps
-abbrev Keeps : List (List ℕ) → SoFar → TaskOutline → Type 0
+abbrev Keeps : List (List ℕ) → SoFar → Seen → Type 0
 Keeps lines s kept = kept ≡ seen s
 
-abbrev Ended : TaskMachine TaskOutline → Type 0
+abbrev Ended : TaskMachine Seen → Type 0
 Ended m = HasEnded m.judge
 
-abbrev Refused : TaskMachine TaskOutline → List ℕ → Kind → Type 0
+abbrev Refused : TaskMachine Seen → List ℕ → Kind → Type 0
 Refused m line kind = RejectsLine m.judge line kind
 
 -- a number is counted as it is

@@ -1,6 +1,5 @@
 use Rattle.std.proofs.Common.{◌≡◌, List, ℕ, ap, ◌∙◌}
 use Rattle.sas_lines.specs.Lines.{text}
-use Rattle.sas_task_reader.specs.declared.task_text.TaskText.{TaskText}
 use Rattle.sas_reader.specs.declared.fault.Kind.{Kind}
 use Rattle.sas_task_judge.specs.declared.so_far.SoFar.{SoFar}
 use Rattle.sas_task_judge.specs.declared.task_machine.TaskMachine.{TaskMachine}
@@ -15,13 +14,13 @@ use Rattle.sas_reader.proofs.Reading.{reads_all, refuses_all}
 use Rattle.sas_task_reader.proofs.task.read_task_text.Goals as goal
 
 -- what the machine keeps
-abbrev Keeps : List (List ℕ) → SoFar → TaskText → Type 0
-Keeps lines s kept = kept.text.items ≡ text lines
+abbrev Keeps : List (List ℕ) → SoFar → List ℕ → Type 0
+Keeps lines s kept = kept ≡ text lines
 
-abbrev Ended : TaskMachine TaskText → Type 0
+abbrev Ended : TaskMachine (List ℕ) → Type 0
 Ended m = HasEnded m.judge
 
-abbrev Refused : TaskMachine TaskText → List ℕ → Kind → Type 0
+abbrev Refused : TaskMachine (List ℕ) → List ℕ → Kind → Type 0
 Refused m line kind = RejectsLine m.judge line kind
 
 pub new-machine-requires : goal.new-machine-requires
@@ -32,7 +31,7 @@ pub returns-in-Ok : goal.returns-in-Ok
 returns-in-Ok g c =
     reads_all task_format TaskLineFits process_node task_start task_grammar (LedBy Keeps) Ended Refused (machine_follows Keeps) g.R.Read.remaining _ _ _ _ _ c.in-Ok.ensures (λ b reached short.
     let reads = reads_so_far Keeps c.in-Ok.machine b reached c.in-Ok.ensures.at_end in
-    (reached.led.so_far.parts, (reads, short), c.into_text.ensures ∙ ap (λ (k : TaskText). k.text.items) c.into_kept.ensures ∙ reached.led.kept ∙ ap text reads.lines))
+    (reached.led.so_far.parts, (reads, short), c.into_text.ensures ∙ c.into_kept.ensures ∙ reached.led.kept ∙ ap text reads.lines))
 
 pub returns-in-Err : goal.returns-in-Err
 returns-in-Err g c = refuses_all task_format TaskLineFits process_node task_start task_grammar (LedBy Keeps) Ended Refused (machine_follows Keeps) g.R.Read.remaining _ _ _ c.in-Err.fault c.in-Err.ensures
