@@ -61,45 +61,65 @@ impl Job {
 
 /// The words that are understood.
 fn grammar<'a>(alloc: Global) -> Result<Command<'a>, AllocError> {
-    let show = over_task(
-        alloc,
-        "show",
-        "Shows what a task is about: its numbers, initial state and goal",
-    )?;
-    let check = over_task(
-        alloc,
-        "check",
-        "Says whether a task is well formed and layered, or what is wrong with it",
-    )?;
-    let print = over_task(
-        alloc,
-        "print",
-        "Prints a task file again, in its one canonical form",
-    )?;
-    let plan = over_task_and_plan(
-        alloc,
-        "plan",
-        "Says whether a plan solves a task, or why it doesn't",
-    )?;
-    let mutex = over_task(
-        alloc,
-        "mutex",
-        "Says for each mutex group of a task whether it is shown to be exclusive",
-    )?;
-    let steps = over_plan(
-        alloc,
-        "steps",
-        "Prints a plan file again; with no words, that on standard input",
-    )?;
-    Command::new(alloc, "sas")
+    let program = Command::new(alloc, "sas")
         .about("Reads, checks and validates task files and plan files of Fast Downward")
-        .version(VERSION)
-        .subcommand(plan)?
-        .subcommand(mutex)?
-        .subcommand(show)?
-        .subcommand(check)?
-        .subcommand(print)?
-        .subcommand(steps)
+        .version(VERSION);
+    let program = with(
+        program,
+        over_task_and_plan(
+            alloc,
+            "plan",
+            "Says whether a plan solves a task, or why it doesn't",
+        ),
+    )?;
+    let program = with(
+        program,
+        over_task(
+            alloc,
+            "mutex",
+            "Says for each mutex group of a task whether it is shown to be exclusive",
+        ),
+    )?;
+    let program = with(
+        program,
+        over_task(
+            alloc,
+            "show",
+            "Shows what a task is about: its numbers, initial state and goal",
+        ),
+    )?;
+    let program = with(
+        program,
+        over_task(
+            alloc,
+            "check",
+            "Says whether a task is well formed and layered, or what is wrong with it",
+        ),
+    )?;
+    let program = with(
+        program,
+        over_task(
+            alloc,
+            "print",
+            "Prints a task file again, in its one canonical form",
+        ),
+    )?;
+    with(
+        program,
+        over_plan(
+            alloc,
+            "steps",
+            "Prints a plan file again; with no words, that on standard input",
+        ),
+    )
+}
+
+/// The program's words with those of one request more.
+fn with<'a>(
+    program: Command<'a>,
+    request: Result<Command<'a>, AllocError>,
+) -> Result<Command<'a>, AllocError> {
+    program.subcommand(request?)
 }
 
 /// The words of a request over a task alone.
