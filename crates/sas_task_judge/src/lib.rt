@@ -9,4 +9,4 @@ mod task_machine;
 pub use so_far::SoFar;
 pub use task_events::{Event, Said};
 pub use task_judge::{Place, TaskJudge};
-pub use task_machine::{Keeper, TaskMachine};
+pub use task_machine::{Keeper, TaskMachine, VariableKept};

@@ -1,6 +1,8 @@
--- Whole sections that stand first in some bytes: an operator, a rule.
-use Rattle.std.specs.Prelude.{◌≡◌, ℕ, List, map, take, IsTrue}
+-- Whole sections that stand first in some bytes: a variable, a mutex group, an operator, a rule.
+use Rattle.std.specs.Prelude.{◌≡◌, ◌<◌, ℕ, List, length, map, take, Option, IsTrue}
 use Rattle.std.specs.List.{AllByRecursion, list_all}
+use Rattle.sas_core.specs.declared.parts.Fact.{Fact}
+use Rattle.sas_core.specs.declared.parts.Variable.{Variable}
 use Rattle.sas_core.specs.declared.parts.Operator.{Operator}
 use Rattle.sas_core.specs.declared.parts.Rule.{Rule}
 use Rattle.sas_core.specs.Names.{IsName}
@@ -8,7 +10,7 @@ use Rattle.sas_grounded.specs.declared.grounded.Change.{Change}
 use Rattle.sas_lines.specs.Lines.{text}
 use Rattle.sas_reader.specs.declared.reader.Front.{Front}
 use Rattle.sas_reader.specs.Machine.{IsFront}
-use Rattle.sas_task_format.specs.TaskFormat.{TaskLine, task_line_bytes, TaskLineFits, operator_lines, rule_lines}
+use Rattle.sas_task_format.specs.TaskFormat.{TaskLine, task_line_bytes, TaskLineFits, variable_lines, group_lines, operator_lines, rule_lines}
 use Rattle.sas_task_line.specs.declared.sections.Gathered.{Gathered}
 use Rattle.sas_task_line.specs.Ahead.{plain_effect}
 use Rattle.sas_task_line.specs.TaskRanges.{fact_in_ranges, effect_in_ranges, change_in}
@@ -23,6 +25,12 @@ pub record LinesAhead (items : List TaskLine) (bytes : List ℕ) (front : Front)
   pub stands : IsFront (spelled items) bytes front
   pub whole : take front.bytes bytes ≡ text (spelled items)
 
+-- the variable has a name and at least one value, each of which has a name
+pub record IsNamed (v : Variable) : Type 0 where
+  pub name : IsName v.name
+  pub values : AllByRecursion IsName v.values
+  pub some : 0 < length v.values
+
 -- the operator has a name, and each of its facts exists
 pub record OperatorInRanges (ranges : List ℕ) (o : Operator) : Type 0 where
   pub name : IsName o.name
@@ -34,6 +42,15 @@ pub record RuleInRanges (ranges : List ℕ) (r : Rule) : Type 0 where
   pub conditions : IsTrue (list_all (fact_in_ranges ranges) r.conditions)
   pub change : IsTrue (change_in ranges r.var r.old r.new)
 
+-- the variable stands first in the bytes
+abbrev pub VariableAhead : List ℕ → Variable → Front → Type 0
+VariableAhead bytes v front = IsNamed v × LinesAhead (variable_lines v) bytes front
+
+-- the mutex group stands first in the bytes, and its facts exist
+abbrev pub GroupAhead : List ℕ → List ℕ → List Fact → Front → Type 0
+GroupAhead ranges bytes facts front =
+    IsTrue (list_all (fact_in_ranges ranges) facts) × LinesAhead (group_lines facts) bytes front
+
 -- the operator stands first in the bytes, and its facts exist
 abbrev pub OperatorAhead : List ℕ → List ℕ → Operator → Front → Type 0
 OperatorAhead ranges bytes o front = OperatorInRanges ranges o × LinesAhead (operator_lines o) bytes front
@@ -41,6 +58,10 @@ OperatorAhead ranges bytes o front = OperatorInRanges ranges o × LinesAhead (op
 -- the rule stands first in the bytes, and its facts exist
 abbrev pub RuleAhead : List ℕ → List ℕ → Rule → Front → Type 0
 RuleAhead ranges bytes r front = RuleInRanges ranges r × LinesAhead (rule_lines r) bytes front
+
+-- the variable of this name and layer, with the values that were gathered
+abbrev pub gathered_variable : List ℕ → Option ℕ → Gathered → Variable
+gathered_variable name layer g = record { name = name; layer = layer; values = g.values }
 
 -- the operator of this name and cost, with the facts and the changes that were gathered
 abbrev pub gathered_operator : List ℕ → ℕ → Gathered → Operator

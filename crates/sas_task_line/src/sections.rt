@@ -12,14 +12,17 @@ use crate::ahead::{
 };
 use crate::task_line::{change_in, value_in};
 use sas_core::{Fact, Items};
+use sas_flat::Lists;
 use sas_grounded::Change;
 use sas_reader::Front;
 use std::alloc::{AllocError, Global};
 
-/// The facts and the changes that were read of an operator or a rule. The memory serves the next one too.
+/// What was read of a section, as far as it is a list. The memory serves the next section too.
 #[derive(Drop)]
 pub struct Gathered {
-    /// The prevail conditions of an operator, or the conditions of a rule.
+    /// The names of a variable's values.
+    pub values: Lists<u8>,
+    /// The facts of a mutex group, the prevail conditions of an operator, or the conditions of a rule.
     pub facts: Items<Fact>,
     /// The changes of an operator's effects.
     pub changes: Items<Change>,
@@ -29,6 +32,7 @@ impl Gathered {
     /// It takes no memory.
     pub fn new(alloc: Global) -> Self {
         Gathered {
+            values: Lists::new(alloc),
             facts: Items::new(alloc),
             changes: Items::new(alloc),
         }
@@ -36,6 +40,7 @@ impl Gathered {
 }
 
 /// What stands first in some bytes: what an operator has beside its conditions and effects, and its lines.
+#[derive(Drop)]
 pub struct OperatorFound<'a> {
     pub name: &'a [u8],
     pub cost: u32,
