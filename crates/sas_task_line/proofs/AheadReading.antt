@@ -1,5 +1,5 @@
 -- Reading the first line of some bytes up to its LF.
-use Rattle.std.proofs.Common.{◌≡◌, ℕ, ◌+◌, ◌*◌, ◌/◌, ◌%◌, ◌-◌, ◌<◌, ◌≤◌, List, [], ◌∷◌, ◌++◌, length, take, drop, refl, sym, ap, subst, ◌∙◌, append_assoc, length-append, arith, None, get_or, true, false, Bool, not, ◌&&◌, ◌==◌, IsTrue}
+use Rattle.std.proofs.Common.{◌≡◌, ℕ, ◌+◌, ◌*◌, ◌/◌, ◌%◌, ◌-◌, ◌<◌, ◌≤◌, List, [], ◌∷◌, ◌++◌, length, take, drop, refl, sym, ap, subst, ◌∙◌, append_assoc, length-append, arith, Option, None, get_or, true, false, Bool, not, ◌&&◌, ◌==◌, IsTrue}
 use Rattle.std.specs.Fmt.{decimal}
 use Rattle.std.specs.List.{list_all}
 use Rattle.std.proofs.lemmas.Fmt.{decimal_digit, decimal_step}
@@ -13,10 +13,10 @@ use Rattle.sas_lines.specs.Lines.{without_return, NoEnd, LineStandsFirst}
 use Rattle.sas_lines.proofs.Beginnings.{stands_first}
 use Rattle.sas_lines.proofs.Splitting.{Plain}
 use Rattle.sas_reader.specs.System.{IsPlain}
-use Rattle.sas_task_format.specs.TaskFormat.{TaskLine, word, name, number, fact, effect, head, task_line_bytes, TaskLineFits, EffectNumbers}
+use Rattle.sas_task_format.specs.TaskFormat.{TaskLine, word, name, number, signed, fact, effect, head, task_line_bytes, TaskLineFits, EffectNumbers}
 use Rattle.sas_task_format.proofs.TaskPlain.{Sayable, plain-line}
 use Rattle.sas_grounded.specs.declared.grounded.Change.{Change}
-use Rattle.sas_task_line.specs.Ahead.{SpellsAhead, LineAhead, NumberAhead, ChangeAhead, plain_effect}
+use Rattle.sas_task_line.specs.Ahead.{SpellsAhead, LineAhead, NumberAhead, SignedAhead, ChangeAhead, plain_effect}
 
 -- ---- a line and its LF
 
@@ -104,6 +104,9 @@ then a b bytes more rest byte e f = e ∙ ap (λ (x : List ℕ). a ++ byte ∷ x
 
 pub number_is_ahead : (bytes rest : List ℕ) (n : ℕ) → NumberAhead bytes n 10 rest → LineAhead (number n) bytes rest
 number_is_ahead bytes rest n h = says_line (number n) bytes rest h.0 h.0 h.1
+
+pub signed_is_ahead : (bytes rest : List ℕ) (n : Option ℕ) → SignedAhead bytes n 10 rest → LineAhead (signed n) bytes rest
+signed_is_ahead bytes rest n h = says_line (signed n) bytes rest h.0 h.0 h.1
 
 pub fact_is_ahead : (bytes more rest : List ℕ) (f : Fact) → NumberAhead bytes f.var 32 more → NumberAhead more f.value 10 rest → LineAhead (fact f) bytes rest
 fact_is_ahead bytes more rest f h g = says_line (fact f) bytes rest (h.0, g.0) (h.0, g.0) (then _ _ bytes more (10 ∷ rest) 32 h.1 g.1)

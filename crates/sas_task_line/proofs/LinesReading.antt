@@ -1,21 +1,23 @@
 -- Reading several lines, each up to its LF.
-use Rattle.std.proofs.Common.{◌≡◌, ℕ, ◌+◌, ◌-◌, Bool, ◌&&◌, List, [], ◌∷◌, ◌++◌, length, map, take, refl, sym, ap, subst, ◌∙◌, append_assoc, length-append, arith, IsTrue, codes}
+use Rattle.std.proofs.Common.{◌≡◌, ℕ, ◌+◌, ◌-◌, ◌<◌, Bool, ◌&&◌, List, [], ◌∷◌, ◌++◌, length, map, take, Option, refl, sym, ap, subst, ◌∙◌, append_assoc, length-append, arith, IsTrue, codes}
 use Rattle.std.specs.List.{flat_map, list_all, AllByRecursion}
+use Rattle.std.proofs.lemmas.Bool.{and_parts}
 use Rattle.std.proofs.lemmas.Grind.{flat_map-append}
 use Rattle.std.proofs.lemmas.List.{map-append, take_at, length-map}
 use Rattle.std.proofs.lemmas.List.Folds.{list_all-append}
-use Rattle.sas_core.specs.Names.{IsName}
+use Rattle.sas_core.specs.declared.parts.Fact.{Fact}
+use Rattle.sas_core.specs.Names.{is_name, IsName}
 use Rattle.sas_grounded.specs.declared.grounded.Change.{Change}
 use Rattle.sas_lines.specs.Lines.{LinesStandFirst, text}
 use Rattle.sas_lines.proofs.Beginnings.{lines_stand_first}
 use Rattle.sas_lines.proofs.Splitting.{Plain}
 use Rattle.sas_reader.specs.declared.reader.Front.{Front}
 use Rattle.sas_reader.specs.System.{IsPlain}
-use Rattle.sas_task_format.specs.TaskFormat.{TaskLine, word, name, number, fact, effect, head, line, task_line_bytes, TaskLineFits, operator_lines, rule_lines}
+use Rattle.sas_task_format.specs.TaskFormat.{TaskLine, word, name, number, signed, fact, effect, head, line, task_line_bytes, TaskLineFits, variable_lines, group_lines, operator_lines, rule_lines}
 use Rattle.sas_task_line.specs.declared.sections.Gathered.{Gathered}
 use Rattle.sas_task_line.specs.Ahead.{LineAhead, NumberAhead, plain_effect}
-use Rattle.sas_task_line.specs.LinesBefore.{LinesBefore, CountedBefore, FactsBefore, ChangesBefore}
-use Rattle.sas_task_line.specs.Sections.{spelled, LinesAhead, OperatorAhead, RuleAhead, gathered_operator, gathered_rule}
+use Rattle.sas_task_line.specs.LinesBefore.{LinesBefore, CountedBefore, NamesBefore, FactsBefore, ChangesBefore}
+use Rattle.sas_task_line.specs.Sections.{spelled, LinesAhead, VariableAhead, GroupAhead, OperatorAhead, RuleAhead, gathered_variable, gathered_operator, gathered_rule}
 use Rattle.sas_task_line.specs.TaskRanges.{effect_in_ranges, change_in}
 use Rattle.sas_task_line.proofs.AheadReading.{plain, number_is_ahead}
 
@@ -89,6 +91,34 @@ lines_are_ahead items bytes rest front h taken many =
 one_each : {A : Type 0} (says : A → TaskLine) (xs : List A) → length (flat_map (line says) xs) ≡ length xs
 one_each says [] = refl
 one_each says (x ∷ xs) = let e = one_each says xs in omega (arith, e)
+
+-- ---- a variable, a mutex group
+
+all_named : (names : List (List ℕ)) → IsTrue (list_all is_name names) → AllByRecursion IsName names
+all_named [] h = tt
+all_named (w ∷ names) h =
+    let each = and_parts (is_name w) (list_all is_name names) h in
+    (each.0, all_named names each.1)
+
+abbrev first_lines : List ℕ → Option ℕ → List TaskLine
+first_lines label layer = word (codes "begin_variable") ∷ name label ∷ signed layer ∷ []
+
+pub variable_is_ahead : (label : List ℕ) (layer : Option ℕ) (g : Gathered) (front : Front) {bytes names_on end_on rest : List ℕ} → IsName label × LinesBefore (first_lines label layer) bytes names_on → 0 < length g.values × NamesBefore (length g.values) g.values names_on end_on → LineAhead (word (codes "end_variable")) end_on rest → front.bytes ≡ length bytes - length rest → front.lines ≡ 5 + length g.values → VariableAhead bytes (gathered_variable label layer g) front
+variable_is_ahead label layer g front {bytes = bytes} {rest = rest} begins names ends taken many =
+    let name_lines : List TaskLine = number (length g.values) ∷ flat_map (line name) g.values in
+    let last : List TaskLine = word (codes "end_variable") ∷ [] in
+    let items = variable_lines (gathered_variable label layer g) in
+    let all : LinesBefore items bytes rest = lines_then (lines_then begins.1 names.1.lines) (one_line ends) in
+    let long : length items ≡ 5 + length g.values = omega (arith, length-append (flat_map (line name) g.values) last, one_each name g.values) in
+    (record { name = begins.0; values = all_named g.values names.1.stand; some = names.0 }, lines_are_ahead items bytes rest front all taken (many ∙ sym long))
+
+pub group_is_ahead : (ranges : List ℕ) (facts : List Fact) (front : Front) {bytes facts_on end_on rest : List ℕ} → LineAhead (word (codes "begin_mutex_group")) bytes facts_on → FactsBefore ranges (length facts) facts facts_on end_on → LineAhead (word (codes "end_mutex_group")) end_on rest → front.bytes ≡ length bytes - length rest → front.lines ≡ 3 + length facts → GroupAhead ranges bytes facts front
+group_is_ahead ranges facts front {bytes = bytes} {rest = rest} begins before ends taken many =
+    let last : List TaskLine = word (codes "end_mutex_group") ∷ [] in
+    let items = group_lines facts in
+    let all : LinesBefore items bytes rest = lines_then (lines_then (one_line begins) before.lines) (one_line ends) in
+    let long : length items ≡ 3 + length facts = omega (arith, length-append (flat_map (line fact) facts) last, one_each fact facts) in
+    (before.stand, lines_are_ahead items bytes rest front all taken (many ∙ sym long))
 
 -- ---- an operator, a rule
 

@@ -2,10 +2,11 @@
 use Rattle.std.specs.Prelude.{◌≡◌, Bool, ℕ, List, ◌∷◌, ◌++◌, IsTrue, map}
 use Rattle.std.specs.List.{flat_map, list_all, AllByRecursion}
 use Rattle.sas_core.specs.declared.parts.Fact.{Fact}
+use Rattle.sas_core.specs.Names.{is_name}
 use Rattle.sas_grounded.specs.declared.grounded.Change.{Change}
 use Rattle.sas_lines.specs.Lines.{text}
 use Rattle.sas_reader.specs.System.{IsPlain}
-use Rattle.sas_task_format.specs.TaskFormat.{TaskLine, number, fact, effect, line, TaskLineFits}
+use Rattle.sas_task_format.specs.TaskFormat.{TaskLine, name, number, fact, effect, line, TaskLineFits}
 use Rattle.sas_task_line.specs.Ahead.{plain_effect}
 use Rattle.sas_task_line.specs.Sections.{spelled}
 use Rattle.sas_task_line.specs.TaskRanges.{fact_in_ranges, effect_in_ranges}
@@ -20,6 +21,10 @@ pub record LinesBefore (items : List TaskLine) (bytes rest : List ℕ) : Type 0 
 pub record CountedBefore {A : Type 0} (says : A → TaskLine) (may_stand : A → Bool) (count : ℕ) (each : List A) (bytes rest : List ℕ) : Type 0 where
   pub lines : LinesBefore (number count ∷ flat_map (line says) each) bytes rest
   pub stand : IsTrue (list_all may_stand each)
+
+-- this number and these names are before the rest
+abbrev pub NamesBefore : ℕ → List (List ℕ) → List ℕ → List ℕ → Type 0
+NamesBefore count names bytes rest = CountedBefore name is_name count names bytes rest
 
 -- this number and the lines of these facts, each of which exists, are before the rest
 abbrev pub FactsBefore : List ℕ → ℕ → List Fact → List ℕ → List ℕ → Type 0

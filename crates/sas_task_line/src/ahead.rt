@@ -46,7 +46,7 @@ pub(crate) fn number_before(bytes: &[u8], end: u8) -> Option<(u32, &[u8])>
 }
 
 /// A number, or `-1` for none, that stands before this byte, and what follows that.
-fn signed_before(bytes: &[u8], end: u8) -> Option<(Option<u32>, &[u8])>
+pub(crate) fn signed_before(bytes: &[u8], end: u8) -> Option<(Option<u32>, &[u8])>
     ensures { IfSome result (λ found. SignedAhead bytes.now found.0 end found.1.now) }
 {
     if let [b'-', b'1', byte, rest @ ..] = bytes {

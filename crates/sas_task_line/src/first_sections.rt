@@ -1,9 +1,14 @@
 // A variable or a mutex group that stands whole and first in some bytes, read in one go.
-ghost use Rattle.std.specs.Prelude.{IfOk, IfSome};
+ghost use Rattle.std.specs.Prelude.{◌<◌, [], ◌∷◌, length, codes, IfOk, IfSome};
+ghost use Rattle.sas_core.specs.Names.{IsName};
+ghost use Rattle.sas_task_format.specs.TaskFormat as format;
+ghost use Rattle.sas_task_line.specs.LinesBefore.{LinesBefore, NamesBefore};
 ghost use Rattle.sas_task_line.specs.Sections.{VariableAhead, GroupAhead, gathered_variable};
 
-use crate::sections::Gathered;
+use crate::ahead::{name_before, number_before, signed_before, word_before};
+use crate::sections::{Gathered, facts_before};
 use sas_core::Items;
+use sas_flat::Lists;
 use sas_reader::Front;
 use std::alloc::AllocError;
 
@@ -15,8 +20,42 @@ pub struct VariableFound<'a> {
     pub front: Front,
 }
 
-/// The variable that stands first in the bytes, if it is quick to see. Its values are gathered. After `None` or an `Err`
-/// any may be gathered.
+/// The name and the axiom layer behind the first word of a variable, and the rest.
+fn begin_before(bytes: &[u8]) -> Option<(&[u8], Option<u32>, &[u8])>
+    ensures { IfSome result (λ found. IsName found.0.now
+        × LinesBefore (format.word (codes "begin_variable") ∷ format.name found.0.now ∷ format.signed found.1 ∷ [])
+        bytes.now found.2.now) }
+{
+    let rest = word_before(bytes, b"begin_variable")?;
+    let (name, rest) = name_before(rest)?;
+    let (layer, rest) = signed_before(rest, b'\n')?;
+    Some((name, layer, rest))
+}
+
+/// Takes the names that stand with their number before some rest, where there is one at least: the rest.
+fn names_before<'a>(bytes: &'a [u8], names: &mut Lists<u8>) -> Result<Option<&'a [u8]>, AllocError>
+    ensures { IfOk result (λ found. IfSome found (λ rest. 0 < length names.new
+        × NamesBefore (length names.new) names.new bytes.now rest.now)) }
+{
+    names.clear();
+    let Some((count, mut rest)) = number_before(bytes, b'\n') else {
+        return Ok(None);
+    };
+    if count == 0 {
+        return Ok(None);
+    }
+    for _i in 0..count {
+        let Some((name, more)) = name_before(rest) else {
+            return Ok(None);
+        };
+        names.push(name)?;
+        rest = more;
+    }
+    Ok(Some(rest))
+}
+
+/// The variable that stands first in the bytes, if it is quick to see. Its values are gathered. After `None` or an
+/// `Err` any may be gathered.
 pub fn variable_found<'a>(
     bytes: &'a [u8],
     gathered: &mut Gathered,
@@ -24,11 +63,24 @@ pub fn variable_found<'a>(
     ensures { IfOk result (λ found. IfSome found (λ v.
         VariableAhead bytes.now (gathered_variable v.name.now v.layer gathered.new) v.front)) }
 {
-    Ok(None)
+    let Some((name, layer, rest)) = begin_before(bytes) else {
+        return Ok(None);
+    };
+    let Some(rest) = names_before(rest, &mut gathered.values)? else {
+        return Ok(None);
+    };
+    let Some(rest) = word_before(rest, b"end_variable") else {
+        return Ok(None);
+    };
+    let front = Front {
+        lines: 5 + gathered.values.len() as u64,
+        bytes: bytes.len() - rest.len(),
+    };
+    Ok(Some(VariableFound { name, layer, front }))
 }
 
-/// The lines of the mutex group that stands first in the bytes, where it is quick to see that its facts exist. These are
-/// gathered. After `None` or an `Err` any may be gathered.
+/// The lines of the mutex group that stands first in the bytes, where it is quick to see that its facts exist. These
+/// are gathered. After `None` or an `Err` any may be gathered.
 pub fn group_found(
     ranges: &Items<u32>,
     bytes: &[u8],
@@ -37,5 +89,18 @@ pub fn group_found(
     ensures { IfOk result (λ found. IfSome found (λ front.
         GroupAhead ranges.now bytes.now gathered.new.facts front)) }
 {
-    Ok(None)
+    let Some(rest) = word_before(bytes, b"begin_mutex_group") else {
+        return Ok(None);
+    };
+    let Some(rest) = facts_before(ranges, rest, &mut gathered.facts)? else {
+        return Ok(None);
+    };
+    let Some(rest) = word_before(rest, b"end_mutex_group") else {
+        return Ok(None);
+    };
+    let front = Front {
+        lines: 3 + gathered.facts.len() as u64,
+        bytes: bytes.len() - rest.len(),
+    };
+    Ok(Some(front))
 }

@@ -55,12 +55,13 @@ pub struct RuleFound {
 }
 
 /// Takes the facts that stand with their number before some rest, where each exists: the rest.
-fn facts_before<'a>(
+pub(crate) fn facts_before<'a>(
     ranges: &Items<u32>,
     bytes: &'a [u8],
     facts: &mut Items<Fact>,
 ) -> Result<Option<&'a [u8]>, AllocError>
-    ensures { IfOk result (λ found. IfSome found (λ rest. FactsBefore ranges.now (length facts.new) facts.new bytes.now rest.now)) }
+    ensures { IfOk result (λ found. IfSome found (λ rest.
+        FactsBefore ranges.now (length facts.new) facts.new bytes.now rest.now)) }
 {
     facts.clear();
     let Some((count, mut rest)) = number_before(bytes, b'\n') else {
@@ -86,7 +87,8 @@ fn changes_before<'a>(
     bytes: &'a [u8],
     changes: &mut Items<Change>,
 ) -> Result<Option<&'a [u8]>, AllocError>
-    ensures { IfOk result (λ found. IfSome found (λ rest. ChangesBefore ranges.now (length changes.new) changes.new bytes.now rest.now)) }
+    ensures { IfOk result (λ found. IfSome found (λ rest.
+        ChangesBefore ranges.now (length changes.new) changes.new bytes.now rest.now)) }
 {
     changes.clear();
     let Some((count, mut rest)) = number_before(bytes, b'\n') else {
