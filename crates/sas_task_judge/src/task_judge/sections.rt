@@ -48,7 +48,7 @@ impl TaskJudge {
         Ok(())
     }
 
-    /// Goes on behind a section that was due, other than a variable.
+    /// Counts the section that was due, and goes on behind it.
     pub(crate) fn pass_section(&mut self)
         requires { 0 < self.old.left }
         ensures { self.new ≡ record self.old { left = self.old.left - 1 } }
