@@ -2,5 +2,6 @@ pub mod TaskMoves
 pub mod TaskRanges
 pub mod TaskEnds
 pub mod TaskSteps
+pub mod SectionLines
 pub mod SectionSteps
 pub mod VariablesBehind

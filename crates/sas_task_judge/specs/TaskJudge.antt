@@ -66,6 +66,8 @@ HasEnded j = (j.place ≡ at.Rules) × (j.left ≡ 0)
 
 -- the first line of such a section is due
 abbrev pub SectionDue : TaskJudge → Section → Type 0
+SectionDue j section.Variable = (j.place ≡ at.Variables) × (0 < j.left)
+SectionDue j section.Group = (j.place ≡ at.Groups) × (0 < j.left)
 SectionDue j section.Operator = (j.place ≡ at.Operators) × (0 < j.left)
 SectionDue j section.Rule = (j.place ≡ at.Rules) × (0 < j.left)
 

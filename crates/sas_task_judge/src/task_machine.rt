@@ -98,7 +98,42 @@ impl<K: Keeper> TaskMachine<K> {
         kept
     }
 
-    /// Has the operator kept that is due, where it stands first in the bytes, and goes on behind it.
+    /// Has the variable kept that is due, where it stands first in the bytes, and goes on behind it.
+    fn variable_ahead(&mut self, bytes: &[u8]) -> Result<Front, Kind>
+        requires { SectionDue self.old.judge Section.Variable }
+        ensures { AcceptsAhead (LedBy K.keeps) self.old bytes.now self.new result }
+    {
+        match self.kept.keep_variable(bytes) {
+            Ok(kept) => {
+                if kept.front.bytes == 0 {
+                    return Ok(kept.front);
+                }
+                match self.judge.pass_variable(kept.range) {
+                    Ok(()) => Ok(kept.front),
+                    Err(_) => Err(Kind::Memory),
+                }
+            }
+            Err(kind) => Err(kind),
+        }
+    }
+
+    /// Has the mutex group kept that is due likewise.
+    fn group_ahead(&mut self, bytes: &[u8]) -> Result<Front, Kind>
+        requires { SectionDue self.old.judge Section.Group }
+        ensures { AcceptsAhead (LedBy K.keeps) self.old bytes.now self.new result }
+    {
+        match self.kept.keep_group(self.judge.ranges(), bytes) {
+            Ok(front) => {
+                if front.bytes > 0 {
+                    self.judge.pass_section();
+                }
+                Ok(front)
+            }
+            Err(kind) => Err(kind),
+        }
+    }
+
+    /// Has the operator kept that is due likewise.
     fn operator_ahead(&mut self, bytes: &[u8]) -> Result<Front, Kind>
         requires { SectionDue self.old.judge Section.Operator }
         ensures { AcceptsAhead (LedBy K.keeps) self.old bytes.now self.new result }
@@ -135,6 +170,8 @@ impl<K: Keeper> TaskMachine<K> {
         ensures { AcceptsAhead (LedBy K.keeps) self.old bytes.now self.new result }
     {
         match self.judge.section_due() {
+            Some(Section::Variable) => self.variable_ahead(bytes),
+            Some(Section::Group) => self.group_ahead(bytes),
             Some(Section::Operator) => self.operator_ahead(bytes),
             Some(Section::Rule) => self.rule_ahead(bytes),
             None => Ok(Front::EMPTY),

@@ -1,12 +1,16 @@
-// Whole sections, where one is due: an operator or a rule. What keeps it with all its lines judges those itself.
-ghost use Rattle.std.specs.Prelude.{◌≡◌, ◌<◌, ◌-◌, IfSome, IfNone};
+// Whole sections, where one is due: a variable, a mutex group, an operator or a rule. What keeps it with all its lines
+// judges those itself.
+ghost use Rattle.std.specs.Prelude.{◌≡◌, ◌<◌, ◌-◌, [], ◌∷◌, ◌++◌, IfSome, IfNone, OnOk, OnErr};
 ghost use Rattle.sas_task_judge.specs.TaskJudge.{SectionDue};
 
 use super::{Place, TaskJudge};
 use sas_core::Items;
+use std::alloc::AllocError;
 
 /// What may be kept whole.
 pub(crate) enum Section {
+    Variable,
+    Group,
     Operator,
     Rule,
 }
@@ -18,6 +22,8 @@ impl TaskJudge {
         ensures none { IfNone result ((section : Section) → SectionDue self.now section → ⊥) }
     {
         match self.place {
+            Place::Variables if self.left > 0 => Some(Section::Variable),
+            Place::Groups if self.left > 0 => Some(Section::Group),
             Place::Operators if self.left > 0 => Some(Section::Operator),
             Place::Rules if self.left > 0 => Some(Section::Rule),
             _ => None,
@@ -31,7 +37,18 @@ impl TaskJudge {
         &self.ranges
     }
 
-    /// Goes on behind the section that was due.
+    /// Goes on behind the variable that was due, which has so many values. After an `Err` it is still due.
+    pub(crate) fn pass_variable(&mut self, range: u32) -> Result<(), AllocError>
+        requires { 0 < self.old.left }
+        ensures ok { OnOk result (self.new ≡ record self.old { ranges = self.old.ranges ++ range ∷ []; left = self.old.left - 1 }) }
+        ensures err { OnErr result (self.new ≡ self.old) }
+    {
+        self.ranges.push(range)?;
+        self.pass_section();
+        Ok(())
+    }
+
+    /// Counts the section that was due, and goes on behind it.
     pub(crate) fn pass_section(&mut self)
         requires { 0 < self.old.left }
         ensures { self.new ≡ record self.old { left = self.old.left - 1 } }

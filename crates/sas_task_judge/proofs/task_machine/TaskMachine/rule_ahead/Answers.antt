@@ -11,5 +11,5 @@ returns-then-front-gt0 g c =
     let kept = c.in-Ok.ensures.took c.if-front-gt0.true in
     let rule = kept.0 in
     let in_ranges : RuleInRanges judge.ranges rule = subst (λ (rs : List ℕ). RuleInRanges rs rule) c.ranges-2.ensures kept.1.0 in
-    accepts _ c.args.self.now c.keep_rule.new.self (rule_lines rule) (λ s. behind_rule s rule) (λ s f. rule_leads judge s rule c.requires f in_ranges kept.1.1.fits) kept.2
+    accepts _ c.args.self.now _ c.keep_rule.new.self (rule_lines rule) (λ s. behind_rule s rule) (λ s f. rule_leads judge s rule c.requires f in_ranges kept.1.1.fits) kept.2
     c.pass_section.new.self c.args.bytes.now c.in-Ok.front c.pass_section.ensures c.if-front-gt0.true kept.1.1.stands
