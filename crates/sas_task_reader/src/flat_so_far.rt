@@ -1,20 +1,23 @@
 // What keeps all that a task file says, in a few blocks of memory.
-ghost use Rattle.std.specs.Prelude.{◌≡◌, ◌<◌, [], OnOk, IfOk};
+ghost use Rattle.std.specs.Prelude.{◌≡◌, ◌<◌, List, [], OnOk, IfOk};
+ghost use Rattle.sas_core.specs.declared.parts.Fact.{Fact};
+ghost use Rattle.sas_core.specs.declared.parts.Variable.{Variable};
 ghost use Rattle.sas_core.specs.declared.parts.Operator.{Operator};
 ghost use Rattle.sas_core.specs.declared.parts.Rule.{Rule};
 ghost use Rattle.sas_core.specs.WellRanged.{WellRanged};
 ghost use Rattle.sas_task_judge.specs.declared.task_events.Event.TheVariants as event;
 ghost use Rattle.sas_task_judge.specs.declared.task_events.Said.{Said};
-ghost use Rattle.sas_task_line.specs.Sections.{OperatorAhead, RuleAhead};
+ghost use Rattle.sas_task_line.specs.Sections.{GroupAhead, OperatorAhead, RuleAhead};
 ghost use Rattle.sas_task_judge.specs.TaskEvents.{nothing_yet, after};
-ghost use Rattle.sas_task_judge.specs.Sections.{behind_operator, behind_rule};
+ghost use Rattle.sas_task_judge.specs.Sections.{VariableWithRange, behind_variable, behind_group, behind_operator, behind_rule};
 
+use crate::fronts::NO_VARIABLE;
 use sas_core::{Fact, Items};
 use sas_flat::{Effects, FlatTask, Lists, Operators, Rules, Variables};
 use sas_grounded::Change;
 use sas_reader::{Front, Kind};
-use sas_task_judge::{Event, Keeper, Said};
-use sas_task_line::{Gathered, OperatorFound, RuleFound, operator_found, rule_found};
+use sas_task_judge::{Event, Keeper, Said, VariableKept};
+use sas_task_line::{Gathered, group_found, operator_found, rule_found, variable_found};
 use std::alloc::{AllocError, Global};
 use std::marker::Model;
 
@@ -37,7 +40,7 @@ pub struct FlatSoFar {
     /// The facts of a group, the prevail conditions of an operator, or the conditions of a rule.
     facts: Items<Fact>,
     effects: Effects,
-    /// What is read of an operator or a rule whose lines come at once.
+    /// What is read of a section whose lines come at once.
     gathered: Gathered,
 }
 
@@ -158,26 +161,60 @@ impl FlatSoFar {
         Ok(())
     }
 
-    /// Takes the operator that stands first in the bytes, all its lines at once, where it is found. It tells how long they
-    /// are. After an `Err` anything may have been taken.
+    /// Takes the variable that stands first in the bytes, all its lines at once, where it is found. It tells how long they
+    /// are, and how many values the variable has. After an `Err` anything may have been taken.
+    fn variable_ahead(&mut self, bytes: &[u8]) -> Result<VariableKept, AllocError>
+        ensures took { IfOk result (λ kept. 0 < kept.front.bytes → (v : Variable) × VariableWithRange bytes.now v kept × (self.new ≡ behind_variable self.old v)) }
+        ensures none { IfOk result (λ kept. kept.front.bytes ≡ 0 → self.new ≡ self.old) }
+    {
+        let found = variable_found(bytes, &mut self.gathered)?;
+        let Some(found) = found else {
+            return Ok(NO_VARIABLE);
+        };
+        self.variables
+            .push(found.name, found.layer, &self.gathered.values)?;
+        self.name.clear();
+        self.layer = found.layer;
+        self.values.clear();
+        Ok(VariableKept {
+            front: found.front,
+            range: self.gathered.values.len() as u32,
+        })
+    }
+
+    /// Takes the mutex group that stands first in the bytes likewise. It tells how long its lines are.
+    fn group_ahead(&mut self, ranges: &Items<u32>, bytes: &[u8]) -> Result<Front, AllocError>
+        ensures took { IfOk result (λ front. 0 < front.bytes → (facts : List Fact) × GroupAhead ranges.now bytes.now facts front × (self.new ≡ behind_group self.old facts)) }
+        ensures none { IfOk result (λ front. front.bytes ≡ 0 → self.new ≡ self.old) }
+    {
+        let found = group_found(ranges, bytes, &mut self.gathered)?;
+        let Some(front) = found else {
+            return Ok(Front::EMPTY);
+        };
+        self.groups.push(self.gathered.facts.as_slice())?;
+        self.facts.clear();
+        Ok(front)
+    }
+
+    /// Takes the operator that stands first in the bytes likewise.
     fn operator_ahead(&mut self, ranges: &Items<u32>, bytes: &[u8]) -> Result<Front, AllocError>
         ensures took { IfOk result (λ front. 0 < front.bytes → (o : Operator) × OperatorAhead ranges.now bytes.now o front × (self.new ≡ behind_operator self.old o)) }
         ensures none { IfOk result (λ front. front.bytes ≡ 0 → self.new ≡ self.old) }
     {
         let found = operator_found(ranges, bytes, &mut self.gathered)?;
-        let Some(OperatorFound { name, cost, front }) = found else {
+        let Some(found) = found else {
             return Ok(Front::EMPTY);
         };
         self.operators.push_plain(
-            name,
+            found.name,
             self.gathered.facts.as_slice(),
             self.gathered.changes.as_slice(),
-            cost,
+            found.cost,
         )?;
         self.name.clear();
         self.facts.clear();
         self.effects.clear();
-        Ok(front)
+        Ok(found.front)
     }
 
     /// Takes the rule that stands first in the bytes likewise.
@@ -186,12 +223,12 @@ impl FlatSoFar {
         ensures none { IfOk result (λ front. front.bytes ≡ 0 → self.new ≡ self.old) }
     {
         let found = rule_found(ranges, bytes, &mut self.gathered)?;
-        let Some(RuleFound { head, front }) = found else {
+        let Some(found) = found else {
             return Ok(Front::EMPTY);
         };
-        self.rules.push(self.gathered.facts.as_slice(), head)?;
+        self.rules.push(self.gathered.facts.as_slice(), found.head)?;
         self.facts.clear();
-        Ok(front)
+        Ok(found.front)
     }
 
     /// Takes what the line says.
@@ -228,6 +265,20 @@ impl Keeper for FlatSoFar {
     fn keep(&mut self, line: &[u8], event: Event, said: &mut Said) -> Result<(), Kind> {
         match self.add(line, event, said) {
             Ok(()) => Ok(()),
+            Err(_) => Err(Kind::Memory),
+        }
+    }
+
+    fn keep_variable(&mut self, bytes: &[u8]) -> Result<VariableKept, Kind> {
+        match self.variable_ahead(bytes) {
+            Ok(kept) => Ok(kept),
+            Err(_) => Err(Kind::Memory),
+        }
+    }
+
+    fn keep_group(&mut self, ranges: &Items<u32>, bytes: &[u8]) -> Result<Front, Kind> {
+        match self.group_ahead(ranges, bytes) {
+            Ok(front) => Ok(front),
             Err(_) => Err(Kind::Memory),
         }
     }

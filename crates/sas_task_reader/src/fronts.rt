@@ -1,14 +1,57 @@
-// How far the operator or the rule reaches that stands first in some bytes, for those who keep nothing of what it says.
-ghost use Rattle.std.specs.Prelude.{◌≡◌, IfOk, IfErr, IfSome};
+// How far the section reaches that stands first in some bytes, for those who keep nothing of what it says.
+ghost use Rattle.std.specs.Prelude.{◌≡◌, List, IfOk, IfErr, IfSome};
+ghost use Rattle.sas_core.specs.declared.parts.Fact.{Fact};
+ghost use Rattle.sas_core.specs.declared.parts.Variable.{Variable};
 ghost use Rattle.sas_core.specs.declared.parts.Operator.{Operator};
 ghost use Rattle.sas_core.specs.declared.parts.Rule.{Rule};
-ghost use Rattle.sas_task_line.specs.Sections.{OperatorAhead, RuleAhead};
+ghost use Rattle.sas_task_judge.specs.Sections.{VariableWithRange};
+ghost use Rattle.sas_task_line.specs.Sections.{GroupAhead, OperatorAhead, RuleAhead};
 
 use sas_core::Items;
 use sas_reader::{Front, Kind};
-use sas_task_line::{Gathered, OperatorFound, RuleFound, operator_found, rule_found};
+use sas_task_judge::VariableKept;
+use sas_task_line::{Gathered, group_found, operator_found, rule_found, variable_found};
 
-/// The lines of the operator that stands first in the bytes, where it is found. Anything may be gathered.
+/// No variable was kept.
+pub const NO_VARIABLE: VariableKept = VariableKept {
+    front: Front::EMPTY,
+    range: 0,
+};
+
+/// The lines of the variable that stands first in the bytes, and how many values it has, where it is found. Anything may
+/// be gathered.
+pub fn variable_front(bytes: &[u8], gathered: &mut Gathered) -> Result<Option<VariableKept>, Kind>
+    ensures found { IfOk result (λ found. IfSome found (λ kept. (v : Variable) × VariableWithRange bytes.now v kept)) }
+    ensures err { IfErr result (λ k. k ≡ Kind.Memory) }
+{
+    let Ok(found) = variable_found(bytes, gathered) else {
+        return Err(Kind::Memory);
+    };
+    let Some(found) = found else {
+        return Ok(None);
+    };
+    Ok(Some(VariableKept {
+        front: found.front,
+        range: gathered.values.len() as u32,
+    }))
+}
+
+/// The lines of the mutex group that stands first in the bytes likewise.
+pub fn group_front(
+    ranges: &Items<u32>,
+    bytes: &[u8],
+    gathered: &mut Gathered,
+) -> Result<Option<Front>, Kind>
+    ensures found { IfOk result (λ found. IfSome found (λ front. (facts : List Fact) × GroupAhead ranges.now bytes.now facts front)) }
+    ensures err { IfErr result (λ k. k ≡ Kind.Memory) }
+{
+    let Ok(found) = group_found(ranges, bytes, gathered) else {
+        return Err(Kind::Memory);
+    };
+    Ok(found)
+}
+
+/// The lines of the operator that stands first in the bytes likewise.
 pub fn operator_front(
     ranges: &Items<u32>,
     bytes: &[u8],
@@ -20,15 +63,10 @@ pub fn operator_front(
     let Ok(found) = operator_found(ranges, bytes, gathered) else {
         return Err(Kind::Memory);
     };
-    let Some(operator) = found else {
+    let Some(found) = found else {
         return Ok(None);
     };
-    let OperatorFound {
-        name: _name,
-        cost: _cost,
-        front,
-    } = operator;
-    Ok(Some(front))
+    Ok(Some(found.front))
 }
 
 /// The lines of the rule that stands first in the bytes likewise.
@@ -43,8 +81,8 @@ pub fn rule_front(
     let Ok(found) = rule_found(ranges, bytes, gathered) else {
         return Err(Kind::Memory);
     };
-    let Some(RuleFound { front, .. }) = found else {
+    let Some(found) = found else {
         return Ok(None);
     };
-    Ok(Some(front))
+    Ok(Some(found.front))
 }

@@ -1,13 +1,14 @@
 // What keeps the outline of a task as its lines come: no group, no operator and no rule.
-ghost use Rattle.std.specs.Prelude.{◌≡◌};
+ghost use Rattle.std.specs.Prelude.{◌≡◌, List};
+ghost use Rattle.sas_core.specs.declared.parts.Fact.{Fact};
 ghost use Rattle.sas_core.specs.declared.parts.Operator.{Operator};
 ghost use Rattle.sas_core.specs.declared.parts.Rule.{Rule};
 ghost use Rattle.sas_task_judge.specs.declared.so_far.SoFar.{SoFar};
 ghost use Rattle.sas_task_judge.specs.TaskEvents.{nothing_yet};
-ghost use Rattle.sas_task_judge.specs.Sections.{behind_operator, behind_rule};
+ghost use Rattle.sas_task_judge.specs.Sections.{behind_group, behind_operator, behind_rule};
 ghost use Rattle.sas_task_reader.specs.TaskOutline.{outline_in, seen};
 
-use crate::fronts::{operator_front, rule_front};
+use crate::fronts::{group_front, operator_front, rule_front};
 use crate::outline::Outline;
 use sas_core::Items;
 use sas_reader::{Front, Kind};
@@ -29,7 +30,7 @@ pub struct Seen {
 #[derive(Drop)]
 pub struct TaskOutline {
     seen: Seen,
-    /// What is read of an operator or a rule whose lines come at once.
+    /// What is read of a section whose lines come at once.
     gathered: Gathered,
 }
 
@@ -42,6 +43,13 @@ impl Model for TaskOutline {
 }
 
 impl Seen {
+    /// A mutex group more has come.
+    fn group(&mut self)
+        ensures { (s : SoFar) (facts : List Fact) → self.old ≡ seen s → self.new ≡ seen (behind_group s facts) }
+    {
+        self.groups = self.groups.saturating_add(1);
+    }
+
     /// An operator more has come. The name was the operator's, and goes with it.
     fn operator(&mut self)
         ensures { (s : SoFar) (o : Operator) → self.old ≡ seen s → self.new ≡ seen (behind_operator s o) }
@@ -106,13 +114,21 @@ impl Keeper for TaskOutline {
 
     fn keep(&mut self, line: &[u8], event: Event, said: &mut Said) -> Result<(), Kind> {
         match event {
-            Event::Group => self.seen.groups = self.seen.groups.saturating_add(1),
+            Event::Group => self.seen.group(),
             Event::Operator => self.seen.operator(),
             Event::Rule => self.seen.rule(),
             Event::Facts | Event::Fact | Event::Effects | Event::Effect => {}
             other => return self.seen.rest.add(line, other, said),
         }
         Ok(())
+    }
+
+    fn keep_group(&mut self, ranges: &Items<u32>, bytes: &[u8]) -> Result<Front, Kind> {
+        let Some(front) = group_front(ranges, bytes, &mut self.gathered)? else {
+            return Ok(Front::EMPTY);
+        };
+        self.seen.group();
+        Ok(front)
     }
 
     fn keep_operator(&mut self, ranges: &Items<u32>, bytes: &[u8]) -> Result<Front, Kind> {

@@ -1,11 +1,11 @@
 // What keeps the text of a task file, and nothing of the task.
 ghost use Rattle.std.specs.Prelude.{◌≡◌, ◌++◌, ◌≤◌, [], length, take, OnOk, IfErr};
 
-use crate::fronts::{operator_front, rule_front};
+use crate::fronts::{NO_VARIABLE, group_front, operator_front, rule_front, variable_front};
 use sas_core::Items;
 use sas_lines::push_line;
 use sas_reader::{Front, Kind};
-use sas_task_judge::{Event, Keeper, Said};
+use sas_task_judge::{Event, Keeper, Said, VariableKept};
 use sas_task_line::Gathered;
 use std::alloc::Global;
 use std::marker::Model;
@@ -14,7 +14,7 @@ use std::marker::Model;
 #[derive(Drop)]
 pub struct TaskText {
     text: Vec<u8>,
-    /// What is read of an operator or a rule whose lines come at once.
+    /// What is read of a section whose lines come at once.
     gathered: Gathered,
 }
 
@@ -69,6 +69,22 @@ impl Keeper for TaskText {
             Ok(()) => Ok(()),
             Err(_) => Err(Kind::Memory),
         }
+    }
+
+    fn keep_variable(&mut self, bytes: &[u8]) -> Result<VariableKept, Kind> {
+        let Some(kept) = variable_front(bytes, &mut self.gathered)? else {
+            return Ok(NO_VARIABLE);
+        };
+        self.take(bytes, kept.front.bytes)?;
+        Ok(kept)
+    }
+
+    fn keep_group(&mut self, ranges: &Items<u32>, bytes: &[u8]) -> Result<Front, Kind> {
+        let Some(front) = group_front(ranges, bytes, &mut self.gathered)? else {
+            return Ok(Front::EMPTY);
+        };
+        self.take(bytes, front.bytes)?;
+        Ok(front)
     }
 
     fn keep_operator(&mut self, ranges: &Items<u32>, bytes: &[u8]) -> Result<Front, Kind> {
