@@ -106,7 +106,7 @@ impl<'a, E: Settle<T> + Drop, T: Grounded> Runner<'a, E, T> {
             Choice::Blocked => return Err(PlanFault::NotApplicable { step }),
             Choice::Found(operator) => operator,
         };
-        match self.step(state, operator) {
+        match self.step_on(state, operator) {
             Ok(()) => Ok(operator),
             Err(_) => Err(PlanFault::Conflict { step, operator }),
         }

@@ -121,6 +121,20 @@ impl<'a, E: Settle<T> + Drop, T: Grounded> Runner<'a, E, T> {
         ensures steps { Steps self.old state.old operator state.new result }
         ensures same { self.new ≡ self.old }
     {
+        match missed_precondition(self.layered.task(), operator, state) {
+            Some(fact) => Err(StepFault::NotApplicable { fact }),
+            None => self.step_on(state, operator),
+        }
+    }
+
+    /// The same for an operator that is known to be applicable.
+    pub(crate) fn step_on(&mut self, state: &mut State, operator: u32) -> Result<(), StepFault>
+        requires operator { operator < length self.old.operators }
+        requires state { IsState self.old.variables state.old }
+        requires applicable { IsApplicable state.old (operator_at self.old operator) }
+        ensures steps { Steps self.old state.old operator state.new result }
+        ensures same { self.new ≡ self.old }
+    {
         match apply(self.layered.task(), operator, &mut self.given, state) {
             Ok(()) => {
                 self.evaluator.settle(self.layered, state);

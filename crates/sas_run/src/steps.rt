@@ -39,8 +39,8 @@ pub fn missed_precondition<T: Grounded>(task: &T, operator: u32, state: &State) 
     None
 }
 
-/// Does what the effects that fire do, unless a precondition fails or two of them conflict. What is given to variables
-/// meanwhile is nothing again in the end.
+/// Does what the effects that fire do, where the preconditions hold, unless two of the effects conflict. What is given to
+/// variables meanwhile is nothing again in the end.
 pub fn apply<T: Grounded>(
     task: &T,
     operator: u32,
@@ -49,15 +49,13 @@ pub fn apply<T: Grounded>(
 ) -> Result<(), StepFault>
     requires operator { operator < length (T.says task.now).operators }
     requires state { IsState (T.says task.now).variables state.old }
+    requires applicable { IsApplicable state.old (operator_at (T.says task.now) operator) }
     requires clean { IsClean (T.says task.now) given.old }
     ensures applies { Applies (T.says task.now) state.old operator state.new result }
     ensures clean { IsClean (T.says task.now) given.new }
 {
     // The contract of this call tells that what the task says is well ranged.
     let _ = task.variables();
-    if let Some(fact) = missed_precondition(task, operator, state) {
-        return Err(StepFault::NotApplicable { fact });
-    }
     if let Some(effect) = give_effects(task, operator, state, given) {
         take_back(task, operator, given);
         return Err(StepFault::Conflict { effect });

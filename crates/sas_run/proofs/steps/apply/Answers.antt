@@ -7,4 +7,4 @@ pub returns-clause-applies : goal.returns-clause-applies
 returns-clause-applies g c =
     let p = g.T.Grounded.says c.args.task.now in
     applied p c.args.state.now (operator_at p c.args.operator) c.give_effects.new.given c.write_given.new.state
-    c.in_default.ensures.none c.in_default-give_effects.ensures.none c.write_given.ensures.state c.write_given.ensures.written
+    c.requires.applicable c.in_default.ensures.none c.write_given.ensures.state c.write_given.ensures.written

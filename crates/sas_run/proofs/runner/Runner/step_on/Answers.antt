@@ -1,7 +1,7 @@
 -- The effects, and what settles them.
 use Rattle.sas_grounded.specs.Grounded.{operator_at}
 use Rattle.sas_run.proofs.NextStates.{effects_basic, step_from_applied}
-use Rattle.sas_run.proofs.runner.Runner.step.Goals as goal
+use Rattle.sas_run.proofs.runner.Runner.step_on.Goals as goal
 
 pub returns-in-Ok-clause-steps : goal.returns-in-Ok-clause-steps
 returns-in-Ok-clause-steps g c =
