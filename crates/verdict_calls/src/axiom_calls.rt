@@ -32,15 +32,36 @@ fn new_layered<R: AllocGlobal + Print>(
     count: usize,
     file: &[u8],
 ) -> Result<(), AllocError> {
-    let Some(task) = task_of(rt.alloc(), file) else {
+    let Some(same) = task_of(rt.alloc(), file) else {
         say(rt, "WRONG: no task");
         return Ok(());
     };
-    if let Some(same) = task_of(rt.alloc(), file) {
-        spend(rt.alloc(), count)?;
-        say_layers(rt, Layered::new(rt.alloc(), task), &same);
+    let said = layer_again(rt, count, file, &same);
+    drop(same);
+    said
+}
+
+/// The same, of a file whose task is known.
+fn layer_again<R: AllocGlobal + Print>(
+    rt: &R,
+    count: usize,
+    file: &[u8],
+    given: &Task,
+) -> Result<(), AllocError> {
+    if let Some(task) = task_of(rt.alloc(), file) {
+        say_layers(rt, layered_behind(rt.alloc(), count, task)?, given);
     }
     Ok(())
+}
+
+/// What `Layered::new` answers behind so many allocations.
+fn layered_behind(
+    alloc: Global,
+    count: usize,
+    task: Task,
+) -> Result<Result<Layered<Task>, (Task, LayerFault)>, AllocError> {
+    spend(alloc, count)?;
+    Ok(Layered::new(alloc, task))
 }
 
 /// Says what `Layered::new` answered about such a task.
@@ -113,14 +134,26 @@ fn say_state<P: Print>(out: &P, state: &Result<State, StateFault>) {
 /// a definition of states that takes a value too many or one out of its range, or that the call always wants memory.
 fn new_state<R: AllocGlobal + Print>(rt: &R, count: usize, bytes: &[u8]) -> Result<(), AllocError> {
     let (words, file) = cut(bytes, b'|');
-    let (values, fact) = cut(words, b';');
     let Some(task) = task_of(rt.alloc(), file) else {
         say(rt, "WRONG: no task");
         return Ok(());
     };
+    let said = new_state_of(rt, count, words, &task);
+    drop(task);
+    said
+}
+
+/// The same, of a task.
+fn new_state_of<R: AllocGlobal + Print>(
+    rt: &R,
+    count: usize,
+    words: &[u8],
+    task: &Task,
+) -> Result<(), AllocError> {
+    let (values, fact) = cut(words, b';');
     let values = numbers_of(rt.alloc(), values)?;
     spend(rt.alloc(), count)?;
-    let state = State::of(rt.alloc(), &task, values.as_slice());
+    let state = State::of(rt.alloc(), task, values.as_slice());
     say_state(rt, &state);
     if let (Ok(state), Some(fact)) = (state, fact_of(fact)) {
         say_fact(rt, state, fact);
@@ -170,17 +203,31 @@ fn settle<R: AllocGlobal + Print>(rt: &R, kind: &str, bytes: &[u8]) -> Result<()
         say(rt, "WRONG: no layered task");
         return Ok(());
     };
+    let settled = settle_all(rt, kind, states, &layered);
+    drop(layered);
+    settled
+}
+
+/// The same, of a layered task.
+fn settle_all<R: AllocGlobal + Print>(
+    rt: &R,
+    kind: &str,
+    states: &[u8],
+    layered: &Layered<Task>,
+) -> Result<(), AllocError> {
     let pieces = pieces_of(rt.alloc(), states)?;
     let states = pieces.as_slice();
     match kind {
-        "rounds" => settle_each(rt, &mut Rounds, &layered, states),
+        "rounds" => settle_each(rt, &mut Rounds, layered, states),
         "worklist" => {
-            let mut worklist = Worklist::new(rt.alloc(), &layered)?;
-            settle_each(rt, &mut worklist, &layered, states);
+            let mut worklist = Worklist::new(rt.alloc(), layered)?;
+            settle_each(rt, &mut worklist, layered, states);
+            drop(worklist);
         }
         _ => {
-            let mut worklist = Worklist::new(rt.alloc(), &layered)?;
-            compare_each(rt, &mut Rounds, &mut worklist, &layered, states);
+            let mut worklist = Worklist::new(rt.alloc(), layered)?;
+            compare_each(rt, &mut Rounds, &mut worklist, layered, states);
+            drop(worklist);
         }
     }
     Ok(())
@@ -238,32 +285,45 @@ fn new_worklist<R: AllocGlobal + Print>(
         say(rt, "WRONG: no layered task");
         return Ok(());
     };
+    let said = new_worklist_of(rt, count, words, &layered);
+    drop(layered);
+    said
+}
+
+/// The same, of a layered task.
+fn new_worklist_of<R: AllocGlobal + Print>(
+    rt: &R,
+    count: usize,
+    words: &[u8],
+    layered: &Layered<Task>,
+) -> Result<(), AllocError> {
     let values = numbers_of(rt.alloc(), words)?;
     let Ok(state) = State::of(rt.alloc(), layered.task(), values.as_slice()) else {
         say(rt, "WRONG: no state");
         return Ok(());
     };
     spend(rt.alloc(), count)?;
-    match Worklist::new(rt.alloc(), &layered) {
-        Ok(worklist) => {
-            let mut worklist = worklist;
-            say_settled(rt, &mut worklist, &layered, state);
+    match Worklist::new(rt.alloc(), layered) {
+        Ok(worklist) => say_settled(rt, worklist, layered, state),
+        Err(_) => {
+            drop(state);
+            say(rt, "wanting");
         }
-        Err(_) => say(rt, "wanting"),
     }
     Ok(())
 }
 
 /// Says the state, settled by this evaluator. That takes no memory.
-fn say_settled<P: Print, E: Settle<Task>>(
+fn say_settled<P: Print, E: Settle<Task> + Drop>(
     out: &P,
-    evaluator: &mut E,
+    evaluator: E,
     layered: &Layered<Task>,
     state: State,
 )
-    requires ready { E.ready evaluator.old layered.now }
+    requires ready { E.ready evaluator layered.now }
     requires state { IsState layered.now.variables state }
 {
+    let mut evaluator = evaluator;
     let mut state = state;
     evaluator.settle(layered, &mut state);
     say_values(out, state.values());

@@ -31,11 +31,22 @@ fn judge_groups<R: AllocGlobal + Print>(
         say(rt, "WRONG: no layered task");
         return Ok(());
     };
+    let said = judge_groups_of(rt, count, &layered);
+    drop(layered);
+    said
+}
+
+/// The same, of a layered task.
+fn judge_groups_of<R: AllocGlobal + Print>(
+    rt: &R,
+    count: usize,
+    layered: &Layered<Task>,
+) -> Result<(), AllocError> {
     spend(rt.alloc(), count)?;
-    match check_groups(rt.alloc(), &layered) {
+    match check_groups(rt.alloc(), layered) {
         Ok(verdicts) => {
             say_verdicts(rt, verdicts.as_slice());
-            say_alone(rt, &layered);
+            say_alone(rt, layered);
         }
         Err(_) => say(rt, "wanting"),
     }
@@ -66,10 +77,16 @@ fn effect_of<'a>(operator: &'a Operator, word: &[u8]) -> Option<&'a Effect> {
 /// effect and no fact. It could show a definition of these facts that forgets the old value of an effect that doesn't fire.
 fn say_facts<R: AllocGlobal + Print>(rt: &R, bytes: &[u8]) {
     let (words, file) = cut(bytes, b'|');
-    let (number, words) = cut(words, b';');
     let Some(task) = task_of(rt.alloc(), file) else {
         return say(rt, "WRONG: no task");
     };
+    say_facts_of(rt, words, &task);
+    drop(task);
+}
+
+/// The same, of a task.
+fn say_facts_of<P: Print>(rt: &P, words: &[u8], task: &Task) {
+    let (number, words) = cut(words, b';');
     let Some(place) = number_in(number) else {
         return say(rt, "WRONG: no number");
     };

@@ -30,20 +30,36 @@ fn check_plan<R: AllocGlobal + Print>(
     bytes: &[u8],
 ) -> Result<(), AllocError> {
     let (plan, file) = cut(bytes, b'|');
-    let Some(plan) = plan_of(rt.alloc(), plan) else {
-        say(rt, "WRONG: no plan");
-        return Ok(());
-    };
     let Some(layered) = layered_of(rt.alloc(), file) else {
         say(rt, "WRONG: no layered task");
         return Ok(());
     };
+    let said = check_plan_of(rt, kind, count, plan, &layered);
+    drop(layered);
+    said
+}
+
+/// The same, of a layered task.
+fn check_plan_of<R: AllocGlobal + Print>(
+    rt: &R,
+    kind: &str,
+    count: usize,
+    plan: &[u8],
+    layered: &Layered<Task>,
+) -> Result<(), AllocError> {
+    let Some(plan) = plan_of(rt.alloc(), plan) else {
+        say(rt, "WRONG: no plan");
+        return Ok(());
+    };
     match kind {
-        "rounds" => check_with(rt, count, &layered, Rounds, &plan),
-        _ => {
-            let worklist = Worklist::new(rt.alloc(), &layered)?;
-            check_with(rt, count, &layered, worklist, &plan)
-        }
+        "rounds" => check_with(rt, count, layered, Rounds, &plan),
+        _ => check_with(
+            rt,
+            count,
+            layered,
+            Worklist::new(rt.alloc(), layered)?,
+            &plan,
+        ),
     }
 }
 

@@ -1,6 +1,7 @@
 // Calls of `sas_run` on runners: what a name means in a state, steps, and the goal. What is asked stands before a `|` and a
 // file.
-ghost use Rattle.std.specs.Prelude.{◌<◌, length, IfSome};
+ghost use Rattle.std.specs.Prelude.{◌<◌, length, IfOk, IfSome};
+ghost use Rattle.sas_axioms.specs.Worklist.{IsReadyFor};
 ghost use Rattle.sas_core.specs.Variables.{IsState};
 
 use crate::axiom_calls::{pieces_of, say_values};
@@ -51,11 +52,23 @@ fn make_steps<R: AllocGlobal + Print>(rt: &R, kind: &str, bytes: &[u8]) -> Resul
         say(rt, "WRONG: no layered task");
         return Ok(());
     };
+    let made = make_steps_of(rt, kind, calls, &layered);
+    drop(layered);
+    made
+}
+
+/// The same, of a layered task.
+fn make_steps_of<R: AllocGlobal + Print>(
+    rt: &R,
+    kind: &str,
+    calls: &[u8],
+    layered: &Layered<Task>,
+) -> Result<(), AllocError> {
     let pieces = pieces_of(rt.alloc(), calls)?;
     let calls = pieces.as_slice();
     match kind {
-        "rounds" => make_calls(rt, &layered, Rounds, calls),
-        _ => make_calls(rt, &layered, Worklist::new(rt.alloc(), &layered)?, calls),
+        "rounds" => make_calls(rt, layered, Rounds, calls),
+        _ => make_calls(rt, layered, Worklist::new(rt.alloc(), layered)?, calls),
     }
     Ok(())
 }
@@ -185,11 +198,17 @@ fn say_called<P: Print>(out: &P, calls: &Cell<u64>, before: u64) {
 /// Whether the initial state and a step call the evaluator that a runner was given. It could show a runner that settles by
 /// another one: of that the state tells nothing.
 fn count_steps<R: AllocGlobal + Print>(rt: &R, file: &[u8]) {
-    let calls = Cell::new(0u64);
     let Some(layered) = layered_of(rt.alloc(), file) else {
         return say(rt, "WRONG: no layered task");
     };
-    let Some(mut runner) = runner_of(rt.alloc(), &layered, Counting { calls: &calls }) else {
+    count_steps_of(rt, &layered);
+    drop(layered);
+}
+
+/// The same, of a layered task.
+fn count_steps_of<R: AllocGlobal + Print>(rt: &R, layered: &Layered<Task>) {
+    let calls = Cell::new(0u64);
+    let Some(mut runner) = runner_of(rt.alloc(), layered, Counting { calls: &calls }) else {
         return say(rt, "WRONG: no runner");
     };
     let Ok(mut state) = runner.initial(rt.alloc()) else {
@@ -207,23 +226,44 @@ fn new_runner<R: AllocGlobal + Print>(rt: &R, count: usize, file: &[u8]) -> Resu
         say(rt, "WRONG: no layered task");
         return Ok(());
     };
-    let worklist = Worklist::new(rt.alloc(), &layered)?;
-    spend(rt.alloc(), count)?;
-    match Runner::new(rt.alloc(), &layered, worklist) {
-        Ok(runner) => {
-            let mut runner = runner;
-            say_first(rt, runner.initial(rt.alloc()));
-        }
-        Err((worklist, _)) => say_want(rt, settles(rt.alloc(), &layered, worklist)),
+    let said = new_runner_of(rt, count, &layered);
+    drop(layered);
+    said
+}
+
+/// The same, of a layered task.
+fn new_runner_of<R: AllocGlobal + Print>(
+    rt: &R,
+    count: usize,
+    layered: &Layered<Task>,
+) -> Result<(), AllocError> {
+    let worklist = worklist_behind(rt.alloc(), count, layered)?;
+    match Runner::new(rt.alloc(), layered, worklist) {
+        Ok(runner) => say_first(rt, runner),
+        Err((worklist, _)) => say_want(rt, settles(rt.alloc(), layered, worklist)),
     }
     Ok(())
 }
 
-/// Says the initial state.
-fn say_first<P: Print>(out: &P, state: Result<State, AllocError>) {
-    match state {
-        Ok(state) => say_values(out, state.values()),
-        Err(_) => say(out, "wanting"),
+/// An evaluator, and so many allocations behind it.
+fn worklist_behind(
+    alloc: Global,
+    count: usize,
+    layered: &Layered<Task>,
+) -> Result<Worklist, AllocError>
+    ensures { IfOk result (λ worklist. IsReadyFor layered.now worklist) }
+{
+    let worklist = Worklist::new(alloc, layered)?;
+    spend(alloc, count)?;
+    Ok(worklist)
+}
+
+/// Says the runner's initial state.
+fn say_first<R: AllocGlobal + Print, E: Settle<Task> + Drop>(rt: &R, runner: Runner<'_, E>) {
+    let mut runner = runner;
+    match runner.initial(rt.alloc()) {
+        Ok(state) => say_values(rt, state.values()),
+        Err(_) => say(rt, "wanting"),
     }
 }
 
@@ -254,7 +294,18 @@ fn say_initial<R: AllocGlobal + Print>(
         say(rt, "WRONG: no layered task");
         return Ok(());
     };
-    let Some(mut runner) = runner_of(rt.alloc(), &layered, Rounds) else {
+    let said = say_initial_of(rt, count, &layered);
+    drop(layered);
+    said
+}
+
+/// The same, of a layered task.
+fn say_initial_of<R: AllocGlobal + Print>(
+    rt: &R,
+    count: usize,
+    layered: &Layered<Task>,
+) -> Result<(), AllocError> {
+    let Some(mut runner) = runner_of(rt.alloc(), layered, Rounds) else {
         say(rt, "before");
         return Ok(());
     };
