@@ -1,13 +1,14 @@
 -- One list more behind the others.
-use Rattle.std.proofs.Common.{◌≡◌, ℕ, zero, suc, ◌+◌, ◌-◌, ◌<◌, ◌≤◌, ◌⊎◌, inl, inr, List, [], ◌∷◌, ◌++◌, length, get_or, take, drop, replicate, refl, sym, ap, subst, ◌∙◌, arith, append-nil, append_assoc, length-append, length-drop}
+use Rattle.std.proofs.Common.{◌≡◌, ℕ, zero, suc, ◌+◌, ◌-◌, ◌<◌, ◌≤◌, ◌⊎◌, inl, inr, List, [], ◌∷◌, ◌++◌, length, get_or, take, drop, replicate, refl, sym, ap, map, subst, ◌∙◌, arith, append-nil, append_assoc, length-append, length-drop}
 use Rattle.std.specs.Prelude.{slice_index, slice_range}
-use Rattle.std.proofs.lemmas.List.{take-append-le, drop-append-le, take-append-drop, length-take-le, get_or-take, get_or-drop}
+use Rattle.std.proofs.lemmas.List.{take-append-le, drop-append-le, take-append-drop, length-take-le, length-map, get_or-take, get_or-drop, get_or-map, get_or-append-add}
+use Rattle.std.proofs.lemmas.Bool.Decides.{leb_tells}
 use Rattle.std.proofs.Math.Nat.{eq-or-lt_of_le}
 use Rattle.std.proofs.Math.ListN.{get_or-append}
-use Rattle.std.proofs.Math.Seq.{get_or-append_seam, drop-append_seam, take-length}
+use Rattle.std.proofs.Math.Seq.{get_or-append_seam, drop-append_seam, drop-append-add, take-length}
 use Rattle.sas_flat.specs.Table.{table}
 use Rattle.sas_flat.specs.Lists.{start_of, list_at, lists_of, AreEnds}
-use Rattle.sas_flat.proofs.Tables.{length-table, table_same, table_more, get_or-table, take-table}
+use Rattle.sas_flat.proofs.Tables.{length-table, table_same, table_more, table_append, get_or-table, take-table}
 
 start_same : (ends more : List ℕ) (k : ℕ) → k ≤ length ends → start_of (ends ++ more) k ≡ start_of ends k
 start_same ends more zero h = refl
@@ -24,6 +25,14 @@ range_last items list a b start end =
     ∙ ap (λ l. take (b - length items) l) (drop-append_seam items list)
     ∙ ap (λ n. take n list) (omega arith)
     ∙ take-length list
+
+-- a list is where it was
+list_same : {X : Type 0} (items more : List X) (ends behind : List ℕ) → AreEnds ends (length items) → (k : ℕ) → k < length ends
+    → list_at (items ++ more) (ends ++ behind) k ≡ list_at items ends k
+list_same items more ends behind are k h =
+    ap (λ a. slice_range (items ++ more) a (slice_index (ends ++ behind) k)) (start_same ends behind k (omega arith))
+    ∙ ap (λ b. slice_range (items ++ more) (start_of ends k) b) (get_or-append ends behind 0 k h)
+    ∙ range_same items more (start_of ends k) (slice_index ends k) (are.ascending k h) (are.within k h)
 
 -- no list
 pub no_list : {X : Type 0} (items : List X) (ends : List ℕ) → ends ≡ [] → lists_of items ends ≡ []
@@ -54,15 +63,9 @@ module _ {X : Type 0} (items list : List X) (ends : List ℕ) (end : ℕ) (are :
   old_end : (k : ℕ) → k < length ends → slice_index (ends ++ end ∷ []) k ≡ slice_index ends k
   old_end k h = get_or-append ends (end ∷ []) 0 k h
 
-  old_list : (k : ℕ) → k < length ends → list_at (items ++ list) (ends ++ end ∷ []) k ≡ list_at items ends k
-  old_list k h =
-      ap (λ a. slice_range (items ++ list) a (slice_index (ends ++ end ∷ []) k)) (start_same ends (end ∷ []) k (omega arith))
-      ∙ ap (λ b. slice_range (items ++ list) (start_of ends k) b) (old_end k h)
-      ∙ range_same items list (start_of ends k) (slice_index ends k) (are.ascending k h) (are.within k h)
-
   pub lists_more : lists_of (items ++ list) (ends ++ end ∷ []) ≡ lists_of items ends ++ list ∷ []
   lists_more = table_more (length ends) (length (ends ++ end ∷ [])) (list_at items ends) (list_at (items ++ list) (ends ++ end ∷ [])) list
-      more_end old_list (range_last items list _ _ last_start (last_end ∙ is))
+      more_end (list_same items list ends (end ∷ []) are) (range_last items list _ _ last_start (last_end ∙ is))
 
   each_end : (P : ℕ → Type 0) → ((k : ℕ) → k < length ends → P k) → P (length ends) → (k : ℕ) → k < length (ends ++ end ∷ []) → P k
   each_end P old last k h =
@@ -102,6 +105,67 @@ module _ {X : Type 0} (items : List X) where
       ∙ empty_more n (ends ++ length items ∷ []) (ends_one_empty ends are)
       ∙ ap (λ l. l ++ replicate n []) (one_empty ends are)
       ∙ append_assoc (lists_of items ends) ([] ∷ []) (replicate n [])
+
+-- ---- lists behind the others, from the block where they stand behind nothing
+
+range_behind : {X : Type 0} (items more : List X) (a b : ℕ) → slice_range (items ++ more) (a + length items) (b + length items) ≡ slice_range more a b
+range_behind items more a b =
+    let long : (b + length items) - (a + length items) ≡ b - a = omega arith in
+    let start : a + length items ≡ length items + a = omega arith in
+    ap (λ n. take n (drop (a + length items) (items ++ more))) long
+    ∙ ap (λ n. take (b - a) (drop n (items ++ more))) start
+    ∙ ap (λ l. take (b - a) l) (drop-append-add items more a)
+
+module _ {X : Type 0} (items more : List X) (ends behind : List ℕ) (are : AreEnds ends (length items)) (those : AreEnds behind (length more)) where
+  abbrev all : List ℕ
+  all = ends ++ map (λ end. end + length items) behind
+
+  all_length : length all ≡ length ends + length behind
+  all_length = length-append ends (map (λ end. end + length items) behind) ∙ ap (λ n. length ends + n) (length-map behind (λ end. end + length items))
+
+  end_behind : (j : ℕ) → j < length behind → slice_index all (length ends + j) ≡ slice_index behind j + length items
+  end_behind j h =
+      get_or-append-add ends (map (λ end. end + length items) behind) j 0
+      ∙ get_or-map (λ end. end + length items) behind j 0 0 h
+
+  start_behind : (j : ℕ) → j ≤ length behind → start_of all (length ends + j) ≡ start_of behind j + length items
+  start_behind zero h =
+      let none : length ends + zero ≡ length ends = omega arith in
+      let no_more : length items ≡ start_of behind zero + length items = omega arith in
+      ap (λ k. start_of all k) none ∙ start_same ends (map (λ end. end + length items) behind) (length ends) (omega arith) ∙ are.closed ∙ no_more
+  start_behind (suc j) h =
+      let after : length ends + suc j ≡ suc (length ends + j) = omega arith in
+      ap (λ k. start_of all k) after ∙ end_behind j (omega arith)
+
+  list_behind : (j : ℕ) → j < length behind → list_at (items ++ more) all (length ends + j) ≡ list_at more behind j
+  list_behind j h =
+      ap (λ a. slice_range (items ++ more) a (slice_index all (length ends + j))) (start_behind j (omega arith))
+      ∙ ap (λ b. slice_range (items ++ more) (start_of behind j + length items) b) (end_behind j h)
+      ∙ range_behind items more (start_of behind j) (slice_index behind j)
+
+  pub lists_append : lists_of (items ++ more) all ≡ lists_of items ends ++ lists_of more behind
+  lists_append =
+      ap (λ n. table n (list_at (items ++ more) all)) all_length
+      ∙ table_append (length ends) (length behind) _ _ _ (list_same items more ends (map (λ end. end + length items) behind) are) list_behind
+
+  each_of_all : (P : ℕ → Type 0) → ((k : ℕ) → k < length ends → P k) → ((j : ℕ) → j < length behind → P (length ends + j)) → (k : ℕ) → k < length all → P k
+  each_of_all P first second k h =
+      elim (leb_tells (length ends) k) [
+        | inl above ↦ let place : length ends + (k - length ends) ≡ k = omega (arith, above.1) in
+            subst P place (second (k - length ends) (omega (arith, above.1, all_length)))
+        | inr below ↦ first k below.1
+      ]
+
+  pub ends_append : AreEnds all (length (items ++ more))
+  ends_append = record {
+    ascending = each_of_all (λ k. start_of all k ≤ slice_index all k)
+        (λ k h. omega (arith, start_same ends (map (λ end. end + length items) behind) k (omega arith), get_or-append ends (map (λ end. end + length items) behind) 0 k h, are.ascending k h))
+        (λ j h. omega (arith, start_behind j (omega arith), end_behind j h, those.ascending j h));
+    within = each_of_all (λ k. slice_index all k ≤ length (items ++ more))
+        (λ k h. omega (arith, get_or-append ends (map (λ end. end + length items) behind) 0 k h, are.within k h, length-append items more))
+        (λ j h. omega (arith, end_behind j h, those.within j h, length-append items more));
+    closed = ap (λ k. start_of all k) all_length ∙ omega (arith, start_behind (length behind) (omega arith), those.closed, length-append items more);
+  }
 
 -- ---- fewer lists
 

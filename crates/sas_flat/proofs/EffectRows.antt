@@ -1,6 +1,6 @@
 -- Effects in columns: the effect at a place, one effect more, and fewer.
-use Rattle.std.proofs.Common.{◌≡◌, ℕ, ◌<◌, ◌≤◌, List, [], ◌∷◌, ◌++◌, length, take, replicate, get_or, sym, ap, ◌∙◌, arith, append-nil, append_assoc, length-append}
-use Rattle.std.proofs.lemmas.List.{length-take-le, get_or-take}
+use Rattle.std.proofs.Common.{◌≡◌, ℕ, ◌+◌, ◌<◌, ◌≤◌, List, [], ◌∷◌, ◌++◌, length, take, replicate, get_or, sym, ap, ◌∙◌, arith, append-nil, append_assoc, length-append}
+use Rattle.std.proofs.lemmas.List.{length-take-le, get_or-take, get_or-append-add}
 use Rattle.std.proofs.Math.ListN.{get_or-append}
 use Rattle.std.proofs.Math.Seq.{get_or-append_seam}
 use Rattle.sas_grounded.specs.declared.grounded.Change.{Change}
@@ -8,7 +8,7 @@ use Rattle.sas_core.specs.declared.parts.Fact.{Fact}
 use Rattle.sas_core.specs.declared.parts.Effect.{Effect}
 use Rattle.sas_flat.specs.Table.{table}
 use Rattle.sas_flat.specs.Effects.{effect, plain_effects, change_in, effects_of, effect_in}
-use Rattle.sas_flat.proofs.Tables.{length-table, table_same, table_none, table_more, get_or-table, take-table}
+use Rattle.sas_flat.proofs.Tables.{length-table, table_same, table_none, table_more, table_append, get_or-table, take-table}
 
 pub no_effect : (cs : List Change) (ds : List (List Fact)) → cs ≡ [] → effects_of cs ds ≡ []
 no_effect cs ds none = table_none (length cs) _ (ap length none)
@@ -28,6 +28,16 @@ pub effects_more : (cs : List Change) (ds : List (List Fact)) (c : Change) (d : 
 effects_more cs ds c d pairs = table_more (length cs) (length (cs ++ c ∷ [])) _ _ (effect c d) (omega (arith, length-append cs (c ∷ [])))
     (λ i h. same_effect _ _ _ _ (get_or-append cs (c ∷ []) _ i h) (get_or-append ds (d ∷ []) [] i (omega (arith, pairs))))
     (same_effect _ _ _ _ (get_or-append_seam cs c [] _) (ap (λ n. get_or (ds ++ d ∷ []) n []) (sym pairs) ∙ get_or-append_seam ds d [] []))
+
+-- effects behind the others
+pub effects_append : (cs more : List Change) (ds behind : List (List Fact)) → length ds ≡ length cs
+    → effects_of (cs ++ more) (ds ++ behind) ≡ effects_of cs ds ++ effects_of more behind
+effects_append cs more ds behind pairs =
+    ap (λ n. table n (λ i. effect (change_in (cs ++ more) i) (get_or (ds ++ behind) i []))) (length-append cs more)
+    ∙ table_append (length cs) (length more) _ _ _
+    (λ i h. same_effect _ _ _ _ (get_or-append cs more _ i h) (get_or-append ds behind [] i (omega (arith, pairs))))
+    (λ j h. same_effect _ _ _ _ (get_or-append-add cs more j _)
+    (ap (λ n. get_or (ds ++ behind) (n + j) []) (sym pairs) ∙ get_or-append-add ds behind j []))
 
 -- effects without conditions behind the others
 pub plain_more : (more cs : List Change) (ds : List (List Fact)) → length ds ≡ length cs

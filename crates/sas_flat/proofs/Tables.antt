@@ -1,5 +1,5 @@
 -- Laws of tables.
-use Rattle.std.proofs.Common.{◌≡◌, ℕ, zero, suc, ◌+◌, ◌<◌, ◌≤◌, ◌⊎◌, inl, inr, [], ◌∷◌, ◌++◌, length, take, get_or, refl, sym, ap, ◌∙◌, arith, length-append}
+use Rattle.std.proofs.Common.{◌≡◌, ℕ, zero, suc, ◌+◌, ◌<◌, ◌≤◌, ◌⊎◌, inl, inr, [], ◌∷◌, ◌++◌, length, take, get_or, refl, sym, ap, ◌∙◌, arith, append-nil, append_assoc, length-append}
 use Rattle.std.proofs.Math.Nat.{eq-or-lt_of_le}
 use Rattle.std.proofs.Math.ListN.{get_or-append}
 use Rattle.std.proofs.Math.Seq.{get_or-append_seam, take-length}
@@ -31,6 +31,19 @@ unfolding table
 table_more n m f g x is same last =
     let one_more : m ≡ suc n = omega arith in
     ap (λ k. table k g) one_more ∙ ap (λ l. l ++ g n ∷ []) (table_same n g f same) ∙ ap (λ y. table n f ++ y ∷ []) last
+
+-- a table behind another
+pub table_append : {X : Type 0} (n m : ℕ) (f g h : ℕ → X) → ((i : ℕ) → i < n → h i ≡ f i) → ((j : ℕ) → j < m → h (n + j) ≡ g j) → table (n + m) h ≡ table n f ++ table m g
+unfolding table
+table_append n zero f g h first second =
+    let none : n + zero ≡ n = omega arith in
+    ap (λ k. table k h) none ∙ table_same n h f first ∙ sym (append-nil (table n f))
+table_append n (suc m) f g h first second =
+    let one_more : n + suc m ≡ suc (n + m) = omega arith in
+    ap (λ k. table k h) one_more
+    ∙ ap (λ l. l ++ h (n + m) ∷ []) (table_append n m f g h first (λ j b. second j (omega arith)))
+    ∙ ap (λ x. (table n f ++ table m g) ++ x ∷ []) (second m (omega arith))
+    ∙ append_assoc (table n f) (table m g) (g m ∷ [])
 
 read : {X : Type 0} (n : ℕ) (f : ℕ → X) (i : ℕ) (d : X) → ((i ≡ n) ⊎ (i < n)) → (i < n → get_or (table n f) i d ≡ f i) → get_or (table n f ++ f n ∷ []) i d ≡ f i
 read n f i d (inl e) below =

@@ -2,7 +2,6 @@
 ghost use Rattle.std.specs.Prelude.{◌≡◌, ◌<◌, ◌≤◌, [], ◌∷◌, ◌++◌, length, take, OnOk, OnErr};
 ghost use Rattle.sas_grounded.specs.Grounded as grounded;
 ghost use Rattle.sas_flat.specs.Effects.{effect, plain_effects, effect_in};
-ghost use Rattle.sas_flat.specs.Growing.{Kept};
 
 use crate::lists::Lists;
 use sas_core::Fact;
@@ -85,14 +84,14 @@ impl Effects {
         Ok(())
     }
 
-    /// All these effects more. After an `Err` those that there were are still there, maybe with some of these behind.
+    /// All these effects more. After an `Err` the effects are as they were.
     pub(crate) fn append(&mut self, more: &Effects) -> Result<(), AllocError>
-        ensures kept { Kept self.old self.new }
         ensures ok { OnOk result (self.new ≡ self.old ++ more.now) }
+        ensures err { OnErr result (self.new ≡ self.old) }
     {
-        for i in 0..more.len() {
-            self.push(more.conditions(i), more.change(i))?;
-        }
+        self.changes.reserve(more.changes.len())?;
+        self.conditions.append(&more.conditions)?;
+        self.changes.extend_from_slice(more.changes.as_slice())?;
         Ok(())
     }
 

@@ -1,5 +1,5 @@
 // Where lists that stand one behind the other end.
-ghost use Rattle.std.specs.Prelude.{◌≡◌, ◌<◌, ◌≤◌, [], ◌∷◌, ◌++◌, length, take, replicate, OnOk, OnErr, slice_index};
+ghost use Rattle.std.specs.Prelude.{◌≡◌, ◌<◌, ◌≤◌, ◌+◌, ◌^◌, [], ◌∷◌, ◌++◌, length, take, map, replicate, OnOk, OnErr, EachIndex, slice_index};
 ghost use Rattle.sas_flat.specs.Lists.{start_of};
 
 use std::alloc::{AllocError, Global};
@@ -17,6 +17,16 @@ impl Model for Ends {
     ghost Value = { List ℕ };
 
     ghost view = { λ e. e.places.items };
+}
+
+/// Moves each place so far behind.
+fn shift(places: &mut [usize], by: usize)
+    requires { EachIndex places.old (λ index. slice_index places.old index + by < 2 ^ 64) }
+    ensures { places.new ≡ map (λ place. place + by) places.old }
+{
+    for place in places.iter_mut() {
+        *place += by;
+    }
 }
 
 impl Ends {
@@ -74,6 +84,19 @@ impl Ends {
     {
         self.places.reserve(count)?;
         self.places.resize(self.places.len() + count, place)
+    }
+
+    /// As many lists more as these, where each ends so far behind the place where it ends here. After an `Err` the lists are
+    /// as they were.
+    pub fn push_shifted(&mut self, more: &Ends, by: usize) -> Result<(), AllocError>
+        requires { EachIndex more.now (λ index. slice_index more.now index + by < 2 ^ 64) }
+        ensures ok { OnOk result (self.new ≡ self.old ++ map (λ place. place + by) more.now) }
+        ensures err { OnErr result (self.new ≡ self.old) }
+    {
+        let count = self.places.len();
+        self.places.extend_from_slice(more.places.as_slice())?;
+        shift(&mut self.places.as_mut_slice()[count..], by);
+        Ok(())
     }
 
     /// Leaves so many lists of those that there are, the first ones.

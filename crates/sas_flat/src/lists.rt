@@ -1,7 +1,6 @@
 // Lists that stand one behind the other in one block of memory.
 ghost use Rattle.std.specs.Prelude.{◌≡◌, ◌<◌, ◌≤◌, [], ◌∷◌, ◌++◌, length, take, replicate, OnOk, OnErr, slice_range};
 ghost use Rattle.std.specs.List.{slice_index_or};
-ghost use Rattle.sas_flat.specs.Growing.{Kept};
 
 use crate::ends::Ends;
 use std::alloc::{AllocError, Global};
@@ -88,15 +87,20 @@ impl<T: Copy> Lists<T> {
         Ok(())
     }
 
-    /// All these lists more. After an `Err` those that there were are still there, and maybe some of these behind them.
+    /// All these lists more. After an `Err` the lists are as they were.
     pub(crate) fn append(&mut self, more: &Lists<T>) -> Result<(), AllocError>
-        ensures kept { Kept self.old self.new }
         ensures ok { OnOk result (self.new ≡ self.old ++ more.now) }
+        ensures err { OnErr result (self.new ≡ self.old) }
     {
-        for i in 0..more.len() {
-            self.push(more.get(i))?;
+        let start = self.items.len();
+        self.items.extend_from_slice(more.items.as_slice())?;
+        match self.ends.push_shifted(&more.ends, start) {
+            Ok(()) => Ok(()),
+            Err(error) => {
+                self.items.truncate(start);
+                Err(error)
+            }
         }
-        Ok(())
     }
 
     /// Leaves so many lists, the first ones.
