@@ -33,6 +33,15 @@ abbrev pub IsAtRest : Parts → List Bool → List ℕ → ℕ → Type 0
 IsAtRest p kept waiting operator = (effect : ℕ) → effect < length (operator_at p operator).effects
     → IsEffectAtRest p kept waiting operator effect
 
+-- the effect at this place of this operator has no conditions
+abbrev pub IsPlain : Parts → ℕ → ℕ → Type 0
+IsPlain p operator effect = (effect_at (operator_at p operator) effect).conditions ≡ []
+
+-- those of the operator's first effects that have no conditions are at rest
+abbrev pub ArePlainAtRest : Parts → List Bool → List ℕ → ℕ → ℕ → Type 0
+ArePlainAtRest p kept waiting operator effects = (effect : ℕ) → effect < effects
+    → IsPlain p operator effect → IsEffectAtRest p kept waiting operator effect
+
 -- how many groups the list keeps
 abbrev pub count : List Bool → ℕ
 count [] = 0

@@ -142,10 +142,14 @@ pub record AreKnown (p : Parts) (kept : List Bool) (facts : List Fact) (marks : 
 abbrev pub known_at : Parts → ℕ → ℕ → List Fact
 known_at p operator effect = known (operator_at p operator) (effect_at (operator_at p operator) effect).conditions []
 
--- that is noted, and doesn't clash
-pub record IsNotedFor (p : Parts) (kept : List Bool) (operator effect : ℕ) (marks : Marks) : Type 0 where
-  pub are : AreKnown p kept (known_at p operator effect) marks
-  pub from : IsNotedFrom p (known_at p operator effect) marks
+-- these facts are noted, and no others, and don't clash
+pub record AreNoted (p : Parts) (kept : List Bool) (facts : List Fact) (marks : Marks) : Type 0 where
+  pub are : AreKnown p kept facts marks
+  pub from : IsNotedFrom p facts marks
+
+-- what is known where the effect fires is noted, and doesn't clash
+abbrev pub IsNotedFor : Parts → List Bool → ℕ → ℕ → Marks → Type 0
+IsNotedFor p kept operator effect marks = AreNoted p kept (known_at p operator effect) marks
 
 -- no effect that may fire together with this one sets a fact of the group too, on another variable
 abbrev pub IsSingle : (List Fact → Type 0) → Operator → List Fact → Effect → Type 0

@@ -1,14 +1,15 @@
 // The greatest family of groups that is kept jointly.
-ghost use Rattle.std.specs.Prelude.{◌≡◌, ◌<◌, ◌≤◌, ℕ, ◌+◌, ◌++◌, [], ◌∷◌, false, length, All, Contains, IsTrue, slice_set, vec_capacity};
+ghost use Rattle.std.specs.Prelude.{◌≡◌, ◌<◌, ◌≤◌, ℕ, ◌+◌, ◌++◌, [], ◌∷◌, false, length, All, Contains, IsTrue, IsFalse, slice_set, vec_capacity};
 ghost use Rattle.sas_grounded.specs.Grounded.{operator_at, effect_at, group_at};
 ghost use Rattle.sas_core.specs.WellRanged.{WellRanged};
 ghost use Rattle.sas_groups.specs.Clashes.{sets};
 ghost use Rattle.sas_groups.specs.Families.{IsGreatest};
+ghost use Rattle.sas_groups.specs.Lists.{known};
 ghost use Rattle.sas_mutex.specs.Effects.{family_of};
 ghost use Rattle.sas_mutex.specs.Index.{IsIndexOf, AreMentions};
 ghost use Rattle.sas_mutex.specs.Marks.{IsClean};
-ghost use Rattle.sas_mutex.specs.Noting.{IsNotedFor};
-ghost use Rattle.sas_mutex.specs.Falling.{count, HasRoom, AreCandidates, newly, Falls, IsAtRest, IsEffectAtRest, RestsAt};
+ghost use Rattle.sas_mutex.specs.Noting.{AreNoted, IsNotedFor};
+ghost use Rattle.sas_mutex.specs.Falling.{count, HasRoom, AreCandidates, newly, Falls, IsAtRest, IsEffectAtRest, IsPlain, ArePlainAtRest, RestsAt};
 
 use crate::directory::Directory;
 use crate::effects::keeps_by_notes;
@@ -132,9 +133,102 @@ fn look_at<T: Grounded>(
     ensures room { HasRoom (T.says task.now) family.new }
     ensures clean { IsClean (T.says task.now) marks.new }
 {
+    look_at_plain(task, index, operator, family, marks);
     for effect in 0..task.effects(operator) {
-        look_at_effect(task, index, operator, effect, family, marks);
+        if !is_plain(task, operator, effect) {
+            look_at_effect(task, index, operator, effect, family, marks);
+        }
     }
+}
+
+/// Takes from the family the groups that the operator's effects without conditions don't keep. What is known where they fire
+/// is the same for all of them, and is noted once; if that clashes, none of them ever fires.
+fn look_at_plain<T: Grounded>(
+    task: &T,
+    index: &Index,
+    operator: u32,
+    family: &mut Family,
+    marks: &mut Marks,
+)
+    requires index { IsIndexOf (T.says task.now) index.now }
+    requires operator { operator < length (T.says task.now).operators }
+    requires room { HasRoom (T.says task.now) family.old }
+    requires clean { IsClean (T.says task.now) marks.old }
+    ensures falls { Falls (T.says task.now) family.old family.new }
+    ensures rest { ArePlainAtRest (T.says task.now) family.new.kept (newly family.old family.new) operator
+        (length (operator_at (T.says task.now) operator).effects) }
+    ensures room { HasRoom (T.says task.now) family.new }
+    ensures clean { IsClean (T.says task.now) marks.new }
+{
+    if !has_plain(task, operator) {
+        return;
+    }
+    // The contract of this call tells that what the task says is well ranged.
+    let _ = task.variables();
+    if !note_known(
+        task,
+        index,
+        family.kept.as_slice(),
+        operator,
+        &[],
+        &[],
+        marks,
+    ) {
+        look_at_each_plain(task, index, operator, family, marks);
+    }
+    forget_known(task, index, operator, &[], &[], marks);
+}
+
+/// Takes from the family the groups that the operator's effects without conditions don't keep, by what is noted.
+fn look_at_each_plain<T: Grounded>(
+    task: &T,
+    index: &Index,
+    operator: u32,
+    family: &mut Family,
+    marks: &mut Marks,
+)
+    requires ranged { WellRanged (T.says task.now) }
+    requires index { IsIndexOf (T.says task.now) index.now }
+    requires operator { operator < length (T.says task.now).operators }
+    requires room { HasRoom (T.says task.now) family.old }
+    requires noted { AreNoted (T.says task.now) family.old.kept (known (operator_at (T.says task.now) operator) [] []) marks.old }
+    ensures falls { Falls (T.says task.now) family.old family.new }
+    ensures rest { ArePlainAtRest (T.says task.now) family.new.kept (newly family.old family.new) operator
+        (length (operator_at (T.says task.now) operator).effects) }
+    ensures room { HasRoom (T.says task.now) family.new }
+    ensures noted { AreNoted (T.says task.now) family.new.kept (known (operator_at (T.says task.now) operator) [] []) marks.new }
+{
+    let effects = task.effects(operator);
+    for effect in 0..effects {
+        if is_plain(task, operator, effect) {
+            look_at_groups(task, index, operator, effect, family, marks);
+        }
+    }
+}
+
+/// Whether some effect of the operator has no conditions.
+fn has_plain<T: Grounded>(task: &T, operator: u32) -> bool
+    requires { operator < length (T.says task.now).operators }
+    ensures { IsFalse result → (effect : ℕ) → effect < length (operator_at (T.says task.now) operator).effects
+        → IsPlain (T.says task.now) operator effect → ⊥ }
+{
+    let effects = task.effects(operator);
+    for effect in 0..effects {
+        if is_plain(task, operator, effect) {
+            return true;
+        }
+    }
+    false
+}
+
+/// Whether the effect has no conditions.
+fn is_plain<T: Grounded>(task: &T, operator: u32, effect: u32) -> bool
+    requires operator { operator < length (T.says task.now).operators }
+    requires effect { effect < length (operator_at (T.says task.now) operator).effects }
+    ensures yes { IsTrue result → IsPlain (T.says task.now) operator effect }
+    ensures no { IsFalse result → IsPlain (T.says task.now) operator effect → ⊥ }
+{
+    task.effect_conditions(operator, effect).is_empty()
 }
 
 /// Takes from the family the groups that the effect doesn't keep. What is known where it fires is noted once for all of them;

@@ -1,21 +1,33 @@
--- One more effect is at rest.
+-- One more effect is at rest: one without conditions was before, and stays so while others fall.
 use Rattle.std.proofs.Common.{below_more, arith}
 use Rattle.sas_mutex.proofs.FallingGroups.{falls_then, effect_since, effect_now}
 use Rattle.sas_mutex.proofs.family.look_at.Goals as goal
+use Rattle.sas_mutex.proofs.family.look_at.Goals.{then-not-is_plain, else-not-is_plain}
 
 pub loop-effect-preserved : goal.loop-effect-preserved
 loop-effect-preserved g c =
     let p = g.T.Grounded.says c.args.task.now in
     let start = c.args.family.now in
     let before = c.loop-effect.family in
-    let after = c.look_at_effect.new.family in
     let inv = c.loop-effect.invariant in
-    let turn = c.look_at_effect.ensures in
-    record {
-      falls = falls_then p start before after inv.falls turn.falls;
-      room = turn.room;
-      clean = turn.clean;
-      rest = below_more _ _
-          (λ k lt. effect_since p start before after c.args.operator k c.requires.operator (omega arith) inv.falls turn.falls (inv.rest k lt))
-          (effect_now p start before after c.args.operator c.loop-effect.effect inv.falls turn.falls turn.rest);
-    }
+    elim c.if-not-is_plain.branch [
+      | then-not-is_plain w ↦
+          (let after = w.look_at_effect.new.family in
+          let turn = w.look_at_effect.ensures in
+          rw (w.family-is, w.marks-is) record {
+            falls = falls_then p start before after inv.falls turn.falls;
+            room = turn.room;
+            clean = turn.clean;
+            plain = λ k lt without. effect_since p start before after c.args.operator k c.requires.operator lt inv.falls turn.falls (inv.plain k lt without);
+            rest = below_more _ _
+                (λ k lt. effect_since p start before after c.args.operator k c.requires.operator (omega arith) inv.falls turn.falls (inv.rest k lt))
+                (effect_now p start before after c.args.operator c.loop-effect.effect inv.falls turn.falls turn.rest);
+          })
+      | else-not-is_plain w ↦ rw (w.family-is, w.marks-is) record {
+        falls = inv.falls;
+        room = inv.room;
+        clean = inv.clean;
+        plain = inv.plain;
+        rest = below_more _ _ inv.rest (inv.plain c.loop-effect.effect (omega arith) (c.is_plain.ensures.yes w.if-not-is_plain.false));
+      }
+    ]

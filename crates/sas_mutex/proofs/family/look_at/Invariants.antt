@@ -1,6 +1,7 @@
--- The effects so far are at rest.
-use Rattle.std.proofs.Common.{ℕ, ◌<◌}
-use Rattle.sas_mutex.specs.Falling.{HasRoom, Falls, newly, IsEffectAtRest}
+-- The effects so far are at rest, and all those without conditions.
+use Rattle.std.proofs.Common.{ℕ, ◌<◌, length}
+use Rattle.sas_grounded.specs.Grounded.{operator_at}
+use Rattle.sas_mutex.specs.Falling.{HasRoom, Falls, newly, IsEffectAtRest, ArePlainAtRest}
 use Rattle.sas_mutex.specs.Marks.{IsClean}
 use Rattle.sas_mutex.proofs.family.look_at.Given as goal
 
@@ -9,5 +10,7 @@ invariant-loop-effect g l = record {
   falls : Falls (g.T.Grounded.says l.task) l.fn.family l.family;
   room : HasRoom (g.T.Grounded.says l.task) l.family;
   clean : IsClean (g.T.Grounded.says l.task) l.marks;
+  plain : ArePlainAtRest (g.T.Grounded.says l.task) l.family.kept (newly l.fn.family l.family) l.operator
+      (length (operator_at (g.T.Grounded.says l.task) l.operator).effects);
   rest : (k : ℕ) → k < l.effect → IsEffectAtRest (g.T.Grounded.says l.task) l.family.kept (newly l.fn.family l.family) l.operator k;
 }
