@@ -29,6 +29,7 @@ fn numeral_before(bytes: &[u8], end: u8) -> Option<(u32, &[u8])>
 }
 
 /// A number that stands before this byte, and what follows that.
+#[inline(always)]
 pub(crate) fn number_before(bytes: &[u8], end: u8) -> Option<(u32, &[u8])>
     ensures { IfSome result (λ found. NumberAhead bytes.now found.0 end found.1.now) }
 {
@@ -46,6 +47,7 @@ pub(crate) fn number_before(bytes: &[u8], end: u8) -> Option<(u32, &[u8])>
 }
 
 /// A number, or `-1` for none, that stands before this byte, and what follows that.
+#[inline(always)]
 pub(crate) fn signed_before(bytes: &[u8], end: u8) -> Option<(Option<u32>, &[u8])>
     ensures { IfSome result (λ found. SignedAhead bytes.now found.0 end found.1.now) }
 {
@@ -61,6 +63,7 @@ pub(crate) fn signed_before(bytes: &[u8], end: u8) -> Option<(Option<u32>, &[u8]
 }
 
 /// A change that stands before LF, and what follows that.
+#[inline(always)]
 pub(crate) fn change_before(bytes: &[u8]) -> Option<(Change, &[u8])>
     ensures { IfSome result (λ found. ChangeAhead bytes.now found.0 found.1.now) }
 {
@@ -71,6 +74,7 @@ pub(crate) fn change_before(bytes: &[u8]) -> Option<(Change, &[u8])>
 }
 
 /// A fact that stands before LF, whether it exists or not, and what follows that.
+#[inline(always)]
 pub(crate) fn fact_before(bytes: &[u8]) -> Option<(Fact, &[u8])>
     ensures { IfSome result (λ found. LineAhead (format.fact found.0) bytes.now found.1.now) }
 {
@@ -81,6 +85,7 @@ pub(crate) fn fact_before(bytes: &[u8]) -> Option<(Fact, &[u8])>
 
 /// An effect without conditions that stands before LF, by its change, whether its facts exist or not, and what follows
 /// that.
+#[inline(always)]
 pub(crate) fn effect_before(bytes: &[u8]) -> Option<(Change, &[u8])>
     ensures { IfSome result (λ found. LineAhead (format.effect (plain_effect found.0)) bytes.now found.1.now) }
 {
@@ -91,6 +96,7 @@ pub(crate) fn effect_before(bytes: &[u8]) -> Option<(Change, &[u8])>
 }
 
 /// What follows the fixed word and LF.
+#[inline(always)]
 pub(crate) fn word_before<'a>(bytes: &'a [u8], word: &[u8]) -> Option<&'a [u8]>
     requires { IsName word.now }
     ensures { IfSome result (λ rest. LineAhead (format.word word.now) bytes.now rest.now) }

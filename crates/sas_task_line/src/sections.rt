@@ -17,6 +17,10 @@ use sas_grounded::Change;
 use sas_reader::Front;
 use std::alloc::{AllocError, Global};
 
+/// Where more facts are due, the piece most likely cuts them. They are left to what takes line by line, or those in front of
+/// the cut would be read twice.
+const MOST_FACTS: u32 = 64;
+
 /// What was read of a section, as far as it is a list. The memory serves the next section too.
 #[derive(Drop)]
 pub struct Gathered {
@@ -55,6 +59,7 @@ pub struct RuleFound {
 }
 
 /// Takes the facts that stand with their number before some rest, where each exists: the rest.
+#[inline(always)]
 pub(crate) fn facts_before<'a>(
     ranges: &Items<u32>,
     bytes: &'a [u8],
@@ -67,6 +72,9 @@ pub(crate) fn facts_before<'a>(
     let Some((count, mut rest)) = number_before(bytes, b'\n') else {
         return Ok(None);
     };
+    if count > MOST_FACTS {
+        return Ok(None);
+    }
     for _i in 0..count {
         let Some((fact, more)) = fact_before(rest) else {
             return Ok(None);
@@ -82,6 +90,7 @@ pub(crate) fn facts_before<'a>(
 
 /// Takes the changes of the effects without conditions that stand with their number before some rest, where the facts
 /// of each exist: the rest.
+#[inline(always)]
 fn changes_before<'a>(
     ranges: &Items<u32>,
     bytes: &'a [u8],
@@ -108,6 +117,7 @@ fn changes_before<'a>(
 }
 
 /// The cost that stands before the last word of an operator, and the rest.
+#[inline(always)]
 fn end_before(bytes: &[u8]) -> Option<(u32, &[u8])>
     ensures { IfSome result (λ found.
         LinesBefore (format.number found.0 ∷ format.word (codes "end_operator") ∷ []) bytes.now found.1.now) }
@@ -118,6 +128,7 @@ fn end_before(bytes: &[u8]) -> Option<(u32, &[u8])>
 }
 
 /// The name behind the first word of an operator, and the rest.
+#[inline(always)]
 fn begin_before(bytes: &[u8]) -> Option<(&[u8], &[u8])>
     ensures { IfSome result (λ found. IsName found.0.now
         × LinesBefore (format.word (codes "begin_operator") ∷ format.name found.0.now ∷ []) bytes.now found.1.now) }
