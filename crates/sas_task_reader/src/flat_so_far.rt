@@ -164,7 +164,8 @@ impl FlatSoFar {
     /// Takes the variable that stands first in the bytes, all its lines at once, where it is found. It tells how long they
     /// are, and how many values the variable has. After an `Err` anything may have been taken.
     fn variable_ahead(&mut self, bytes: &[u8]) -> Result<VariableKept, AllocError>
-        ensures took { IfOk result (λ kept. 0 < kept.front.bytes → (v : Variable) × VariableWithRange bytes.now v kept × (self.new ≡ behind_variable self.old v)) }
+        ensures took { IfOk result (λ kept. 0 < kept.front.bytes
+            → (v : Variable) × VariableWithRange bytes.now v kept × (self.new ≡ behind_variable self.old v)) }
         ensures none { IfOk result (λ kept. kept.front.bytes ≡ 0 → self.new ≡ self.old) }
     {
         let found = variable_found(bytes, &mut self.gathered)?;
@@ -184,7 +185,8 @@ impl FlatSoFar {
 
     /// Takes the mutex group that stands first in the bytes likewise. It tells how long its lines are.
     fn group_ahead(&mut self, ranges: &Items<u32>, bytes: &[u8]) -> Result<Front, AllocError>
-        ensures took { IfOk result (λ front. 0 < front.bytes → (facts : List Fact) × GroupAhead ranges.now bytes.now facts front × (self.new ≡ behind_group self.old facts)) }
+        ensures took { IfOk result (λ front. 0 < front.bytes
+            → (facts : List Fact) × GroupAhead ranges.now bytes.now facts front × (self.new ≡ behind_group self.old facts)) }
         ensures none { IfOk result (λ front. front.bytes ≡ 0 → self.new ≡ self.old) }
     {
         let found = group_found(ranges, bytes, &mut self.gathered)?;
@@ -198,7 +200,8 @@ impl FlatSoFar {
 
     /// Takes the operator that stands first in the bytes likewise.
     fn operator_ahead(&mut self, ranges: &Items<u32>, bytes: &[u8]) -> Result<Front, AllocError>
-        ensures took { IfOk result (λ front. 0 < front.bytes → (o : Operator) × OperatorAhead ranges.now bytes.now o front × (self.new ≡ behind_operator self.old o)) }
+        ensures took { IfOk result (λ front. 0 < front.bytes
+            → (o : Operator) × OperatorAhead ranges.now bytes.now o front × (self.new ≡ behind_operator self.old o)) }
         ensures none { IfOk result (λ front. front.bytes ≡ 0 → self.new ≡ self.old) }
     {
         let found = operator_found(ranges, bytes, &mut self.gathered)?;
@@ -219,7 +222,8 @@ impl FlatSoFar {
 
     /// Takes the rule that stands first in the bytes likewise.
     fn rule_ahead(&mut self, ranges: &Items<u32>, bytes: &[u8]) -> Result<Front, AllocError>
-        ensures took { IfOk result (λ front. 0 < front.bytes → (r : Rule) × RuleAhead ranges.now bytes.now r front × (self.new ≡ behind_rule self.old r)) }
+        ensures took { IfOk result (λ front. 0 < front.bytes
+            → (r : Rule) × RuleAhead ranges.now bytes.now r front × (self.new ≡ behind_rule self.old r)) }
         ensures none { IfOk result (λ front. front.bytes ≡ 0 → self.new ≡ self.old) }
     {
         let found = rule_found(ranges, bytes, &mut self.gathered)?;

@@ -21,7 +21,8 @@ pub const NO_VARIABLE: VariableKept = VariableKept {
 /// The lines of the variable that stands first in the bytes, and how many values it has, where it is found. Anything may
 /// be gathered.
 pub fn variable_front(bytes: &[u8], gathered: &mut Gathered) -> Result<Option<VariableKept>, Kind>
-    ensures found { IfOk result (λ found. IfSome found (λ kept. (v : Variable) × VariableWithRange bytes.now v kept)) }
+    ensures found { IfOk result (λ found. IfSome found (λ kept.
+        (v : Variable) × VariableWithRange bytes.now v kept)) }
     ensures err { IfErr result (λ k. k ≡ Kind.Memory) }
 {
     let Ok(found) = variable_found(bytes, gathered) else {
@@ -42,7 +43,8 @@ pub fn group_front(
     bytes: &[u8],
     gathered: &mut Gathered,
 ) -> Result<Option<Front>, Kind>
-    ensures found { IfOk result (λ found. IfSome found (λ front. (facts : List Fact) × GroupAhead ranges.now bytes.now facts front)) }
+    ensures found { IfOk result (λ found. IfSome found (λ front.
+        (facts : List Fact) × GroupAhead ranges.now bytes.now facts front)) }
     ensures err { IfErr result (λ k. k ≡ Kind.Memory) }
 {
     let Ok(found) = group_found(ranges, bytes, gathered) else {
@@ -57,7 +59,8 @@ pub fn operator_front(
     bytes: &[u8],
     gathered: &mut Gathered,
 ) -> Result<Option<Front>, Kind>
-    ensures found { IfOk result (λ found. IfSome found (λ front. (o : Operator) × OperatorAhead ranges.now bytes.now o front)) }
+    ensures found { IfOk result (λ found. IfSome found (λ front.
+        (o : Operator) × OperatorAhead ranges.now bytes.now o front)) }
     ensures err { IfErr result (λ k. k ≡ Kind.Memory) }
 {
     let Ok(found) = operator_found(ranges, bytes, gathered) else {
@@ -75,7 +78,8 @@ pub fn rule_front(
     bytes: &[u8],
     gathered: &mut Gathered,
 ) -> Result<Option<Front>, Kind>
-    ensures found { IfOk result (λ found. IfSome found (λ front. (r : Rule) × RuleAhead ranges.now bytes.now r front)) }
+    ensures found { IfOk result (λ found. IfSome found (λ front.
+        (r : Rule) × RuleAhead ranges.now bytes.now r front)) }
     ensures err { IfErr result (λ k. k ≡ Kind.Memory) }
 {
     let Ok(found) = rule_found(ranges, bytes, gathered) else {
