@@ -1,6 +1,6 @@
 -- Effects in columns: the effect at a place, one effect more, and fewer.
-use Rattle.std.proofs.Common.{◌≡◌, ℕ, ◌+◌, ◌<◌, ◌≤◌, List, [], ◌∷◌, ◌++◌, length, take, replicate, get_or, sym, ap, ◌∙◌, arith, append-nil, append_assoc, length-append}
-use Rattle.std.proofs.lemmas.List.{length-take-le, get_or-take, get_or-append-add}
+use Rattle.std.proofs.Common.{◌≡◌, ℕ, zero, suc, ◌+◌, ◌-◌, ◌<◌, ◌≤◌, List, [], ◌∷◌, ◌++◌, length, take, replicate, get_or, Result, Ok, Err, OnErr, refl, sym, ap, ◌∙◌, arith, append-nil, append_assoc, length-append}
+use Rattle.std.proofs.lemmas.List.{length-take-le, length-replicate, get_or-take, get_or-append-add}
 use Rattle.std.proofs.Math.ListN.{get_or-append}
 use Rattle.std.proofs.Math.Seq.{get_or-append_seam}
 use Rattle.sas_grounded.specs.declared.grounded.Change.{Change}
@@ -39,21 +39,89 @@ effects_append cs more ds behind pairs =
     (λ j h. same_effect _ _ _ _ (get_or-append-add cs more j _)
     (ap (λ n. get_or (ds ++ behind) (n + j) []) (sym pairs) ∙ get_or-append-add ds behind j []))
 
+-- a list of no conditions more says no more than none at its place
+filled_at : (k : ℕ) (ds : List (List Fact)) (i : ℕ) → get_or (ds ++ replicate k []) i [] ≡ get_or ds i []
+filled_at zero [] i = refl
+filled_at (suc k) [] zero = refl
+filled_at (suc k) [] (suc i) = filled_at k [] i
+filled_at k (d ∷ ds) zero = refl
+filled_at k (d ∷ ds) (suc i) = filled_at k ds i
+
+-- so lists of no conditions behind the others say nothing
+pub effects_filled : (cs : List Change) (ds : List (List Fact)) (k : ℕ) → effects_of cs (ds ++ replicate k []) ≡ effects_of cs ds
+effects_filled cs ds k = table_same (length cs) _ _ (λ i h. same_effect _ _ _ _ refl (filled_at k ds i))
+
+-- a list for each effect
+pub filled_length : (cs : List Change) (ds : List (List Fact)) (k : ℕ) → length ds ≤ length cs → k ≡ length cs - length ds
+    → length (ds ++ replicate k []) ≡ length cs
+filled_length cs ds k fits is = omega (arith, fits, is, length-append ds (replicate k []), length-replicate {A = List Fact} k [])
+
 -- effects without conditions behind the others
-pub plain_more : (more cs : List Change) (ds : List (List Fact)) → length ds ≡ length cs
+plain_behind : (more cs : List Change) (ds : List (List Fact)) → length ds ≡ length cs
     → effects_of (cs ++ more) (ds ++ replicate (length more) []) ≡ effects_of cs ds ++ plain_effects more
-plain_more [] cs ds pairs =
+plain_behind [] cs ds pairs =
     ap (λ l. effects_of l (ds ++ [])) (append-nil cs) ∙ ap (λ l. effects_of cs l) (append-nil ds) ∙ sym (append-nil (effects_of cs ds))
-plain_more (c ∷ more) cs ds pairs =
+plain_behind (c ∷ more) cs ds pairs =
     ap (λ l. effects_of l (ds ++ [] ∷ replicate (length more) [])) (sym (append_assoc cs (c ∷ []) more))
     ∙ ap (λ l. effects_of ((cs ++ c ∷ []) ++ more) l) (sym (append_assoc ds ([] ∷ []) (replicate (length more) [])))
-    ∙ plain_more more (cs ++ c ∷ []) (ds ++ [] ∷ []) (omega (arith, pairs, length-append cs (c ∷ []), length-append ds ([] ∷ [])))
+    ∙ plain_behind more (cs ++ c ∷ []) (ds ++ [] ∷ []) (omega (arith, pairs, length-append cs (c ∷ []), length-append ds ([] ∷ [])))
     ∙ ap (λ l. l ++ plain_effects more) (effects_more cs ds c [] pairs)
     ∙ append_assoc (effects_of cs ds) (effect c [] ∷ []) (plain_effects more)
 
-pub effects_taken : (cs : List Change) (ds : List (List Fact)) (n : ℕ) → length ds ≡ length cs → n ≤ length cs
+pub plain_more : (more cs : List Change) (ds : List (List Fact)) → length ds ≤ length cs
+    → effects_of (cs ++ more) ds ≡ effects_of cs ds ++ plain_effects more
+plain_more more cs ds fits =
+    let k = length cs - length ds in
+    let all = ds ++ replicate k [] in
+    sym (effects_filled (cs ++ more) ds k)
+    ∙ sym (effects_filled (cs ++ more) all (length more))
+    ∙ plain_behind more cs all (filled_length cs ds k fits refl)
+    ∙ ap (λ l. l ++ plain_effects more) (effects_filled cs ds k)
+
+-- one effect more, where a list of conditions stands at its place
+pub filled_more : (cs : List Change) (ds : List (List Fact)) (k : ℕ) (c : Change) (d : List Fact) → length ds ≤ length cs → k ≡ length cs - length ds
+    → effects_of (cs ++ c ∷ []) ((ds ++ replicate k []) ++ d ∷ []) ≡ effects_of cs ds ++ effect c d ∷ []
+filled_more cs ds k c d fits is =
+    effects_more cs (ds ++ replicate k []) c d (filled_length cs ds k fits is) ∙ ap (λ l. l ++ effect c d ∷ []) (effects_filled cs ds k)
+
+-- effects more, where lists of conditions stand at their places
+pub filled_append : (cs more : List Change) (ds behind : List (List Fact)) (k : ℕ) → length ds ≤ length cs → k ≡ length cs - length ds
+    → effects_of (cs ++ more) ((ds ++ replicate k []) ++ behind) ≡ effects_of cs ds ++ effects_of more behind
+filled_append cs more ds behind k fits is =
+    effects_append cs more (ds ++ replicate k []) behind (filled_length cs ds k fits is) ∙ ap (λ l. l ++ effects_of more behind) (effects_filled cs ds k)
+
+-- effects more of which none has conditions
+pub bare_append : (cs more : List Change) (ds none : List (List Fact)) → length ds ≤ length cs → none ≡ []
+    → effects_of (cs ++ more) ds ≡ effects_of cs ds ++ effects_of more none
+bare_append cs more ds none fits is =
+    let k = length cs - length ds in
+    sym (effects_filled (cs ++ more) ds k)
+    ∙ ap (λ l. effects_of (cs ++ more) l) (sym (append-nil (ds ++ replicate k [])))
+    ∙ filled_append cs more ds [] k fits refl
+    ∙ ap (λ l. effects_of cs ds ++ effects_of more l) (sym is)
+
+-- the first effects
+pub effects_taken : (cs : List Change) (ds : List (List Fact)) (n : ℕ) → n ≤ length cs
     → effects_of (take n cs) (take n ds) ≡ take n (effects_of cs ds)
-effects_taken cs ds n pairs h =
+effects_taken cs ds n h =
     ap (λ m. table m (λ i. effect (change_in (take n cs) i) (get_or (take n ds) i []))) (length-take-le n cs h)
     ∙ table_same n _ _ (λ i b. same_effect _ _ _ _ (get_or-take n cs i _ b) (get_or-take n ds i [] b))
     ∙ sym (take-table (length cs) _ n h)
+
+-- where all lists of conditions stay
+pub effects_cut : (cs : List Change) (ds : List (List Fact)) (n : ℕ) → n ≤ length cs → effects_of (take n cs) ds ≡ take n (effects_of cs ds)
+effects_cut cs ds n h =
+    ap (λ m. table m (λ i. effect (change_in (take n cs) i) (get_or ds i []))) (length-take-le n cs h)
+    ∙ table_same n _ _ (λ i b. same_effect _ _ _ _ (get_or-take n cs i _ b) refl)
+    ∙ sym (take-table (length cs) _ n h)
+
+-- what holds, holds after an error too
+pub on_any_error : {T E P : Type 0} (r : Result T E) → P → OnErr r P
+on_any_error (Ok x) p = tt
+on_any_error (Err e) p = p
+
+-- behind the last item is none
+pub none_behind : {X : Type 0} (l : List X) (i : ℕ) (d : X) → length l ≤ i → d ≡ get_or l i d
+none_behind [] i d h = refl
+none_behind (x ∷ l) zero d h = absurd (omega arith)
+none_behind (x ∷ l) (suc i) d h = none_behind l i d (omega arith)

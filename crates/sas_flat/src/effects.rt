@@ -10,6 +10,9 @@ use std::alloc::{AllocError, Global};
 use std::marker::Model;
 
 /// Effects. In a contract they are the list of them.
+///
+/// Most effects of most tasks have no conditions, so the lists of conditions reach only as far as there are some: an effect
+/// behind the last list has none.
 #[derive(Debug, Drop)]
 pub struct Effects {
     changes: Vec<Change>,
@@ -17,7 +20,7 @@ pub struct Effects {
 }
 
 impl Model for Effects {
-    ghost use Rattle.std.specs.Prelude.{◌≡◌, List, length};
+    ghost use Rattle.std.specs.Prelude.{◌≤◌, List, length};
     ghost use Rattle.sas_core.specs.declared.parts.Effect.{Effect};
     ghost use Rattle.sas_flat.specs.Effects.{effects_of};
 
@@ -25,7 +28,7 @@ impl Model for Effects {
 
     ghost view = { λ e. effects_of e.changes.items e.conditions };
 
-    ghost invariant = { λ e. length e.conditions ≡ length e.changes.items };
+    ghost invariant = { λ e. length e.conditions ≤ length e.changes.items };
 }
 
 impl Effects {
@@ -59,7 +62,11 @@ impl Effects {
         requires { index < length self.now }
         ensures { result.now ≡ (effect_in self.now index).conditions }
     {
-        self.conditions.get(index)
+        if index < self.conditions.len() {
+            self.conditions.get(index)
+        } else {
+            &[]
+        }
     }
 
     /// One effect more. After an `Err` the effects are as they were.
@@ -68,7 +75,10 @@ impl Effects {
         ensures err { OnErr result (self.new ≡ self.old) }
     {
         self.changes.reserve(1)?;
-        self.conditions.push(conditions)?;
+        if !conditions.is_empty() {
+            self.conditions.fill(self.changes.len())?;
+            self.conditions.push(conditions)?;
+        }
         self.changes.push(change)?;
         Ok(())
     }
@@ -78,8 +88,6 @@ impl Effects {
         ensures ok { OnOk result (self.new ≡ self.old ++ plain_effects changes.now) }
         ensures err { OnErr result (self.new ≡ self.old) }
     {
-        self.changes.reserve(changes.len())?;
-        self.conditions.push_empty(changes.len())?;
         self.changes.extend_from_slice(changes)?;
         Ok(())
     }
@@ -90,7 +98,10 @@ impl Effects {
         ensures err { OnErr result (self.new ≡ self.old) }
     {
         self.changes.reserve(more.changes.len())?;
-        self.conditions.append(&more.conditions)?;
+        if more.conditions.len() > 0 {
+            self.conditions.fill(self.changes.len())?;
+            self.conditions.append(&more.conditions)?;
+        }
         self.changes.extend_from_slice(more.changes.as_slice())?;
         Ok(())
     }
@@ -101,7 +112,9 @@ impl Effects {
         ensures { self.new ≡ take count self.old }
     {
         self.changes.truncate(count);
-        self.conditions.truncate(count);
+        if count < self.conditions.len() {
+            self.conditions.truncate(count);
+        }
     }
 
     /// Takes all effects away and keeps the memory.

@@ -1,5 +1,5 @@
 // Lists that stand one behind the other in one block of memory.
-ghost use Rattle.std.specs.Prelude.{◌≡◌, ◌<◌, ◌≤◌, [], ◌∷◌, ◌++◌, length, take, replicate, OnOk, OnErr, slice_range};
+ghost use Rattle.std.specs.Prelude.{◌≡◌, ◌<◌, ◌≤◌, ◌-◌, [], ◌∷◌, ◌++◌, length, take, replicate, OnOk, OnErr, slice_range};
 ghost use Rattle.std.specs.List.{slice_index_or};
 
 use crate::ends::Ends;
@@ -78,12 +78,15 @@ impl<T: Copy> Lists<T> {
         }
     }
 
-    /// So many empty lists more. After an `Err` the lists are as they were.
-    pub(crate) fn push_empty(&mut self, count: usize) -> Result<(), AllocError>
-        ensures ok { OnOk result (self.new ≡ self.old ++ replicate count []) }
+    /// Empty lists behind the others, until there are so many. After an `Err` the lists are as they were.
+    pub(crate) fn fill(&mut self, count: usize) -> Result<(), AllocError>
+        ensures ok { OnOk result (self.new ≡ self.old ++ replicate (count - length self.old) []) }
         ensures err { OnErr result (self.new ≡ self.old) }
     {
-        self.ends.push_same(self.items.len(), count)?;
+        let lists = self.len();
+        if lists < count {
+            self.ends.push_same(self.items.len(), count - lists)?;
+        }
         Ok(())
     }
 

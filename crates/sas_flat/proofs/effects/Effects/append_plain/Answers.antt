@@ -5,6 +5,6 @@ use Rattle.sas_flat.proofs.effects.Effects.append_plain.Goals as goal
 
 pub returns-clause-ok : goal.returns-clause-ok
 returns-clause-ok c =
-    rw (c.in_ok-extend_from_slice.ensures.items, c.reserve.ensures.items, c.in_ok-push_empty.ensures.ok)
+    rw c.in_ok-extend_from_slice.ensures.items
     (plain_more c.args.changes.now c.self.inside.changes.items c.self.inside.conditions c.self.invariant
     ∙ ap (λ l. l ++ plain_effects c.args.changes.now) c.self.view_is)
