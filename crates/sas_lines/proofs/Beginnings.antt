@@ -1,41 +1,9 @@
--- What stands first in some bytes: a number, a line.
-use Rattle.std.proofs.Common.{◌≡◌, ℕ, ◌+◌, ◌*◌, ◌-◌, ◌<◌, ◌≤◌, List, [], ◌∷◌, ◌++◌, length, length-append, get_or, take, refl, sym, ap, subst, ◌∙◌, append_assoc, arith}
-use Rattle.std.specs.Str.Parse.{AllDigits, digits_value}
-use Rattle.std.proofs.lemmas.Int.Digits.{digits_more, digits_value_more}
-use Rattle.std.proofs.lemmas.List.{length-take, take-take, take_at, length_push}
+-- What stands first in some bytes: a line, lines.
+use Rattle.std.proofs.Common.{◌≡◌, ℕ, ◌+◌, List, [], ◌∷◌, ◌++◌, length, length-append, take, refl, sym, ap, ◌∙◌, append_assoc, arith}
+use Rattle.std.proofs.lemmas.List.{take_at, length_push}
 use Rattle.std.specs.List.{AllByRecursion}
 use Rattle.sas_lines.specs.Lines.{lines, unfinished, text, LineStandsFirst, LinesStandFirst}
-use Rattle.sas_lines.specs.Numerals.{NumberStandsFirst, DigitsStandFirst}
-use Rattle.sas_lines.proofs.Digits.{HasLeadingZero, digit_in, so_far_below, are_decimal}
 use Rattle.sas_lines.proofs.Splitting.{Plain, lines-one, unfinished-one, lines-text, unfinished-text}
-
--- ---- a number
-
-pub one_digit_more : (bytes : List ℕ) (n i : ℕ) → DigitsStandFirst bytes n i → i < length bytes → 48 ≤ get_or bytes i 0 → get_or bytes i 0 ≤ 57 → DigitsStandFirst bytes (n * 10 + (get_or bytes i 0 - 48)) (i + 1)
-one_digit_more bytes n i h l low high =
-    let d = digit_in (get_or bytes i 0) low high in
-    let m = digits_value_more 10 bytes i l in
-    record {
-      within = omega arith;
-      digits = digits_more 10 bytes i l h.digits (omega arith);
-      value = rw (m, ← h.value, d) refl;
-    }
-
--- digits among the first nine bytes, without a leading zero
-pub is_numeral : (bytes : List ℕ) (few n taken : ℕ) → few ≤ 9 → DigitsStandFirst (take few bytes) n taken → 0 < taken → (HasLeadingZero (take taken (take few bytes)) → ⊥) → NumberStandsFirst bytes n taken
-is_numeral bytes few n taken f h p z =
-    let e = take-take taken few bytes (omega (arith, h.within, length-take few bytes)) in
-    let w : taken ≤ length bytes = omega (arith, h.within, length-take few bytes) in
-    let d = subst (AllDigits 10) e h.digits in
-    let k : n ≡ digits_value 10 (take taken bytes) = h.value ∙ ap (digits_value 10) e in
-    let l : length (take taken bytes) ≤ 9 = omega (arith, h.within, length-take few bytes, length-take taken bytes) in
-    record {
-      number = omega (arith, k, so_far_below bytes taken 9 d (omega (arith, h.within, length-take few bytes)));
-      within = w;
-      spelled = rw k (are_decimal (take taken bytes) d (omega arith) (omega (arith, length-take taken bytes)) (subst (λ (x : List ℕ). HasLeadingZero x → ⊥) e z));
-    }
-
--- ---- a line
 
 -- a line, its end and the rest
 pub stands_first : (bytes line rest : List ℕ) → Plain line → bytes ≡ line ++ 10 ∷ rest → LineStandsFirst bytes line (length line + 1)

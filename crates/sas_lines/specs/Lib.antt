@@ -1,7 +1,6 @@
 pub mod Parts
 pub mod Lines
 pub mod Spelling
-pub mod Numerals
 pub mod Progress
 pub mod Device
 pub mod Trial

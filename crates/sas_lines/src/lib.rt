@@ -4,7 +4,6 @@
 mod devices;
 mod lines;
 mod numbers;
-mod numerals;
 mod separators;
 mod spelling;
 pub mod trial;
@@ -13,6 +12,5 @@ mod writing;
 pub use devices::{Failed, Short, Watched, write_out};
 pub use lines::{Fed, FirstLine, Lines, first_line};
 pub use numbers::Numbers;
-pub use numerals::{Numeral, first_numeral};
 pub use spelling::{cost, number, signed, spelling_is_decimal};
 pub use writing::{push_line, push_number};

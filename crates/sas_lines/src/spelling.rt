@@ -7,7 +7,7 @@ ghost use Rattle.sas_lines.specs.Spelling.{SpellingIsDecimal, signed_decimal};
 const NUMBER_LIMIT: u64 = 1 << 31;
 
 /// Whether more digits stand behind a zero at the front.
-pub(crate) fn has_leading_zero(digits: &[u8]) -> bool
+fn has_leading_zero(digits: &[u8]) -> bool
     ensures { IsTrue result ↔ (slice_index digits.now 0 ≡ 48) × (1 < length digits.now) }
 {
     matches!(digits, [b'0', _, ..])

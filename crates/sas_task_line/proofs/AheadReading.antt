@@ -1,8 +1,8 @@
 -- Reading the first line of some bytes up to its LF.
-use Rattle.std.proofs.Common.{◌≡◌, ℕ, ◌+◌, ◌*◌, ◌/◌, ◌%◌, ◌-◌, ◌<◌, ◌≤◌, List, [], ◌∷◌, ◌++◌, length, take, drop, refl, sym, ap, subst, ◌∙◌, append_assoc, length-append, arith, Option, None, get_or, true, false, Bool, not, ◌&&◌, ◌==◌, IsTrue}
+use Rattle.std.proofs.Common.{◌≡◌, ℕ, ◌+◌, ◌*◌, ◌-◌, ◌<◌, ◌≤◌, List, [], ◌∷◌, ◌++◌, length, take, drop, refl, sym, ap, subst, ◌∙◌, append_assoc, length-append, arith, Option, None, get_or, true, false, Bool, not, ◌&&◌, ◌==◌, IsTrue}
 use Rattle.std.specs.Fmt.{decimal}
 use Rattle.std.specs.List.{list_all}
-use Rattle.std.proofs.lemmas.Fmt.{decimal_digit, decimal_step}
+use Rattle.std.proofs.lemmas.Fmt.{decimal_digit}
 use Rattle.std.proofs.lemmas.List.{length-take-le, take_rest, take_at, get_or-take, take-append-drop, drop_more}
 use Rattle.memchr.specs.Find.{Nowhere, NoneBefore, Passes, is_byte2}
 use Rattle.sas_core.specs.Names.{is_plain, IsName}
@@ -16,6 +16,7 @@ use Rattle.sas_reader.specs.System.{IsPlain}
 use Rattle.sas_task_format.specs.TaskFormat.{TaskLine, word, name, number, signed, fact, effect, head, task_line_bytes, TaskLineFits, EffectNumbers}
 use Rattle.sas_task_format.proofs.TaskPlain.{Sayable, plain-line}
 use Rattle.sas_grounded.specs.declared.grounded.Change.{Change}
+use Rattle.sas_task_line.proofs.Digits.{digit_is, digit_more, digits_more}
 use Rattle.sas_task_line.specs.Ahead.{SpellsAhead, LineAhead, NumberAhead, SignedAhead, ChangeAhead, plain_effect}
 
 -- ---- a line and its LF
@@ -64,37 +65,47 @@ bytes_in_front bytes first second l h g = rw (take_rest bytes 2) (in_front bytes
     in_front (a ∷ []) l h g = absurd (omega arith)
     in_front (a ∷ b ∷ bytes) l h g = cc
 
-three_in_front : (bytes : List ℕ) (first second third : ℕ) → 3 ≤ length bytes → get_or bytes 0 0 ≡ first → get_or bytes 1 0 ≡ second → get_or bytes 2 0 ≡ third → bytes ≡ first ∷ second ∷ third ∷ take (length bytes - 3) (drop 3 bytes)
-three_in_front [] first second third l f s t = absurd (omega arith)
-three_in_front (a ∷ bytes) first second third l f s t =
-    let behind = bytes_in_front bytes second third (omega arith) s t in
-    let left : length bytes - 2 ≡ length (a ∷ bytes) - 3 = omega arith in
-    ap (λ (x : ℕ). x ∷ bytes) f ∙ ap (λ (x : List ℕ). first ∷ x) (behind ∙ ap (λ (n : ℕ). second ∷ third ∷ take n (drop 2 bytes)) left)
-
--- ---- a number of one digit, of two
-
-digit_is : (d : ℕ) → 48 ≤ d → d ≤ 57 → decimal (d - 48) ≡ d ∷ []
-digit_is d low high =
-    let same : 48 + (d - 48) ≡ d = omega arith in
-    decimal_digit (d - 48) (omega arith) ∙ ap (λ (x : ℕ). x ∷ []) same
+-- ---- a number, digit by digit
 
 pub one_digit_ahead : (bytes : List ℕ) (end : ℕ) → 2 ≤ length bytes → 48 ≤ get_or bytes 0 0 → get_or bytes 0 0 ≤ 57 → get_or bytes 1 0 ≡ end → NumberAhead bytes (get_or bytes 0 0 - 48) end (take (length bytes - 2) (drop 2 bytes))
 one_digit_ahead bytes end long low high next =
     let d = get_or bytes 0 0 in
     (omega arith, bytes_in_front bytes d end long refl next ∙ ap (λ (x : List ℕ). x ++ end ∷ take (length bytes - 2) (drop 2 bytes)) (sym (digit_is d low high)))
 
-two_digits_are : (a b : ℕ) → 48 < a → a ≤ 57 → 48 ≤ b → b ≤ 57 → decimal ((a - 48) * 10 + (b - 48)) ≡ a ∷ b ∷ []
-two_digits_are a b some high low below =
-    let n = (a - 48) * 10 + (b - 48) in
-    let tens : n / 10 ≡ a - 48 = omega arith in
-    let units : 48 + n % 10 ≡ b = omega arith in
-    decimal_step n (omega arith) (omega arith) ∙ ap (λ (x : ℕ). decimal x ++ (48 + n % 10) ∷ []) tens ∙ ap (λ (x : ℕ). decimal (a - 48) ++ x ∷ []) units ∙ ap (λ (x : List ℕ). x ++ b ∷ []) (digit_is a (omega arith) high)
-
-pub two_digits_ahead : (bytes : List ℕ) (end : ℕ) → 3 ≤ length bytes → 48 < get_or bytes 0 0 → get_or bytes 0 0 ≤ 57 → 48 ≤ get_or bytes 1 0 → get_or bytes 1 0 ≤ 57 → get_or bytes 2 0 ≡ end → NumberAhead bytes ((get_or bytes 0 0 - 48) * 10 + (get_or bytes 1 0 - 48)) end (take (length bytes - 3) (drop 3 bytes))
-two_digits_ahead bytes end long some high low below next =
+-- two digits in front
+pub two_digits_ahead : (bytes : List ℕ) → 2 ≤ length bytes → 48 < get_or bytes 0 0 → get_or bytes 0 0 ≤ 57 → 48 ≤ get_or bytes 1 0 → get_or bytes 1 0 ≤ 57
+    → bytes ≡ decimal ((get_or bytes 0 0 - 48) * 10 + (get_or bytes 1 0 - 48)) ++ take (length bytes - 2) (drop 2 bytes)
+two_digits_ahead bytes long some high low below =
     let a = get_or bytes 0 0 in
     let b = get_or bytes 1 0 in
-    (omega arith, three_in_front bytes a b end long refl refl next ∙ ap (λ (x : List ℕ). x ++ end ∷ take (length bytes - 3) (drop 3 bytes)) (sym (two_digits_are a b some high low below)))
+    let rest = take (length bytes - 2) (drop 2 bytes) in
+    bytes_in_front bytes a b long refl refl
+    ∙ ap (λ (x : List ℕ). (x ++ b ∷ []) ++ rest) (sym (digit_is a (omega arith) high))
+    ∙ ap (λ (x : List ℕ). x ++ rest) (sym (digit_more (a - 48) b (omega arith) (omega arith) low below))
+
+-- what a number goes on with: its end, a digit and its end, two digits
+module _ (n : ℕ) (left : List ℕ) where
+  pub number_ends : (end : ℕ) → 1 ≤ length left → get_or left 0 0 ≡ end → decimal n ++ left ≡ decimal n ++ end ∷ take (length left - 1) (drop 1 left)
+  number_ends end long is = ap (λ l. decimal n ++ l) (byte_in_front left end long is ∙ ap (λ l. end ∷ l) (sym (take_rest left 1)))
+
+  pub digit_goes_on : 0 < n → n < 10000000 → 48 ≤ get_or left 0 0 → get_or left 0 0 ≤ 57 → (end : ℕ) → 2 ≤ length left → get_or left 1 0 ≡ end
+      → decimal n ++ left ≡ decimal (n * 10 + (get_or left 0 0 - 48)) ++ end ∷ take (length left - 2) (drop 2 left)
+  digit_goes_on some few low high end long next =
+      let d = get_or left 0 0 in
+      let rest = take (length left - 2) (drop 2 left) in
+      ap (λ l. decimal n ++ l) (bytes_in_front left d end long refl next)
+      ∙ sym (append_assoc (decimal n) (d ∷ []) (end ∷ rest))
+      ∙ ap (λ l. l ++ end ∷ rest) (sym (digit_more n d some (omega arith) low high))
+
+  pub digits_go_on : 0 < n → n < 10000000 → 48 ≤ get_or left 0 0 → get_or left 0 0 ≤ 57 → 48 ≤ get_or left 1 0 → get_or left 1 0 ≤ 57 → 2 ≤ length left
+      → decimal n ++ left ≡ decimal (n * 100 + (get_or left 0 0 - 48) * 10 + (get_or left 1 0 - 48)) ++ take (length left - 2) (drop 2 left)
+  digits_go_on some few low high under over long =
+      let a = get_or left 0 0 in
+      let b = get_or left 1 0 in
+      let rest = take (length left - 2) (drop 2 left) in
+      ap (λ l. decimal n ++ l) (bytes_in_front left a b long refl refl)
+      ∙ sym (append_assoc (decimal n) (a ∷ b ∷ []) rest)
+      ∙ ap (λ l. l ++ rest) (sym (digits_more n a b some few low high under over))
 
 -- ---- numbers, one after another
 

@@ -1,4 +1,5 @@
 pub mod TaskReading
 pub mod TaskJudging
+mod Digits
 mod AheadReading
 mod LinesReading

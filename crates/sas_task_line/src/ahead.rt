@@ -1,6 +1,7 @@
 // The first line of some bytes, read straight off these, where it is quick to see that it ends with LF and says what is
 // asked for. All else is left to the functions that are given the line by itself, and tell its fault.
-ghost use Rattle.std.specs.Prelude.{◌≡◌, ◌+◌, length, IfSome};
+ghost use Rattle.std.specs.Prelude.{◌≡◌, ◌+◌, ◌<◌, ◌++◌, length, IfSome};
+ghost use Rattle.std.specs.Fmt.{decimal};
 ghost use Rattle.sas_core.specs.Names.{IsName};
 ghost use Rattle.sas_task_format.specs.TaskFormat as format;
 ghost use Rattle.sas_task_line.specs.Ahead.{SpellsAhead, LineAhead, NumberAhead, SignedAhead, ChangeAhead, plain_effect};
@@ -8,7 +9,6 @@ ghost use Rattle.sas_task_line.specs.Ahead.{SpellsAhead, LineAhead, NumberAhead,
 use memchr::memchr2;
 use sas_core::Fact;
 use sas_grounded::Change;
-use sas_lines::first_numeral;
 
 /// What the first line of some bytes says, and how many of the bytes the line takes with its LF.
 #[derive(Clone, Copy, Debug, PartialEq, Eq)]
@@ -17,15 +17,30 @@ pub struct Ahead<A> {
     pub taken: usize,
 }
 
-/// A number of any length that stands before this byte, and what follows that.
-fn numeral_before(bytes: &[u8], end: u8) -> Option<(u32, &[u8])>
-    ensures { IfSome result (λ found. NumberAhead bytes.now found.0 end found.1.now) }
+/// The number that begins with the digits of this one and goes on with those that stand before this byte, and what
+/// follows that. A number of ten digits is left to the functions that are given the line by itself.
+#[inline(always)]
+fn longer_before(first: u32, bytes: &[u8], end: u8) -> Option<(u32, &[u8])>
+    requires some { 0 < first }
+    requires few { first < 100 }
+    ensures { IfSome result (λ found. NumberAhead (decimal first ++ bytes.now) found.0 end found.1.now) }
 {
-    let numeral = first_numeral(bytes)?;
-    match &bytes[numeral.taken..] {
-        [byte, rest @ ..] if *byte == end => Some((numeral.value, rest)),
-        _ => None,
+    let mut value = first;
+    let mut left = bytes;
+    while value < 10_000_000 {
+        match left {
+            [byte, rest @ ..] if *byte == end => return Some((value, rest)),
+            [unit, byte, rest @ ..] if unit.is_ascii_digit() && *byte == end => {
+                return Some((value * 10 + (*unit - b'0') as u32, rest));
+            }
+            [ten, unit, rest @ ..] if ten.is_ascii_digit() && unit.is_ascii_digit() => {
+                value = value * 100 + (*ten - b'0') as u32 * 10 + (*unit - b'0') as u32;
+                left = rest;
+            }
+            _ => return None,
+        }
     }
+    None
 }
 
 /// A number that stands before this byte, and what follows that.
@@ -33,16 +48,15 @@ fn numeral_before(bytes: &[u8], end: u8) -> Option<(u32, &[u8])>
 pub(crate) fn number_before(bytes: &[u8], end: u8) -> Option<(u32, &[u8])>
     ensures { IfSome result (λ found. NumberAhead bytes.now found.0 end found.1.now) }
 {
-    // Most numbers have one digit or two.
     match bytes {
         [unit, byte, rest @ ..] if unit.is_ascii_digit() && *byte == end => {
             Some(((*unit - b'0') as u32, rest))
         }
-        [ten, unit, byte, rest @ ..]
-            if ten.is_ascii_digit() && *ten != b'0' && unit.is_ascii_digit() && *byte == end => {
-            Some(((*ten - b'0') as u32 * 10 + (*unit - b'0') as u32, rest))
+        [ten, unit, rest @ ..] if ten.is_ascii_digit() && *ten != b'0' && unit.is_ascii_digit() => {
+            let first = (*ten - b'0') as u32 * 10 + (*unit - b'0') as u32;
+            longer_before(first, rest, end)
         }
-        _ => numeral_before(bytes, end),
+        _ => None,
     }
 }
 
