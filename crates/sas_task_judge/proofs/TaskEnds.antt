@@ -1,4 +1,4 @@
--- The machine has ended exactly where no line of a task may follow.
+-- The judge has ended exactly where no line of a task may follow.
 use Rattle.std.proofs.Common.{◌≡◌, ℕ, zero, suc, List, [], ◌∷◌, Option, refl, ap, ◌∙◌}
 use Rattle.std.specs.Prelude.{length, drop}
 use Rattle.sas_core.specs.declared.parts.Fact.{Fact}
