@@ -9,9 +9,13 @@ use Rattle.sas_flat.specs.Table.{table}
 abbrev pub effect : Change → List Fact → Effect
 effect c conditions = record { conditions = conditions; var = c.var; old = c.old; new = c.new }
 
+-- the effect that makes this change, without conditions
+abbrev pub plain_effect : Change → Effect
+plain_effect change = effect change []
+
 -- the effects that make these changes without conditions
 abbrev pub plain_effects : List Change → List Effect
-plain_effects changes = map (λ (c : Change). effect c []) changes
+plain_effects changes = map plain_effect changes
 
 -- the change at this place; behind the last one that of variable 0 to value 0
 abbrev pub change_in : List Change → ℕ → Change

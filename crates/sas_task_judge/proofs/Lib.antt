@@ -1,7 +1,4 @@
 pub mod TaskMoves
 pub mod TaskRanges
 pub mod TaskEnds
-pub mod TaskSteps
-pub mod SectionLines
-pub mod SectionSteps
 pub mod VariablesBehind

@@ -1,4 +1,4 @@
--- The machine has ended exactly where no line of a task may follow.
+-- The judge has ended exactly where no line of a task may follow.
 use Rattle.std.proofs.Common.{◌≡◌, ℕ, zero, suc, List, [], ◌∷◌, Option, refl, ap, ◌∙◌}
 use Rattle.std.specs.Prelude.{length, drop}
 use Rattle.sas_core.specs.declared.parts.Fact.{Fact}
@@ -9,11 +9,21 @@ use Rattle.sas_task_judge.specs.declared.task_judge.Place.{Place}
 use Rattle.sas_task_judge.specs.declared.task_judge.Place.TheVariants as at
 use Rattle.sas_task_judge.specs.declared.so_far.SoFar.{SoFar}
 use Rattle.sas_task_judge.specs.declared.task_judge.TaskJudge.{TaskJudge}
-use Rattle.sas_task_format.specs.Process.{process_node}
+use Rattle.sas_task_format.specs.Process.{done, read, process_node}
+use Rattle.sas_task_format.specs.TaskProcess.{TaskProcess}
 use Rattle.sas_reader.specs.System.{ended}
 use Rattle.sas_task_judge.specs.TaskJudge.{state_at, state_of, HasEnded}
-use Rattle.sas_task_judge.proofs.TaskSteps.{IsDone}
 use Rattle.sas_task_judge.specs.TaskPlaces.{variable_begin, variable_values, group_begin, group_facts, state_values_of, goal_facts, operator_begin, operator_prevail, operator_effects, rule_begin, rule_conditions}
+
+-- the last line has come
+abbrev pub IsDone : TaskProcess → Type 0
+IsDone (done p) = Unit {0}
+IsDone (read slot ok next) = ⊥
+
+-- where a state is at the end, all has come
+pub done_is : (p : TaskProcess) (v : Parts) → process_node p ≡ ended v → IsDone p
+done_is (done w) v e = tt
+done_is (read s ok next) v e = absurd cc
 
 -- ---- no list of a task is the end, but that of the rules
 
@@ -50,8 +60,8 @@ prevail left p label zero so_far h = h
 prevail left p label (suc more) so_far h = h
 
 effects : (left : ℕ) (p : Parts) (label : List ℕ) (prevail : List Fact) (more : ℕ) (so_far : List Effect) → IsDone (operator_effects left p label prevail more so_far) → ⊥
-effects left p label prevail zero so_far h = h
-effects left p label prevail (suc more) so_far h = h
+effects left p label _ zero so_far h = h
+effects left p label _ (suc more) so_far h = h
 
 conditions : (left : ℕ) (p : Parts) (more : ℕ) (so_far : List Fact) → IsDone (rule_conditions left p more so_far) → ⊥
 conditions left p zero so_far h = h

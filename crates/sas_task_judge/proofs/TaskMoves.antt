@@ -18,19 +18,16 @@ use Rattle.sas_task_judge.specs.declared.so_far.SoFar.{SoFar}
 use Rattle.sas_task_judge.specs.declared.task_judge.Place.{Place}
 use Rattle.sas_task_judge.specs.declared.task_judge.Place.TheVariants as at
 use Rattle.sas_task_judge.specs.declared.task_judge.TaskJudge.{TaskJudge}
-use Rattle.sas_task_judge.specs.declared.task_machine.TaskMachine.{TaskMachine}
-use Rattle.sas_task_judge.specs.TaskEvents.{after}
-use Rattle.sas_task_judge.specs.TaskMachine.{LedBy}
 use Rattle.sas_task_judge.specs.TaskPlaces.{state_values, state_values_of, goal_begin}
 use Rattle.sas_task_judge.specs.TaskJudge.{state_at, state_of, KnownTo, LeadsOn, RejectsLine, TakesMemory, Moves, MovesBy, MovesAhead}
 use Rattle.sas_core.specs.declared.parts.Effect.{Effect}
 use Rattle.sas_lines.specs.Lines.{LineStandsFirst}
 use Rattle.sas_grounded.specs.declared.grounded.Change.{Change}
-use Rattle.sas_task_line.specs.Ahead.{SpellsAhead, plain_effect}
+use Rattle.sas_flat.specs.Effects.{plain_effect}
+use Rattle.sas_task_line.specs.Ahead.{SpellsAhead}
 use Rattle.sas_task_line.specs.TaskRanges.{change_in, effect_in_ranges}
 use Rattle.sas_task_line.specs.TaskLine.{IsOfLine}
 use Rattle.sas_task_judge.proofs.TaskRanges.{many_same}
-use Rattle.sas_task_judge.proofs.TaskSteps.{line_led}
 use Rattle.sas_task_judge.proofs.VariablesBehind.{behind}
 use Rattle.sas_task_format.specs.TaskProcess.{TaskProcess, a_word, a_number, number_in, effect_in}
 
@@ -96,18 +93,6 @@ refused j k line (Err other) kind e h = subst (λ (x : Kind). IsOfBytes x × (x 
 -- a line that may not stand, where no memory is taken
 pub refused_line : (j k : TaskJudge) (line : List ℕ) (r : Result Event Kind) (kind : Kind) → result_err r ≡ Some kind → IsOfLine kind → RejectsLine j line kind → Moves j line k r
 refused_line j k line r kind e of_line rejects = refused j k line r kind e (of_line.0, λ m. absurd (of_line.1 m), λ n. rejects)
-
--- a machine that a line moves on is led by it too, whatever becomes of what was said
-pub led_on : {K : Type 0} (keeps : List (List ℕ) → SoFar → K → Type 0) (before : List (List ℕ)) (m : TaskMachine K) (j : TaskJudge) (said : Said) (kept : K) (event : Event) (line : List ℕ) → LedBy keeps before m → Moves m.judge line j (Ok event)
-    → ((lines : List (List ℕ)) (s : SoFar) → keeps lines s m.kept → keeps (lines ++ line ∷ []) (after s event j.said line) kept) → LedBy keeps (before ++ line ∷ []) (record { judge = record j { said = said }; kept = kept })
-led_on keeps before m j said kept event line h moves keeps_on =
-    let moved = moves h.so_far h.known in
-    record {
-      so_far = after h.so_far event j.said line;
-      leads = line_led before (state_of m.judge h.so_far) (state_of j (after h.so_far event j.said line)) moved.1.0 line h.leads moved.1.1 moved.1.2;
-      known = record { ranges = moved.0.ranges; valued = moved.0.valued; range = moved.0.range };
-      kept = keeps_on before h.so_far h.kept;
-    }
 
 -- ---- what was said before doesn't matter
 

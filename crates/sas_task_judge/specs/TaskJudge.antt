@@ -64,6 +64,25 @@ state_of j s = state_at j.place j.left j.more s
 abbrev pub HasEnded : TaskJudge → Type 0
 HasEnded j = (j.place ≡ at.Rules) × (j.left ≡ 0)
 
+-- the place is behind the mutex groups
+abbrev pub IsBehindGroups : Place → Type 0
+IsBehindGroups at.VersionBegin = ⊥
+IsBehindGroups at.VersionNumber = ⊥
+IsBehindGroups at.VersionEnd = ⊥
+IsBehindGroups at.MetricBegin = ⊥
+IsBehindGroups at.MetricNumber = ⊥
+IsBehindGroups at.MetricEnd = ⊥
+IsBehindGroups at.VariableCount = ⊥
+IsBehindGroups at.Variables = ⊥
+IsBehindGroups at.VariableName = ⊥
+IsBehindGroups at.VariableLayer = ⊥
+IsBehindGroups at.VariableRange = ⊥
+IsBehindGroups at.VariableValues = ⊥
+IsBehindGroups at.Groups = ⊥
+IsBehindGroups at.GroupSize = ⊥
+IsBehindGroups at.GroupFacts = ⊥
+IsBehindGroups _ = Unit {0}
+
 -- the first line of such a section is due
 abbrev pub SectionDue : TaskJudge → Section → Type 0
 SectionDue j section.Variable = (j.place ≡ at.Variables) × (0 < j.left)

@@ -5,7 +5,6 @@ ghost use Rattle.sas_task_judge.specs.declared.task_events.Said.{Said};
 ghost use Rattle.sas_task_judge.specs.TaskEvents.{nothing_yet, after};
 
 use crate::task_events::{Event, Said};
-use crate::task_machine::Keeper;
 use sas_core::{Effect, Fact, Items, Operator, Parts, Rule, Variable};
 use sas_reader::Kind;
 use std::alloc::Global;
@@ -182,15 +181,5 @@ impl SoFar {
             Event::Rule => return self.rule(said),
         }
         Ok(())
-    }
-}
-
-impl Keeper for SoFar {
-    ghost use Rattle.std.specs.Prelude.{◌≡◌};
-
-    ghost keeps = { λ lines s kept. kept ≡ s };
-
-    fn keep(&mut self, line: &[u8], event: Event, said: &mut Said) -> Result<(), Kind> {
-        self.add(line, event, said)
     }
 }

@@ -1,6 +1,6 @@
 // What a line of a task file says.
 ghost use Rattle.std.specs.Prelude.{◌≡◌};
-ghost use Rattle.sas_task_line.specs.Ahead.{plain_effect};
+ghost use Rattle.sas_flat.specs.Effects.{plain_effect};
 
 use sas_core::{Effect, Fact, Items};
 use sas_grounded::Change;

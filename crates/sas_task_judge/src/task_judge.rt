@@ -4,7 +4,7 @@ ghost use Rattle.sas_task_judge.specs.declared.so_far.SoFar.{SoFar};
 ghost use Rattle.sas_task_format.specs.TaskFormat as format;
 ghost use Rattle.sas_task_format.specs.TaskProcess.{a_word, a_number, a_fact, any, number_in, fact_in, effect_in, head_in};
 ghost use Rattle.sas_task_line.specs.TaskRanges.{range_in, fact_in_ranges, effect_in_ranges, head_in_ranges};
-ghost use Rattle.sas_task_judge.specs.TaskJudge.{Due, Moves, MovesBy, HasEnded};
+ghost use Rattle.sas_task_judge.specs.TaskJudge.{Due, Moves, MovesBy, HasEnded, IsBehindGroups};
 
 mod ahead;
 mod sections;
@@ -17,7 +17,7 @@ use sas_task_line::{
     effect_at, fact_at, head_at, name_at, number_at, number_below, positive_at, signed_at,
     version_at, word_at,
 };
-pub(crate) use sections::Section;
+pub use sections::Section;
 use std::alloc::Global;
 
 /// What comes next.
@@ -484,6 +484,17 @@ impl TaskJudge {
             Place::GroupSize => self.fact_count(line, Place::GroupFacts),
             Place::GroupFacts if self.more == 0 => self.group_end(line),
             Place::GroupFacts => self.fact(line),
+            _ => self.take_behind_groups(line),
+        }
+    }
+
+    /// Takes the next line, where the mutex groups have come.
+    fn take_behind_groups(&mut self, line: &[u8]) -> Result<Event, Kind>
+        requires behind { IsBehindGroups self.old.place }
+        requires going_on { HasEnded self.old → ⊥ }
+        ensures { Moves self.old line.now self.new result }
+    {
+        match self.place {
             Place::StateValues if self.has_state() => self.state_end(line),
             Place::StateValues => self.state_value(line),
             Place::GoalBegin => self.word(line, b"begin_goal", Place::GoalSize),
@@ -505,6 +516,7 @@ impl TaskJudge {
             Place::RuleConditions if self.more == 0 => self.rule_head(line),
             Place::RuleConditions => self.fact(line),
             Place::RuleEnd => self.word(line, b"end_rule", Place::Rules),
+            _ => unreachable!(),
         }
     }
 

@@ -1,7 +1,6 @@
 -- What the code reads off the first line of some bytes, up to and with its LF.
-use Rattle.std.specs.Prelude.{◌≡◌, ℕ, ◌-◌, List, take, [], ◌∷◌, ◌++◌, Option}
+use Rattle.std.specs.Prelude.{◌≡◌, ℕ, ◌-◌, List, take, ◌∷◌, ◌++◌, Option}
 use Rattle.std.specs.Fmt.{decimal}
-use Rattle.sas_core.specs.declared.parts.Effect.{Effect}
 use Rattle.sas_core.specs.Numbers.{IsNumber, IsSigned}
 use Rattle.sas_lines.specs.Lines.{LineStandsFirst}
 use Rattle.sas_lines.specs.Spelling.{signed_decimal, joined}
@@ -20,10 +19,6 @@ pub record LineAhead (i : TaskLine) (bytes rest : List ℕ) : Type 0 where
   pub fits : TaskLineFits i
   pub plain : IsPlain (task_line_bytes i)
   pub before : bytes ≡ task_line_bytes i ++ 10 ∷ rest
-
--- an effect that makes this change, without conditions
-abbrev pub plain_effect : Change → Effect
-plain_effect change = record { conditions = []; var = change.var; old = change.old; new = change.new }
 
 -- the bytes are a number, this byte, and the rest
 abbrev pub NumberAhead : List ℕ → ℕ → ℕ → List ℕ → Type 0

@@ -5,19 +5,18 @@ use Rattle.std.proofs.Props.{props}
 use Rattle.sas_core.proofs.ChecksAreRules.{checks_are_the_rules}
 use Rattle.sas_core.specs.WellRanged.{WellRanged}
 use Rattle.sas_task_judge.specs.declared.so_far.SoFar.{SoFar}
-use Rattle.sas_task_judge.specs.declared.task_machine.TaskMachine.{TaskMachine}
+use Rattle.sas_task_machine.specs.declared.task_machine.TaskMachine.{TaskMachine}
 use Rattle.sas_reader.specs.Format.{Reads, ReadsAs}
 use Rattle.sas_task_format.specs.Process.{process_node}
 use Rattle.sas_reader.specs.Reader as reading
 use Rattle.sas_task_format.specs.TaskFormat.{task_format, TaskLineFits}
 use Rattle.sas_task_judge.specs.TaskJudge.{state_of, HasEnded, RejectsLine}
-use Rattle.sas_task_judge.specs.TaskMachine.{LedBy}
+use Rattle.sas_task_machine.specs.TaskMachine.{LedBy}
 use Rattle.sas_task_format.specs.TaskProcess.{task_start}
-use Rattle.sas_task_judge.specs.TaskMachine.{LedTo, EndedAt, RejectsAt}
+use Rattle.sas_task_machine.specs.TaskMachine.{LedTo, EndedAt, RejectsAt}
 use Rattle.sas_reader.proofs.Conversion.{Follows, reads_of_format}
-use Rattle.sas_task_judge.proofs.TaskEnds.{ended_if_done, ends_with}
+use Rattle.sas_task_judge.proofs.TaskEnds.{done_is, ended_if_done, ends_with}
 use Rattle.sas_task_format.proofs.TaskGrammar.{task_grammar}
-use Rattle.sas_task_judge.proofs.TaskSteps.{done_is}
 
 module _ {K : Type 0} (keeps : List (List ℕ) → SoFar → K → Type 0) where
   pub machine_follows : Follows task_format TaskLineFits process_node task_start (LedBy keeps) (λ (m : TaskMachine K). HasEnded m.judge) (λ (m : TaskMachine K) line kind. RejectsLine m.judge line kind)

@@ -9,15 +9,16 @@ ghost use Rattle.sas_task_judge.specs.declared.task_events.Event.TheVariants as 
 ghost use Rattle.sas_task_judge.specs.declared.task_events.Said.{Said};
 ghost use Rattle.sas_task_line.specs.Sections.{GroupAhead, OperatorAhead, RuleAhead};
 ghost use Rattle.sas_task_judge.specs.TaskEvents.{nothing_yet, after};
-ghost use Rattle.sas_task_judge.specs.Sections.{VariableWithRange, behind_variable, behind_group, behind_operator, behind_rule};
+ghost use Rattle.sas_task_machine.specs.Sections.{VariableWithRange, behind_variable, behind_group, behind_operator, behind_rule};
 
 use crate::fronts::NO_VARIABLE;
 use sas_core::{Fact, Items};
 use sas_flat::{Effects, FlatTask, Lists, Operators, Rules, Variables};
 use sas_grounded::Change;
 use sas_reader::{Front, Kind};
-use sas_task_judge::{Event, Keeper, Said, VariableKept};
+use sas_task_judge::{Event, Said};
 use sas_task_line::{Gathered, group_found, operator_found, rule_found, variable_found};
+use sas_task_machine::{Keeper, VariableKept};
 use std::alloc::{AllocError, Global};
 use std::marker::Model;
 

@@ -7,7 +7,7 @@ use crate::flat_so_far::FlatSoFar;
 use sas_flat::FlatTask;
 use sas_lines::Watched;
 use sas_reader::{Fault, LIMIT, read_all};
-use sas_task_judge::TaskMachine;
+use sas_task_machine::TaskMachine;
 use std::alloc::Global;
 use std::io::Read;
 

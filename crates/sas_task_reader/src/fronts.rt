@@ -4,13 +4,13 @@ ghost use Rattle.sas_core.specs.declared.parts.Fact.{Fact};
 ghost use Rattle.sas_core.specs.declared.parts.Variable.{Variable};
 ghost use Rattle.sas_core.specs.declared.parts.Operator.{Operator};
 ghost use Rattle.sas_core.specs.declared.parts.Rule.{Rule};
-ghost use Rattle.sas_task_judge.specs.Sections.{VariableWithRange};
+ghost use Rattle.sas_task_machine.specs.Sections.{VariableWithRange};
 ghost use Rattle.sas_task_line.specs.Sections.{GroupAhead, OperatorAhead, RuleAhead};
 
 use sas_core::Items;
 use sas_reader::{Front, Kind};
-use sas_task_judge::VariableKept;
 use sas_task_line::{Gathered, group_found, operator_found, rule_found, variable_found};
+use sas_task_machine::VariableKept;
 
 /// No variable was kept.
 pub const NO_VARIABLE: VariableKept = VariableKept {

@@ -8,7 +8,7 @@ use crate::task_outline::TaskOutline;
 use sas_core::{Fact, Items, Variable};
 use sas_lines::Watched;
 use sas_reader::{Fault, LIMIT, read_all};
-use sas_task_judge::TaskMachine;
+use sas_task_machine::TaskMachine;
 use std::alloc::Global;
 use std::io::Read;
 

@@ -5,15 +5,16 @@ ghost use Rattle.sas_core.specs.declared.parts.Operator.{Operator};
 ghost use Rattle.sas_core.specs.declared.parts.Rule.{Rule};
 ghost use Rattle.sas_task_judge.specs.declared.so_far.SoFar.{SoFar};
 ghost use Rattle.sas_task_judge.specs.TaskEvents.{nothing_yet};
-ghost use Rattle.sas_task_judge.specs.Sections.{behind_group, behind_operator, behind_rule};
+ghost use Rattle.sas_task_machine.specs.Sections.{behind_group, behind_operator, behind_rule};
 ghost use Rattle.sas_task_reader.specs.TaskOutline.{outline_in, seen};
 
 use crate::fronts::{group_front, operator_front, rule_front};
 use crate::outline::Outline;
 use sas_core::Items;
 use sas_reader::{Front, Kind};
-use sas_task_judge::{Event, Keeper, Said, SoFar};
+use sas_task_judge::{Event, Said, SoFar};
 use sas_task_line::Gathered;
+use sas_task_machine::Keeper;
 use std::alloc::Global;
 use std::marker::Model;
 

@@ -3,11 +3,12 @@ ghost use Rattle.std.specs.Prelude.{◌≤◌, ℕ, List};
 ghost use Rattle.sas_reader.specs.Limit.{most_bytes};
 ghost use Rattle.sas_reader.specs.Reader as reading;
 ghost use Rattle.sas_reader.specs.Reading.{Starts, Feeds, Finishes};
-ghost use Rattle.sas_task_judge.specs.TaskMachine.{LedTo, EndedAt, RejectsAt};
+ghost use Rattle.sas_task_machine.specs.TaskMachine.{LedTo, EndedAt, RejectsAt};
 
 use sas_core::Task;
 use sas_reader::{Fault, LIMIT, Reader};
-use sas_task_judge::{SoFar, TaskMachine};
+use sas_task_judge::SoFar;
+use sas_task_machine::TaskMachine;
 use std::alloc::Global;
 
 /// Reads a task file that comes in pieces, cut anywhere.

@@ -8,7 +8,7 @@ use sas_core::Items;
 use std::alloc::AllocError;
 
 /// What may be kept whole.
-pub(crate) enum Section {
+pub enum Section {
     Variable,
     Group,
     Operator,
@@ -17,7 +17,7 @@ pub(crate) enum Section {
 
 impl TaskJudge {
     /// The section whose first line is due, if one is.
-    pub(crate) fn section_due(&self) -> Option<Section>
+    pub fn section_due(&self) -> Option<Section>
         ensures some { IfSome result (SectionDue self.now) }
         ensures none { IfNone result ((section : Section) → SectionDue self.now section → ⊥) }
     {
@@ -31,14 +31,14 @@ impl TaskJudge {
     }
 
     /// How many values each variable has.
-    pub(crate) fn ranges(&self) -> &Items<u32>
+    pub fn ranges(&self) -> &Items<u32>
         ensures { result.now ≡ self.now.ranges }
     {
         &self.ranges
     }
 
     /// Goes on behind the variable that was due, which has so many values. After an `Err` it is still due.
-    pub(crate) fn pass_variable(&mut self, range: u32) -> Result<(), AllocError>
+    pub fn pass_variable(&mut self, range: u32) -> Result<(), AllocError>
         requires { 0 < self.old.left }
         ensures ok { OnOk result (self.new ≡ record self.old { ranges = self.old.ranges ++ range ∷ []; left = self.old.left - 1 }) }
         ensures err { OnErr result (self.new ≡ self.old) }
@@ -49,7 +49,7 @@ impl TaskJudge {
     }
 
     /// Counts the section that was due, and goes on behind it.
-    pub(crate) fn pass_section(&mut self)
+    pub fn pass_section(&mut self)
         requires { 0 < self.old.left }
         ensures { self.new ≡ record self.old { left = self.old.left - 1 } }
     {

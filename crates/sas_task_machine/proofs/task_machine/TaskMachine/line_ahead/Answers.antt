@@ -1,7 +1,8 @@
 use Rattle.std.proofs.Common.{take, ◌-◌, [], ◌∷◌, refl, arith}
 use Rattle.sas_lines.proofs.Beginnings.{one_stands_first}
-use Rattle.sas_task_judge.proofs.TaskMoves.{led_on, taken_line, some_taken}
-use Rattle.sas_task_judge.proofs.task_machine.TaskMachine.line_ahead.Goals as goal
+use Rattle.sas_task_judge.proofs.TaskMoves.{taken_line, some_taken}
+use Rattle.sas_task_machine.proofs.TaskSteps.{led_on}
+use Rattle.sas_task_machine.proofs.task_machine.TaskMachine.line_ahead.Goals as goal
 
 pub returns-in-Ok : goal.returns-in-Ok
 returns-in-Ok g c =

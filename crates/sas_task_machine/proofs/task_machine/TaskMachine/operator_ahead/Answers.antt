@@ -1,9 +1,9 @@
 use Rattle.std.proofs.Common.{ℕ, List, subst}
 use Rattle.sas_task_format.specs.TaskFormat.{operator_lines}
 use Rattle.sas_task_line.specs.Sections.{OperatorInRanges}
-use Rattle.sas_task_judge.specs.Sections.{behind_operator}
-use Rattle.sas_task_judge.proofs.SectionSteps.{operator_leads, accepts}
-use Rattle.sas_task_judge.proofs.task_machine.TaskMachine.operator_ahead.Goals as goal
+use Rattle.sas_task_machine.specs.Sections.{behind_operator}
+use Rattle.sas_task_machine.proofs.SectionSteps.{operator_leads, accepts}
+use Rattle.sas_task_machine.proofs.task_machine.TaskMachine.operator_ahead.Goals as goal
 
 pub returns-then-front-gt0 : goal.returns-then-front-gt0
 returns-then-front-gt0 g c =

@@ -1,8 +1,8 @@
 use Rattle.std.proofs.Common.{◌<◌, arith}
 use Rattle.sas_task_format.specs.TaskFormat.{variable_lines}
-use Rattle.sas_task_judge.specs.Sections.{behind_variable}
-use Rattle.sas_task_judge.proofs.SectionSteps.{variable_leads, accepts}
-use Rattle.sas_task_judge.proofs.task_machine.TaskMachine.variable_ahead.Goals as goal
+use Rattle.sas_task_machine.specs.Sections.{behind_variable}
+use Rattle.sas_task_machine.proofs.SectionSteps.{variable_leads, accepts}
+use Rattle.sas_task_machine.proofs.task_machine.TaskMachine.variable_ahead.Goals as goal
 
 pub returns-in-Ok-pass_variable : goal.returns-in-Ok-pass_variable
 returns-in-Ok-pass_variable g c =

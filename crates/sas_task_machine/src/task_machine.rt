@@ -1,70 +1,10 @@
 // What takes the lines of a task file: it judges each, and keeps what is asked for of what they say.
-ghost use Rattle.std.specs.Prelude.{◌≡◌, ◌++◌, ◌∷◌, [], List, ℕ, OnOk, IfErr};
-ghost use Rattle.sas_task_judge.specs.TaskJudge.{HasEnded};
-ghost use Rattle.sas_task_judge.specs.TaskMachine.{LedBy};
+ghost use Rattle.std.specs.Prelude.{◌≡◌};
 
-use crate::task_events::{Event, Said};
-use crate::task_judge::{Section, TaskJudge};
-use sas_core::Items;
+use crate::keeper::Keeper;
 use sas_reader::{Front, Kind, Machine};
+use sas_task_judge::{Section, TaskJudge};
 use std::alloc::Global;
-
-/// What a keeper tells of a variable that it kept: how long its lines are, and how many values it has.
-#[derive(Clone, Copy, Debug, PartialEq, Eq)]
-pub struct VariableKept {
-    pub front: Front,
-    pub range: u32,
-}
-
-/// What is kept of a task as its lines come.
-pub trait Keeper: Drop {
-    ghost use Rattle.sas_task_judge.specs.declared.so_far.SoFar.{SoFar};
-    ghost use Rattle.sas_task_judge.specs.TaskEvents.{after};
-    ghost use Rattle.sas_task_judge.specs.Sections.{KeepsVariable, KeepsGroup, KeepsOperator, KeepsRule};
-
-    /// It keeps what it is asked to of these lines, with which so much of a task has come.
-    ghost keeps: { List (List ℕ) → SoFar → Self → Type 0 };
-
-    /// Keeps what the next line says. It may take what was said.
-    fn keep(&mut self, line: &[u8], event: Event, said: &mut Said) -> Result<(), Kind>
-        ensures kept { OnOk result ((lines : List (List ℕ)) (s : SoFar)
-            → keeps lines s self.old → keeps (lines ++ line.now ∷ []) (after s event said.old line.now) self.new) }
-        ensures err { IfErr result (λ k. k ≡ Kind.Memory) };
-
-    /// Keeps the variable that stands first in the bytes, all its lines at once, where it is quick to see. It tells how
-    /// long the lines are, and how many values the variable has; or an empty front if it kept nothing.
-    fn keep_variable(&mut self, bytes: &[u8]) -> Result<VariableKept, Kind>
-        ensures { KeepsVariable keeps bytes.now self.old self.new result }
-    {
-        Ok(VariableKept {
-            front: Front::EMPTY,
-            range: 0,
-        })
-    }
-
-    /// Keeps the mutex group that stands first in the bytes likewise, where it is quick to see that it may stand there for
-    /// variables with these ranges.
-    fn keep_group(&mut self, ranges: &Items<u32>, bytes: &[u8]) -> Result<Front, Kind>
-        ensures { KeepsGroup keeps ranges.now bytes.now self.old self.new result }
-    {
-        Ok(Front::EMPTY)
-    }
-
-    /// Keeps the operator that stands first in the bytes, all its lines at once, where it is quick to see that it may
-    /// stand there for variables with these ranges. It tells how long the lines are, or an empty front if it kept nothing.
-    fn keep_operator(&mut self, ranges: &Items<u32>, bytes: &[u8]) -> Result<Front, Kind>
-        ensures { KeepsOperator keeps ranges.now bytes.now self.old self.new result }
-    {
-        Ok(Front::EMPTY)
-    }
-
-    /// Keeps the rule that stands first in the bytes likewise.
-    fn keep_rule(&mut self, ranges: &Items<u32>, bytes: &[u8]) -> Result<Front, Kind>
-        ensures { KeepsRule keeps ranges.now bytes.now self.old self.new result }
-    {
-        Ok(Front::EMPTY)
-    }
-}
 
 /// The judge of the lines, and what is kept of them.
 #[derive(Drop)]
@@ -77,7 +17,7 @@ impl<K: Keeper> TaskMachine<K> {
     ghost use Rattle.std.specs.Prelude.{[]};
     ghost use Rattle.sas_reader.specs.Machine.{AcceptsAhead};
     ghost use Rattle.sas_task_judge.specs.TaskJudge.{HasEnded, SectionDue};
-    ghost use Rattle.sas_task_judge.specs.TaskMachine.{LedBy, IsFresh};
+    ghost use Rattle.sas_task_machine.specs.TaskMachine.{LedBy, IsFresh};
 
     /// Nothing has come.
     pub fn new(alloc: Global, kept: K) -> Self
@@ -199,7 +139,7 @@ impl<K: Keeper> TaskMachine<K> {
 
 impl<K: Keeper> Machine for TaskMachine<K> {
     ghost use Rattle.sas_task_judge.specs.TaskJudge.{HasEnded, RejectsLine};
-    ghost use Rattle.sas_task_judge.specs.TaskMachine.{LedBy};
+    ghost use Rattle.sas_task_machine.specs.TaskMachine.{LedBy};
 
     ghost led_by = { LedBy K.keeps };
 

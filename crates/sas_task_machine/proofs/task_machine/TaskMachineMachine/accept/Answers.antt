@@ -1,7 +1,7 @@
 use Rattle.std.proofs.Common.{Result, Ok, Err}
 use Rattle.std.specs.Result.{OnOk}
-use Rattle.sas_task_judge.proofs.TaskMoves.{led_on}
-use Rattle.sas_task_judge.proofs.task_machine.TaskMachineMachine.accept.Goals as goal
+use Rattle.sas_task_machine.proofs.TaskSteps.{led_on}
+use Rattle.sas_task_machine.proofs.task_machine.TaskMachineMachine.accept.Goals as goal
 
 on_ok : {X E : Type 0} (r : Result X E) (P Q : Type 0) → OnOk r P → (P → Q) → OnOk r Q
 on_ok (Ok x) P Q h f = f h

@@ -2,9 +2,9 @@ use Rattle.std.proofs.Common.{ℕ, List, subst, IsTrue}
 use Rattle.std.specs.List.{list_all}
 use Rattle.sas_task_format.specs.TaskFormat.{group_lines}
 use Rattle.sas_task_line.specs.TaskRanges.{fact_in_ranges}
-use Rattle.sas_task_judge.specs.Sections.{behind_group}
-use Rattle.sas_task_judge.proofs.SectionSteps.{group_leads, accepts}
-use Rattle.sas_task_judge.proofs.task_machine.TaskMachine.group_ahead.Goals as goal
+use Rattle.sas_task_machine.specs.Sections.{behind_group}
+use Rattle.sas_task_machine.proofs.SectionSteps.{group_leads, accepts}
+use Rattle.sas_task_machine.proofs.task_machine.TaskMachine.group_ahead.Goals as goal
 
 pub returns-then-front-gt0 : goal.returns-then-front-gt0
 returns-then-front-gt0 g c =

@@ -3,7 +3,7 @@ use Rattle.std.specs.Prelude.{◌≡◌, ℕ, List, []}
 use Rattle.std.specs.Global.{Global}
 use Rattle.sas_reader.specs.declared.fault.Kind.{Kind}
 use Rattle.sas_task_judge.specs.declared.so_far.SoFar.{SoFar}
-use Rattle.sas_task_judge.specs.declared.task_machine.TaskMachine.{TaskMachine}
+use Rattle.sas_task_machine.specs.declared.task_machine.TaskMachine.{TaskMachine}
 use Rattle.sas_task_format.specs.Process.{process_node}
 use Rattle.sas_reader.specs.System.{Leads}
 use Rattle.sas_task_format.specs.TaskFormat.{task_format, TaskLineFits}

@@ -1,7 +1,7 @@
 use Rattle.std.proofs.Common.{refl, sym, ap, ◌∙◌, []}
 use Rattle.sas_task_judge.specs.TaskEvents.{nothing_yet}
 use Rattle.sas_task_judge.specs.TaskJudge.{state_at}
-use Rattle.sas_task_judge.proofs.task_machine.TaskMachine.new.Goals as goal
+use Rattle.sas_task_machine.proofs.task_machine.TaskMachine.new.Goals as goal
 
 pub returns : goal.returns
 returns g c =

@@ -18,13 +18,13 @@ use Rattle.sas_task_judge.specs.declared.task_judge.Place.{Place}
 use Rattle.sas_task_judge.specs.declared.task_judge.Place.TheVariants as at
 use Rattle.sas_task_judge.specs.declared.task_judge.TaskJudge.{TaskJudge}
 use Rattle.sas_task_judge.specs.declared.task_judge.sections.Section.TheVariants as section
-use Rattle.sas_task_judge.specs.declared.task_machine.TaskMachine.{TaskMachine}
-use Rattle.sas_task_judge.specs.Sections.{behind_variable, behind_group, behind_operator, behind_rule}
+use Rattle.sas_task_machine.specs.declared.task_machine.TaskMachine.{TaskMachine}
+use Rattle.sas_task_machine.specs.Sections.{behind_variable, behind_group, behind_operator, behind_rule}
 use Rattle.sas_task_judge.specs.TaskJudge.{state_at, state_of, KnownTo, SectionDue}
-use Rattle.sas_task_judge.specs.TaskMachine.{LedBy}
+use Rattle.sas_task_machine.specs.TaskMachine.{LedBy}
 use Rattle.sas_task_judge.proofs.TaskMoves.{next_of}
 use Rattle.sas_task_judge.proofs.TaskRanges.{ranges_push}
-use Rattle.sas_task_judge.proofs.SectionLines.{GoesOn, AllFit, variable_on, group_on, operator_items, operator_lines_are, operator_on, rule_items, rule_lines_are, rule_on}
+use Rattle.sas_task_machine.proofs.SectionLines.{GoesOn, AllFit, variable_on, group_on, operator_items, operator_lines_are, operator_on, rule_items, rule_lines_are, rule_on}
 
 -- ---- the judge
 

@@ -1,0 +1,3 @@
+pub mod TaskSteps
+pub mod SectionLines
+pub mod SectionSteps

@@ -1,0 +1,2 @@
+pub mod TaskMachine
+pub mod Sections
