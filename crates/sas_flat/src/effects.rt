@@ -70,6 +70,7 @@ impl Effects {
     }
 
     /// One effect more. After an `Err` the effects are as they were.
+    #[inline(always)]
     pub fn push(&mut self, conditions: &[Fact], change: Change) -> Result<(), AllocError>
         ensures ok { OnOk result (self.new ≡ self.old ++ effect change conditions.now ∷ []) }
         ensures err { OnErr result (self.new ≡ self.old) }

@@ -56,6 +56,7 @@ fn names_before<'a>(bytes: &'a [u8], names: &mut Lists<u8>) -> Result<Option<&'a
 
 /// The variable that stands first in the bytes, if it is quick to see. Its values are gathered. After `None` or an
 /// `Err` any may be gathered.
+#[inline(always)]
 pub fn variable_found<'a>(
     bytes: &'a [u8],
     gathered: &mut Gathered,
@@ -81,6 +82,7 @@ pub fn variable_found<'a>(
 
 /// The lines of the mutex group that stands first in the bytes, where it is quick to see that its facts exist. These
 /// are gathered. After `None` or an `Err` any may be gathered.
+#[inline(always)]
 pub fn group_found(
     ranges: &Items<u32>,
     bytes: &[u8],

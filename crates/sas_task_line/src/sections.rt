@@ -139,6 +139,7 @@ fn begin_before(bytes: &[u8]) -> Option<(&[u8], &[u8])>
 
 /// The operator that stands first in the bytes, where it is quick to see that its facts exist and its effects have no
 /// conditions. Its prevail conditions and changes are gathered. After `None` or an `Err` anything may be gathered.
+#[inline(always)]
 pub fn operator_found<'a>(
     ranges: &Items<u32>,
     bytes: &'a [u8],
@@ -182,6 +183,7 @@ fn head_before<'a>(ranges: &Items<u32>, bytes: &'a [u8]) -> Option<(Change, &'a 
 
 /// The rule that stands first in the bytes, where it is quick to see that its facts exist. Its conditions are gathered.
 /// After `None` or an `Err` anything may be gathered.
+#[inline(always)]
 pub fn rule_found(
     ranges: &Items<u32>,
     bytes: &[u8],
