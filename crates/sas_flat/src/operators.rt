@@ -87,6 +87,7 @@ impl Columns {
     }
 
     /// The name and the prevail conditions of one operator more.
+    #[inline(always)]
     fn push_head(&mut self, name: &[u8], prevail: &[Fact]) -> Result<(), AllocError>
         ensures names { Kept self.old.names self.new.names }
         ensures prevail { Kept self.old.prevail self.new.prevail }

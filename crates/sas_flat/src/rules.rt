@@ -59,6 +59,7 @@ impl Rules {
     }
 
     /// One rule more. After an `Err` the rules are as they were.
+    #[inline(always)]
     pub fn push(&mut self, conditions: &[Fact], change: Change) -> Result<(), AllocError>
         ensures ok { OnOk result (self.new ≡ self.old ++ rule change conditions.now ∷ []) }
         ensures err { OnErr result (self.new ≡ self.old) }

@@ -98,6 +98,7 @@ impl Variables {
     }
 
     /// One variable more, with these names of its values. After an `Err` the variables are as they were.
+    #[inline(always)]
     pub fn push(
         &mut self,
         name: &[u8],

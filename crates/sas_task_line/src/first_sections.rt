@@ -21,6 +21,7 @@ pub struct VariableFound<'a> {
 }
 
 /// The name and the axiom layer behind the first word of a variable, and the rest.
+#[inline(always)]
 fn begin_before(bytes: &[u8]) -> Option<(&[u8], Option<u32>, &[u8])>
     ensures { IfSome result (λ found. IsName found.0.now
         × LinesBefore (format.word (codes "begin_variable") ∷ format.name found.0.now ∷ format.signed found.1 ∷ [])
@@ -33,6 +34,7 @@ fn begin_before(bytes: &[u8]) -> Option<(&[u8], Option<u32>, &[u8])>
 }
 
 /// Takes the names that stand with their number before some rest, where there is one at least: the rest.
+#[inline(always)]
 fn names_before<'a>(bytes: &'a [u8], names: &mut Lists<u8>) -> Result<Option<&'a [u8]>, AllocError>
     ensures { IfOk result (λ found. IfSome found (λ rest. 0 < length names.new
         × NamesBefore (length names.new) names.new bytes.now rest.now)) }

@@ -168,6 +168,7 @@ pub fn operator_found<'a>(
 }
 
 /// The head of a rule whose facts exist that stands before the last word, and the rest.
+#[inline(always)]
 fn head_before<'a>(ranges: &Items<u32>, bytes: &'a [u8]) -> Option<(Change, &'a [u8])>
     ensures { IfSome result (λ found. IsTrue (change_in ranges.now found.0.var found.0.old found.0.new)
         × LinesBefore (format.head found.0.var found.0.old found.0.new ∷ format.word (codes "end_rule") ∷ [])
