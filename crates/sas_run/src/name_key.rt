@@ -8,7 +8,7 @@ ghost use Rattle.sas_run.specs.NameTable.{is_called};
 use indexmap::Equivalent;
 use std::hash::{Hash, Hasher};
 
-/// A name whose bytes stand elsewhere. They are compared at once, and go to a hasher at once: a list of bytes would go there
+/// A name whose bytes stand elsewhere. They are compared at once, and go to a hasher at once, where a list of bytes goes
 /// byte by byte.
 #[derive(Clone, Copy)]
 pub struct NameKey<'a> {
@@ -30,9 +30,9 @@ impl<'a> Eq for NameKey<'a> {
 }
 
 impl<'a> Hash for NameKey<'a> {
-    ghost hash_input = { λ key. key.bytes.now ∷ [] };
+    ghost hash_input = { λ name. name.bytes.now ∷ [] };
 
-    ghost respects_eq = { λ x y same. ap (λ bytes. bytes ∷ []) ((bytes_decides x.bytes.now y.bytes.now).0 same) };
+    ghost respects_eq = { λ x y same. ap (λ l. l ∷ []) ((bytes_decides x.bytes.now y.bytes.now).0 same) };
 
     fn hash<H: Hasher>(&self, state: &mut H) {
         state.write(self.bytes);
@@ -41,11 +41,11 @@ impl<'a> Hash for NameKey<'a> {
 
 /// A name is looked up by one whose bytes may live shorter.
 impl<'a, 'b> Equivalent<NameKey<'a>> for NameKey<'b> {
-    ghost equivalent = { λ asked. is_called asked.bytes.now };
+    ghost equivalent = { λ q. is_called q.bytes.now };
 
-    ghost respects_hash = { λ asked key same. ap (λ bytes. bytes ∷ []) ((bytes_decides asked.bytes.now key.bytes.now).0 same) };
+    ghost respects_hash = { λ q key same. ap (λ l. l ∷ []) ((bytes_decides q.bytes.now key.bytes.now).0 same) };
 
-    ghost respects_eq = { λ asked x y. nat_list_eq_equiv.congr asked.bytes.now x.bytes.now y.bytes.now };
+    ghost respects_eq = { λ q x y. nat_list_eq_equiv.congr q.bytes.now x.bytes.now y.bytes.now };
 
     fn equivalent(&self, key: &NameKey<'a>) -> bool {
         self.bytes == key.bytes

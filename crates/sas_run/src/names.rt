@@ -25,7 +25,7 @@ impl<'a> Names<'a> {
         ensures { IfOk result (λ names. AreNames (T.says task.now) names) }
     {
         let operators = task.operators();
-        let mut first = IndexMap::new(alloc);
+        let mut first = IndexMap::with_capacity(alloc, operators as usize)?;
         let mut next = vec![in alloc; None; operators as usize]?;
         let mut operator = operators;
         while operator > 0 {
