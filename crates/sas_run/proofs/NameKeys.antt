@@ -2,26 +2,26 @@
 use Rattle.std.proofs.Common.{◌≡◌, ℕ, Bool, true, false, List, nat_eq, Some, refl, sym, ap, subst, ◌∙◌, if◌then◌else◌}
 use Rattle.std.specs.Cmp.{nat_eq_equiv}
 use Rattle.std.specs.Cmp.Lexicographic.{pointwise, lists_equiv, bytes_decides}
-use Rattle.std.specs.Global.{Vec}
 use Rattle.std.specs.Map.{IsKeyTest, AreApart, KeepsOthers}
 use Rattle.indexmap.specs.IndexMap.{IndexMap, get_by, UpdatesBy}
+use Rattle.sas_run.specs.declared.name_key.NameKey.{NameKey}
 use Rattle.sas_run.specs.NameTable.{is_called, Puts}
 
 -- the equality of keys
-abbrev pub same_key : Vec ℕ → Vec ℕ → Bool
-same_key x y = pointwise nat_eq x.items y.items
+abbrev pub same_key : NameKey → NameKey → Bool
+same_key x y = pointwise nat_eq x.bytes.now y.bytes.now
 
 -- a name asks for the keys of its own bytes
 is_called-asks : (name : List ℕ) → IsKeyTest same_key (is_called name)
-is_called-asks name = λ x y. (lists_equiv nat_eq_equiv).congr name x.items y.items
+is_called-asks name = λ x y. (lists_equiv nat_eq_equiv).congr name x.bytes.now y.bytes.now
 
 -- two names that differ ask for different keys
 is_called-apart : (name other : List ℕ) → pointwise nat_eq name other ≡ false → AreApart (is_called name) (is_called other)
 is_called-apart name other differs = λ key is.
-    let bytes : name ≡ key.items = (bytes_decides name key.items).0 is in
+    let bytes : name ≡ key.bytes.now = (bytes_decides name key.bytes.now).0 is in
     subst (λ l. pointwise nat_eq other l ≡ false) bytes ((lists_equiv nat_eq_equiv).symm other name ∙ differs)
 
-module _ {S : Type 0} (m n : IndexMap (Vec ℕ) ℕ S) (operator : ℕ) where
+module _ {S : Type 0} (m n : IndexMap NameKey ℕ S) (operator : ℕ) where
   pub Puts-write : (name : List ℕ) → UpdatesBy same_key (is_called name) m n (Some operator) → Puts name operator m n
   unfolding KeepsOthers
   Puts-write name updates other = by (pointwise nat_eq name other) refl
@@ -32,7 +32,3 @@ module _ {S : Type 0} (m n : IndexMap (Vec ℕ) ℕ S) (operator : ℕ) where
           ap (λ l. get_by (is_called l) n) (sym ((bytes_decides name other).0 is)) ∙ updates.1
       by false differs =
           updates.3 (is_called other) (is_called-asks other) (is_called-apart name other differs)
-
-  pub Puts-insert : (key : Vec ℕ) (name : List ℕ) → key.items ≡ name → UpdatesBy same_key (same_key key) m n (Some operator) → Puts name operator m n
-  Puts-insert key name bytes updates =
-      Puts-write name (subst (λ l. UpdatesBy same_key (is_called l) m n (Some operator)) bytes updates)

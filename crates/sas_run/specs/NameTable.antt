@@ -1,16 +1,16 @@
 -- What a table of names holds.
 use Rattle.std.specs.Prelude.{◌≡◌, ℕ, ◌+◌, ◌<◌, Bool, List, length, None, Some, nat_eq, if◌then◌else◌, slice_index_or}
-use Rattle.std.specs.Global.{Vec}
 use Rattle.std.specs.Cmp.Lexicographic.{pointwise}
 use Rattle.indexmap.specs.IndexMap.{IndexMap, get_by}
 use Rattle.sas_core.specs.declared.parts.Parts.{Parts}
 use Rattle.sas_grounded.specs.Grounded.{operator_at}
+use Rattle.sas_run.specs.declared.name_key.NameKey.{NameKey}
 use Rattle.sas_run.specs.declared.names.Names.{Names}
 use Rattle.sas_run.specs.Names.{IsNextNamed}
 
 -- the key of a map is this name
-abbrev pub is_called : List ℕ → Vec ℕ → Bool
-is_called name key = pointwise nat_eq name key.items
+abbrev pub is_called : List ℕ → NameKey → Bool
+is_called name key = pointwise nat_eq name key.bytes.now
 
 -- The map tells of each name the lowest operator of it, or that no operator has it; the table tells of each operator the
 -- next one of its name, or that there is none.
@@ -21,6 +21,6 @@ pub record AreNames (p : Parts) (names : Names) : Type 0 where
       → IsNextNamed p (operator_at p operator).name (operator + 1) (slice_index_or names.next.items operator None)
 
 -- the new map tells this operator of the name, and of each other name what the old one tells
-abbrev pub Puts : {S : Type 0} → List ℕ → ℕ → IndexMap (Vec ℕ) ℕ S → IndexMap (Vec ℕ) ℕ S → Type 0
+abbrev pub Puts : {S : Type 0} → List ℕ → ℕ → IndexMap NameKey ℕ S → IndexMap NameKey ℕ S → Type 0
 Puts name operator old new = (other : List ℕ) → get_by (is_called other) new
     ≡ (if pointwise nat_eq name other then Some operator else get_by (is_called other) old)

@@ -3,6 +3,7 @@
 
 mod holding;
 mod laws;
+mod name_key;
 mod names;
 mod plan_check;
 mod runner;

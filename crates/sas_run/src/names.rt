@@ -6,30 +6,31 @@ ghost use Rattle.sas_grounded.specs.Grounded.{operator_at};
 ghost use Rattle.sas_run.specs.NameTable.{AreNames, Puts, is_called};
 ghost use Rattle.sas_run.specs.Names.{IsNextNamed};
 
+use crate::name_key::NameKey;
 use indexmap::IndexMap;
 use sas_grounded::Grounded;
 use std::alloc::{AllocError, Global};
 
 /// For each name the lowest operator of it, and for each operator the next one of the same name.
 #[derive(Drop)]
-pub struct Names {
-    first: IndexMap<Vec<u8>, u32>,
+pub struct Names<'a> {
+    first: IndexMap<NameKey<'a>, u32>,
     next: Vec<Option<u32>>,
 }
 
-impl Names {
+impl<'a> Names<'a> {
     /// The names of the task's operators. It goes from the last operator to the first, so that the lowest one of each name
     /// comes last.
-    pub fn new<T: Grounded>(alloc: Global, task: &T) -> Result<Names, AllocError>
+    pub fn new<T: Grounded>(alloc: Global, task: &'a T) -> Result<Names<'a>, AllocError>
         ensures { IfOk result (λ names. AreNames (T.says task.now) names) }
     {
         let operators = task.operators();
-        let mut first = IndexMap::new(alloc);
+        let mut first = IndexMap::with_capacity(alloc, operators as usize)?;
         let mut next = vec![in alloc; None; operators as usize]?;
         let mut operator = operators;
         while operator > 0 {
             operator -= 1;
-            next[operator as usize] = put(alloc, &mut first, task.name(operator), operator)?;
+            next[operator as usize] = put(&mut first, task.name(operator), operator)?;
         }
         Ok(Names { first, next })
     }
@@ -38,7 +39,7 @@ impl Names {
     pub fn first(&self, name: &[u8]) -> Option<u32>
         ensures { (p : Parts) → AreNames p self.now → IsNextNamed p name.now 0 result }
     {
-        self.first.get(name).copied()
+        self.first.get(NameKey { bytes: name }).copied()
     }
 
     /// The next operator of the same name. It takes no memory.
@@ -53,23 +54,16 @@ impl Names {
     }
 }
 
-/// Lets the map tell this operator of the name, and returns the one that it told before. Only a new name is copied.
-fn put(
-    alloc: Global,
-    first: &mut IndexMap<Vec<u8>, u32>,
-    name: &[u8],
+/// Lets the map tell this operator of the name, and returns the one that it told before.
+fn put<'a>(
+    first: &mut IndexMap<NameKey<'a>, u32>,
+    name: &'a [u8],
     operator: u32,
 ) -> Result<Option<u32>, AllocError>
     ensures had { IfOk result (λ had. had ≡ get_by (is_called name.now) first.old) }
     ensures has { OnOk result (Puts name.now operator first.old first.new) }
 {
-    if let Some(place) = first.get_mut(name) {
-        let had = *place;
-        *place = operator;
-        return Ok(Some(had));
-    }
-    let name = Vec::from_slice(alloc, name)?;
-    match first.insert(name, operator) {
+    match first.insert(NameKey { bytes: name }, operator) {
         Ok(had) => Ok(had),
         Err(_) => Err(AllocError),
     }

@@ -34,7 +34,7 @@ pub enum Choice {
 pub struct Runner<'a, E: Settle<T> + Drop, T: Grounded = Task> {
     layered: &'a Layered<T>,
     evaluator: E,
-    names: Names,
+    names: Names<'a>,
     /// What the effects that fire in a step give each variable; between two steps nothing.
     given: Items<Option<u32>>,
 }
@@ -183,7 +183,12 @@ fn is_applicable<T: Grounded>(task: &T, state: &State, operator: u32) -> bool
 }
 
 /// The first operator that is applicable, of this one and those behind it that have its name.
-fn first_applicable<T: Grounded>(task: &T, names: &Names, state: &State, first: u32) -> Option<u32>
+fn first_applicable<T: Grounded>(
+    task: &T,
+    names: &Names<'_>,
+    state: &State,
+    first: u32,
+) -> Option<u32>
     requires names { AreNames (T.says task.now) names.now }
     requires first { first < length (T.says task.now).operators }
     requires state { IsState (T.says task.now).variables state.now }
