@@ -7,3 +7,5 @@ pub mod Groups
 pub mod Standing
 pub mod AllConditions
 pub mod Supporting
+pub mod Passing
+pub mod AtRest

@@ -17,7 +17,7 @@ use Rattle.sas_meaning.proofs.Rules.{new_value_is}
 use Rattle.sas_axioms.specs.LayerRules.{IsRuleOn}
 use Rattle.sas_axioms.specs.Incremental.{Supports, IsInductive, IsSupported, AllSupportsHold}
 
-abbrev no_rule : Rule
+abbrev pub no_rule : Rule
 no_rule = record { conditions = []; var = 0; old = None; new = 0 }
 
 -- the variable still differs, has the value that it had, and the rule that gave it

@@ -1,2 +1,36 @@
-use Rattle.sas_axioms.proofs.Supporting.{supported_less, forced_when_supported, risen_hold, risen_supported}
+-- The two writes.
+use Rattle.std.proofs.Common.{◌≡◌, ◌≢◌, true, [], ◌∷◌, ◌++◌, get_or, set, refl, sym, ap, subst, ◌∙◌, arith}
+use Rattle.std.specs.Result.{is_ok}
+use Rattle.sas_grounded.specs.declared.grounded.Change.{Change}
+use Rattle.sas_grounded.specs.Grounded.{rule_at}
+use Rattle.sas_meaning.specs.Layers.{default_of}
+use Rattle.sas_axioms.proofs.Passing.{falls_room, fallen}
 use Rattle.sas_axioms.proofs.memo.Memo.fall.Goals as goal
+use Rattle.sas_axioms.proofs.memo.Memo.fall.Given.{Over}
+use Rattle.sas_axioms.proofs.memo.Memo.fall.Goals.{After-push}
+
+changes : (g : Over) (c : After-push g) → get_or c.args.self.now.values (rule_at (g.T.Grounded.says c.args.task.now) c.args.rule).var 0 ≢ default_of (g.T.Grounded.says c.args.task.now) (rule_at (g.T.Grounded.says c.args.task.now) c.args.rule).var
+changes g c same =
+    let p = g.T.Grounded.says c.args.task.now in
+    let e = c.rule_change-var.ensures in
+    c.if-value.true (c.value.ensures ∙ (ap (λ (x : Change). get_or c.args.self.now.values x.var 0) e ∙ (same ∙ sym (c.initial_value-value.ensures ∙ ap (λ (x : Change). default_of p x.var) e))))
+
+succeeds : (g : Over) (c : After-push g) → is_ok c.push.result ≡ true
+succeeds g c =
+    let p = g.T.Grounded.says c.args.task.now in
+    let lt = falls_room p c.args.layer c.args.rule c.args.self.now c.args.self.now c.requires.layered.ranged c.requires.rule c.requires.passing (changes g c) in
+    c.push.ensures.succeeds (omega (arith, lt, c.requires.passing.kept.room, c.args.self.now.stack.ok.0))
+
+pub unwrap-requires : goal.unwrap-requires
+unwrap-requires g c = succeeds g c
+
+pub returns-then-value : goal.returns-then-value
+returns-then-value g c =
+    let a = (goal.at.returns-then-value g c).After-push in
+    let p = g.T.Grounded.says c.args.task.now in
+    let e = c.rule_change-var.ensures in
+    fallen p c.args.layer c.args.rule c.args.self.now _ c.requires.layered.ranged c.requires.rule c.requires.passing (changes g a)
+    (c.set.ensures ∙ (ap (λ (x : Change). set c.args.self.now.values x.var c.initial_value-value.result) e ∙ ap (λ y. set c.args.self.now.values (rule_at p c.args.rule).var y) (c.initial_value-value.ensures ∙ ap (λ (x : Change). default_of p x.var) e)))
+    refl refl refl
+    ((rw (succeeds g a) at c.push.ensures.items) ∙ ap (λ (x : Change). c.args.self.now.stack.items ++ x.var ∷ []) e)
+    (omega (arith, c.push.ensures.capacity))
