@@ -1,9 +1,9 @@
 -- The index of all conditions, and how counts change with a variable's value.
-use Rattle.std.proofs.Common.{◌≡◌, ◌≢◌, ℕ, ◌+◌, ◌-◌, ◌<◌, ◌≤◌, ◌==◌, ◌&&◌, ◌^◌, Bool, true, false, cond, List, [], ◌∷◌, ◌++◌, length, get_or, set, None, refl, sym, ◌∙◌, ap, subst, inl, inr, arith}
+use Rattle.std.proofs.Common.{◌≡◌, ◌≢◌, ℕ, ◌+◌, ◌<◌, ◌≤◌, ◌==◌, ◌&&◌, ◌^◌, Bool, true, false, cond, List, [], ◌∷◌, ◌++◌, length, get_or, set, None, refl, sym, ◌∙◌, ap, subst, inl, inr, arith}
 use Rattle.std.specs.List.{All}
 use Rattle.std.proofs.lemmas.List.{get_or-set_same, get_or-set_other, length-set}
 use Rattle.std.specs.List.Sorted.{IsPermutation}
-use Rattle.std.proofs.lemmas.Bool.{cases_eq, cases_Bool, eq-eqb}
+use Rattle.std.proofs.lemmas.Bool.{cases_eq, eq-eqb}
 use Rattle.std.proofs.lemmas.Bool.Decides.{eqb_tells}
 use Rattle.std.proofs.lemmas.List.Elements.{All-nil, All-cons, All-tail, All-append, All-weaker}
 use Rattle.std.proofs.lemmas.List.Sorted.{All-permutation}
@@ -14,11 +14,10 @@ use Rattle.sas_core.specs.WellRanged.{WellRanged, RuleFits}
 use Rattle.sas_core.proofs.Places.{holds_at}
 use Rattle.sas_axioms.specs.declared.waiting.Waiting.{Waiting}
 use Rattle.sas_axioms.specs.LayerRules.{IsRuleOn}
-use Rattle.sas_axioms.specs.Waiting.{asking, waits, AreStarts, waiting_at, released, occurrences}
+use Rattle.sas_axioms.specs.Waiting.{asking, waits, waiting_at, released, occurrences}
 use Rattle.sas_axioms.specs.Worklist.{open_conditions}
 use Rattle.sas_axioms.specs.Incremental.{IsOfRule, IsCondition, entries, AreAllConditions, IsFullIndex, AreCounted}
-use Rattle.sas_axioms.proofs.OneLayer.{one_layer}
-use Rattle.sas_axioms.proofs.Entries.{asked, counted_own, counted_other, asked_off, waits_append, waits_permutation, condition_within}
+use Rattle.sas_axioms.proofs.Entries.{asked, counted_own, counted_other, waits_append, waits_permutation, condition_within}
 use Rattle.sas_axioms.proofs.Groups.{all_part, of_variable, released_counts, waits_at}
 
 -- ---- building the index

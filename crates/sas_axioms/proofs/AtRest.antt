@@ -1,9 +1,9 @@
 -- From one phase to the next, and from one layer to the next.
-use Rattle.std.proofs.Common.{◌≡◌, ◌≢◌, ℕ, ◌+◌, ◌-◌, ◌*◌, ◌<◌, ◌≤◌, Bool, true, List, [], ◌∷◌, ◌++◌, length, get_or, set, refl, sym, ◌∙◌, ap, subst, inl, inr, arith}
+use Rattle.std.proofs.Common.{◌≡◌, ◌≢◌, ℕ, ◌+◌, ◌<◌, ◌≤◌, true, List, [], ◌∷◌, ◌++◌, length, get_or, set, refl, sym, ◌∙◌, ap, subst, inl, inr, arith}
 use Rattle.std.specs.List.{All, Contains}
 use Rattle.std.specs.Prelude.{vec_capacity}
 use Rattle.std.proofs.lemmas.Bool.{cases_eq, cases_lt}
-use Rattle.std.proofs.lemmas.List.{get_or-set_same, get_or-set_other, length-set, length_push, get_or_default}
+use Rattle.std.proofs.lemmas.List.{get_or-set_same, get_or-set_other, length_push, get_or_default}
 use Rattle.std.proofs.lemmas.Bool.Decides.{eqb_tells}
 use Rattle.std.proofs.lemmas.List.Elements.{All-head, All-tail, Contains-push, Contains-push_cases, Contains-append_left}
 use Rattle.std.proofs.lemmas.Grind.{same_number_lists}
@@ -13,9 +13,9 @@ use Rattle.sas_core.specs.declared.parts.Parts.{Parts}
 use Rattle.sas_core.specs.Variables.{IsState}
 use Rattle.sas_grounded.specs.Grounded.{rule_at}
 use Rattle.sas_meaning.specs.Layers.{IsBasic, IsOnLayer, default_of, IsLayered}
-use Rattle.sas_meaning.specs.Settled.{differs, IsSettledAt, IsSettled, SameBasic}
-use Rattle.sas_meaning.specs.Forced.{HasFired, SameOff, AtDefault, equal_places}
-use Rattle.sas_meaning.proofs.Forced.{differs_true, differs_not, state_set}
+use Rattle.sas_meaning.specs.Settled.{differs, IsSettledAt, IsSettled}
+use Rattle.sas_meaning.specs.Forced.{HasFired, AtDefault, equal_places}
+use Rattle.sas_meaning.proofs.Forced.{differs_true, differs_not}
 use Rattle.sas_meaning.proofs.Settling.{settled_when_fired, settled_off}
 use Rattle.sas_meaning.proofs.Unique.{differs_tells}
 use Rattle.sas_axioms.specs.declared.layer_rules.LayerRule.{LayerRule}
@@ -27,11 +27,11 @@ use Rattle.sas_axioms.specs.LayerRules.{IsRuleOn, AreLayerRules, IsLayerSpan}
 use Rattle.sas_axioms.specs.declared.waiting.Waiting.{Waiting}
 use Rattle.sas_axioms.specs.Waiting.{occurrences, released, waiting_at}
 use Rattle.sas_axioms.specs.Worklist.{StandsAt}
-use Rattle.sas_axioms.specs.Incremental.{IsSupported, IsKept, IsAtRest, IsRising, IsPassing, IsDone, AreCounted, Supports, IsInPhase, IsFullIndex}
+use Rattle.sas_axioms.specs.Incremental.{IsKept, IsAtRest, IsPassing, IsDone, AreCounted, Supports, IsInPhase, IsFullIndex}
 use Rattle.sas_axioms.proofs.Counters.{all_hold_when_none_open, none_open_when_all_hold}
 use Rattle.sas_axioms.proofs.AllConditions.{waiting_asks, open_changed}
 use Rattle.sas_axioms.proofs.Layering.{settled_where_idle}
-use Rattle.sas_axioms.proofs.Standing.{idle_in_the_end, from_on, idle_between, stands_behind}
+use Rattle.sas_axioms.proofs.Standing.{idle_in_the_end, idle_between, stands_behind}
 use Rattle.sas_axioms.proofs.Supporting.{no_rule, StillSupported, supported_less, forced_when_supported}
 use Rattle.sas_axioms.proofs.Passing.{equal_places_length}
 
@@ -97,7 +97,7 @@ settled_when_risen p layer m layered passing empty done =
     has k lt on can hold =
         let is : IsRuleOn p layer k = record { exists = lt; on = on; can = can } in
         done k is (passing.kept.counts.exact layer k is ∙ none_open_when_all_hold (λ v. get_or m.counted v 0) (rule_at p k).conditions
-          (subst (λ xs. All (λ (c : Fact). get_or xs c.var 0 ≡ c.value) (rule_at p k).conditions) (sym (counted_when_empty p Rise layer m passing empty)) hold))
+        (subst (λ xs. All (λ (c : Fact). get_or xs c.var 0 ≡ c.value) (rule_at p k).conditions) (sym (counted_when_empty p Rise layer m passing empty)) hold))
 
 -- what a phase wants of a rule depends, of the counters, on its own
 pub done_counted : (p : Parts) (phase : Phase) (m n : Memo) (k : ℕ) → n.values ≡ m.values → n.supports ≡ m.supports → get_or n.counters k 0 ≡ get_or m.counters k 0 → IsDone p phase m k → IsDone p phase n k
@@ -234,3 +234,13 @@ unchanged p ws starts layer var value rule counted counters counted' counters' i
     let f = counts.exact layer rule on in
     let h = counts'.exact layer rule on in
     omega arith
+
+-- a layer has a rule
+pub span_moves : (rules : List LayerRule) (place layer end : ℕ) → IsLayerSpan rules place layer end → place < end
+span_moves rules place layer end span = elim (cases_lt place end) [
+  | inl lt ↦ lt
+  | inr le ↦
+      (let d : LayerRule = record { layer = 0; rule = 0 } in
+      let same : end ≡ place = (let s = span.ends.from_start in omega arith) in
+      absurd (span.ends.last d (let s = span.some in omega arith) (ap (λ k. (get_or rules k d).layer) same ∙ span.first d)))
+]

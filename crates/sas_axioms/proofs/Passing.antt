@@ -1,6 +1,6 @@
 -- What one look at a rule does while a layer is settled from what is kept.
-use Rattle.std.proofs.Common.{◌≡◌, ◌≢◌, ℕ, zero, suc, ◌+◌, ◌-◌, ◌*◌, ◌<◌, ◌≤◌, Bool, true, false, List, [], ◌∷◌, ◌++◌, length, get_or, set, refl, sym, ◌∙◌, ap, subst, inl, inr, arith}
-use Rattle.std.specs.List.{All, Contains}
+use Rattle.std.proofs.Common.{◌≡◌, ◌≢◌, ℕ, zero, suc, ◌<◌, ◌≤◌, true, List, [], ◌∷◌, ◌++◌, length, get_or, set, refl, sym, ◌∙◌, ap, subst, inl, inr, arith}
+use Rattle.std.specs.List.{Contains}
 use Rattle.std.specs.Prelude.{vec_capacity}
 use Rattle.std.proofs.lemmas.Bool.{cases_eq}
 use Rattle.std.proofs.lemmas.Bool.Decides.{eqb_tells}
@@ -18,7 +18,7 @@ use Rattle.sas_meaning.proofs.Forced.{differs_true, differs_not, fewer_equal, st
 use Rattle.sas_axioms.specs.declared.memo.Memo.{Memo}
 use Rattle.sas_axioms.specs.declared.memo.Phase.TheVariants.{Fall, Rise}
 use Rattle.sas_axioms.specs.LayerRules.{IsRuleOn}
-use Rattle.sas_axioms.specs.Incremental.{IsSupported, AllSupportsHold, IsKept, IsRising, IsPassing, IsDone, LooksAt, work}
+use Rattle.sas_axioms.specs.Incremental.{IsSupported, IsKept, IsRising, IsPassing, LooksAt}
 use Rattle.sas_axioms.proofs.Counters.{all_hold_when_none_open}
 use Rattle.sas_axioms.proofs.Supporting.{no_rule, StillSupported, supported_less, not_default, risen_hold, risen_supported}
 
@@ -122,9 +122,9 @@ module _ (p : Parts) (layer k : ℕ) (m n : Memo) (ranged : WellRanged p) (is : 
       ];
       off = off_layer p layer k (default_of p (rule_at p k).var) m n ranged is passing.noted passing.exist within_falls passing.kept.state.one_each values-is counted-is stack-is;
       work = rw (stack-is, values-is) (let a = fewer in
-        let b = equal_places_length (set m.values (rule_at p k).var (default_of p (rule_at p k).var)) p.init in
-        let c = length-set m.values (rule_at p k).var (default_of p (rule_at p k).var) in
-        let d = length_push m.stack.items (rule_at p k).var in omega arith);
+          let b = equal_places_length (set m.values (rule_at p k).var (default_of p (rule_at p k).var)) p.init in
+          let c = length-set m.values (rule_at p k).var (default_of p (rule_at p k).var) in
+          let d = length_push m.stack.items (rule_at p k).var in omega arith);
     }
 
 -- a variable of which a rule has no open condition rises
@@ -180,7 +180,7 @@ module _ (p : Parts) (layer k : ℕ) (m n : Memo) (ranged : WellRanged p) (layer
         supported = λ l. elim (cases_eq l layer) [
           | inl e ↦ subst (λ x. IsSupported p x n.values n.supports) (sym e) (rw (values-is, supports-is)
               (risen_supported p layer m.values m.supports k layered is (omega (arith, within_rises, passing.kept.state.one_each)) (omega (arith, within_rises, passing.kept.supports)) default holds
-                (passing.kept.supported layer) passing.in_phase.hold))
+              (passing.kept.supported layer) passing.in_phase.hold))
           | inr ne ↦ supported_less p l m.values m.supports n.values n.supports (other_layer l ne) (passing.kept.supported l)
         ];
         supports = ap length supports-is ∙ (length-set m.supports (rule_at p k).var k ∙ passing.kept.supports);
@@ -203,13 +203,13 @@ module _ (p : Parts) (layer k : ℕ) (m n : Memo) (ranged : WellRanged p) (layer
       risen_phase : IsRising p layer n
       risen_phase = record {
         room = rw (stack-is, values-is) (let a = fewer_rise in
-          let b = length-set m.values (rule_at p k).var (rule_at p k).new in
-          let c = length_push m.stack.items (rule_at p k).var in
-          let d = passing.in_phase.room in omega arith);
+            let b = length-set m.values (rule_at p k).var (rule_at p k).new in
+            let c = length_push m.stack.items (rule_at p k).var in
+            let d = passing.in_phase.room in omega arith);
         late = risen_late;
         hold = rw (values-is, supports-is)
             (risen_hold p layer m.values m.supports k layered is (omega (arith, within_rises, passing.kept.state.one_each)) (omega (arith, within_rises, passing.kept.supports)) default holds
-              (passing.kept.supported layer) passing.in_phase.hold);
+            (passing.kept.supported layer) passing.in_phase.hold);
       }
 
       pub risen : LooksAt p Rise layer k m n

@@ -1,5 +1,5 @@
 -- Which rules gave the variables of a layer their values, as values change.
-use Rattle.std.proofs.Common.{◌≡◌, ◌≢◌, ℕ, ◌+◌, ◌<◌, ◌≤◌, Bool, true, false, cond, None, List, [], length, get_or, set, refl, sym, ◌∙◌, ap, subst, inl, inr, arith}
+use Rattle.std.proofs.Common.{◌≡◌, ◌≢◌, ℕ, ◌<◌, Bool, true, cond, None, List, [], length, get_or, set, refl, sym, ◌∙◌, ap, subst, inl, inr, arith}
 use Rattle.std.specs.List.{All}
 use Rattle.std.proofs.lemmas.Bool.{cases_eq, cases_Bool}
 use Rattle.std.proofs.lemmas.List.{get_or-set_same, get_or-set_other}
@@ -80,8 +80,8 @@ forced_when_supported p layer s supports layered sup hold = record { new = new; 
         all v on d conds = let b = sup.by v on d in
             subst (λ u. among u ≡ true) b.head
             (closed (get_or supports v 0) no_rule b.on.exists b.on.on b.on.can
-              (λ j e lt. given_holds (get_or (rule_at p (get_or supports v 0)).conditions j e) (hold v on d j e lt)
-                (λ onc. not_default p layer (get_or supports v 0) j e layered b.on lt onc) (conds j e lt)))
+            (λ j e lt. given_holds (get_or (rule_at p (get_or supports v 0)).conditions j e) (hold v on d j e lt)
+            (λ onc. not_default p layer (get_or supports v 0) j e layered b.on lt onc) (conds j e lt)))
 
 -- a variable rises
 module _ (p : Parts) (layer : ℕ) (s supports : List ℕ) (k : ℕ) (layered : IsLayered p) (is : IsRuleOn p layer k) (within : (rule_at p k).var < length s) (known : (rule_at p k).var < length supports)
@@ -127,10 +127,10 @@ module _ (p : Parts) (layer : ℕ) (s supports : List ℕ) (k : ℕ) (layered : 
       by v on d = elim (cases_eq v (rule_at p k).var) [
         | inl e ↦ subst (λ u. Supports p layer (set s (rule_at p k).var (rule_at p k).new) u (get_or (set supports (rule_at p k).var k) u 0)) (sym e)
             (subst (λ r. Supports p layer (set s (rule_at p k).var (rule_at p k).new) (rule_at p k).var r) (sym own_rule)
-              (record { on = is; head = refl; new = get_or-set_same s (rule_at p k).var (rule_at p k).new 0 within }))
+            (record { on = is; head = refl; new = get_or-set_same s (rule_at p k).var (rule_at p k).new 0 within }))
         | inr ne ↦ (let b = sup.by v on (before v ne d) in
             subst (λ r. Supports p layer (set s (rule_at p k).var (rule_at p k).new) v r) (sym (other_rule v ne))
-              (record { on = b.on; head = b.head; new = other v ne ∙ b.new }))
+            (record { on = b.on; head = b.head; new = other v ne ∙ b.new }))
       ]
 
       founded : (among : ℕ → Bool) → IsInductive p layer (set s (rule_at p k).var (rule_at p k).new) (set supports (rule_at p k).var k) among
@@ -139,7 +139,7 @@ module _ (p : Parts) (layer : ℕ) (s supports : List ℕ) (k : ℕ) (layered : 
         | inl e ↦ inductive v on d (subst (λ r. All (λ (c : Fact). IsOnLayer p layer c.var → differs p (set s (rule_at p k).var (rule_at p k).new) c.var ≡ true → among c.var ≡ true) (rule_at p r).conditions)
             (sym (ap (λ u. get_or (set supports (rule_at p k).var k) u 0) e ∙ own_rule))
             (λ j f lt onc dc. old (get_or (rule_at p k).conditions j f).var onc
-                (before (get_or (rule_at p k).conditions j f).var (not_head k j f is lt onc (holds j f lt)) dc)))
+            (before (get_or (rule_at p k).conditions j f).var (not_head k j f is lt onc (holds j f lt)) dc)))
         | inr ne ↦ old v on (before v ne d)
       ]
         where
@@ -151,7 +151,7 @@ module _ (p : Parts) (layer : ℕ) (s supports : List ℕ) (k : ℕ) (layered : 
               all u on' d' conds = inductive u on' now (subst (λ r. All (λ (c : Fact). IsOnLayer p layer c.var → differs p (set s (rule_at p k).var (rule_at p k).new) c.var ≡ true → among c.var ≡ true) (rule_at p r).conditions)
                   (sym (other_rule u ne))
                   (λ j f lt onc dc. conds j f lt onc
-                      (before (get_or (rule_at p (get_or supports u 0)).conditions j f).var (not_head (get_or supports u 0) j f (sup.by u on' d').on lt onc (hold u on' d' j f lt)) dc)))
+                  (before (get_or (rule_at p (get_or supports u 0)).conditions j f).var (not_head (get_or supports u 0) j f (sup.by u on' d').on lt onc (hold u on' d' j f lt)) dc)))
                 where
                   ne : u ≢ (rule_at p k).var
                   ne e = differs_not p s u d' (subst (λ w. get_or s w 0 ≡ default_of p w) (sym e) default)

@@ -1,9 +1,6 @@
 -- Each turn adds the conditions of a rule that can fire, or passes one that can't.
-use Rattle.std.proofs.Common.{◌≡◌, ◌++◌, ℕ, ◌<◌, Option, Some, None, true, false, arith, ◌∙◌, sym}
-use Rattle.sas_grounded.specs.Grounded.{rule_at}
-use Rattle.sas_axioms.specs.LayerRules.{IsRuleOn}
-use Rattle.sas_axioms.specs.Incremental.{entries}
-use Rattle.sas_axioms.proofs.AllConditions.{conditions_none, conditions_more, conditions_skip, conditions_all}
+use Rattle.std.proofs.Common.{arith}
+use Rattle.sas_axioms.proofs.AllConditions.{conditions_more, conditions_skip, conditions_all}
 use Rattle.sas_axioms.proofs.conditions.all_conditions.Goals as goal
 use Rattle.sas_axioms.proofs.conditions.all_conditions.Goals.{in-Some+in_ok-push_conditions, in_default}
 

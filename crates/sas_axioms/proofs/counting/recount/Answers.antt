@@ -1,7 +1,5 @@
 -- What opens is counted up, and then what closes down.
-use Rattle.std.proofs.Common.{◌≡◌, ◌+◌, ◌<◌, ◌≤◌, ◌^◌, ℕ, List, length, get_or, ap, ◌∙◌, sym}
-use Rattle.std.specs.List.{All}
-use Rattle.sas_axioms.specs.declared.waiting.Waiting.{Waiting}
+use Rattle.std.proofs.Common.{◌≡◌, ◌+◌, ◌<◌, ℕ, length, get_or}
 use Rattle.sas_axioms.specs.Waiting.{occurrences, released, waiting_at}
 use Rattle.sas_axioms.proofs.AllConditions.{small, still, enough, recounted}
 use Rattle.sas_axioms.proofs.counting.recount.Goals as goal
@@ -26,7 +24,7 @@ count_down-requires-clause-exist g c =
     let after = (goal.at.count_down-requires-clause-exist g c).After-count_up in
     rw c.of_variable-waiting.ensures
     (still p index.waiting.items index.starts.items c.args.fact.var c.requires.layered.ranged c.requires.index c.requires.var c.args.counted.now c.args.counters.now c.requires.counts
-      c.args.fact.value c.count_up.new.counters c.count_up.ensures.one_each (up g after))
+    c.args.fact.value c.count_up.new.counters c.count_up.ensures.one_each (up g after))
 
 pub count_down-requires-clause-enough : goal.count_down-requires-clause-enough
 count_down-requires-clause-enough g c =
@@ -35,7 +33,7 @@ count_down-requires-clause-enough g c =
     let after = (goal.at.count_down-requires-clause-enough g c).After-count_up in
     rw c.of_variable-waiting.ensures
     (enough p index.waiting.items index.starts.items c.args.fact.var c.requires.layered.ranged c.requires.index c.requires.var c.args.counted.now c.args.counters.now c.requires.counts
-      c.args.fact.value c.count_up.new.counters c.count_up.ensures.one_each (up g after))
+    c.args.fact.value c.count_up.new.counters c.count_up.ensures.one_each (up g after))
 
 pub returns-clause-counts : goal.returns-clause-counts
 returns-clause-counts g c =
@@ -44,5 +42,5 @@ returns-clause-counts g c =
     let after = (goal.at.returns-clause-counts g c).After-count_up in
     rw c.set.ensures
     (recounted p index.waiting.items index.starts.items c.args.fact.var c.requires.layered.ranged c.requires.index c.requires.var c.args.counted.now c.args.counters.now c.requires.counts
-      c.args.fact.value c.count_up.new.counters c.count_up.ensures.one_each (up g after)
-      c.count_down.new.counters c.count_down.ensures.one_each (rw c.of_variable-waiting.ensures at c.count_down.ensures.counts))
+    c.args.fact.value c.count_up.new.counters c.count_up.ensures.one_each (up g after)
+    c.count_down.new.counters c.count_down.ensures.one_each (rw c.of_variable-waiting.ensures at c.count_down.ensures.counts))

@@ -1,5 +1,5 @@
 -- The layers before the next one are settled.
-use Rattle.std.proofs.Common.{ℕ, ◌-◌, length}
+use Rattle.std.proofs.Common.{◌-◌, length}
 use Rattle.sas_meaning.specs.Settled.{SameBasic}
 use Rattle.sas_axioms.specs.Incremental.{IsAtRest}
 use Rattle.sas_axioms.proofs.AtRest.{SettledTo}

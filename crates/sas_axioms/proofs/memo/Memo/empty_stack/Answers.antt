@@ -1,5 +1,5 @@
 -- A variable comes off the stack and is counted; then what waits for it is looked at.
-use Rattle.std.proofs.Common.{◌≡◌, ◌≢◌, ℕ, ◌+◌, ◌<◌, List, [], ◌∷◌, ◌++◌, length, get_or, set, refl, sym, subst, ap, ◌∙◌, arith}
+use Rattle.std.proofs.Common.{◌≡◌, ◌≢◌, ◌<◌, [], ◌∷◌, ◌++◌, length, set, refl, sym, subst, ap, ◌∙◌, arith}
 use Rattle.std.specs.List.{All, Contains}
 use Rattle.std.proofs.lemmas.List.Elements.{Contains-push}
 use Rattle.sas_axioms.specs.declared.waiting.Waiting.{Waiting}
@@ -47,6 +47,6 @@ look_at_waiting-requires-clause-done g c rule on none =
     let self = c.loop-var.self in
     done_counted p c.args.phase self _ rule refl refl
     (unchanged p index.waiting.items index.starts.items c.args.layer c.in-Some.var c.value-value.result rule self.counted self.counters c.recount.new.counted c.recount.new.counters
-      c.requires.index (within g some) c.loop-var.invariant.passing.kept.counts c.recount.ensures.counts c.recount.ensures.counted on
-      (subst (All (λ (w : Waiting). w.rule ≢ rule)) c.of_variable.ensures none))
+    c.requires.index (within g some) c.loop-var.invariant.passing.kept.counts c.recount.ensures.counts c.recount.ensures.counted on
+    (subst (All (λ (w : Waiting). w.rule ≢ rule)) c.of_variable.ensures none))
     (c.loop-var.invariant.done rule on)

@@ -1,5 +1,4 @@
 -- All rules of the layer were looked at; what is left stands on the stack.
-use Rattle.std.proofs.Common.{◌≤◌, ℕ}
 use Rattle.sas_axioms.specs.Incremental.{LooksAtAll, work}
 use Rattle.sas_axioms.proofs.memo.Memo.empty_stack.Given as goal
 

@@ -1,5 +1,5 @@
 -- One more entry: its rule is looked at if it is on the layer.
-use Rattle.std.proofs.Common.{◌≡◌, ◌≢◌, ℕ, ◌+◌, ◌<◌, ◌==◌, Option, Some, true, false, List, [], ◌∷◌, length, get_or, drop, refl, sym, subst, ap, ◌∙◌, inl, inr, arith}
+use Rattle.std.proofs.Common.{◌≡◌, ◌≢◌, ℕ, ◌+◌, ◌<◌, ◌==◌, Option, Some, true, false, length, get_or, drop, sym, subst, ap, ◌∙◌, inl, inr, arith}
 use Rattle.std.specs.List.{All}
 use Rattle.std.specs.Option.{option_eq}
 use Rattle.std.proofs.lemmas.Bool.{cases_eq}
@@ -11,7 +11,6 @@ use Rattle.sas_grounded.specs.Grounded.{rule_at}
 use Rattle.sas_meaning.specs.Layers.{IsOnLayer}
 use Rattle.sas_meaning.proofs.Layers.{on_layer_within}
 use Rattle.sas_axioms.specs.declared.waiting.Waiting.{Waiting}
-use Rattle.sas_axioms.specs.LayerRules.{IsRuleOn}
 use Rattle.sas_axioms.specs.Incremental.{IsDone}
 use Rattle.sas_axioms.proofs.Entries.{same_option}
 use Rattle.sas_axioms.proofs.memo.Memo.look_at_waiting.Goals as goal

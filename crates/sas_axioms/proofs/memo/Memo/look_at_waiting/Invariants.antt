@@ -1,5 +1,5 @@
 -- What isn't among the entries left was looked at.
-use Rattle.std.proofs.Common.{◌≤◌, ◌≢◌, ℕ, ◌<◌, get_or, drop}
+use Rattle.std.proofs.Common.{◌≤◌, ◌≢◌, ℕ, drop}
 use Rattle.std.specs.List.{All}
 use Rattle.sas_meaning.specs.Forced.{SameOff}
 use Rattle.sas_axioms.specs.declared.waiting.Waiting.{Waiting}

@@ -1,9 +1,9 @@
 -- One more variable: where it is basic and differs, it is counted and written.
-use Rattle.std.proofs.Common.{◌≡◌, ◌≢◌, ℕ, ◌+◌, ◌<◌, Option, None, Some, Bool, true, false, not, List, length, get_or, set, refl, sym, subst, ap, ◌∙◌, inl, inr, arith}
+use Rattle.std.proofs.Common.{◌≡◌, ℕ, ◌<◌, Option, None, Some, Bool, true, false, not, length, get_or, set, refl, sym, subst, ap, ◌∙◌, inl, inr, arith}
 use Rattle.std.specs.Option.{is_some}
 use Rattle.std.proofs.lemmas.Bool.{cases_eq}
 use Rattle.std.proofs.lemmas.List.{get_or-set_same, get_or-set_other}
-use Rattle.sas_core.specs.Variables.{layer_of, range_of}
+use Rattle.sas_core.specs.Variables.{range_of}
 use Rattle.sas_meaning.specs.Layers.{IsBasic}
 use Rattle.sas_meaning.proofs.Forced.{state_set}
 use Rattle.sas_axioms.proofs.AtRest.{rest_basic}
