@@ -1,9 +1,9 @@
 -- From one phase to the next, and from one layer to the next.
-use Rattle.std.proofs.Common.{◌≡◌, ◌≢◌, ℕ, ◌+◌, ◌<◌, ◌≤◌, true, List, [], ◌∷◌, ◌++◌, length, get_or, set, refl, sym, ◌∙◌, ap, subst, inl, inr, arith}
+use Rattle.std.proofs.Common.{◌≡◌, ◌≢◌, ℕ, ◌+◌, ◌<◌, ◌≤◌, true, List, [], ◌∷◌, ◌++◌, length, get_or, set, drop, refl, sym, ◌∙◌, ap, subst, inl, inr, arith}
 use Rattle.std.specs.List.{All, Contains}
 use Rattle.std.specs.Prelude.{vec_capacity}
 use Rattle.std.proofs.lemmas.Bool.{cases_eq, cases_lt}
-use Rattle.std.proofs.lemmas.List.{get_or-set_same, get_or-set_other, length_push, get_or_default}
+use Rattle.std.proofs.lemmas.List.{drop_more, drop_all, get_or-set_same, get_or-set_other, length_push, get_or_default}
 use Rattle.std.proofs.lemmas.Bool.Decides.{eqb_tells}
 use Rattle.std.proofs.lemmas.List.Elements.{All-head, All-tail, Contains-push, Contains-push_cases, Contains-append_left}
 use Rattle.std.proofs.lemmas.Grind.{same_number_lists}
@@ -19,6 +19,7 @@ use Rattle.sas_meaning.proofs.Forced.{differs_true, differs_not}
 use Rattle.sas_meaning.proofs.Settling.{settled_when_fired, settled_off}
 use Rattle.sas_meaning.proofs.Unique.{differs_tells}
 use Rattle.sas_axioms.specs.declared.layer_rules.LayerRule.{LayerRule}
+use Rattle.sas_axioms.specs.declared.layer_rules.LayerSpan.{LayerSpan}
 use Rattle.sas_axioms.specs.declared.memo.Memo.{Memo}
 use Rattle.sas_axioms.specs.declared.memo.Phase.{Phase}
 use Rattle.sas_axioms.specs.declared.memo.Phase.TheVariants.{Fall, Rise}
@@ -27,7 +28,7 @@ use Rattle.sas_axioms.specs.LayerRules.{IsRuleOn, AreLayerRules, IsLayerSpan}
 use Rattle.sas_axioms.specs.declared.waiting.Waiting.{Waiting}
 use Rattle.sas_axioms.specs.Waiting.{occurrences, released, waiting_at}
 use Rattle.sas_axioms.specs.Worklist.{StandsAt}
-use Rattle.sas_axioms.specs.Incremental.{IsKept, IsAtRest, IsPassing, IsDone, AreCounted, Supports, IsInPhase, IsFullIndex}
+use Rattle.sas_axioms.specs.Incremental.{IsKept, IsAtRest, IsPassing, IsDone, AreCounted, Supports, IsInPhase, IsFullIndex, AreSpans}
 use Rattle.sas_axioms.proofs.Counters.{all_hold_when_none_open, none_open_when_all_hold}
 use Rattle.sas_axioms.proofs.AllConditions.{waiting_asks, open_changed}
 use Rattle.sas_axioms.proofs.Layering.{settled_where_idle}
@@ -107,9 +108,10 @@ done_counted p Rise m n k values-is supports-is same done = λ none. ap (λ xs. 
 
 -- a basic variable gets another value
 pub rest_basic : (p : Parts) (v value : ℕ) (m n : Memo) → IsBasic p v → IsAtRest p m → IsState p.variables (set m.values v value) → n.values ≡ set m.values v value → n.counted ≡ set m.counted v value
-    → AreCounted p n.counted n.counters → n.supports ≡ m.supports → n.stack ≡ m.stack → IsAtRest p n
-rest_basic p v value m n basic rest state values-is counted-is counts supports-is stack-is = record {
+    → AreCounted p n.counted n.counters → n.supports ≡ m.supports → n.heads ≡ m.heads → n.stack ≡ m.stack → IsAtRest p n
+rest_basic p v value m n basic rest state values-is counted-is counts supports-is heads-is stack-is = record {
   kept = record {
+    heads = rw heads-is rest.kept.heads;
     state = rw values-is state;
     counts = counts;
     supported = λ l. supported_less p l m.values m.supports n.values n.supports (still l) (rest.kept.supported l);
@@ -174,10 +176,11 @@ settled_to_end p rules place m firing past rest to l = elim (cases_lt l to.from)
 ]
 
 -- a variable is counted that stood on the stack
-pub popped : (p : Parts) (phase : Phase) (layer v : ℕ) (m n : Memo) → IsPassing p phase layer m → m.stack.items ≡ n.stack.items ++ v ∷ [] → n.values ≡ m.values → n.supports ≡ m.supports
+pub popped : (p : Parts) (phase : Phase) (layer v : ℕ) (m n : Memo) → IsPassing p phase layer m → m.stack.items ≡ n.stack.items ++ v ∷ [] → n.values ≡ m.values → n.supports ≡ m.supports → n.heads ≡ m.heads
     → n.counted ≡ set m.counted v (get_or m.values v 0) → AreCounted p n.counted n.counters → vec_capacity m.stack ≤ vec_capacity n.stack → IsPassing p phase layer n
-popped p phase layer v m n passing stack-is values-is supports-is counted-is counts room = record {
+popped p phase layer v m n passing stack-is values-is supports-is heads-is counted-is counts room = record {
   kept = record {
+    heads = rw heads-is passing.kept.heads;
     state = rw values-is passing.kept.state;
     counts = counts;
     supported = λ l. rw (values-is, supports-is) (passing.kept.supported l);
@@ -244,3 +247,17 @@ span_moves rules place layer end span = elim (cases_lt place end) [
       let same : end ≡ place = (let s = span.ends.from_start in omega arith) in
       absurd (span.ends.last d (let s = span.some in omega arith) (ap (λ k. (get_or rules k d).layer) same ∙ span.first d)))
 ]
+
+-- one span more
+pub spans_more : (rules : List LayerRule) (start end : ℕ) (spans : List LayerSpan) (span : LayerSpan) → AreSpans rules start spans end → IsLayerSpan rules end span.layer span.end
+    → AreSpans rules start (spans ++ span ∷ []) span.end
+spans_more rules start end [] span are is = (subst (λ k. IsLayerSpan rules k span.layer span.end) (sym are) is, refl)
+spans_more rules start end (s ∷ spans) span are is = (are.0, spans_more rules s.end end spans span are.1 is)
+
+-- the span at a place, and those behind it
+pub next_span : (rules : List LayerRule) (spans : List LayerSpan) (start place end : ℕ) (d : LayerSpan) → place < length spans → AreSpans rules start (drop place spans) end
+    → IsLayerSpan rules start (get_or spans place d).layer (get_or spans place d).end × AreSpans rules (get_or spans place d).end (drop (place + 1) spans) end
+next_span rules spans start place end d lt are = subst (λ ss. AreSpans rules start ss end) (drop_more spans place d lt) are
+
+pub no_span_left : (rules : List LayerRule) (spans : List LayerSpan) (start place end : ℕ) → length spans ≤ place → AreSpans rules start (drop place spans) end → start ≡ end
+no_span_left rules spans start place end past are = subst (λ ss. AreSpans rules start ss end) (drop_all place spans past) are

@@ -18,9 +18,13 @@ use Rattle.sas_meaning.proofs.Forced.{differs_true, differs_not, fewer_equal, st
 use Rattle.sas_axioms.specs.declared.memo.Memo.{Memo}
 use Rattle.sas_axioms.specs.declared.memo.Phase.TheVariants.{Fall, Rise}
 use Rattle.sas_axioms.specs.LayerRules.{IsRuleOn}
-use Rattle.sas_axioms.specs.Incremental.{IsSupported, IsKept, IsRising, IsPassing, LooksAt}
+use Rattle.sas_axioms.specs.Incremental.{IsSupported, IsKept, IsRising, IsPassing, LooksAt, AreHeads}
 use Rattle.sas_axioms.proofs.Counters.{all_hold_when_none_open}
 use Rattle.sas_axioms.proofs.Supporting.{no_rule, StillSupported, supported_less, not_default, risen_hold, risen_supported}
+
+-- a rule's variable, as it was looked up
+pub head_is : (p : Parts) (k : ℕ) (m : Memo) (heads : List ℕ) → heads ≡ m.heads → k < length p.rules → AreHeads p m.heads → get_or heads k 0 ≡ (rule_at p k).var
+head_is p k m heads is lt are = ap (λ xs. get_or xs k 0) is ∙ are.each k lt
 
 -- a write of the same value to an unequal place leaves more that are equal
 more_equal : (xs ys : List ℕ) (k : ℕ) → k < length xs → k < length ys → get_or xs k 0 ≢ get_or ys k 0 → equal_places xs ys < equal_places (set xs k (get_or ys k 0)) ys
@@ -80,7 +84,7 @@ module _ (p : Parts) (layer k : ℕ) (m n : Memo) (ranged : WellRanged p) (is : 
       let e = passing.kept.state.one_each in
       omega arith
 
-  module _ (values-is : n.values ≡ set m.values (rule_at p k).var (default_of p (rule_at p k).var)) (counted-is : n.counted ≡ m.counted) (counters-is : n.counters ≡ m.counters) (supports-is : n.supports ≡ m.supports)
+  module _ (values-is : n.values ≡ set m.values (rule_at p k).var (default_of p (rule_at p k).var)) (counted-is : n.counted ≡ m.counted) (counters-is : n.counters ≡ m.counters) (supports-is : n.supports ≡ m.supports) (heads-is : n.heads ≡ m.heads)
       (stack-is : n.stack.items ≡ m.stack.items ++ (rule_at p k).var ∷ []) (room : vec_capacity m.stack ≤ vec_capacity n.stack) where
     fallen_value : get_or n.values (rule_at p k).var 0 ≡ default_of p (rule_at p k).var
     fallen_value = given_value p layer k (default_of p (rule_at p k).var) m n ranged is passing.noted passing.exist within_falls passing.kept.state.one_each values-is counted-is stack-is
@@ -100,6 +104,7 @@ module _ (p : Parts) (layer k : ℕ) (m n : Memo) (ranged : WellRanged p) (is : 
 
     fallen_kept : IsKept p n
     fallen_kept = record {
+      heads = rw heads-is passing.kept.heads;
       state = rw values-is (state_set p m.values (rule_at p k).var (default_of p (rule_at p k).var) passing.kept.state (ranged.init.in_range (rule_at p k).var within_falls));
       counts = rw (counted-is, counters-is) passing.kept.counts;
       supported = λ l. supported_less p l m.values m.supports n.values n.supports (λ u on d. still u d) (passing.kept.supported l);
@@ -155,7 +160,7 @@ module _ (p : Parts) (layer k : ℕ) (m n : Memo) (ranged : WellRanged p) (layer
     pub rises_room : length m.stack.items < length p.variables
     rises_room = let a = fewer_rise in let b = passing.in_phase.room in let c = passing.kept.state.one_each in omega arith
 
-    module _ (values-is : n.values ≡ set m.values (rule_at p k).var (rule_at p k).new) (counted-is : n.counted ≡ m.counted) (counters-is : n.counters ≡ m.counters) (supports-is : n.supports ≡ set m.supports (rule_at p k).var k)
+    module _ (values-is : n.values ≡ set m.values (rule_at p k).var (rule_at p k).new) (counted-is : n.counted ≡ m.counted) (counters-is : n.counters ≡ m.counters) (supports-is : n.supports ≡ set m.supports (rule_at p k).var k) (heads-is : n.heads ≡ m.heads)
         (stack-is : n.stack.items ≡ m.stack.items ++ (rule_at p k).var ∷ []) (room : vec_capacity m.stack ≤ vec_capacity n.stack) where
       risen_value : get_or n.values (rule_at p k).var 0 ≡ (rule_at p k).new
       risen_value = given_value p layer k (rule_at p k).new m n ranged is passing.noted passing.exist within_rises passing.kept.state.one_each values-is counted-is stack-is
@@ -175,6 +180,7 @@ module _ (p : Parts) (layer k : ℕ) (m n : Memo) (ranged : WellRanged p) (layer
 
       risen_kept : IsKept p n
       risen_kept = record {
+        heads = rw heads-is passing.kept.heads;
         state = rw values-is (state_set p m.values (rule_at p k).var (rule_at p k).new passing.kept.state (rule_new p ranged k no_rule is.exists));
         counts = rw (counted-is, counters-is) passing.kept.counts;
         supported = λ l. elim (cases_eq l layer) [

@@ -9,11 +9,13 @@ use Rattle.sas_meaning.specs.Layers.{IsOnLayer, default_of}
 use Rattle.sas_meaning.specs.Settled.{differs, SameBasic, IsSettled}
 use Rattle.sas_meaning.specs.Forced.{equal_places, SameOff}
 use Rattle.sas_axioms.specs.declared.incremental.Incremental.{Incremental}
+use Rattle.sas_axioms.specs.declared.layer_rules.LayerRule.{LayerRule}
+use Rattle.sas_axioms.specs.declared.layer_rules.LayerSpan.{LayerSpan}
 use Rattle.sas_axioms.specs.declared.memo.Memo.{Memo}
 use Rattle.sas_axioms.specs.declared.memo.Phase.{Phase}
 use Rattle.sas_axioms.specs.declared.memo.Phase.TheVariants.{Fall, Rise}
 use Rattle.sas_axioms.specs.declared.waiting.Waiting.{Waiting}
-use Rattle.sas_axioms.specs.LayerRules.{IsRuleOn, AreLayerRules}
+use Rattle.sas_axioms.specs.LayerRules.{IsRuleOn, AreLayerRules, IsLayerSpan}
 use Rattle.sas_axioms.specs.Waiting.{asking, waits, AreStarts}
 use Rattle.sas_axioms.specs.Worklist.{open_conditions}
 
@@ -50,6 +52,11 @@ pub record AreCounted (p : Parts) (values counters : List ℕ) : Type 0 where
   pub exact : (layer rule : ℕ) → IsRuleOn p layer rule
       → slice_index counters rule ≡ open_conditions (slice_index values) (rule_at p rule).conditions
 
+-- the variable of each rule
+pub record AreHeads (p : Parts) (heads : List ℕ) : Type 0 where
+  pub one_each : length heads ≡ length p.rules
+  pub each : (rule : ℕ) → rule < length p.rules → slice_index heads rule ≡ (rule_at p rule).var
+
 -- the rule, which is on the layer, gave the variable its value
 pub record Supports (p : Parts) (layer : ℕ) (s : List ℕ) (var rule : ℕ) : Type 0 where
   pub on : IsRuleOn p layer rule
@@ -77,6 +84,7 @@ AllSupportsHold p layer s supports = (var : ℕ) → IsOnLayer p layer var → I
 
 -- what is kept fits the task
 pub record IsKept (p : Parts) (m : Memo) : Type 0 where
+  pub heads : AreHeads p m.heads
   pub state : IsState p.variables m.values
   pub counts : AreCounted p m.counted m.counters
   pub supported : (layer : ℕ) → IsSupported p layer m.values m.supports
@@ -134,9 +142,16 @@ pub record LooksAtAll (p : Parts) (phase : Phase) (layer : ℕ) (m m' : Memo) : 
   pub off : SameOff p layer m.values m'.values
   pub work : work p phase m' ≤ work p phase m
 
+-- these are the layers of the rules from one place to another, one after the other
+abbrev pub AreSpans : List LayerRule → ℕ → List LayerSpan → ℕ → Type 0
+AreSpans rules start [] end = start ≡ end
+AreSpans rules start (span ∷ spans) end =
+    IsLayerSpan rules start span.layer span.end × AreSpans rules span.end spans end
+
 -- what the evaluator holds fits the task
 pub record IsReadyFor (p : Parts) (e : Incremental) : Type 0 where
   pub firing : AreLayerRules p e.rules.items
+  pub spans : AreSpans e.rules.items 0 e.spans.items (length e.rules.items)
   pub index : IsFullIndex p e.index.waiting.items e.index.starts.items
   pub rest : IsAtRest p e.memo
 

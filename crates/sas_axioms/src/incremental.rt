@@ -1,11 +1,11 @@
 // Settling a state from the one that was settled before it: what didn't change isn't looked at again.
-ghost use Rattle.std.specs.Prelude.{ℕ, IfOk};
+ghost use Rattle.std.specs.Prelude.{length, IfOk};
 ghost use Rattle.sas_axioms.specs.ByLayers.{IsLayeredTask};
 ghost use Rattle.sas_axioms.specs.LayerRules.{AreLayerRules};
-ghost use Rattle.sas_axioms.specs.Incremental.{IsFullIndex, IsAtRest, IsReadyFor, HasSettled};
+ghost use Rattle.sas_axioms.specs.Incremental.{IsFullIndex, IsAtRest, AreSpans, IsReadyFor, HasSettled};
 
 use crate::conditions::index_of_all;
-use crate::layer_rules::{LayerRule, layer_at, ranked_rules};
+use crate::layer_rules::{LayerRule, LayerSpan, ranked_rules, spans_of};
 use crate::memo::Memo;
 use crate::waiting::Index;
 use sas_grounded::Grounded;
@@ -20,6 +20,8 @@ use std::alloc::{AllocError, Global};
 pub struct Incremental {
     /// The rules that can fire, in ascending order of their layers.
     rules: Vec<LayerRule>,
+    /// Where in `rules` each layer ends.
+    spans: Vec<LayerSpan>,
     /// Which rules wait for which facts, on any layer and of any variable.
     index: Index,
     /// What is kept of the state that was settled last.
@@ -32,8 +34,11 @@ impl Incremental {
         ensures { IfOk result (λ e. IsReadyFor layered.now e) }
     {
         let task = layered.task();
+        let rules = ranked_rules(alloc, task)?;
+        let spans = spans_of(alloc, rules.as_slice())?;
         Ok(Incremental {
-            rules: ranked_rules(alloc, task)?,
+            rules,
+            spans,
             index: index_of_all(alloc, task)?,
             memo: Memo::new(alloc, task)?,
         })
@@ -48,22 +53,30 @@ impl<T: Grounded> Settle<T> for Incremental {
     fn settle(&mut self, layered: &Layered<T>, state: &mut State) {
         let task = layered.task();
         self.memo.take_basic(task, &self.index, state);
-        settle_layers(task, self.rules.as_slice(), &self.index, &mut self.memo);
+        let (rules, spans) = (self.rules.as_slice(), self.spans.as_slice());
+        settle_layers(task, rules, spans, &self.index, &mut self.memo);
         self.memo.copy_to(task, state);
     }
 }
 
 /// Settles what is kept, layer after layer.
-fn settle_layers<T: Grounded>(task: &T, rules: &[LayerRule], index: &Index, memo: &mut Memo)
+fn settle_layers<T: Grounded>(
+    task: &T,
+    rules: &[LayerRule],
+    spans: &[LayerSpan],
+    index: &Index,
+    memo: &mut Memo,
+)
     requires layered { IsLayeredTask (T.says task.now) }
     requires firing { AreLayerRules (T.says task.now) rules.now }
+    requires spans { AreSpans rules.now 0 spans.now (length rules.now) }
     requires index { IsFullIndex (T.says task.now) index.now.waiting.items index.now.starts.items }
     requires rest { IsAtRest (T.says task.now) memo.old }
     ensures { HasSettled (T.says task.now) memo.old.values memo.new }
 {
-    let mut next = 0;
-    while let Some(span) = layer_at(rules, next) {
-        memo.settle_layer(task, span.layer, &rules[next..span.end], index);
-        next = span.end;
+    let mut start = 0;
+    for span in spans {
+        memo.settle_layer(task, span.layer, &rules[start..span.end], index);
+        start = span.end;
     }
 }

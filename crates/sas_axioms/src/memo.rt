@@ -6,7 +6,7 @@ ghost use Rattle.sas_axioms.specs.declared.waiting.Waiting.{Waiting};
 ghost use Rattle.sas_axioms.specs.declared.memo.Phase.TheVariants.{Fall, Rise};
 ghost use Rattle.sas_axioms.specs.ByLayers.{IsLayeredTask, SettlesLayer};
 ghost use Rattle.sas_axioms.specs.LayerRules.{IsRuleOn, AreRulesOn};
-ghost use Rattle.sas_axioms.specs.Incremental.{IsOfRule, IsFullIndex, IsAtRest, IsPassing, IsDone, LooksAt, LooksAtAll};
+ghost use Rattle.sas_axioms.specs.Incremental.{IsOfRule, IsFullIndex, IsAtRest, AreHeads, IsPassing, IsDone, LooksAt, LooksAtAll};
 
 use crate::counting::{open_counters, recount};
 use crate::layer_rules::LayerRule;
@@ -27,6 +27,8 @@ pub enum Phase {
 /// What is kept from one state to the next.
 #[derive(Drop)]
 pub struct Memo {
+    /// The variable of each rule.
+    heads: Items<u32>,
     /// The values that were settled last.
     values: State,
     /// The values by which the conditions are counted: those, but for the variables on the stack.
@@ -48,6 +50,7 @@ impl Memo {
         let values = State::of_section(alloc, task)?;
         let counters = open_counters(alloc, task, &values)?;
         Ok(Memo {
+            heads: heads_of(alloc, task)?,
             values,
             counted: State::of_section(alloc, task)?,
             counters,
@@ -153,7 +156,7 @@ impl Memo {
         ensures { LooksAtAll (T.says task.now) phase layer self.old self.new }
     {
         for entry in waiting {
-            let head = task.rule_change(entry.rule).var;
+            let head = self.heads.as_slice()[entry.rule as usize];
             if task.layer(head) == Some(layer) {
                 self.look_at(task, phase, layer, entry.rule);
             }
@@ -189,9 +192,11 @@ impl Memo {
         requires passing { IsPassing (T.says task.now) Fall layer self.old }
         ensures { LooksAt (T.says task.now) Fall layer rule self.old self.new }
     {
-        let var = task.rule_change(rule).var;
-        let value = task.initial_value(var);
-        if self.supports.as_slice()[var as usize] == rule && self.values.value(var) != value {
+        let var = self.heads.as_slice()[rule as usize];
+        if self.supports.as_slice()[var as usize] == rule
+            && self.values.value(var) != task.initial_value(var)
+        {
+            let value = task.initial_value(var);
             self.values.set(Fact { var, value });
             self.stack.push(var).unwrap();
         }
@@ -205,12 +210,23 @@ impl Memo {
         requires none_open { slice_index self.old.counters rule ≡ 0 }
         ensures { LooksAt (T.says task.now) Rise layer rule self.old self.new }
     {
-        let change = task.rule_change(rule);
-        let (var, value) = (change.var, change.new);
+        let var = self.heads.as_slice()[rule as usize];
         if self.values.value(var) == task.initial_value(var) {
+            let value = task.rule_change(rule).new;
             self.values.set(Fact { var, value });
             self.supports.set(var as usize, rule);
             self.stack.push(var).unwrap();
         }
     }
+}
+
+/// The variable of each rule.
+fn heads_of<T: Grounded>(alloc: Global, task: &T) -> Result<Items<u32>, AllocError>
+    ensures { IfOk result (λ heads. AreHeads (T.says task.now) heads) }
+{
+    let mut heads = Items::new(alloc);
+    for rule in 0..task.rules() {
+        heads.push(task.rule_change(rule).var)?;
+    }
+    Ok(heads)
 }

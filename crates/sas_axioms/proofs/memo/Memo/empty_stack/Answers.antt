@@ -36,7 +36,7 @@ pub look_at_waiting-requires-clause-passing : goal.look_at_waiting-requires-clau
 look_at_waiting-requires-clause-passing g c =
     let p = g.T.Grounded.says c.args.task.now in
     let some = (goal.at.look_at_waiting-requires-clause-passing g c).In-Some in
-    popped p c.args.phase c.args.layer c.in-Some.var c.loop-var.self _ c.loop-var.invariant.passing (stack_was g some) refl refl
+    popped p c.args.phase c.args.layer c.in-Some.var c.loop-var.self _ c.loop-var.invariant.passing (stack_was g some) refl refl refl
     (c.recount.ensures.counted ∙ ap (λ x. set c.loop-var.self.counted c.in-Some.var x) c.value-value.ensures) c.recount.ensures.counts (omega (arith, c.pop.ensures.capacity))
 
 pub look_at_waiting-requires-clause-done : goal.look_at_waiting-requires-clause-done

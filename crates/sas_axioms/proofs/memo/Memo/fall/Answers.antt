@@ -1,10 +1,9 @@
 -- The two writes.
 use Rattle.std.proofs.Common.{◌≡◌, ◌≢◌, true, [], ◌∷◌, ◌++◌, get_or, set, refl, sym, ap, ◌∙◌, arith}
 use Rattle.std.specs.Result.{is_ok}
-use Rattle.sas_grounded.specs.declared.grounded.Change.{Change}
 use Rattle.sas_grounded.specs.Grounded.{rule_at}
 use Rattle.sas_meaning.specs.Layers.{default_of}
-use Rattle.sas_axioms.proofs.Passing.{falls_room, fallen}
+use Rattle.sas_axioms.proofs.Passing.{falls_room, fallen, head_is}
 use Rattle.sas_axioms.proofs.memo.Memo.fall.Goals as goal
 use Rattle.sas_axioms.proofs.memo.Memo.fall.Given.{Over}
 use Rattle.sas_axioms.proofs.memo.Memo.fall.Goals.{After-push}
@@ -12,8 +11,8 @@ use Rattle.sas_axioms.proofs.memo.Memo.fall.Goals.{After-push}
 changes : (g : Over) (c : After-push g) → get_or c.args.self.now.values (rule_at (g.T.Grounded.says c.args.task.now) c.args.rule).var 0 ≢ default_of (g.T.Grounded.says c.args.task.now) (rule_at (g.T.Grounded.says c.args.task.now) c.args.rule).var
 changes g c same =
     let p = g.T.Grounded.says c.args.task.now in
-    let e = c.rule_change-var.ensures in
-    c.if-value.true (c.value.ensures ∙ (ap (λ (x : Change). get_or c.args.self.now.values x.var 0) e ∙ (same ∙ sym (c.initial_value-value.ensures ∙ ap (λ (x : Change). default_of p x.var) e))))
+    let e = head_is p c.args.rule c.args.self.now c.as_slice.result.now c.as_slice.ensures c.requires.rule.exists c.requires.passing.kept.heads in
+    c.if-value-initial_value.true (c.value.ensures ∙ (ap (λ x. get_or c.args.self.now.values x 0) e ∙ (same ∙ sym (c.initial_value.ensures ∙ ap (default_of p) e))))
 
 succeeds : (g : Over) (c : After-push g) → is_ok c.push.result ≡ true
 succeeds g c =
@@ -24,13 +23,13 @@ succeeds g c =
 pub unwrap-requires : goal.unwrap-requires
 unwrap-requires g c = succeeds g c
 
-pub returns-then-value : goal.returns-then-value
-returns-then-value g c =
-    let a = (goal.at.returns-then-value g c).After-push in
+pub returns-then-value-initial_value : goal.returns-then-value-initial_value
+returns-then-value-initial_value g c =
+    let a = (goal.at.returns-then-value-initial_value g c).After-push in
     let p = g.T.Grounded.says c.args.task.now in
-    let e = c.rule_change-var.ensures in
+    let e = head_is p c.args.rule c.args.self.now c.as_slice.result.now c.as_slice.ensures c.requires.rule.exists c.requires.passing.kept.heads in
     fallen p c.args.layer c.args.rule c.args.self.now _ c.requires.layered.ranged c.requires.rule c.requires.passing (changes g a)
-    (c.set.ensures ∙ (ap (λ (x : Change). set c.args.self.now.values x.var c.initial_value-value.result) e ∙ ap (λ y. set c.args.self.now.values (rule_at p c.args.rule).var y) (c.initial_value-value.ensures ∙ ap (λ (x : Change). default_of p x.var) e)))
-    refl refl refl
-    ((rw (succeeds g a) at c.push.ensures.items) ∙ ap (λ (x : Change). c.args.self.now.stack.items ++ x.var ∷ []) e)
+    (c.set.ensures ∙ (ap (λ x. set c.args.self.now.values x c.initial_value-value.result) e ∙ ap (λ y. set c.args.self.now.values (rule_at p c.args.rule).var y) (c.initial_value-value.ensures ∙ ap (default_of p) e)))
+    refl refl refl refl
+    ((rw (succeeds g a) at c.push.ensures.items) ∙ ap (λ x. c.args.self.now.stack.items ++ x ∷ []) e)
     (omega (arith, c.push.ensures.capacity))

@@ -31,7 +31,7 @@ loop-var-preserved g c =
           let fits : c.value-value.result < range_of p.variables var = subst (λ x. x < range_of p.variables var) (sym c.value-value.ensures) (c.requires.state.in_range var within) in
           rw w.self-is record {
             rest = rest_basic p var c.value-value.result self _ basic inv.rest (state_set p self.values var c.value-value.result inv.rest.kept.state fits)
-                w.set.ensures w.recount.ensures.counted w.recount.ensures.counts refl refl;
+                w.set.ensures w.recount.ensures.counted w.recount.ensures.counts refl refl refl;
             basic = λ v lt b. rw w.set.ensures (elim (cases_eq v var) [
               | inl e ↦ subst (λ x. get_or c.args.state.now x 0 ≡ get_or (set self.values var c.value-value.result) x 0) (sym e)
                   (sym (get_or-set_same self.values var c.value-value.result 0 (omega (arith, within, inv.rest.kept.state.one_each)) ∙ c.value-value.ensures))
