@@ -17,7 +17,7 @@ use Rattle.sas_axioms.specs.Waiting.{asking, waits, IsOfOneLayer, AreStarts, wai
 use Rattle.sas_axioms.proofs.Entries.{waits_append}
 
 -- what is said of each item from one place up to another is said of the part of the list there
-all_part : {X : Type 0} (P : X → Type 0) (xs : List X) (from to : ℕ) → ((place : ℕ) (d : X) → from ≤ place → place < to → place < length xs → P (get_or xs place d))
+pub all_part : {X : Type 0} (P : X → Type 0) (xs : List X) (from to : ℕ) → ((place : ℕ) (d : X) → from ≤ place → place < to → place < length xs → P (get_or xs place d))
     → All P (take (to - from) (drop from xs))
 all_part {X} P xs from to at k d lt =
     let lens = length-take (to - from) (drop from xs) in
@@ -38,7 +38,7 @@ contains_part xs from to place x low high within is =
     (place - from, omega arith, same)
 
 -- what stands at a variable is of it
-of_variable : (ws : List Waiting) (starts : List ℕ) (var : ℕ) → AreStarts ws starts → var + 1 < length starts → All (λ (w : Waiting). w.fact.var ≡ var) (waiting_at ws starts var)
+pub of_variable : (ws : List Waiting) (starts : List ℕ) (var : ℕ) → AreStarts ws starts → var + 1 < length starts → All (λ (w : Waiting). w.fact.var ≡ var) (waiting_at ws starts var)
 of_variable ws starts var are lt = all_part (λ (w : Waiting). w.fact.var ≡ var) ws (get_or starts var 0) (get_or starts (var + 1) 0)
     (λ place d low high within. are.of_variable place var d within lt low high)
 
@@ -56,7 +56,7 @@ waiting_only p ws starts layer var index on =
         subst (λ m. IsRuleOn p m (get_or ws place d).rule) same one.1
 
 -- among entries of one variable, those that wait for the value are counted as released
-released_counts : (rule var value : ℕ) (ws : List Waiting) → All (λ (w : Waiting). w.fact.var ≡ var) ws → occurrences rule (released value ws) ≡ waits rule var value ws
+pub released_counts : (rule var value : ℕ) (ws : List Waiting) → All (λ (w : Waiting). w.fact.var ≡ var) ws → occurrences rule (released value ws) ≡ waits rule var value ws
 released_counts rule var value [] all = refl
 released_counts rule var value (w ∷ ws) all =
     let ih = released_counts rule var value ws (All-tail (λ (w : Waiting). w.fact.var ≡ var) w ws all) in
@@ -79,7 +79,7 @@ no_waits rule var value (w ∷ ws) all =
     ]
 
 -- what waits for a variable's facts stands between its starts alone
-waits_at : (ws : List Waiting) (starts : List ℕ) (rule var value : ℕ) → AreStarts ws starts → var + 1 < length starts → waits rule var value (waiting_at ws starts var) ≡ waits rule var value ws
+pub waits_at : (ws : List Waiting) (starts : List ℕ) (rule var value : ℕ) → AreStarts ws starts → var + 1 < length starts → waits rule var value (waiting_at ws starts var) ≡ waits rule var value ws
 waits_at ws starts rule var value are lt =
     let first = get_or starts var 0 in
     let size = get_or starts (var + 1) 0 - get_or starts var 0 in

@@ -5,3 +5,7 @@ pub mod Entries
 pub mod Cuts
 pub mod Groups
 pub mod Standing
+pub mod AllConditions
+pub mod Supporting
+pub mod Passing
+pub mod AtRest

@@ -10,3 +10,4 @@ pub mod ByLayers
 pub mod LayerRules
 pub mod Waiting
 pub mod Worklist
+pub mod Incremental

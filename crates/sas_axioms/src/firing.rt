@@ -64,7 +64,7 @@ fn count_conditions<T: Grounded>(
 }
 
 /// How many of the conditions don't hold.
-fn open_of(state: &State, conditions: &[Fact]) -> u32
+pub fn open_of(state: &State, conditions: &[Fact]) -> u32
     requires exist { All (λ (c : Fact). c.var < length state.now) conditions.now }
     requires few { length conditions.now < 2 ^ 31 }
     ensures { result ≡ open_conditions (slice_index state.now) conditions.now }

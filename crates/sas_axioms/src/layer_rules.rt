@@ -2,6 +2,7 @@
 ghost use Rattle.std.specs.Prelude.{◌≡◌, ◌<◌, ◌≤◌, ◌^◌, ℕ, length, IfOk, IfSome, IfNone};
 ghost use Rattle.sas_axioms.specs.ByLayers.{IsLayeredTask};
 ghost use Rattle.sas_axioms.specs.LayerRules.{IsRuleOn, AreFiringRules, AreLayerRules, IsLayerEnd, IsLayerSpan};
+ghost use Rattle.sas_axioms.specs.Incremental.{AreSpans};
 
 use sas_grounded::Grounded;
 use std::alloc::{AllocError, Global};
@@ -82,4 +83,17 @@ fn layer_end(rules: &[LayerRule], start: usize, layer: u32) -> usize
         end += 1;
     }
     end
+}
+
+/// The layers of the rules, from the lowest one on.
+pub fn spans_of(alloc: Global, rules: &[LayerRule]) -> Result<Vec<LayerSpan>, AllocError>
+    ensures { IfOk result (λ spans. AreSpans rules.now 0 spans.items (length rules.now)) }
+{
+    let mut spans = Vec::new(alloc);
+    let mut start = 0;
+    while let Some(span) = layer_at(rules, start) {
+        spans.push(span)?;
+        start = span.end;
+    }
+    Ok(spans)
 }

@@ -87,7 +87,11 @@ fn push_waiting<T: Grounded>(
 
 /// Where what waits for facts of each variable starts, and where that of the last variable ends. What waits stands in
 /// ascending order of the variables.
-fn starts_of(alloc: Global, waiting: &[Waiting], variables: u32) -> Result<Vec<usize>, AllocError>
+pub fn starts_of(
+    alloc: Global,
+    waiting: &[Waiting],
+    variables: u32,
+) -> Result<Vec<usize>, AllocError>
     requires ascending { IsNonDecreasingBy (λ (w : Waiting). w.fact.var) waiting.now }
     requires exist { All (λ (w : Waiting). w.fact.var < variables) waiting.now }
     ensures starts { IfOk result (λ starts. AreStarts waiting.now starts.items) }

@@ -1,0 +1,200 @@
+-- The index of all conditions, and how counts change with a variable's value.
+use Rattle.std.proofs.Common.{◌≡◌, ◌≢◌, ℕ, ◌+◌, ◌<◌, ◌≤◌, ◌==◌, ◌&&◌, ◌^◌, Bool, true, false, cond, List, [], ◌∷◌, ◌++◌, length, get_or, set, None, refl, sym, ◌∙◌, ap, subst, inl, inr, arith}
+use Rattle.std.specs.List.{All}
+use Rattle.std.proofs.lemmas.List.{get_or-set_same, get_or-set_other, length-set}
+use Rattle.std.specs.List.Sorted.{IsPermutation}
+use Rattle.std.proofs.lemmas.Bool.{cases_eq, eq-eqb}
+use Rattle.std.proofs.lemmas.Bool.Decides.{eqb_tells}
+use Rattle.std.proofs.lemmas.List.Elements.{All-nil, All-cons, All-tail, All-append, All-weaker}
+use Rattle.std.proofs.lemmas.List.Sorted.{All-permutation}
+use Rattle.sas_core.specs.declared.parts.Fact.{Fact}
+use Rattle.sas_core.specs.declared.parts.Parts.{Parts}
+use Rattle.sas_grounded.specs.Grounded.{rule_at}
+use Rattle.sas_core.specs.WellRanged.{WellRanged, RuleFits}
+use Rattle.sas_core.proofs.Places.{holds_at}
+use Rattle.sas_axioms.specs.declared.waiting.Waiting.{Waiting}
+use Rattle.sas_axioms.specs.LayerRules.{IsRuleOn}
+use Rattle.sas_axioms.specs.Waiting.{asking, waits, waiting_at, released, occurrences}
+use Rattle.sas_axioms.specs.Worklist.{open_conditions}
+use Rattle.sas_axioms.specs.Incremental.{IsOfRule, IsCondition, entries, AreAllConditions, IsFullIndex, AreCounted}
+use Rattle.sas_axioms.proofs.Entries.{asked, counted_own, counted_other, waits_append, waits_permutation, condition_within}
+use Rattle.sas_axioms.proofs.Groups.{all_part, of_variable, released_counts, waits_at}
+
+-- ---- building the index
+
+waits_own : (rule var value : ℕ) (cs : List Fact) → waits rule var value (entries rule cs) ≡ asking var value cs
+waits_own rule var value [] = refl
+waits_own rule var value (c ∷ cs) = let ih = waits_own rule var value cs in let e = counted_own rule var value c in omega arith
+
+waits_other : (other rule var value : ℕ) (cs : List Fact) → other ≢ rule → waits other var value (entries rule cs) ≡ 0
+waits_other other rule var value [] ne = refl
+waits_other other rule var value (c ∷ cs) ne = let ih = waits_other other rule var value cs ne in let e = counted_other other rule var value c ne in omega arith
+
+all_entries : (p : Parts) (rule : ℕ) (cs : List Fact) → IsOfRule p (record { fact = record { var = 0; value = 0 }; rule = rule }) → All (λ (c : Fact). c.var < length p.variables) cs → All (IsCondition p) (entries rule cs)
+all_entries p rule [] of_rule exist = All-nil (IsCondition p)
+all_entries p rule (c ∷ cs) of_rule exist =
+    All-cons (IsCondition p) (record { fact = c; rule = rule }) (entries rule cs) (record { of_rule = of_rule; exists = exist 0 c (omega arith) })
+    (all_entries p rule cs of_rule (All-tail (λ (c : Fact). c.var < length p.variables) c cs exist))
+
+-- the conditions of the first `k` rules
+pub record ConditionsUpTo (p : Parts) (k : ℕ) (ws : List Waiting) : Type 0 where
+  pub only : All (IsCondition p) ws
+  pub each : (layer var value rule : ℕ) → rule < k → IsRuleOn p layer rule → waits rule var value ws ≡ asking var value (rule_at p rule).conditions
+  pub later : (var value rule : ℕ) → k ≤ rule → waits rule var value ws ≡ 0
+
+pub conditions_none : (p : Parts) → ConditionsUpTo p 0 []
+conditions_none p = record { only = All-nil (IsCondition p); each = λ layer var value rule lt is. absurd (omega arith); later = λ var value rule le. refl }
+
+pub conditions_skip : (p : Parts) (k : ℕ) (ws : List Waiting) → ((layer : ℕ) → IsRuleOn p layer k → ⊥) → ConditionsUpTo p k ws → ConditionsUpTo p (k + 1) ws
+conditions_skip p k ws not up = record {
+  only = up.only;
+  each = λ layer var value rule lt is. elim (cases_eq rule k) [
+    | inl e ↦ absurd (not layer (subst (λ i. IsRuleOn p layer i) e is))
+    | inr ne ↦ up.each layer var value rule (omega arith) is
+  ];
+  later = λ var value rule le. up.later var value rule (omega arith);
+}
+
+pub conditions_more : (p : Parts) (k layer : ℕ) (ws : List Waiting) → WellRanged p → IsRuleOn p layer k → ConditionsUpTo p k ws → ConditionsUpTo p (k + 1) (ws ++ entries k (rule_at p k).conditions)
+conditions_more p k layer ws ranged here up = record {
+  only = All-append (IsCondition p) ws (entries k (rule_at p k).conditions) up.only
+      (all_entries p k (rule_at p k).conditions (layer, here) (λ j d lt. condition_within p k j d ranged here.exists lt));
+  each = λ m var value rule lt is.
+      (let split = waits_append rule var value ws (entries k (rule_at p k).conditions) in
+      elim (cases_eq rule k) [
+        | inl e ↦ subst (λ i. waits i var value (ws ++ entries k (rule_at p k).conditions) ≡ asking var value (rule_at p i).conditions) (sym e)
+            (let split' = waits_append k var value ws (entries k (rule_at p k).conditions) in
+            let own = waits_own k var value (rule_at p k).conditions in
+            let none = up.later var value k (omega arith) in omega arith)
+        | inr ne ↦ (let before = up.each m var value rule (omega arith) is in
+            let none = waits_other rule k var value (rule_at p k).conditions ne in omega arith)
+      ]);
+  later = λ var value rule le.
+      (let split = waits_append rule var value ws (entries k (rule_at p k).conditions) in
+      let none = waits_other rule k var value (rule_at p k).conditions (λ e. absurd (omega arith)) in
+      let before = up.later var value rule (omega arith) in omega arith);
+}
+
+pub conditions_all : (p : Parts) (k : ℕ) (ws : List Waiting) → k ≡ length p.rules → ConditionsUpTo p k ws → AreAllConditions p ws
+conditions_all p k ws e up = record {
+  only = up.only;
+  each = λ layer var value rule is. up.each layer var value rule (let lt = is.exists in omega arith) is;
+}
+
+pub conditions_permutation : (p : Parts) (ws ws' : List Waiting) → IsPermutation ws ws' → AreAllConditions p ws → AreAllConditions p ws'
+conditions_permutation p ws ws' moved is = record {
+  only = All-permutation (IsCondition p) ws ws' moved is.only;
+  each = λ layer var value rule here. waits_permutation rule var value ws ws' moved ∙ is.each layer var value rule here;
+}
+
+pub conditions_exist : (p : Parts) (ws : List Waiting) → AreAllConditions p ws → All (λ (w : Waiting). w.fact.var < length p.variables) ws
+conditions_exist p ws is = All-weaker (IsCondition p) (λ (w : Waiting). w.fact.var < length p.variables) (λ w h. h.exists) ws is.only
+
+-- ---- the entries of a variable
+
+module _ (p : Parts) (ws : List Waiting) (starts : List ℕ) (var : ℕ) (index : IsFullIndex p ws starts) (exists : var < length p.variables) where
+  pub place_within : var + 1 < length starts
+  place_within = let l = index.one_more in omega arith
+
+  pub of_rules : All (IsOfRule p) (waiting_at ws starts var)
+  of_rules = all_part (IsOfRule p) ws (get_or starts var 0) (get_or starts (var + 1) 0) (λ place d low high within. (index.waiting.only place d within).of_rule)
+
+  pub waiting_asks : (layer value rule : ℕ) → IsRuleOn p layer rule → occurrences rule (released value (waiting_at ws starts var)) ≡ asking var value (rule_at p rule).conditions
+  waiting_asks layer value rule is =
+      released_counts rule var value (waiting_at ws starts var) (of_variable ws starts var index.starts place_within)
+      ∙ (waits_at ws starts rule var value index.starts place_within ∙ index.waiting.each layer var value rule is)
+
+-- ---- counts
+
+-- a condition on the variable is open or asks for its value
+one_condition : (value : ℕ → ℕ) (v : ℕ) (c : Fact) → c.var ≡ v → cond (value c.var == c.value) 0 1 + asked v (value v) c ≡ 1
+one_condition value v c e = elim (eqb_tells (value c.var) c.value) [
+  | inl h ↦ rw (h.0, eq-eqb c.var v e, eq-eqb c.value (value v) (sym h.1 ∙ ap value e)) refl
+  | inr h ↦ elim (eqb_tells c.value (value v)) [
+    | inl z ↦ absurd (h.1 (ap value e ∙ sym z.1))
+    | inr z ↦ rw (h.0, eq-eqb c.var v e, z.0) refl
+  ]
+]
+
+-- where one variable's value changes, the conditions that asked for the old one open, and those that ask for the new one close
+pub open_changed : (value value' : ℕ → ℕ) (v : ℕ) (cs : List Fact) → ((u : ℕ) → u ≢ v → value u ≡ value' u)
+    → open_conditions value' cs + asking v (value' v) cs ≡ open_conditions value cs + asking v (value v) cs
+open_changed value value' v [] same = refl
+open_changed value value' v (c ∷ cs) same =
+    let ih = open_changed value value' v cs same in
+    elim (eqb_tells c.var v) [
+      | inl e ↦ (let a = one_condition value v c e.1 in let b = one_condition value' v c e.1 in omega arith)
+      | inr ne ↦ rw (ne.0, same c.var ne.1) (omega arith)
+    ]
+
+bit : (b : Bool) → (cond b 1 0 ≤ 1) × (cond b 0 1 ≤ 1)
+bit true = (omega arith, omega arith)
+bit false = (omega arith, omega arith)
+
+pub asking_length : (v x : ℕ) (cs : List Fact) → asking v x cs ≤ length cs
+asking_length v x [] = omega arith
+asking_length v x (c ∷ cs) = let ih = asking_length v x cs in let b = (bit ((c.var == v) && (c.value == x))).0 in omega arith
+
+pub open_length : (value : ℕ → ℕ) (cs : List Fact) → open_conditions value cs ≤ length cs
+open_length value [] = omega arith
+open_length value (c ∷ cs) = let ih = open_length value cs in let b = (bit (value c.var == c.value)).1 in omega arith
+
+pub few_conditions : (p : Parts) (k : ℕ) → WellRanged p → k < length p.rules → length (rule_at p k).conditions < 2 ^ 31
+few_conditions p k ranged lt = (holds_at (RuleFits p.variables) (record { conditions = []; var = 0; old = None; new = 0 }) p.rules ranged.rules.each k lt).conditions.count
+
+-- ---- counting anew what waits for a variable that gets another value
+
+module _ (p : Parts) (ws : List Waiting) (starts : List ℕ) (var : ℕ) (ranged : WellRanged p) (index : IsFullIndex p ws starts) (exists : var < length p.variables)
+    (counted counters : List ℕ) (counts : AreCounted p counted counters) where
+  pub small : All (λ (w : Waiting). get_or counters w.rule 0 + occurrences w.rule (released (get_or counted var 0) (waiting_at ws starts var)) < 2 ^ 32) (waiting_at ws starts var)
+  small k d lt = bound (get_or (waiting_at ws starts var) k d).rule (of_rules p ws starts var index exists k d lt)
+    where
+      bound : (rule : ℕ) → (layer : ℕ) × IsRuleOn p layer rule → get_or counters rule 0 + occurrences rule (released (get_or counted var 0) (waiting_at ws starts var)) < 2 ^ 32
+      bound rule is =
+          let few = few_conditions p rule ranged is.1.exists in
+          let a = asking_length var (get_or counted var 0) (rule_at p rule).conditions in
+          let b = open_length (λ v. get_or counted v 0) (rule_at p rule).conditions in
+          let e = counts.exact is.0 rule is.1 in
+          let f = waiting_asks p ws starts var index exists is.0 (get_or counted var 0) rule is.1 in
+          omega arith
+
+  module _ (value : ℕ) where
+    changed : (rule : ℕ) → open_conditions (λ v. get_or (set counted var value) v 0) (rule_at p rule).conditions + asking var value (rule_at p rule).conditions
+        ≡ open_conditions (λ v. get_or counted v 0) (rule_at p rule).conditions + asking var (get_or counted var 0) (rule_at p rule).conditions
+    changed rule =
+        let same : get_or (set counted var value) var 0 ≡ value = get_or-set_same counted var value 0 (let l = counts.known in omega (arith, exists)) in
+        let e = open_changed (λ v. get_or counted v 0) (λ v. get_or (set counted var value) v 0) var (rule_at p rule).conditions (λ u ne. sym (get_or-set_other counted var u value 0 ne)) in
+        rw same at e
+
+    module _ (more : List ℕ) (one_each : length more ≡ length counters) (up : (rule : ℕ) → rule < length counters → get_or more rule 0 ≡ get_or counters rule 0 + occurrences rule (released (get_or counted var 0) (waiting_at ws starts var))) where
+      pub still : All (λ (w : Waiting). w.rule < length more) (waiting_at ws starts var)
+      still k d lt = let is = (of_rules p ws starts var index exists k d lt).1.exists in let l = counts.one_each in omega (arith, is, one_each)
+
+      pub enough : All (λ (w : Waiting). occurrences w.rule (released value (waiting_at ws starts var)) ≤ get_or more w.rule 0) (waiting_at ws starts var)
+      enough k d lt = bound (get_or (waiting_at ws starts var) k d).rule (of_rules p ws starts var index exists k d lt)
+        where
+          bound : (rule : ℕ) → (layer : ℕ) × IsRuleOn p layer rule → occurrences rule (released value (waiting_at ws starts var)) ≤ get_or more rule 0
+          bound rule is =
+              let a = changed rule in
+              let b = up rule (let l = counts.one_each in omega (arith, is.1.exists)) in
+              let e = counts.exact is.0 rule is.1 in
+              let f = waiting_asks p ws starts var index exists is.0 (get_or counted var 0) rule is.1 in
+              let h = waiting_asks p ws starts var index exists is.0 value rule is.1 in
+              omega arith
+
+      pub recounted : (counters' : List ℕ) → length counters' ≡ length more
+          → ((rule : ℕ) → rule < length more → get_or counters' rule 0 + occurrences rule (released value (waiting_at ws starts var)) ≡ get_or more rule 0)
+          → AreCounted p (set counted var value) counters'
+      recounted counters' one_each' down = record {
+        one_each = one_each' ∙ (one_each ∙ counts.one_each);
+        known = length-set counted var value ∙ counts.known;
+        exact = λ layer rule is.
+            (let a = changed rule in
+            let lt : rule < length counters = (let l = counts.one_each in omega (arith, is.exists)) in
+            let b = up rule lt in
+            let b' = down rule (omega (arith, lt, one_each)) in
+            let e = counts.exact layer rule is in
+            let f = waiting_asks p ws starts var index exists layer (get_or counted var 0) rule is in
+            let h = waiting_asks p ws starts var index exists layer value rule is in
+            omega arith);
+      }

@@ -1,0 +1,6 @@
+-- The conditions of the first rules.
+use Rattle.sas_axioms.proofs.AllConditions.{ConditionsUpTo}
+use Rattle.sas_axioms.proofs.conditions.all_conditions.Given as goal
+
+abbrev pub invariant-loop-rule : goal.invariant-loop-rule
+invariant-loop-rule g l = ConditionsUpTo (g.T.Grounded.says l.task) l.rule l.waiting.items

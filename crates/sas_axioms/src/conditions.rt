@@ -1,0 +1,55 @@
+// An index of all conditions, also of those on basic variables and on lower layers.
+ghost use Rattle.std.specs.Prelude.{◌≡◌, ◌<◌, ◌++◌, IfOk, OnOk, length};
+ghost use Rattle.sas_grounded.specs.Grounded.{rule_at};
+ghost use Rattle.sas_axioms.specs.ByLayers.{IsLayeredTask};
+ghost use Rattle.sas_axioms.specs.LayerRules.{IsRuleOn};
+ghost use Rattle.sas_axioms.specs.Incremental.{IsFullIndex, AreAllConditions, entries};
+
+use crate::layer_rules::firing_layer;
+use crate::waiting::{Index, Waiting, starts_of};
+use sas_grounded::Grounded;
+use std::alloc::{AllocError, Global};
+
+/// The index of all conditions of the rules that can fire.
+pub fn index_of_all<T: Grounded>(alloc: Global, task: &T) -> Result<Index, AllocError>
+    requires layered { IsLayeredTask (T.says task.now) }
+    ensures { IfOk result (λ index. IsFullIndex (T.says task.now) index.waiting.items index.starts.items) }
+{
+    let mut waiting = all_conditions(alloc, task)?;
+    waiting.sort_by_key(|entry| entry.fact.var)?;
+    let starts = starts_of(alloc, waiting.as_slice(), task.variables())?;
+    Ok(Index { waiting, starts })
+}
+
+/// The conditions of the rules that can fire, rule after rule.
+fn all_conditions<T: Grounded>(alloc: Global, task: &T) -> Result<Vec<Waiting>, AllocError>
+    requires layered { IsLayeredTask (T.says task.now) }
+    ensures { IfOk result (λ waiting. AreAllConditions (T.says task.now) waiting.items) }
+{
+    let mut waiting = Vec::new(alloc);
+    for rule in 0..task.rules() {
+        if let Some(_layer) = firing_layer(task, rule) {
+            push_conditions(task, rule, &mut waiting)?;
+        }
+    }
+    Ok(waiting)
+}
+
+/// Adds the conditions of the rule.
+fn push_conditions<T: Grounded>(
+    task: &T,
+    rule: u32,
+    waiting: &mut Vec<Waiting>,
+) -> Result<(), AllocError>
+    requires rule { rule < length (T.says task.now).rules }
+    ensures { OnOk result (waiting.new.items
+        ≡ waiting.old.items ++ entries rule (rule_at (T.says task.now) rule).conditions) }
+{
+    for condition in task.rule_conditions(rule) {
+        waiting.push(Waiting {
+            fact: *condition,
+            rule,
+        })?;
+    }
+    Ok(())
+}
