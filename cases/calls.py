@@ -35,7 +35,7 @@ LONGEST = 8000
 FILES, VERDICTS, REQUESTS = "file_calls", "verdict_calls", "request_calls"
 RIGHT = "right\n"
 LAYERED = "layered\nkept\n"
-EVALUATORS = ("rounds", "worklist")
+EVALUATORS = ("rounds", "worklist", "incremental")
 
 
 def case(program, call, given, answer, about=""):

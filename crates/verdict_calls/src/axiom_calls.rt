@@ -1,11 +1,12 @@
 // Calls of `sas_axioms`: layers, states, and what settles them. Values and states stand before a `|` and a file.
+ghost use Rattle.std.specs.Prelude.{IfOk};
 ghost use Rattle.sas_core.specs.Variables.{IsState};
 
 use crate::files::{layered_of, task_of};
 use call_words::{
     Asked, cut, fact_of, is_same_task, number_in, say, say_either, say_number, say_want, spend,
 };
-use sas_axioms::{LayerFault, Layered, Rounds, Settle, State, StateFault, Worklist};
+use sas_axioms::{Incremental, LayerFault, Layered, Rounds, Settle, State, StateFault, Worklist};
 use sas_core::{Fact, Task};
 use std::alloc::{AllocError, Global};
 
@@ -17,7 +18,7 @@ pub fn call_of_axioms<R: AllocGlobal + Print>(
     match asked.call {
         "layered" => new_layered(rt, asked.number, asked.bytes)?,
         "new-state" => new_state(rt, asked.number, asked.bytes)?,
-        "new-worklist" => new_worklist(rt, asked.number, asked.bytes)?,
+        "new" => new_evaluator(rt, asked.kind, asked.number, asked.bytes)?,
         "settle" => settle(rt, asked.kind, asked.bytes)?,
         _ => return Ok(false),
     }
@@ -224,6 +225,11 @@ fn settle_all<R: AllocGlobal + Print>(
             settle_each(rt, &mut worklist, layered, states);
             drop(worklist);
         }
+        "incremental" => {
+            let mut incremental = Incremental::new(rt.alloc(), layered)?;
+            settle_each(rt, &mut incremental, layered, states);
+            drop(incremental);
+        }
         _ => {
             let mut worklist = Worklist::new(rt.alloc(), layered)?;
             compare_each(rt, &mut Rounds, &mut worklist, layered, states);
@@ -274,9 +280,11 @@ fn compare_each<R: AllocGlobal + Print, E: Settle<Task>, F: Settle<Task>>(
     }
 }
 
-/// `Worklist::new`, and a state that it settles: `STATE|FILE`. It could show that the call always wants memory.
-fn new_worklist<R: AllocGlobal + Print>(
+/// `new` of an evaluator of the kind, and a state that it settles: `STATE|FILE`. It could show that the call always wants
+/// memory.
+fn new_evaluator<R: AllocGlobal + Print>(
     rt: &R,
+    kind: &str,
     count: usize,
     bytes: &[u8],
 ) -> Result<(), AllocError> {
@@ -285,14 +293,15 @@ fn new_worklist<R: AllocGlobal + Print>(
         say(rt, "WRONG: no layered task");
         return Ok(());
     };
-    let said = new_worklist_of(rt, count, words, &layered);
+    let said = new_evaluator_of(rt, kind, count, words, &layered);
     drop(layered);
     said
 }
 
 /// The same, of a layered task.
-fn new_worklist_of<R: AllocGlobal + Print>(
+fn new_evaluator_of<R: AllocGlobal + Print>(
     rt: &R,
+    kind: &str,
     count: usize,
     words: &[u8],
     layered: &Layered<Task>,
@@ -303,14 +312,30 @@ fn new_worklist_of<R: AllocGlobal + Print>(
         return Ok(());
     };
     spend(rt.alloc(), count)?;
-    match Worklist::new(rt.alloc(), layered) {
-        Ok(worklist) => say_settled(rt, worklist, layered, state),
-        Err(_) => {
-            drop(state);
-            say(rt, "wanting");
-        }
+    match kind {
+        "worklist" => say_made(rt, Worklist::new(rt.alloc(), layered), layered, state),
+        _ => say_made(rt, Incremental::new(rt.alloc(), layered), layered, state),
     }
     Ok(())
+}
+
+/// Says the state, settled by this evaluator, or that there is none.
+fn say_made<P: Print, E: Settle<Task> + Drop>(
+    out: &P,
+    made: Result<E, AllocError>,
+    layered: &Layered<Task>,
+    state: State,
+)
+    requires ready { IfOk made (λ evaluator. E.ready evaluator layered.now) }
+    requires state { IsState layered.now.variables state }
+{
+    match made {
+        Ok(evaluator) => say_settled(out, evaluator, layered, state),
+        Err(_) => {
+            drop(state);
+            say(out, "wanting");
+        }
+    }
 }
 
 /// Says the state, settled by this evaluator. That takes no memory.

@@ -3,7 +3,7 @@ use crate::axiom_calls::{say_numbers, say_values};
 use crate::files::{layered_of, plan_of};
 use crate::runner_calls::runner_of;
 use call_words::{Asked, cut, say, say_number, say_want, spend};
-use sas_axioms::{Layered, Rounds, Settle, Worklist};
+use sas_axioms::{Incremental, Layered, Rounds, Settle, Worklist};
 use sas_core::{Plan, Task};
 use sas_run::{PlanFault, Runner, Valid};
 use std::alloc::{AllocError, Global};
@@ -53,13 +53,14 @@ fn check_plan_of<R: AllocGlobal + Print>(
     };
     match kind {
         "rounds" => check_with(rt, count, layered, Rounds, &plan),
-        _ => check_with(
-            rt,
-            count,
-            layered,
-            Worklist::new(rt.alloc(), layered)?,
-            &plan,
-        ),
+        "worklist" => {
+            let worklist = Worklist::new(rt.alloc(), layered)?;
+            check_with(rt, count, layered, worklist, &plan)
+        }
+        _ => {
+            let incremental = Incremental::new(rt.alloc(), layered)?;
+            check_with(rt, count, layered, incremental, &plan)
+        }
     }
 }
 

@@ -7,7 +7,7 @@ ghost use Rattle.sas_core.specs.Variables.{IsState};
 use crate::axiom_calls::{pieces_of, say_values};
 use crate::files::layered_of;
 use call_words::{Asked, cut, number_in, say, say_either, say_want, spend, text_of};
-use sas_axioms::{Layered, Rounds, Settle, State, Worklist};
+use sas_axioms::{Incremental, Layered, Rounds, Settle, State, Worklist};
 use sas_core::Task;
 use sas_grounded::Grounded;
 use sas_run::{Runner, StepFault};
@@ -68,7 +68,8 @@ fn make_steps_of<R: AllocGlobal + Print>(
     let calls = pieces.as_slice();
     match kind {
         "rounds" => make_calls(rt, layered, Rounds, calls),
-        _ => make_calls(rt, layered, Worklist::new(rt.alloc(), layered)?, calls),
+        "worklist" => make_calls(rt, layered, Worklist::new(rt.alloc(), layered)?, calls),
+        _ => make_calls(rt, layered, Incremental::new(rt.alloc(), layered)?, calls),
     }
     Ok(())
 }
