@@ -40,6 +40,7 @@ impl Model for Variables {
 
 impl Columns {
     /// One item more in each column. After an `Err` some columns have it.
+    #[inline(always)]
     fn push(
         &mut self,
         name: &[u8],
