@@ -9,3 +9,4 @@ pub mod AllConditions
 pub mod Supporting
 pub mod Passing
 pub mod AtRest
+pub mod Asked

@@ -3,9 +3,9 @@ use Rattle.std.specs.Prelude.{◌≡◌, ◌≢◌, ℕ, ◌+◌, ◌-◌, ◌*�
 use Rattle.sas_core.specs.declared.parts.Fact.{Fact}
 use Rattle.sas_core.specs.declared.parts.Parts.{Parts}
 use Rattle.sas_grounded.specs.Grounded.{rule_at}
-use Rattle.sas_core.specs.Variables.{IsState}
+use Rattle.sas_core.specs.Variables.{IsState, IsDerived}
 use Rattle.sas_meaning.specs.States.{AllHold}
-use Rattle.sas_meaning.specs.Layers.{IsOnLayer, default_of}
+use Rattle.sas_meaning.specs.Layers.{IsBasic, IsOnLayer, default_of}
 use Rattle.sas_meaning.specs.Settled.{differs, SameBasic, IsSettled}
 use Rattle.sas_meaning.specs.Forced.{equal_places, SameOff}
 use Rattle.sas_axioms.specs.declared.incremental.Incremental.{Incremental}
@@ -17,7 +17,7 @@ use Rattle.sas_axioms.specs.declared.memo.Phase.TheVariants.{Fall, Rise}
 use Rattle.sas_axioms.specs.declared.waiting.Waiting.{Waiting}
 use Rattle.sas_axioms.specs.LayerRules.{IsRuleOn, AreLayerRules, IsLayerSpan}
 use Rattle.sas_axioms.specs.Waiting.{asking, waits, AreStarts}
-use Rattle.sas_axioms.specs.Worklist.{open_conditions}
+use Rattle.sas_axioms.specs.Worklist.{open_conditions, AreDerived}
 
 -- the entry is of a rule that can fire
 abbrev pub IsOfRule : Parts → Waiting → Type 0
@@ -44,6 +44,25 @@ pub record IsFullIndex (p : Parts) (ws : List Waiting) (places : List ℕ) : Typ
   pub waiting : AreAllConditions p ws
   pub starts : AreStarts ws places
   pub one_more : length places ≡ length p.variables + 1
+
+-- a rule that can fire has a condition on the variable
+abbrev pub IsAsked : Parts → ℕ → Type 0
+IsAsked p var = (layer rule : ℕ) × (c : Fact)
+    × IsRuleOn p layer rule × Contains (rule_at p rule).conditions c × (c.var ≡ var)
+
+-- the basic variables that conditions ask about, each at least once
+pub record AreAskedBasic (p : Parts) (variables : List ℕ) : Type 0 where
+  pub basic : All (IsBasic p) variables
+  pub exist : All (λ var. var < length p.variables) variables
+  pub each : (var : ℕ) → IsBasic p var → IsAsked p var → Contains variables var
+
+-- the basic variables that conditions ask about have the same values
+abbrev pub SameAsked : Parts → List ℕ → List ℕ → Type 0
+SameAsked p s s' = (var : ℕ) → IsBasic p var → IsAsked p var → slice_index s var ≡ slice_index s' var
+
+-- the derived variables have the same values
+abbrev pub SameDerived : Parts → List ℕ → List ℕ → Type 0
+SameDerived p s s' = (var : ℕ) → IsDerived p.variables var → slice_index s var ≡ slice_index s' var
 
 -- the counter of each rule that can fire is the number of its conditions that these values leave open
 pub record AreCounted (p : Parts) (values counters : List ℕ) : Type 0 where
@@ -150,6 +169,8 @@ AreSpans rules start (span ∷ spans) end =
 
 -- what the evaluator holds fits the task
 pub record IsReadyFor (p : Parts) (e : Incremental) : Type 0 where
+  pub asked : AreAskedBasic p e.asked.items
+  pub derived : AreDerived p e.derived.items
   pub firing : AreLayerRules p e.rules.items
   pub spans : AreSpans e.rules.items 0 e.spans.items (length e.rules.items)
   pub index : IsFullIndex p e.index.waiting.items e.index.starts.items

@@ -3,7 +3,7 @@ ghost use Rattle.std.specs.Prelude.{◌≡◌, ◌<◌, ◌++◌, IfOk, OnOk, le
 ghost use Rattle.sas_grounded.specs.Grounded.{rule_at};
 ghost use Rattle.sas_axioms.specs.ByLayers.{IsLayeredTask};
 ghost use Rattle.sas_axioms.specs.LayerRules.{IsRuleOn};
-ghost use Rattle.sas_axioms.specs.Incremental.{IsFullIndex, AreAllConditions, entries};
+ghost use Rattle.sas_axioms.specs.Incremental.{IsFullIndex, AreAllConditions, AreAskedBasic, entries};
 
 use crate::layer_rules::firing_layer;
 use crate::waiting::{Index, Waiting, starts_of};
@@ -19,6 +19,25 @@ pub fn index_of_all<T: Grounded>(alloc: Global, task: &T) -> Result<Index, Alloc
     waiting.sort_by_key(|entry| entry.fact.var)?;
     let starts = starts_of(alloc, waiting.as_slice(), task.variables())?;
     Ok(Index { waiting, starts })
+}
+
+/// The basic variables that conditions of rules that can fire are on.
+pub fn asked_variables<T: Grounded>(
+    alloc: Global,
+    task: &T,
+    index: &Index,
+) -> Result<Vec<u32>, AllocError>
+    requires layered { IsLayeredTask (T.says task.now) }
+    requires index { IsFullIndex (T.says task.now) index.now.waiting.items index.now.starts.items }
+    ensures { IfOk result (λ variables. AreAskedBasic (T.says task.now) variables.items) }
+{
+    let mut variables = Vec::new(alloc);
+    for var in 0..task.variables() {
+        if task.layer(var).is_none() && !index.of_variable(var).is_empty() {
+            variables.push(var)?;
+        }
+    }
+    Ok(variables)
 }
 
 /// The conditions of the rules that can fire, rule after rule.

@@ -4,10 +4,11 @@ ghost use Rattle.sas_axioms.specs.ByLayers.{IsLayeredTask};
 ghost use Rattle.sas_axioms.specs.LayerRules.{AreLayerRules};
 ghost use Rattle.sas_axioms.specs.Incremental.{IsFullIndex, IsAtRest, AreSpans, IsReadyFor, HasSettled};
 
-use crate::conditions::index_of_all;
+use crate::conditions::{asked_variables, index_of_all};
 use crate::layer_rules::{LayerRule, LayerSpan, ranked_rules, spans_of};
 use crate::memo::Memo;
 use crate::waiting::Index;
+use crate::worklist::derived_variables;
 use sas_grounded::Grounded;
 use sas_meaning::{Layered, Settle, State};
 use std::alloc::{AllocError, Global};
@@ -18,6 +19,10 @@ use std::alloc::{AllocError, Global};
 /// memory.
 #[derive(Drop)]
 pub struct Incremental {
+    /// The basic variables that conditions of rules that can fire are on.
+    asked: Vec<u32>,
+    /// The derived variables.
+    derived: Vec<u32>,
     /// The rules that can fire, in ascending order of their layers.
     rules: Vec<LayerRule>,
     /// Where in `rules` each layer ends.
@@ -36,10 +41,13 @@ impl Incremental {
         let task = layered.task();
         let rules = ranked_rules(alloc, task)?;
         let spans = spans_of(alloc, rules.as_slice())?;
+        let index = index_of_all(alloc, task)?;
         Ok(Incremental {
+            asked: asked_variables(alloc, task, &index)?,
+            derived: derived_variables(alloc, task)?,
             rules,
             spans,
-            index: index_of_all(alloc, task)?,
+            index,
             memo: Memo::new(alloc, task)?,
         })
     }
@@ -52,10 +60,11 @@ impl<T: Grounded> Settle<T> for Incremental {
 
     fn settle(&mut self, layered: &Layered<T>, state: &mut State) {
         let task = layered.task();
-        self.memo.take_basic(task, &self.index, state);
+        let (asked, derived) = (self.asked.as_slice(), self.derived.as_slice());
+        self.memo.take_asked(task, asked, &self.index, state);
         let (rules, spans) = (self.rules.as_slice(), self.spans.as_slice());
         settle_layers(task, rules, spans, &self.index, &mut self.memo);
-        self.memo.copy_to(task, state);
+        self.memo.give_derived(task, derived, state);
     }
 }
 

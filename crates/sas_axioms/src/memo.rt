@@ -6,7 +6,8 @@ ghost use Rattle.sas_axioms.specs.declared.waiting.Waiting.{Waiting};
 ghost use Rattle.sas_axioms.specs.declared.memo.Phase.TheVariants.{Fall, Rise};
 ghost use Rattle.sas_axioms.specs.ByLayers.{IsLayeredTask, SettlesLayer};
 ghost use Rattle.sas_axioms.specs.LayerRules.{IsRuleOn, AreRulesOn};
-ghost use Rattle.sas_axioms.specs.Incremental.{IsOfRule, IsFullIndex, IsAtRest, AreHeads, IsPassing, IsDone, LooksAt, LooksAtAll};
+ghost use Rattle.sas_axioms.specs.Worklist.{AreDerived};
+ghost use Rattle.sas_axioms.specs.Incremental.{IsOfRule, IsFullIndex, IsAtRest, AreHeads, IsPassing, IsDone, LooksAt, LooksAtAll, AreAskedBasic, SameAsked, SameDerived};
 
 use crate::counting::{open_counters, recount};
 use crate::layer_rules::LayerRule;
@@ -29,7 +30,7 @@ pub enum Phase {
 pub struct Memo {
     /// The variable of each rule.
     heads: Items<u32>,
-    /// The values that were settled last.
+    /// The values that were settled last. A basic variable that no condition asks about may have an older one.
     values: State,
     /// The values by which the conditions are counted: those, but for the variables on the stack.
     counted: State,
@@ -59,34 +60,40 @@ impl Memo {
         })
     }
 
-    /// Takes over the basic values of the state, and counts those that changed.
-    pub fn take_basic<T: Grounded>(&mut self, task: &T, index: &Index, state: &State)
+    /// Takes over the state's values of the basic variables that conditions ask about, which these are, and counts those
+    /// that changed.
+    pub fn take_asked<T: Grounded>(&mut self, task: &T, asked: &[u32], index: &Index, state: &State)
         requires layered { IsLayeredTask (T.says task.now) }
         requires index { IsFullIndex (T.says task.now) index.now.waiting.items index.now.starts.items }
         requires rest { IsAtRest (T.says task.now) self.old }
+        requires asked { AreAskedBasic (T.says task.now) asked.now }
         requires state { IsState (T.says task.now).variables state.now }
         ensures rest { IsAtRest (T.says task.now) self.new }
-        ensures basic { SameBasic (T.says task.now) state.now self.new.values }
+        ensures asked { SameAsked (T.says task.now) state.now self.new.values }
     {
-        for var in 0..task.variables() {
-            let value = state.value(var);
-            if value != self.values.value(var) && task.layer(var).is_none() {
-                let fact = Fact { var, value };
+        for var in asked {
+            let value = state.value(*var);
+            if value != self.values.value(*var) {
+                let fact = Fact { var: *var, value };
                 recount(task, index, fact, &mut self.counted, &mut self.counters);
                 self.values.set(fact);
             }
         }
     }
 
-    /// Gives the state the values that are kept.
-    pub fn copy_to<T: Grounded>(&self, task: &T, state: &mut State)
-        requires kept { length self.now.values ≡ length (T.says task.now).variables }
-        requires state { length state.old ≡ length (T.says task.now).variables }
-        ensures { state.new ≡ self.now.values }
+    /// Gives the derived variables, which these are, the values that are kept. The task is asked nothing: it is what the
+    /// contract speaks of.
+    pub fn give_derived<T: Grounded>(&self, _task: &T, derived: &[u32], state: &mut State)
+        requires derived { AreDerived (T.says _task.now) derived.now }
+        requires kept { IsState (T.says _task.now).variables self.now.values }
+        requires state { IsState (T.says _task.now).variables state.old }
+        ensures state { IsState (T.says _task.now).variables state.new }
+        ensures basic { SameBasic (T.says _task.now) state.old state.new }
+        ensures derived { SameDerived (T.says _task.now) self.now.values state.new }
     {
-        for var in 0..task.variables() {
-            let value = self.values.value(var);
-            state.set(Fact { var, value });
+        for var in derived {
+            let value = self.values.value(*var);
+            state.set(Fact { var: *var, value });
         }
     }
 

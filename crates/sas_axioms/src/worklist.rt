@@ -93,7 +93,7 @@ impl<T: Grounded> ByLayers<T> for Worklist {
 }
 
 /// The derived variables.
-fn derived_variables<T: Grounded>(alloc: Global, task: &T) -> Result<Vec<u32>, AllocError>
+pub fn derived_variables<T: Grounded>(alloc: Global, task: &T) -> Result<Vec<u32>, AllocError>
     ensures { IfOk result (λ variables. AreDerived (T.says task.now) variables.items) }
 {
     let mut variables = Vec::new(alloc);
