@@ -67,6 +67,7 @@ impl Ends {
     }
 
     /// One list more, which ends at this place. After an `Err` the lists are as they were.
+    #[inline(always)]
     pub fn push(&mut self, place: usize) -> Result<(), AllocError>
         requires { start_of self.old (length self.old) ≤ place }
         ensures ok { OnOk result (self.new ≡ self.old ++ place ∷ []) }

@@ -63,6 +63,7 @@ impl<T> Lists<T> {
 
 impl<T: Copy> Lists<T> {
     /// One list more. After an `Err` the lists are as they were.
+    #[inline(always)]
     pub fn push(&mut self, list: &[T]) -> Result<(), AllocError>
         ensures ok { OnOk result (self.new ≡ self.old ++ list.now ∷ []) }
         ensures err { OnErr result (self.new ≡ self.old) }
@@ -91,6 +92,7 @@ impl<T: Copy> Lists<T> {
     }
 
     /// All these lists more. After an `Err` the lists are as they were.
+    #[inline(always)]
     pub(crate) fn append(&mut self, more: &Lists<T>) -> Result<(), AllocError>
         ensures ok { OnOk result (self.new ≡ self.old ++ more.now) }
         ensures err { OnErr result (self.new ≡ self.old) }
