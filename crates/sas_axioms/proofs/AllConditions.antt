@@ -139,6 +139,22 @@ pub open_length : (value : ℕ → ℕ) (cs : List Fact) → open_conditions val
 open_length value [] = omega arith
 open_length value (c ∷ cs) = let ih = open_length value cs in let b = (bit (value c.var == c.value)).1 in omega arith
 
+-- a condition that asks for another value is open
+pub asking_open : (value : ℕ → ℕ) (v x : ℕ) (cs : List Fact) → value v ≢ x → asking v x cs ≤ open_conditions value cs
+asking_open value v x [] ne = omega arith
+asking_open value v x (c ∷ cs) ne =
+    let ih = asking_open value v x cs ne in
+    elim (eqb_tells (value c.var) c.value) [
+      | inr h ↦ (let b = (bit ((c.var == v) && (c.value == x))).0 in rw h.0 (omega arith))
+      | inl h ↦ elim (eqb_tells c.var v) [
+        | inr e ↦ rw (h.0, e.0) (omega arith)
+        | inl e ↦ elim (eqb_tells c.value x) [
+          | inr z ↦ rw (h.0, e.0, z.0) (omega arith)
+          | inl z ↦ absurd (ne (sym (ap value e.1) ∙ (h.1 ∙ z.1)))
+        ]
+      ]
+    ]
+
 pub few_conditions : (p : Parts) (k : ℕ) → WellRanged p → k < length p.rules → length (rule_at p k).conditions < 2 ^ 31
 few_conditions p k ranged lt = (holds_at (RuleFits p.variables) (record { conditions = []; var = 0; old = None; new = 0 }) p.rules ranged.rules.each k lt).conditions.count
 
@@ -166,35 +182,31 @@ module _ (p : Parts) (ws : List Waiting) (starts : List ℕ) (var : ℕ) (ranged
         let e = open_changed (λ v. get_or counted v 0) (λ v. get_or (set counted var value) v 0) var (rule_at p rule).conditions (λ u ne. sym (get_or-set_other counted var u value 0 ne)) in
         rw same at e
 
-    module _ (more : List ℕ) (one_each : length more ≡ length counters) (up : (rule : ℕ) → rule < length counters → get_or more rule 0 ≡ get_or counters rule 0 + occurrences rule (released (get_or counted var 0) (waiting_at ws starts var))) where
-      pub still : All (λ (w : Waiting). w.rule < length more) (waiting_at ws starts var)
-      still k d lt = let is = (of_rules p ws starts var index exists k d lt).1.exists in let l = counts.one_each in omega (arith, is, one_each)
+    pub enough : get_or counted var 0 ≢ value → All (λ (w : Waiting). occurrences w.rule (released value (waiting_at ws starts var)) ≤ get_or counters w.rule 0) (waiting_at ws starts var)
+    enough ne k d lt = bound (get_or (waiting_at ws starts var) k d).rule (of_rules p ws starts var index exists k d lt)
+      where
+        bound : (rule : ℕ) → (layer : ℕ) × IsRuleOn p layer rule → occurrences rule (released value (waiting_at ws starts var)) ≤ get_or counters rule 0
+        bound rule is =
+            let a = asking_open (λ v. get_or counted v 0) var value (rule_at p rule).conditions ne in
+            let e = counts.exact is.0 rule is.1 in
+            let h = waiting_asks p ws starts var index exists is.0 value rule is.1 in
+            omega arith
 
-      pub enough : All (λ (w : Waiting). occurrences w.rule (released value (waiting_at ws starts var)) ≤ get_or more w.rule 0) (waiting_at ws starts var)
-      enough k d lt = bound (get_or (waiting_at ws starts var) k d).rule (of_rules p ws starts var index exists k d lt)
-        where
-          bound : (rule : ℕ) → (layer : ℕ) × IsRuleOn p layer rule → occurrences rule (released value (waiting_at ws starts var)) ≤ get_or more rule 0
-          bound rule is =
-              let a = changed rule in
-              let b = up rule (let l = counts.one_each in omega (arith, is.1.exists)) in
-              let e = counts.exact is.0 rule is.1 in
-              let f = waiting_asks p ws starts var index exists is.0 (get_or counted var 0) rule is.1 in
-              let h = waiting_asks p ws starts var index exists is.0 value rule is.1 in
-              omega arith
+    pub recounted : (counters' : List ℕ) → length counters' ≡ length counters
+        → ((rule : ℕ) → rule < length counters → get_or counters' rule 0 + occurrences rule (released value (waiting_at ws starts var))
+        ≡ get_or counters rule 0 + occurrences rule (released (get_or counted var 0) (waiting_at ws starts var)))
+        → AreCounted p (set counted var value) counters'
+    recounted counters' one_each moved = record {
+      one_each = one_each ∙ counts.one_each;
+      known = length-set counted var value ∙ counts.known;
+      exact = λ layer rule is.
+          (let a = changed rule in
+          let b = moved rule (let l = counts.one_each in omega (arith, is.exists)) in
+          let e = counts.exact layer rule is in
+          let f = waiting_asks p ws starts var index exists layer (get_or counted var 0) rule is in
+          let h = waiting_asks p ws starts var index exists layer value rule is in
+          omega arith);
+    }
 
-      pub recounted : (counters' : List ℕ) → length counters' ≡ length more
-          → ((rule : ℕ) → rule < length more → get_or counters' rule 0 + occurrences rule (released value (waiting_at ws starts var)) ≡ get_or more rule 0)
-          → AreCounted p (set counted var value) counters'
-      recounted counters' one_each' down = record {
-        one_each = one_each' ∙ (one_each ∙ counts.one_each);
-        known = length-set counted var value ∙ counts.known;
-        exact = λ layer rule is.
-            (let a = changed rule in
-            let lt : rule < length counters = (let l = counts.one_each in omega (arith, is.exists)) in
-            let b = up rule lt in
-            let b' = down rule (omega (arith, lt, one_each)) in
-            let e = counts.exact layer rule is in
-            let f = waiting_asks p ws starts var index exists layer (get_or counted var 0) rule is in
-            let h = waiting_asks p ws starts var index exists layer value rule is in
-            omega arith);
-      }
+    pub same_counts : get_or counted var 0 ≡ value → AreCounted p (set counted var value) counters
+    same_counts same = recounted counters refl (λ rule lt. ap (λ v. get_or counters rule 0 + occurrences rule (released v (waiting_at ws starts var))) (sym same))

@@ -1,5 +1,5 @@
 // Counting open conditions anew where a variable's value changes.
-ghost use Rattle.std.specs.Prelude.{◌≡◌, ◌+◌, ◌<◌, ◌≤◌, ◌^◌, ℕ, IfOk, length, All, slice_index, slice_set};
+ghost use Rattle.std.specs.Prelude.{◌≡◌, ◌≢◌, ◌+◌, ◌<◌, ◌≤◌, ◌^◌, ℕ, IfOk, length, All, slice_index, slice_set};
 ghost use Rattle.sas_axioms.specs.declared.waiting.Waiting.{Waiting};
 ghost use Rattle.sas_axioms.specs.ByLayers.{IsLayeredTask};
 ghost use Rattle.sas_axioms.specs.Waiting.{occurrences, released};
@@ -45,42 +45,36 @@ pub fn recount<T: Grounded>(
     ensures counts { AreCounted (T.says _task.now) counted.new counters.new }
     ensures counted { counted.new ≡ slice_set counted.old fact.var fact.value }
 {
-    let waiting = index.of_variable(fact.var);
-    count_up(waiting, counted.value(fact.var), counters);
-    count_down(waiting, fact.value, counters);
+    let former = counted.value(fact.var);
+    if former != fact.value {
+        let waiting = index.of_variable(fact.var);
+        count_change(waiting, former, fact.value, counters);
+    }
     counted.set(fact);
 }
 
-/// One condition more is open in each rule that waits for this value.
-fn count_up(waiting: &[Waiting], value: u32, counters: &mut Items<u32>)
+/// Where a variable's value changes, one condition more is open in each rule that waits for the former value, and one less
+/// in each that waits for the new one.
+fn count_change(waiting: &[Waiting], former: u32, value: u32, counters: &mut Items<u32>)
+    requires differ { former ≢ value }
     requires exist { All (λ (w : Waiting). w.rule < length counters.old) waiting.now }
     requires small { All (λ (w : Waiting). slice_index counters.old w.rule
-        + occurrences w.rule (released value waiting.now) < 2 ^ 32) waiting.now }
-    ensures one_each { length counters.new ≡ length counters.old }
-    ensures counts { (rule : ℕ) → rule < length counters.old → slice_index counters.new rule
-        ≡ slice_index counters.old rule + occurrences rule (released value waiting.now) }
-{
-    for entry in waiting {
-        if entry.fact.value == value {
-            let more = counters.as_slice()[entry.rule as usize] + 1;
-            counters.set(entry.rule as usize, more);
-        }
-    }
-}
-
-/// One condition less is open in each rule that waits for this value.
-fn count_down(waiting: &[Waiting], value: u32, counters: &mut Items<u32>)
-    requires exist { All (λ (w : Waiting). w.rule < length counters.old) waiting.now }
+        + occurrences w.rule (released former waiting.now) < 2 ^ 32) waiting.now }
     requires enough { All (λ (w : Waiting).
         occurrences w.rule (released value waiting.now) ≤ slice_index counters.old w.rule) waiting.now }
     ensures one_each { length counters.new ≡ length counters.old }
-    ensures counts { (rule : ℕ) → rule < length counters.old → slice_index counters.new rule
-        + occurrences rule (released value waiting.now) ≡ slice_index counters.old rule }
+    ensures counts { (rule : ℕ) → rule < length counters.old
+        → slice_index counters.new rule + occurrences rule (released value waiting.now)
+        ≡ slice_index counters.old rule + occurrences rule (released former waiting.now) }
 {
     for entry in waiting {
-        if entry.fact.value == value {
-            let fewer = counters.as_slice()[entry.rule as usize] - 1;
-            counters.set(entry.rule as usize, fewer);
+        let rule = entry.rule as usize;
+        if entry.fact.value == former {
+            let more = counters.as_slice()[rule] + 1;
+            counters.set(rule, more);
+        } else if entry.fact.value == value {
+            let fewer = counters.as_slice()[rule] - 1;
+            counters.set(rule, fewer);
         }
     }
 }

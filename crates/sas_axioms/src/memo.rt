@@ -1,5 +1,5 @@
 // What an incremental evaluator keeps of the state that it settled last, and how it settles a layer from there.
-ghost use Rattle.std.specs.Prelude.{◌≡◌, ◌≢◌, ◌<◌, ℕ, [], IfOk, length, All, slice_index};
+ghost use Rattle.std.specs.Prelude.{IsFalse, ◌≡◌, ◌≢◌, ◌<◌, ℕ, [], IfOk, length, All, slice_index};
 ghost use Rattle.sas_core.specs.Variables.{IsState};
 ghost use Rattle.sas_meaning.specs.Settled.{SameBasic};
 ghost use Rattle.sas_axioms.specs.declared.waiting.Waiting.{Waiting};
@@ -7,7 +7,7 @@ ghost use Rattle.sas_axioms.specs.declared.memo.Phase.TheVariants.{Fall, Rise};
 ghost use Rattle.sas_axioms.specs.ByLayers.{IsLayeredTask, SettlesLayer};
 ghost use Rattle.sas_axioms.specs.LayerRules.{IsRuleOn, AreRulesOn};
 ghost use Rattle.sas_axioms.specs.Worklist.{AreDerived};
-ghost use Rattle.sas_axioms.specs.Incremental.{IsOfRule, IsFullIndex, IsAtRest, AreHeads, IsPassing, IsDone, LooksAt, LooksAtAll, AreAskedBasic, SameAsked, SameDerived};
+ghost use Rattle.sas_axioms.specs.Incremental.{IsOfRule, IsFullIndex, IsAtRest, AreHeads, IsKept, IsPassing, IsDone, LooksAt, LooksAtAll, AreAskedBasic, SameAsked, SameDerived};
 
 use crate::counting::{open_counters, recount};
 use crate::layer_rules::LayerRule;
@@ -163,10 +163,30 @@ impl Memo {
         ensures { LooksAtAll (T.says task.now) phase layer self.old self.new }
     {
         for entry in waiting {
-            let head = self.heads.as_slice()[entry.rule as usize];
-            if task.layer(head) == Some(layer) {
-                self.look_at(task, phase, layer, entry.rule);
+            if self.may_change(task, phase, entry.rule) {
+                let head = self.heads.as_slice()[entry.rule as usize];
+                if task.layer(head) == Some(layer) {
+                    self.look_at(task, phase, layer, entry.rule);
+                }
             }
+        }
+    }
+
+    /// Whether the phase may have something to do for the rule, whatever layer it is on. It is quick to ask, and few rules
+    /// that wait pass it. The task is asked nothing: it is what the contract speaks of.
+    fn may_change<T: Grounded>(&self, _task: &T, phase: Phase, rule: u32) -> bool
+        requires rule { (layer : ℕ) × IsRuleOn (T.says _task.now) layer rule }
+        requires kept { IsKept (T.says _task.now) self.now }
+        ensures done { IsFalse result → IsDone (T.says _task.now) phase self.now rule }
+    {
+        let counter = self.counters.as_slice()[rule as usize];
+        match phase {
+            Phase::Fall if counter == 0 => false,
+            Phase::Fall => {
+                let head = self.heads.as_slice()[rule as usize];
+                self.supports.as_slice()[head as usize] == rule
+            }
+            Phase::Rise => counter == 0,
         }
     }
 

@@ -1,4 +1,4 @@
--- One more entry: its rule is looked at if it is on the layer.
+-- One more entry: its rule is looked at if it may change and is on the layer.
 use Rattle.std.proofs.Common.{◌≡◌, ◌≢◌, ℕ, ◌+◌, ◌<◌, ◌==◌, Option, Some, true, false, length, get_or, drop, sym, subst, ap, ◌∙◌, inl, inr, arith}
 use Rattle.std.specs.List.{All}
 use Rattle.std.specs.Option.{option_eq}
@@ -14,7 +14,7 @@ use Rattle.sas_axioms.specs.Incremental.{IsDone}
 use Rattle.sas_axioms.proofs.Entries.{same_option}
 use Rattle.sas_axioms.proofs.Passing.{head_is}
 use Rattle.sas_axioms.proofs.memo.Memo.look_at_waiting.Goals as goal
-use Rattle.sas_axioms.proofs.memo.Memo.look_at_waiting.Goals.{then-eq, else-eq}
+use Rattle.sas_axioms.proofs.memo.Memo.look_at_waiting.Goals.{then-may_change+then-eq, then-may_change+else-eq, else-may_change}
 
 abbrev no_entry : Waiting
 no_entry = record { fact = record { var = 0; value = 0 }; rule = 0 }
@@ -54,8 +54,8 @@ loop-entry-preserved g c =
     let inv = c.loop-entry.invariant in
     let next : (rule : ℕ) → entry.rule ≢ rule → All (λ (w : Waiting). w.rule ≢ rule) (drop (i + 1) ws) → All (λ (w : Waiting). w.rule ≢ rule) (drop i ws) =
     (λ rule ne none. subst (All (λ (w : Waiting). w.rule ≢ rule)) (sym (drop_more ws i no_entry c.loop-entry-test.true)) (All-cons (λ (w : Waiting). w.rule ≢ rule) entry (drop (i + 1) ws) ne none)) in
-    elim c.if-eq.branch [
-      | then-eq w ↦ rw w.self-is record {
+    elim c.if-may_change.branch [
+      | then-may_change+then-eq w ↦ rw w.self-is record {
         passing = w.look_at.ensures.passing;
         done = λ rule on none. elim (cases_eq entry.rule rule) [
           | inl e ↦ subst (IsDone p c.args.phase w.look_at.new.self) e w.look_at.ensures.done
@@ -64,12 +64,12 @@ loop-entry-preserved g c =
         off = λ v off. inv.off v off ∙ w.look_at.ensures.off v off;
         work = let a = inv.work in let b = w.look_at.ensures.work in omega arith;
       }
-      | else-eq w ↦
+      | then-may_change+else-eq w ↦
           (let head = (rule_at p entry.rule).var in
           let is = c.requires.waiting i no_entry c.loop-entry-test.true in
-          let e = head_is p entry.rule c.loop-entry.self c.as_slice.result.now c.as_slice.ensures is.1.exists inv.passing.kept.heads in
-          let told : c.layer.result ≡ layer_of p.variables head = c.layer.ensures ∙ ap (layer_of p.variables) e in
-          let tested : c.eq.result ≡ option_eq ◌==◌ (layer_of p.variables head) (Some c.args.layer) = c.eq.ensures ∙ ap (λ (o : Option ℕ). option_eq ◌==◌ o (Some c.args.layer)) told in
+          let e = head_is p entry.rule c.loop-entry.self w.as_slice.result.now w.as_slice.ensures is.1.exists inv.passing.kept.heads in
+          let told : w.layer.result ≡ layer_of p.variables head = w.layer.ensures ∙ ap (layer_of p.variables) e in
+          let tested : w.eq.result ≡ option_eq ◌==◌ (layer_of p.variables head) (Some c.args.layer) = w.eq.ensures ∙ ap (λ (o : Option ℕ). option_eq ◌==◌ o (Some c.args.layer)) told in
           let not : IsOnLayer p c.args.layer head → ⊥ = elim (same_option (layer_of p.variables head) c.args.layer) [
             | inl a ↦ (let f : true ≡ false = sym a.1 ∙ (sym tested ∙ w.if-eq.false) in absurd cc)
             | inr a ↦ a.0
@@ -80,6 +80,15 @@ loop-entry-preserved g c =
             off = inv.off;
             work = inv.work;
           })
+      | else-may_change w ↦ rw w.self-is record {
+        passing = inv.passing;
+        done = λ rule on none. elim (cases_eq entry.rule rule) [
+          | inl e ↦ subst (IsDone p c.args.phase c.loop-entry.self) e (c.may_change.ensures.done w.if-may_change.false)
+          | inr ne ↦ inv.done rule on (next rule ne none)
+        ];
+        off = inv.off;
+        work = inv.work;
+      }
     ]
 
 pub returns : goal.returns
