@@ -59,89 +59,79 @@ impl Job {
     }
 }
 
+/// A request as the command line names it.
+struct Words {
+    name: &'static str,
+    about: &'static str,
+    /// Whether it is over a task.
+    task: bool,
+    /// Whether it is over a plan.
+    plan: bool,
+}
+
+/// All requests, in the order in which the help names them.
+const REQUESTS: [Words; 6] = [
+    Words {
+        name: "plan",
+        about: "Says whether a plan solves a task, or why it doesn't",
+        task: true,
+        plan: true,
+    },
+    Words {
+        name: "mutex",
+        about: "Says for each mutex group of a task whether it is shown to be exclusive",
+        task: true,
+        plan: false,
+    },
+    Words {
+        name: "show",
+        about: "Shows what a task is about: its numbers, initial state and goal",
+        task: true,
+        plan: false,
+    },
+    Words {
+        name: "check",
+        about: "Says whether a task is well formed and layered, or what is wrong with it",
+        task: true,
+        plan: false,
+    },
+    Words {
+        name: "print",
+        about: "Prints a task file again, in its one canonical form",
+        task: true,
+        plan: false,
+    },
+    Words {
+        name: "steps",
+        about: "Prints a plan file again; with no words, that on standard input",
+        task: false,
+        plan: true,
+    },
+];
+
 /// The words that are understood.
 fn grammar<'a>(alloc: Global) -> Result<Command<'a>, AllocError> {
-    let program = Command::new(alloc, "sas")
+    let mut program = Command::new(alloc, "sas")
         .about("Reads, checks and validates task files and plan files of Fast Downward")
         .version(VERSION);
-    let program = with(
-        program,
-        over_task_and_plan(
-            alloc,
-            "plan",
-            "Says whether a plan solves a task, or why it doesn't",
-        ),
-    )?;
-    let program = with(
-        program,
-        over_task(
-            alloc,
-            "mutex",
-            "Says for each mutex group of a task whether it is shown to be exclusive",
-        ),
-    )?;
-    let program = with(
-        program,
-        over_task(
-            alloc,
-            "show",
-            "Shows what a task is about: its numbers, initial state and goal",
-        ),
-    )?;
-    let program = with(
-        program,
-        over_task(
-            alloc,
-            "check",
-            "Says whether a task is well formed and layered, or what is wrong with it",
-        ),
-    )?;
-    let program = with(
-        program,
-        over_task(
-            alloc,
-            "print",
-            "Prints a task file again, in its one canonical form",
-        ),
-    )?;
-    with(
-        program,
-        over_plan(
-            alloc,
-            "steps",
-            "Prints a plan file again; with no words, that on standard input",
-        ),
-    )
+    for words in &REQUESTS {
+        program = program.subcommand(words.command(alloc)?)?;
+    }
+    Ok(program)
 }
 
-/// The program's words with those of one request more.
-fn with<'a>(
-    program: Command<'a>,
-    request: Result<Command<'a>, AllocError>,
-) -> Result<Command<'a>, AllocError> {
-    program.subcommand(request?)
-}
-
-/// The words of a request over a task alone.
-fn over_task<'a>(alloc: Global, name: &'a str, about: &'a str) -> Result<Command<'a>, AllocError> {
-    Command::new(alloc, name).about(about).arg(the_task(alloc))
-}
-
-/// The words of a request over a plan alone.
-fn over_plan<'a>(alloc: Global, name: &'a str, about: &'a str) -> Result<Command<'a>, AllocError> {
-    Command::new(alloc, name).about(about).arg(the_plan(alloc))
-}
-
-/// The words of a request over a task and a plan.
-fn over_task_and_plan<'a>(
-    alloc: Global,
-    name: &'a str,
-    about: &'a str,
-) -> Result<Command<'a>, AllocError> {
-    Command::new(alloc, name)
-        .about(about)
-        .arg(the_task(alloc))?
-        .arg(the_plan(alloc))
+impl Words {
+    /// The words of the request.
+    fn command<'a>(&self, alloc: Global) -> Result<Command<'a>, AllocError> {
+        let mut request = Command::new(alloc, self.name).about(self.about);
+        if self.task {
+            request = request.arg(the_task(alloc))?;
+        }
+        if self.plan {
+            request = request.arg(the_plan(alloc))?;
+        }
+        Ok(request)
+    }
 }
 
 fn the_task<'a>(alloc: Global) -> Arg<'a> {
