@@ -3,7 +3,8 @@
 
     python3 cases/calls.py PROGRAM ..
 
-The programs are those that the crates `file_calls`, `verdict_calls` and `request_calls` are built to, and have their names.
+The programs are those that the crates `core_calls`, `file_calls`, `verdict_calls` and `request_calls` are built to, and have
+their names.
 
 calls.json: for each program what its calls say, in groups of the same call.
 
@@ -32,7 +33,7 @@ from walks import walked_calls, walked_plans
 SECONDS = 60
 # the program reads no more than 8,192 bytes
 LONGEST = 8000
-FILES, VERDICTS, REQUESTS = "file_calls", "verdict_calls", "request_calls"
+CORE, FILES, VERDICTS, REQUESTS = "core_calls", "file_calls", "verdict_calls", "request_calls"
 RIGHT = "right\n"
 LAYERED = "layered\nkept\n"
 EVALUATORS = ("rounds", "worklist", "incremental")
@@ -62,8 +63,8 @@ def task_cases():
     for task in table("tasks.json"):
         name, held = task["file"], as_bytes({"file": task["file"]})
         whole = ["whole\n", {"file": name}, "\n"]
-        yield case(FILES, "new-task", ["|", {"file": name}], ["kept\n", whole], name)
-        yield case(FILES, "same-parts", ["|", {"file": name}], "equal\nequal tasks\n", name)
+        yield case(CORE, "new-task", ["|", {"file": name}], ["kept\n", whole], name)
+        yield case(CORE, "same-parts", ["|", {"file": name}], "equal\nequal tasks\n", name)
         if task["check"] == "task layered":
             yield case(VERDICTS, "layered", {"file": name}, LAYERED, name)
         for ends in ("\n", "\r\n"):

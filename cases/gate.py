@@ -14,7 +14,8 @@ import sys
 import time
 
 TOP = os.path.dirname(os.path.dirname(os.path.abspath(__file__)))
-CALLS = [f"crates/{name}/out/{name}" for name in ("file_calls", "verdict_calls", "request_calls")]
+PROGRAMS = ("core_calls", "file_calls", "verdict_calls", "request_calls")
+CALLS = [f"crates/{name}/out/{name}" for name in PROGRAMS]
 PARTS = [
     ["cases/memory.py"],
     ["cases/calls.py", *CALLS],

@@ -30,6 +30,14 @@ pub fn say_whole<P: Print>(out: &P, text: &[u8]) {
     say(out, "");
 }
 
+/// Says a text, or that there was no memory for it.
+pub fn say_text<P: Print>(out: &P, text: Result<Vec<u8>, AllocError>) {
+    match text {
+        Ok(text) => say_whole(out, text.as_slice()),
+        Err(_) => say(out, "wanting"),
+    }
+}
+
 /// Says that a call did as it should, or with which of its numbers it first didn't.
 pub fn say_right<P: Print>(out: &P, wrong: Option<usize>) {
     match wrong {

@@ -1,25 +1,22 @@
-//! Makes calls on names, plans, tasks, lines and files, for tests: standard input says which one, as `call_words` tells.
+//! Makes calls on the files of tasks and plans, read from devices and in pieces, for tests: standard input says which one, as
+//! `call_words` tells.
 #![tactic(auto)]
 
-mod changes;
-mod core_calls;
 mod fault_words;
 mod limits;
-mod line_calls;
+mod part_calls;
 mod parts_text;
 mod reader_calls;
 mod readers;
-mod task_calls;
 
 use call_words::{Asked, LONGEST, asked_by, say, say_made};
-use core_calls::call_of_core;
-use line_calls::call_of_lines;
+use part_calls::call_of_parts;
 use reader_calls::call_of_readers;
 use std::alloc::AllocError;
 
 /// Makes the call: whether it is known.
 fn call<R: AllocGlobal + Print>(rt: &R, asked: &Asked<'_>) -> Result<bool, AllocError> {
-    Ok(call_of_core(rt, asked)? || call_of_lines(rt, asked)? || call_of_readers(rt, asked)?)
+    Ok(call_of_parts(rt, asked)? || call_of_readers(rt, asked)?)
 }
 
 fn main(rt: HostRuntime) {

@@ -41,23 +41,13 @@ fn wanting(_error: AllocError) -> Fault {
     }
 }
 
-/// The plan of a file in memory.
-pub fn read_plan_of(alloc: Global, file: &[u8]) -> Result<Plan, Fault> {
-    read_plan(alloc, &mut Watched::new(file))
-}
-
-/// The task of a file in memory.
-pub fn read_task_of(alloc: Global, file: &[u8]) -> Result<Task, Fault> {
-    read_task(alloc, &mut Watched::new(file))
-}
-
 /// The text of a plan.
-pub fn text_of_plan(alloc: Global, plan: &Plan) -> Result<Vec<u8>, Fault> {
+fn text_of_plan(alloc: Global, plan: &Plan) -> Result<Vec<u8>, Fault> {
     encode_plan(alloc, plan).map_err(wanting)
 }
 
 /// The text of a task.
-pub fn text_of_task(alloc: Global, task: &Task) -> Result<Vec<u8>, Fault> {
+fn text_of_task(alloc: Global, task: &Task) -> Result<Vec<u8>, Fault> {
     encode_task(alloc, task).map_err(wanting)
 }
 

@@ -1,12 +1,9 @@
 // Calls of `sas_core` on tasks and their parts. The parts are those of a file, behind changes of them and a `|`.
 use crate::changes::change_all;
-use crate::fault_words::say_read;
-use crate::parts_text::text_of_parts;
-use crate::readers::{read_task_of, text_of_task};
-use call_words::{
-    Asked, cut, fact_of, is_same_task, number_in, say, say_either, say_number, say_whole, spend,
-};
-use sas_core::{Fact, Parts, PartsFault, Task};
+use call_words::{Asked, cut, fact_of, is_same_task, say, say_either, say_number, say_text, spend};
+use sas_core::{Parts, PartsFault, Task};
+use sas_lines::Watched;
+use sas_text::{encode_task, read_task};
 use std::alloc::{AllocError, Global};
 
 /// Makes the call, if it is one of these: whether it is.
@@ -18,7 +15,6 @@ pub fn call_of_tasks<R: AllocGlobal + Print>(
         "new-task" => new_task(rt, asked.bytes)?,
         "encode-task" => encode(rt, asked.number, asked.bytes)?,
         "same-parts" => say_same(rt, asked.bytes)?,
-        "task-parts" => say_task_parts(rt, asked.bytes)?,
         "costs" => say_costs(rt, asked.bytes),
         "variables" => say_variables(rt, asked.bytes),
         "facts" => say_facts(rt, asked.bytes),
@@ -27,10 +23,15 @@ pub fn call_of_tasks<R: AllocGlobal + Print>(
     Ok(true)
 }
 
+/// The task of a file: none where it isn't one.
+fn task_in(alloc: Global, file: &[u8]) -> Option<Task> {
+    read_task(alloc, &mut Watched::new(file)).ok()
+}
+
 /// The changed parts, where the bytes are those of a task.
 fn parts_of(alloc: Global, bytes: &[u8]) -> Result<Option<Parts>, AllocError> {
     let (changes, file) = cut(bytes, b'|');
-    let Ok(task) = read_task_of(alloc, file) else {
+    let Some(task) = task_in(alloc, file) else {
         return Ok(None);
     };
     changed(alloc, task.into_parts(), changes)
@@ -87,7 +88,7 @@ fn say_made<R: AllocGlobal + Print>(
     match made {
         Ok(task) => {
             say_kept(rt, task.parts(), given);
-            say_read(rt, text_of_task(rt.alloc(), &made_again(task)));
+            say_text(rt, encode_task(rt.alloc(), &made_again(task)));
         }
         Err((back, fault)) => {
             say_kept(rt, &back, given);
@@ -98,12 +99,12 @@ fn say_made<R: AllocGlobal + Print>(
 
 /// `encode_task`. It could show that it always wants memory.
 fn encode<R: AllocGlobal + Print>(rt: &R, count: usize, file: &[u8]) -> Result<(), AllocError> {
-    let Ok(task) = read_task_of(rt.alloc(), file) else {
+    let Some(task) = task_in(rt.alloc(), file) else {
         say(rt, "WRONG: no task");
         return Ok(());
     };
     spend(rt.alloc(), count)?;
-    say_read(rt, text_of_task(rt.alloc(), &task));
+    say_text(rt, encode_task(rt.alloc(), &task));
     Ok(())
 }
 
@@ -111,7 +112,7 @@ fn encode<R: AllocGlobal + Print>(rt: &R, count: usize, file: &[u8]) -> Result<(
 /// equality that forgets a field.
 fn say_same<R: AllocGlobal + Print>(rt: &R, bytes: &[u8]) -> Result<(), AllocError> {
     let (_, file) = cut(bytes, b'|');
-    let Ok(task) = read_task_of(rt.alloc(), file) else {
+    let Some(task) = task_in(rt.alloc(), file) else {
         say(rt, "WRONG: no task");
         return Ok(());
     };
@@ -134,19 +135,9 @@ fn say_same_tasks<P: Print>(out: &P, task: &Task, made: Result<Task, (Parts, Par
     }
 }
 
-/// The parts of the task of a file. It could show a format whose reader and writer make the same mistake, as an old value in
-/// place of a new one.
-fn say_task_parts<R: AllocGlobal + Print>(rt: &R, file: &[u8]) -> Result<(), AllocError> {
-    match read_task_of(rt.alloc(), file) {
-        Ok(task) => say_whole(rt, text_of_parts(rt.alloc(), task.parts())?.as_slice()),
-        Err(_) => say(rt, "WRONG: no task"),
-    }
-    Ok(())
-}
-
 /// `Task::cost` of each operator. It could show a definition that counts cost lines under metric 0.
 fn say_costs<R: AllocGlobal + Print>(rt: &R, file: &[u8]) {
-    let Ok(task) = read_task_of(rt.alloc(), file) else {
+    let Some(task) = task_in(rt.alloc(), file) else {
         return say(rt, "WRONG: no task");
     };
     for operator in 0..u32::MAX {
@@ -159,7 +150,7 @@ fn say_costs<R: AllocGlobal + Print>(rt: &R, file: &[u8]) {
 
 /// `Task::range` and `Task::derived` of each variable. It could show a definition by which a variable on layer 0 is basic.
 fn say_variables<R: AllocGlobal + Print>(rt: &R, file: &[u8]) {
-    let Ok(task) = read_task_of(rt.alloc(), file) else {
+    let Some(task) = task_in(rt.alloc(), file) else {
         return say(rt, "WRONG: no task");
     };
     for var in 0..u32::MAX {
@@ -179,7 +170,7 @@ fn say_variables<R: AllocGlobal + Print>(rt: &R, file: &[u8]) {
 /// definition of a fact counts from 1.
 fn say_facts<R: AllocGlobal + Print>(rt: &R, bytes: &[u8]) {
     let (facts, file) = cut(bytes, b'|');
-    let Ok(task) = read_task_of(rt.alloc(), file) else {
+    let Some(task) = task_in(rt.alloc(), file) else {
         return say(rt, "WRONG: no task");
     };
     for words in facts.split(|&byte| byte == b';') {

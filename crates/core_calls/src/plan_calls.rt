@@ -1,24 +1,25 @@
-// Calls of `sas_core`: names, lists and plans, and those on tasks.
+// Calls of `sas_core`: names, lists and plans.
 ghost use Rattle.std.specs.Prelude.{◌≡◌, ◌↔◌, IsTrue};
 
-use crate::readers::read_plan_of;
-use crate::task_calls::call_of_tasks;
 use call_words::{
-    Asked, cut, number_in, say, say_bytes, say_either, say_number, say_whole, spend, text_of,
+    Asked, cut, number_in, say, say_bytes, say_either, say_number, say_text, spend, text_of,
 };
 use sas_core::{BadName, CostKind, Items, Plan, is_name};
-use sas_text::encode_plan;
+use sas_lines::Watched;
+use sas_text::{encode_plan, read_plan};
 use std::alloc::{AllocError, Global};
 
 /// Makes the call, if it is one of these: whether it is.
-pub fn call_of_core<R: AllocGlobal + Print>(rt: &R, asked: &Asked<'_>) -> Result<bool, AllocError> {
+pub fn call_of_plans<R: AllocGlobal + Print>(
+    rt: &R,
+    asked: &Asked<'_>,
+) -> Result<bool, AllocError> {
     match asked.call {
         "is-name" => say_name(rt, asked.bytes),
         "items" => say_items(rt, asked.bytes)?,
         "new-plan" => new_plan(rt, asked.number, asked.bytes)?,
-        "plan-parts" => say_plan(rt, asked.bytes),
         "same-plans" => say_same_plans(rt, asked.bytes),
-        _ => return call_of_tasks(rt, asked),
+        _ => return Ok(false),
     }
     Ok(true)
 }
@@ -113,35 +114,22 @@ fn say_encoded<R: AllocGlobal + Print>(
     plan: &Plan,
 ) -> Result<(), AllocError> {
     spend(rt.alloc(), count)?;
-    match encode_plan(rt.alloc(), plan) {
-        Ok(text) => say_whole(rt, text.as_slice()),
-        Err(_) => say(rt, "wanting"),
-    }
+    say_text(rt, encode_plan(rt.alloc(), plan));
     Ok(())
 }
 
-/// The parts of the plan of a file. It could show a format whose reader and writer make the same mistake, as a name that
-/// keeps its brackets.
-fn say_plan<R: AllocGlobal + Print>(rt: &R, file: &[u8]) {
-    let Ok(plan) = read_plan_of(rt.alloc(), file) else {
-        return say(rt, "WRONG: no plan");
-    };
-    for step in plan.steps().as_slice() {
-        say_bytes(rt, step.as_slice());
-        say(rt, "|");
-    }
-    let kind = plan.kind();
-    say_either(rt, kind == CostKind::Unit, "unit", "general");
-    say_number(rt, "cost", plan.cost());
+/// The plan of a file: none where it isn't one.
+fn plan_in(alloc: Global, file: &[u8]) -> Option<Plan> {
+    read_plan(alloc, &mut Watched::new(file)).ok()
 }
 
 /// Whether two plans are equal, whose files have `|` between them. It could show an equality that forgets a field.
 fn say_same_plans<R: AllocGlobal + Print>(rt: &R, files: &[u8]) {
     let (file, other) = cut(files, b'|');
-    let Ok(plan) = read_plan_of(rt.alloc(), file) else {
+    let Some(plan) = plan_in(rt.alloc(), file) else {
         return say(rt, "WRONG: no plan");
     };
-    let Ok(other) = read_plan_of(rt.alloc(), other) else {
+    let Some(other) = plan_in(rt.alloc(), other) else {
         return say(rt, "WRONG: no other plan");
     };
     say_either(rt, is_same_plan(&plan, &other), "equal", "different");

@@ -10,7 +10,7 @@ use Rattle.sas_core.specs.declared.plan.CostKind.TheVariants.{Unit as unit_cost,
 use Rattle.sas_core.specs.contracts.plan.CostKind.{the_type}
 use Rattle.sas_core.specs.PlanParts.{PlanParts}
 use denote.Enum.Bare.{sameb}
-use Rattle.file_calls.proofs.core_calls.is_same_plan.Goals as goal
+use Rattle.core_calls.proofs.plan_calls.is_same_plan.Goals as goal
 
 kinds : (a b : CostKind) → Decides (sameb the_type a b) (a ≡ b)
 kinds unit_cost unit_cost = (λ _. refl, λ _. refl)
