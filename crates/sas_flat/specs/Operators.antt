@@ -4,6 +4,7 @@ use Rattle.sas_core.specs.declared.parts.Fact.{Fact}
 use Rattle.sas_core.specs.declared.parts.Effect.{Effect}
 use Rattle.sas_core.specs.declared.parts.Operator.{Operator}
 use Rattle.sas_flat.specs.declared.operators.Columns.{Columns}
+use Rattle.sas_flat.specs.Growing.{Kept}
 use Rattle.sas_flat.specs.Lists.{lists_of, AreEnds}
 use Rattle.sas_flat.specs.Table.{table}
 
@@ -25,6 +26,14 @@ pub record AreAligned (c : Columns) : Type 0 where
   pub prevail : length c.prevail ≡ length c.costs.items
   pub ends : length c.ends ≡ length c.costs.items
   pub effects : AreEnds c.ends (length c.effects)
+
+-- what each column had is still there, at its place
+pub record ColumnsKept (old new : Columns) : Type 0 where
+  pub names : Kept old.names new.names
+  pub prevail : Kept old.prevail new.prevail
+  pub effects : Kept old.effects new.effects
+  pub ends : Kept old.ends new.ends
+  pub costs : Kept old.costs.items new.costs.items
 
 -- each column has what the operator puts there behind what it had
 pub record OneMore (old new : Columns) (o : Operator) : Type 0 where

@@ -4,7 +4,7 @@ ghost use Rattle.sas_grounded.specs.Grounded as grounded;
 ghost use Rattle.sas_flat.specs.Effects.{effect_in, plain_effects};
 ghost use Rattle.sas_flat.specs.Growing.{Kept};
 ghost use Rattle.sas_flat.specs.Lists.{start_of, AreEnds};
-ghost use Rattle.sas_flat.specs.Operators.{operator, operator_in, OneMore};
+ghost use Rattle.sas_flat.specs.Operators.{operator, operator_in, ColumnsKept, OneMore};
 
 use crate::effects::Effects;
 use crate::ends::Ends;
@@ -53,11 +53,7 @@ impl Columns {
         cost: u32,
     ) -> Result<(), AllocError>
         requires { AreEnds self.old.ends (length self.old.effects) }
-        ensures names { Kept self.old.names self.new.names }
-        ensures prevail { Kept self.old.prevail self.new.prevail }
-        ensures effects { Kept self.old.effects self.new.effects }
-        ensures ends { Kept self.old.ends self.new.ends }
-        ensures costs { Kept self.old.costs.items self.new.costs.items }
+        ensures kept { ColumnsKept self.old self.new }
         ensures ok { OnOk result (OneMore self.old self.new (operator name.now prevail.now effects.now cost)) }
     {
         self.push_head(name, prevail)?;
@@ -74,12 +70,9 @@ impl Columns {
         cost: u32,
     ) -> Result<(), AllocError>
         requires { AreEnds self.old.ends (length self.old.effects) }
-        ensures names { Kept self.old.names self.new.names }
-        ensures prevail { Kept self.old.prevail self.new.prevail }
-        ensures effects { Kept self.old.effects self.new.effects }
-        ensures ends { Kept self.old.ends self.new.ends }
-        ensures costs { Kept self.old.costs.items self.new.costs.items }
-        ensures ok { OnOk result (OneMore self.old self.new (operator name.now prevail.now (plain_effects changes.now) cost)) }
+        ensures kept { ColumnsKept self.old self.new }
+        ensures ok { OnOk result (OneMore self.old self.new
+            (operator name.now prevail.now (plain_effects changes.now) cost)) }
     {
         self.push_head(name, prevail)?;
         self.effects.append_plain(changes)?;
@@ -189,7 +182,8 @@ impl Operators {
         changes: &[Change],
         cost: u32,
     ) -> Result<(), AllocError>
-        ensures ok { OnOk result (self.new ≡ self.old ++ operator name.now prevail.now (plain_effects changes.now) cost ∷ []) }
+        ensures ok { OnOk result (self.new
+            ≡ self.old ++ operator name.now prevail.now (plain_effects changes.now) cost ∷ []) }
         ensures err { OnErr result (self.new ≡ self.old) }
     {
         let operators = self.columns.costs.len();
