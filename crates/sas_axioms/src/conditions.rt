@@ -16,7 +16,7 @@ pub fn index_of_all<T: Grounded>(alloc: Global, task: &T) -> Result<Index, Alloc
     ensures { IfOk result (λ index. IsFullIndex (T.says task.now) index.waiting.items index.starts.items) }
 {
     let mut waiting = all_conditions(alloc, task)?;
-    waiting.sort_unstable_by_key(|entry| entry.fact.var);
+    waiting.sort_by_key(|entry| entry.fact.var)?;
     let starts = starts_of(alloc, waiting.as_slice(), task.variables())?;
     Ok(Index { waiting, starts })
 }
