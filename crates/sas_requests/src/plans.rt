@@ -9,7 +9,7 @@ ghost use Rattle.sas_requests.specs.PlanWords.{valid_line, fault_words, step_wor
 use crate::answers::{Answer, refuse};
 use crate::layers::refuse_layers;
 use crate::{Status, ToolFault};
-use sas_axioms::Incremental;
+use sas_axioms::Worklist;
 use sas_flat::{FlatPlan, FlatTask};
 use sas_grounded::Stepwise;
 use sas_lines::{Watched, push_line, push_number};
@@ -87,7 +87,7 @@ fn verdict(
     }
 }
 
-/// Whether the plan is valid, by an evaluator that looks again only at what a step changed.
+/// Whether the plan is valid, by an evaluator that counts.
 fn check_plan(
     alloc: Global,
     layered: &Layered<FlatTask>,
@@ -96,10 +96,10 @@ fn check_plan(
     ensures valid { IfOk result (λ v. IsValid layered.now plan.now v.operators.items) }
     ensures fault { IfErr result (λ f. f ≢ PlanFault.Memory → IsFaultOf layered.now plan.now f) }
 {
-    let Ok(evaluator) = Incremental::new(alloc, layered) else {
+    let Ok(worklist) = Worklist::new(alloc, layered) else {
         return Err(PlanFault::Memory);
     };
-    match Runner::new(alloc, layered, evaluator) {
+    match Runner::new(alloc, layered, worklist) {
         Ok(mut runner) => runner.check_plan(alloc, plan),
         Err(_) => Err(PlanFault::Memory),
     }
