@@ -5,6 +5,7 @@ use Rattle.indexmap.specs.IndexMap.{IndexMap, get_by}
 use Rattle.sas_core.specs.declared.parts.Parts.{Parts}
 use Rattle.sas_grounded.specs.Grounded.{operator_at}
 use Rattle.sas_run.specs.declared.name_key.NameKey.{NameKey}
+use Rattle.sas_run.specs.declared.names.LookedUp.{LookedUp}
 use Rattle.sas_run.specs.declared.names.Names.{Names}
 use Rattle.sas_run.specs.Names.{IsNextNamed}
 
@@ -24,3 +25,7 @@ pub record AreNames (p : Parts) (names : Names) : Type 0 where
 abbrev pub Puts : {S : Type 0} → List ℕ → ℕ → IndexMap NameKey ℕ S → IndexMap NameKey ℕ S → Type 0
 Puts name operator old new = (other : List ℕ) → get_by (is_called other) new
     ≡ (if pointwise nat_eq name other then Some operator else get_by (is_called other) old)
+
+-- it tells the lowest operator of its name, or that no operator has it
+abbrev pub IsLookedUp : Parts → LookedUp → Type 0
+IsLookedUp p l = IsNextNamed p l.name.now 0 l.first

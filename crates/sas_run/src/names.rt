@@ -18,6 +18,13 @@ pub struct Names<'a> {
     next: Vec<Option<u32>>,
 }
 
+/// A name, and the lowest operator of it.
+#[derive(Clone, Copy)]
+pub struct LookedUp<'n> {
+    pub name: &'n [u8],
+    pub first: Option<u32>,
+}
+
 impl<'a> Names<'a> {
     /// The names of the task's operators. It goes from the last operator to the first, so that the lowest one of each name
     /// comes last.

@@ -3,9 +3,11 @@ ghost use Rattle.std.specs.Prelude.{◌≡◌, ◌≢◌, ◌<◌, ◌≤◌, �
 ghost use Rattle.sas_grounded.specs.Grounded.{operator_at};
 ghost use Rattle.sas_core.specs.Variables.{IsState};
 ghost use Rattle.sas_run.specs.Plans.{IsValid, GoThrough, cost_of_all};
+ghost use Rattle.sas_run.specs.NameTable.{IsLookedUp};
 ghost use Rattle.sas_run.specs.Verdicts.{IsFaultOf};
 ghost use Rattle.sas_run.specs.Running.{GoesOn, StopsAt, GoesThrough};
 
+use crate::names::LookedUp;
 use crate::runner::{Choice, Runner};
 use sas_grounded::{Grounded, Stepwise};
 use sas_meaning::{Settle, State};
@@ -72,7 +74,8 @@ impl<'a, E: Settle<T> + Drop, T: Grounded> Runner<'a, E, T> {
         })
     }
 
-    /// Makes the plan's steps in turn, and adds their operators, for which there is room.
+    /// Makes the plan's steps in turn, and adds their operators, for which there is room. A name that comes several times in
+    /// a row is looked up once.
     fn go_through<P: Stepwise>(
         &mut self,
         plan: &P,
@@ -85,8 +88,11 @@ impl<'a, E: Settle<T> + Drop, T: Grounded> Runner<'a, E, T> {
         ensures goes { GoesThrough self.old state.old (P.says plan.now).steps operators.new.items state.new result }
         ensures same { self.new ≡ self.old }
     {
+        // No step has the empty name, so the first one's is looked up.
+        let mut looked_up = self.look_up(b"");
         for before in 0..plan.steps() {
-            match self.go_on(plan.step(before), before + 1, state) {
+            looked_up = self.look_up_after(looked_up, plan.step(before));
+            match self.go_on(looked_up, before + 1, state) {
                 Ok(operator) => operators.push(operator).unwrap(),
                 Err(fault) => return Err(fault),
             }
@@ -95,13 +101,19 @@ impl<'a, E: Settle<T> + Drop, T: Grounded> Runner<'a, E, T> {
     }
 
     /// Makes the step of this name.
-    fn go_on(&mut self, name: &[u8], step: usize, state: &mut State) -> Result<u32, PlanFault>
+    fn go_on(
+        &mut self,
+        looked_up: LookedUp<'_>,
+        step: usize,
+        state: &mut State,
+    ) -> Result<u32, PlanFault>
+        requires name { IsLookedUp self.old looked_up }
         requires state { IsState self.old.variables state.old }
-        ensures ok { IfOk result (λ operator. GoesOn self.old state.old name.now operator state.new) }
-        ensures err { IfErr result (λ fault. StopsAt self.old state.old name.now step fault) }
+        ensures ok { IfOk result (λ operator. GoesOn self.old state.old looked_up.entry.name.now operator state.new) }
+        ensures err { IfErr result (λ fault. StopsAt self.old state.old looked_up.entry.name.now step fault) }
         ensures same { self.new ≡ self.old }
     {
-        let operator = match self.choose(state, name) {
+        let operator = match self.choose_looked_up(state, looked_up) {
             Choice::Unknown => return Err(PlanFault::NoOperator { step }),
             Choice::Blocked => return Err(PlanFault::NotApplicable { step }),
             Choice::Found(operator) => operator,

@@ -3,13 +3,13 @@ ghost use Rattle.std.specs.Prelude.{◌≡◌, ◌<◌, ◌↔◌, length, IfOk,
 ghost use Rattle.sas_grounded.specs.Grounded.{operator_at};
 ghost use Rattle.sas_core.specs.Variables.{IsState};
 ghost use Rattle.sas_meaning.specs.Reachable.{IsInitial};
-ghost use Rattle.sas_run.specs.NameTable.{AreNames};
+ghost use Rattle.sas_run.specs.NameTable.{AreNames, IsLookedUp};
 ghost use Rattle.sas_run.specs.Given.{IsClean};
 ghost use Rattle.sas_run.specs.Plans.{IsApplicable, IsNamed};
 ghost use Rattle.sas_run.specs.Running.{IsChoice, IsFirstChosen, IsGoalAnswer, Steps};
 
 use crate::holding::first_missed;
-use crate::names::Names;
+use crate::names::{LookedUp, Names};
 use crate::steps::{StepFault, apply, missed_precondition};
 use sas_core::{Items, Task};
 use sas_grounded::Grounded;
@@ -105,7 +105,40 @@ impl<'a, E: Settle<T> + Drop, T: Grounded> Runner<'a, E, T> {
         requires { IsState self.now.variables state.now }
         ensures { IsChoice self.now state.now name.now result }
     {
-        let Some(first) = self.names.first(name) else {
+        self.choose_looked_up(state, self.look_up(name))
+    }
+
+    /// Looks the name up. It takes no memory.
+    pub(crate) fn look_up<'n>(&self, name: &'n [u8]) -> LookedUp<'n>
+        ensures name { result.name.now ≡ name.now }
+        ensures is { IsLookedUp self.now result }
+    {
+        LookedUp {
+            name,
+            first: self.names.first(name),
+        }
+    }
+
+    /// Looks the name up, unless it is the one that was looked up last. It takes no memory.
+    pub(crate) fn look_up_after<'n>(&self, last: LookedUp<'n>, name: &'n [u8]) -> LookedUp<'n>
+        requires { IsLookedUp self.now last }
+        ensures name { result.name.now ≡ name.now }
+        ensures is { IsLookedUp self.now result }
+    {
+        if last.name == name {
+            last
+        } else {
+            self.look_up(name)
+        }
+    }
+
+    /// Which operator a name that was looked up means in the state. It takes no memory.
+    pub(crate) fn choose_looked_up(&self, state: &State, looked_up: LookedUp<'_>) -> Choice
+        requires state { IsState self.now.variables state.now }
+        requires name { IsLookedUp self.now looked_up }
+        ensures { IsChoice self.now state.now looked_up.entry.name.now result }
+    {
+        let Some(first) = looked_up.first else {
             return Choice::Unknown;
         };
         match first_applicable(self.layered.task(), &self.names, state, first) {
