@@ -15,8 +15,7 @@ use Rattle.sas_core.proofs.Places.{holds_at}
 use Rattle.sas_axioms.specs.declared.waiting.Waiting.{Waiting}
 use Rattle.sas_axioms.specs.LayerRules.{IsRuleOn}
 use Rattle.sas_axioms.specs.Waiting.{asking, waits, waiting_at, released, occurrences}
-use Rattle.sas_axioms.specs.Worklist.{open_conditions}
-use Rattle.sas_axioms.specs.Incremental.{IsOfRule, IsCondition, entries, AreAllConditions, IsFullIndex, AreCounted}
+use Rattle.sas_axioms.specs.Conditions.{open_conditions, IsOfRule, IsCondition, entries, AreAllConditions, IsFullIndex, AreCounted}
 use Rattle.sas_axioms.proofs.Entries.{asked, counted_own, counted_other, waits_append, waits_permutation, condition_within}
 use Rattle.sas_axioms.proofs.Groups.{all_part, of_variable, released_counts, waits_at}
 

@@ -17,7 +17,8 @@ use Rattle.sas_meaning.proofs.Layers.{layer_cases, layer_tells, given_on, given_
 use Rattle.sas_axioms.specs.declared.waiting.Waiting.{Waiting}
 use Rattle.sas_axioms.specs.LayerRules.{IsRuleOn}
 use Rattle.sas_axioms.specs.Waiting.{asking, waiting_at, released, occurrences}
-use Rattle.sas_axioms.specs.Incremental.{IsAsked, AreAskedBasic, IsFullIndex, SameAsked, SameDerived}
+use Rattle.sas_axioms.specs.Conditions.{IsAsked, AreAskedBasic, IsFullIndex, SameAsked}
+use Rattle.sas_axioms.specs.Incremental.{SameDerived}
 use Rattle.sas_axioms.proofs.Supporting.{no_rule}
 use Rattle.sas_axioms.proofs.Entries.{condition_within}
 use Rattle.sas_axioms.proofs.AllConditions.{waiting_asks}
@@ -108,7 +109,7 @@ agree_asked_sym : (p : Parts) (s s' : List ℕ) → AgreeAsked p s s' → AgreeA
 agree_asked_sym p s s' agree = record { asked = λ v b asked. sym (agree.asked v b asked); derived = λ v d. sym (agree.derived v d) }
 
 -- what a condition of a rule that can fire is on is asked about
-condition_asked : (p : Parts) (layer k : ℕ) (r : Rule) → IsRuleOn p layer k → rule_at p k ≡ r → (j : ℕ) (d : Fact) → j < length r.conditions → IsAsked p (get_or r.conditions j d).var
+pub condition_asked : (p : Parts) (layer k : ℕ) (r : Rule) → IsRuleOn p layer k → rule_at p k ≡ r → (j : ℕ) (d : Fact) → j < length r.conditions → IsAsked p (get_or r.conditions j d).var
 condition_asked p layer k r is same = subst (λ (r' : Rule). (j : ℕ) (d : Fact) → j < length r'.conditions → IsAsked p (get_or r'.conditions j d).var) same
     (λ j d lt. (layer, k, get_or (rule_at p k).conditions j d, is, (j, lt, get_or_default (rule_at p k).conditions j (get_or (rule_at p k).conditions j d) d lt), refl))
 

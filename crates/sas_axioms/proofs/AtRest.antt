@@ -24,11 +24,12 @@ use Rattle.sas_axioms.specs.declared.memo.Memo.{Memo}
 use Rattle.sas_axioms.specs.declared.memo.Phase.{Phase}
 use Rattle.sas_axioms.specs.declared.memo.Phase.TheVariants.{Fall, Rise}
 use Rattle.sas_axioms.specs.ByLayers.{IsIdle, SettlesLayer}
-use Rattle.sas_axioms.specs.LayerRules.{IsRuleOn, AreLayerRules, IsLayerSpan}
+use Rattle.sas_axioms.specs.LayerRules.{IsRuleOn, AreLayerRules, IsLayerSpan, AreSpans}
 use Rattle.sas_axioms.specs.declared.waiting.Waiting.{Waiting}
 use Rattle.sas_axioms.specs.Waiting.{occurrences, released, waiting_at}
 use Rattle.sas_axioms.specs.Worklist.{StandsAt}
-use Rattle.sas_axioms.specs.Incremental.{IsKept, IsAtRest, IsPassing, IsDone, AreCounted, Supports, IsInPhase, IsFullIndex, AreSpans}
+use Rattle.sas_axioms.specs.Conditions.{AreCounted, IsFullIndex}
+use Rattle.sas_axioms.specs.Incremental.{IsKept, IsAtRest, IsPassing, IsDone, Supports, IsInPhase}
 use Rattle.sas_axioms.proofs.Counters.{all_hold_when_none_open, none_open_when_all_hold}
 use Rattle.sas_axioms.proofs.AllConditions.{waiting_asks, open_changed}
 use Rattle.sas_axioms.proofs.Layering.{settled_where_idle}

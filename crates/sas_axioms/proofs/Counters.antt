@@ -16,7 +16,8 @@ use Rattle.sas_meaning.specs.Settled.{differs, IsSettledAt}
 use Rattle.sas_meaning.specs.Forced.{OnlyForced, HasFired, SameOff, AtDefault, equal_places}
 use Rattle.sas_axioms.specs.LayerRules.{IsRuleOn}
 use Rattle.sas_axioms.specs.Waiting.{occurrences, asking}
-use Rattle.sas_axioms.specs.Worklist.{open_conditions, seen, IsRunning, Counts, HaveFired, IsAtWork, FiresRule, work}
+use Rattle.sas_axioms.specs.Conditions.{open_conditions}
+use Rattle.sas_axioms.specs.Worklist.{seen, IsRunning, Counts, HaveFired, IsAtWork, FiresRule, work}
 use Rattle.std.specs.List.{All}
 use Rattle.std.proofs.lemmas.List.Elements.{All-nil, All-cons, All-head, All-tail}
 use Rattle.sas_meaning.proofs.Forced.{Fired, fired_there, rule_new, differs_true, differs_not, fact_within}

@@ -10,3 +10,4 @@ pub mod Supporting
 pub mod Passing
 pub mod AtRest
 pub mod Asked
+pub mod LayerStart

@@ -5,71 +5,20 @@ use Rattle.sas_core.specs.declared.parts.Parts.{Parts}
 use Rattle.sas_grounded.specs.Grounded.{rule_at}
 use Rattle.sas_core.specs.Variables.{IsState, IsDerived}
 use Rattle.sas_meaning.specs.States.{AllHold}
-use Rattle.sas_meaning.specs.Layers.{IsBasic, IsOnLayer, default_of}
+use Rattle.sas_meaning.specs.Layers.{IsOnLayer, default_of}
 use Rattle.sas_meaning.specs.Settled.{differs, SameBasic, IsSettled}
 use Rattle.sas_meaning.specs.Forced.{equal_places, SameOff}
 use Rattle.sas_axioms.specs.declared.incremental.Incremental.{Incremental}
-use Rattle.sas_axioms.specs.declared.layer_rules.LayerRule.{LayerRule}
-use Rattle.sas_axioms.specs.declared.layer_rules.LayerSpan.{LayerSpan}
 use Rattle.sas_axioms.specs.declared.memo.Memo.{Memo}
 use Rattle.sas_axioms.specs.declared.memo.Phase.{Phase}
 use Rattle.sas_axioms.specs.declared.memo.Phase.TheVariants.{Fall, Rise}
-use Rattle.sas_axioms.specs.declared.waiting.Waiting.{Waiting}
-use Rattle.sas_axioms.specs.LayerRules.{IsRuleOn, AreLayerRules, IsLayerSpan}
-use Rattle.sas_axioms.specs.Waiting.{asking, waits, AreStarts}
-use Rattle.sas_axioms.specs.Worklist.{open_conditions, AreDerived}
-
--- the entry is of a rule that can fire
-abbrev pub IsOfRule : Parts → Waiting → Type 0
-IsOfRule p w = (layer : ℕ) × IsRuleOn p layer w.rule
-
--- the entry is of a rule that can fire, and of a variable of the task
-pub record IsCondition (p : Parts) (w : Waiting) : Type 0 where
-  pub of_rule : IsOfRule p w
-  pub exists : w.fact.var < length p.variables
-
--- the conditions of a rule as entries
-abbrev pub entries : ℕ → List Fact → List Waiting
-entries rule [] = []
-entries rule (c ∷ cs) = record { fact = c; rule = rule } ∷ entries rule cs
-
--- each rule that can fire waits for a fact as often as its conditions have it
-pub record AreAllConditions (p : Parts) (ws : List Waiting) : Type 0 where
-  pub only : All (IsCondition p) ws
-  pub each : (layer var value rule : ℕ) → IsRuleOn p layer rule
-      → waits rule var value ws ≡ asking var value (rule_at p rule).conditions
-
--- an index of all conditions of the rules that can fire
-pub record IsFullIndex (p : Parts) (ws : List Waiting) (places : List ℕ) : Type 0 where
-  pub waiting : AreAllConditions p ws
-  pub starts : AreStarts ws places
-  pub one_more : length places ≡ length p.variables + 1
-
--- a rule that can fire has a condition on the variable
-abbrev pub IsAsked : Parts → ℕ → Type 0
-IsAsked p var = (layer rule : ℕ) × (c : Fact)
-    × IsRuleOn p layer rule × Contains (rule_at p rule).conditions c × (c.var ≡ var)
-
--- the basic variables that conditions ask about, each at least once
-pub record AreAskedBasic (p : Parts) (variables : List ℕ) : Type 0 where
-  pub basic : All (IsBasic p) variables
-  pub exist : All (λ var. var < length p.variables) variables
-  pub each : (var : ℕ) → IsBasic p var → IsAsked p var → Contains variables var
-
--- the basic variables that conditions ask about have the same values
-abbrev pub SameAsked : Parts → List ℕ → List ℕ → Type 0
-SameAsked p s s' = (var : ℕ) → IsBasic p var → IsAsked p var → slice_index s var ≡ slice_index s' var
+use Rattle.sas_axioms.specs.LayerRules.{IsRuleOn, AreLayerRules, AreSpans}
+use Rattle.sas_axioms.specs.Conditions.{IsFullIndex, AreAskedBasic, AreCounted}
+use Rattle.sas_axioms.specs.Worklist.{AreDerived}
 
 -- the derived variables have the same values
 abbrev pub SameDerived : Parts → List ℕ → List ℕ → Type 0
 SameDerived p s s' = (var : ℕ) → IsDerived p.variables var → slice_index s var ≡ slice_index s' var
-
--- the counter of each rule that can fire is the number of its conditions that these values leave open
-pub record AreCounted (p : Parts) (values counters : List ℕ) : Type 0 where
-  pub one_each : length counters ≡ length p.rules
-  pub known : length values ≡ length p.variables
-  pub exact : (layer rule : ℕ) → IsRuleOn p layer rule
-      → slice_index counters rule ≡ open_conditions (slice_index values) (rule_at p rule).conditions
 
 -- the variable of each rule
 pub record AreHeads (p : Parts) (heads : List ℕ) : Type 0 where
@@ -160,12 +109,6 @@ pub record LooksAtAll (p : Parts) (phase : Phase) (layer : ℕ) (m m' : Memo) : 
   pub done : (rule : ℕ) → IsRuleOn p layer rule → IsDone p phase m' rule
   pub off : SameOff p layer m.values m'.values
   pub work : work p phase m' ≤ work p phase m
-
--- these are the layers of the rules from one place to another, one after the other
-abbrev pub AreSpans : List LayerRule → ℕ → List LayerSpan → ℕ → Type 0
-AreSpans rules start [] end = start ≡ end
-AreSpans rules start (span ∷ spans) end =
-    IsLayerSpan rules start span.layer span.end × AreSpans rules span.end spans end
 
 -- what the evaluator holds fits the task
 pub record IsReadyFor (p : Parts) (e : Incremental) : Type 0 where

@@ -1,10 +1,11 @@
 -- The rules that can fire, layer after layer.
-use Rattle.std.specs.Prelude.{◌≡◌, ℕ, ◌<◌, ◌≤◌, List, length, All, Contains, slice_index_or}
+use Rattle.std.specs.Prelude.{◌≡◌, ℕ, ◌<◌, ◌≤◌, List, [], ◌∷◌, length, All, Contains, slice_index_or}
 use Rattle.std.specs.List.Sorted.{IsNonDecreasingBy}
 use Rattle.sas_core.specs.declared.parts.Parts.{Parts}
 use Rattle.sas_grounded.specs.Grounded.{rule_at}
 use Rattle.sas_meaning.specs.Layers.{IsOnLayer, CanFire}
 use Rattle.sas_axioms.specs.declared.layer_rules.LayerRule.{LayerRule}
+use Rattle.sas_axioms.specs.declared.layer_rules.LayerSpan.{LayerSpan}
 
 -- the rule at this place is on the layer, and can fire
 pub record IsRuleOn (p : Parts) (layer rule : ℕ) : Type 0 where
@@ -34,6 +35,12 @@ pub record IsLayerSpan (rules : List LayerRule) (start layer end : ℕ) : Type 0
   pub some : start < length rules
   pub first : (d : LayerRule) → (slice_index_or rules start d).layer ≡ layer
   pub ends : IsLayerEnd rules start layer end
+
+-- these are the layers of the rules from one place to another, one after the other
+abbrev pub AreSpans : List LayerRule → ℕ → List LayerSpan → ℕ → Type 0
+AreSpans rules start [] end = start ≡ end
+AreSpans rules start (span ∷ spans) end =
+    IsLayerSpan rules start span.layer span.end × AreSpans rules span.end spans end
 
 -- the rules of one layer that can fire
 pub record AreRulesOn (p : Parts) (layer : ℕ) (rules : List LayerRule) : Type 0 where

@@ -1,6 +1,5 @@
 -- How far a worklist has come on a layer, and what it needs.
 use Rattle.std.specs.Prelude.{◌≡◌, ℕ, ◌+◌, ◌*◌, ◌<◌, ◌≤◌, ◌==◌, if◌then◌else◌, IsTrue, List, [], ◌∷◌, length, All, Contains, slice_index, slice_index_or, vec_capacity}
-use Rattle.sas_core.specs.declared.parts.Fact.{Fact}
 use Rattle.sas_core.specs.declared.parts.Parts.{Parts}
 use Rattle.sas_grounded.specs.Grounded.{rule_at}
 use Rattle.sas_core.specs.Variables.{IsState, IsDerived}
@@ -11,11 +10,8 @@ use Rattle.sas_axioms.specs.declared.layer_rules.LayerRule.{LayerRule}
 use Rattle.sas_axioms.specs.declared.worklist.Worklist.{Worklist}
 use Rattle.sas_axioms.specs.LayerRules.{IsRuleOn, AreLayerRules}
 use Rattle.sas_axioms.specs.Waiting.{occurrences, IsIndex}
-
--- how many of the conditions don't hold
-abbrev pub open_conditions : (ℕ → ℕ) → List Fact → ℕ
-open_conditions value [] = 0
-open_conditions value (c ∷ cs) = (if value c.var == c.value then 0 else 1) + open_conditions value cs
+use Rattle.sas_axioms.specs.Conditions.{open_conditions, SameAsked}
+use Rattle.sas_axioms.specs.Resting.{IsResting}
 
 -- a variable on the stack still counts with its default
 abbrev pub seen : Parts → List ℕ → List ℕ → ℕ → ℕ
@@ -74,6 +70,7 @@ pub record IsReadyFor (p : Parts) (w : Worklist) : Type 0 where
   pub firing : AreLayerRules p w.rules.items
   pub index : IsIndex p w.index.waiting.items w.index.starts.items
   pub has_room : HasRoom p w.counters (vec_capacity w.stack)
+  pub resting : IsResting p w.resting
   pub empty : w.stack.items ≡ []
 
 -- the rules from this place on are those from the layer on
@@ -82,7 +79,8 @@ pub record StandsAt (rules : List LayerRule) (layer place : ℕ) : Type 0 where
   pub before : (k : ℕ) (d : LayerRule) → k < place → (slice_index_or rules k d).layer < layer
   pub behind : (k : ℕ) (d : LayerRule) → place ≤ k → k < length rules → layer ≤ (slice_index_or rules k d).layer
 
--- it is ready, and the layers from this one on are left
-pub record IsReadyFrom (p : Parts) (layer : ℕ) (w : Worklist) : Type 0 where
+-- it is ready, the layers from this one on are left, and what it keeps are the state's values
+pub record IsReadyFrom (p : Parts) (layer : ℕ) (s : List ℕ) (w : Worklist) : Type 0 where
   pub ready : IsReadyFor p w
   pub stands : StandsAt w.rules.items layer w.next
+  pub follows : SameAsked p s w.resting.values

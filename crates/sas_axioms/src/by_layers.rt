@@ -7,7 +7,7 @@ use sas_meaning::{Layered, State};
 
 /// What settles the layers of a task in turn, from the lowest one on.
 pub trait ByLayers<T: Grounded> {
-    ghost use Rattle.std.specs.Prelude.{◌≡◌, ◌+◌, ◌≤◌, ℕ, IfSome, IfNone};
+    ghost use Rattle.std.specs.Prelude.{◌≡◌, ◌+◌, ◌≤◌, ℕ, List, IfSome, IfNone};
     ghost use Rattle.sas_core.specs.declared.parts.Parts.{Parts};
     ghost use Rattle.sas_core.specs.Variables.{IsState};
     ghost use Rattle.sas_meaning.specs.Settled.{SameBasic};
@@ -17,14 +17,14 @@ pub trait ByLayers<T: Grounded> {
     /// It can settle states of this task.
     ghost ready: { Self → Parts → Type 0 };
 
-    /// And the layers from this one on are those that are left.
-    ghost stands: { Self → Parts → ℕ → Type 0 };
+    /// And the layers from this one on are those that are left in this state.
+    ghost stands: { Self → Parts → ℕ → List ℕ → Type 0 };
 
     /// Gives the derived variables their default.
     fn begin(&mut self, layered: &Layered<T>, state: &mut State)
         requires ready { ready self.old layered.now }
         requires state { IsState layered.now.variables state.old }
-        ensures stands { stands self.new layered.now 0 }
+        ensures stands { stands self.new layered.now 0 state.new }
         ensures state { IsState layered.now.variables state.new }
         ensures basic { SameBasic layered.now state.old state.new }
         ensures default { (layer : ℕ) → AtDefault layered.now layer state.new };
@@ -32,10 +32,10 @@ pub trait ByLayers<T: Grounded> {
     /// Settles one of the layers that are left, and says which it is. No rule can fire on those that it passes over, nor, where
     /// it settles none, on any that is left.
     fn settle_next(&mut self, layered: &Layered<T>, from: u64, state: &mut State) -> Option<u32>
-        requires stands { stands self.old layered.now from }
+        requires stands { stands self.old layered.now from state.old }
         requires state { IsState layered.now.variables state.old }
         requires default { (layer : ℕ) → from ≤ layer → AtDefault layered.now layer state.old }
-        ensures stands { IfSome result (λ layer. stands self.new layered.now (layer + 1)) }
+        ensures stands { IfSome result (λ layer. stands self.new layered.now (layer + 1) state.new) }
         ensures settles { IfSome result (λ layer. SettlesNext layered.now from state.old state.new layer) }
         ensures ready { IfNone result (ready self.new layered.now) }
         ensures same { IfNone result (state.new ≡ state.old) }

@@ -3,7 +3,7 @@ ghost use Rattle.std.specs.Prelude.{◌≡◌, ◌<◌, ◌++◌, IfOk, OnOk, le
 ghost use Rattle.sas_grounded.specs.Grounded.{rule_at};
 ghost use Rattle.sas_axioms.specs.ByLayers.{IsLayeredTask};
 ghost use Rattle.sas_axioms.specs.LayerRules.{IsRuleOn};
-ghost use Rattle.sas_axioms.specs.Incremental.{IsFullIndex, AreAllConditions, AreAskedBasic, entries};
+ghost use Rattle.sas_axioms.specs.Conditions.{IsFullIndex, AreAllConditions, AreAskedBasic, entries};
 
 use crate::layer_rules::firing_layer;
 use crate::waiting::{Index, Waiting, starts_of};

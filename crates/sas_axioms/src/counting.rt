@@ -3,7 +3,7 @@ ghost use Rattle.std.specs.Prelude.{◌≡◌, ◌≢◌, ◌+◌, ◌<◌, ◌�
 ghost use Rattle.sas_axioms.specs.declared.waiting.Waiting.{Waiting};
 ghost use Rattle.sas_axioms.specs.ByLayers.{IsLayeredTask};
 ghost use Rattle.sas_axioms.specs.Waiting.{occurrences, released};
-ghost use Rattle.sas_axioms.specs.Incremental.{IsFullIndex, AreCounted};
+ghost use Rattle.sas_axioms.specs.Conditions.{IsFullIndex, AreCounted};
 
 use crate::firing::open_of;
 use crate::waiting::{Index, Waiting};

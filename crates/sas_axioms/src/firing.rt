@@ -8,9 +8,12 @@ ghost use Rattle.sas_axioms.specs.declared.waiting.Waiting.{Waiting};
 ghost use Rattle.sas_axioms.specs.ByLayers.{IsLayeredTask, SettlesLayer};
 ghost use Rattle.sas_axioms.specs.LayerRules.{IsRuleOn, AreRulesOn};
 ghost use Rattle.sas_axioms.specs.Waiting.{IsIndex, released};
-ghost use Rattle.sas_axioms.specs.Worklist.{open_conditions, IsRunning, Counts, HaveFired, HasRoom, IsAtWork, FiresRule, work};
+ghost use Rattle.sas_axioms.specs.Conditions.{open_conditions, SameAsked};
+ghost use Rattle.sas_axioms.specs.Resting.{IsResting};
+ghost use Rattle.sas_axioms.specs.Worklist.{IsRunning, Counts, HaveFired, HasRoom, IsAtWork, FiresRule, work};
 
 use crate::layer_rules::LayerRule;
+use crate::resting::Resting;
 use crate::waiting::{Index, Waiting};
 use sas_core::{Fact, Items};
 use sas_grounded::Grounded;
@@ -22,6 +25,7 @@ pub fn settle_layer<T: Grounded>(
     layer: u32,
     rules: &[LayerRule],
     index: &Index,
+    resting: &Resting,
     counters: &mut Items<u32>,
     stack: &mut Vec<u32>,
     state: &mut State,
@@ -29,6 +33,8 @@ pub fn settle_layer<T: Grounded>(
     requires layered { IsLayeredTask (T.says task.now) }
     requires rules { AreRulesOn (T.says task.now) layer rules.now }
     requires index { IsIndex (T.says task.now) index.now.waiting.items index.now.starts.items }
+    requires resting { IsResting (T.says task.now) resting.now }
+    requires follows { SameAsked (T.says task.now) state.old resting.now.values }
     requires room { HasRoom (T.says task.now) counters.old (vec_capacity stack.old) }
     requires empty { stack.old.items ≡ [] }
     requires state { IsState (T.says task.now).variables state.old }
@@ -37,7 +43,7 @@ pub fn settle_layer<T: Grounded>(
     ensures room { HasRoom (T.says task.now) counters.new (vec_capacity stack.new) }
     ensures empty { stack.new.items ≡ [] }
 {
-    count_conditions(task, layer, rules, state, counters);
+    count_conditions(task, layer, rules, resting, state, counters);
     fire_ready(task, layer, rules, counters.as_slice(), stack, state);
     empty_stack(task, layer, index, counters, stack, state);
 }
@@ -47,18 +53,22 @@ fn count_conditions<T: Grounded>(
     task: &T,
     layer: u32,
     rules: &[LayerRule],
+    resting: &Resting,
     state: &State,
     counters: &mut Items<u32>,
 )
     requires layered { IsLayeredTask (T.says task.now) }
     requires rules { AreRulesOn (T.says task.now) layer rules.now }
+    requires resting { IsResting (T.says task.now) resting.now }
+    requires follows { SameAsked (T.says task.now) state.now resting.now.values }
     requires state { IsState (T.says task.now).variables state.now }
+    requires default { AtDefault (T.says task.now) layer state.now }
     requires one_each { length counters.old ≡ length (T.says task.now).rules }
     ensures one_each { length counters.new ≡ length counters.old }
     ensures counts { Counts (T.says task.now) layer state.now [] counters.new [] }
 {
     for entry in rules {
-        let open = open_of(state, task.rule_conditions(entry.rule));
+        let open = resting.count_of(task, layer, entry.rule, state);
         counters.set(entry.rule as usize, open);
     }
 }

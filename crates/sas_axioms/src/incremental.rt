@@ -1,8 +1,9 @@
 // Settling a state from the one that was settled before it: what didn't change isn't looked at again.
 ghost use Rattle.std.specs.Prelude.{length, IfOk};
 ghost use Rattle.sas_axioms.specs.ByLayers.{IsLayeredTask};
-ghost use Rattle.sas_axioms.specs.LayerRules.{AreLayerRules};
-ghost use Rattle.sas_axioms.specs.Incremental.{IsFullIndex, IsAtRest, AreSpans, IsReadyFor, HasSettled};
+ghost use Rattle.sas_axioms.specs.LayerRules.{AreLayerRules, AreSpans};
+ghost use Rattle.sas_axioms.specs.Conditions.{IsFullIndex};
+ghost use Rattle.sas_axioms.specs.Incremental.{IsAtRest, IsReadyFor, HasSettled};
 
 use crate::conditions::{asked_variables, index_of_all};
 use crate::layer_rules::{LayerRule, LayerSpan, ranked_rules, spans_of};

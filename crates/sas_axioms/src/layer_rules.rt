@@ -1,8 +1,7 @@
 // The rules that can fire, layer after layer.
 ghost use Rattle.std.specs.Prelude.{◌≡◌, ◌<◌, ◌≤◌, ◌^◌, ℕ, length, IfOk, IfSome, IfNone};
 ghost use Rattle.sas_axioms.specs.ByLayers.{IsLayeredTask};
-ghost use Rattle.sas_axioms.specs.LayerRules.{IsRuleOn, AreFiringRules, AreLayerRules, IsLayerEnd, IsLayerSpan};
-ghost use Rattle.sas_axioms.specs.Incremental.{AreSpans};
+ghost use Rattle.sas_axioms.specs.LayerRules.{IsRuleOn, AreFiringRules, AreLayerRules, IsLayerEnd, IsLayerSpan, AreSpans};
 
 use sas_grounded::Grounded;
 use std::alloc::{AllocError, Global};

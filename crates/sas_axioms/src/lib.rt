@@ -8,6 +8,7 @@ mod firing;
 mod incremental;
 mod layer_rules;
 mod memo;
+mod resting;
 mod rounds;
 mod waiting;
 mod worklist;

@@ -7,7 +7,8 @@ ghost use Rattle.sas_axioms.specs.declared.memo.Phase.TheVariants.{Fall, Rise};
 ghost use Rattle.sas_axioms.specs.ByLayers.{IsLayeredTask, SettlesLayer};
 ghost use Rattle.sas_axioms.specs.LayerRules.{IsRuleOn, AreRulesOn};
 ghost use Rattle.sas_axioms.specs.Worklist.{AreDerived};
-ghost use Rattle.sas_axioms.specs.Incremental.{IsOfRule, IsFullIndex, IsAtRest, AreHeads, IsKept, IsPassing, IsDone, LooksAt, LooksAtAll, AreAskedBasic, SameAsked, SameDerived};
+ghost use Rattle.sas_axioms.specs.Conditions.{IsOfRule, IsFullIndex, AreAskedBasic, SameAsked};
+ghost use Rattle.sas_axioms.specs.Incremental.{IsAtRest, AreHeads, IsKept, IsPassing, IsDone, LooksAt, LooksAtAll, SameDerived};
 
 use crate::counting::{open_counters, recount};
 use crate::layer_rules::LayerRule;

@@ -28,7 +28,7 @@ impl<T: Grounded> Settle<T> for Rounds {
 impl<T: Grounded> ByLayers<T> for Rounds {
     ghost ready = { λ _ _. Unit {0} };
 
-    ghost stands = { λ _ _ _. Unit {0} };
+    ghost stands = { λ _ _ _ _. Unit {0} };
 
     fn begin(&mut self, layered: &Layered<T>, state: &mut State) {
         set_defaults(layered.task(), state);

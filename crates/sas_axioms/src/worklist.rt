@@ -9,15 +9,17 @@ ghost use Rattle.sas_axioms.specs.Worklist.{AreDerived, IsReadyFor};
 use crate::by_layers::{ByLayers, settle_by_layers};
 use crate::firing::settle_layer;
 use crate::layer_rules::{LayerRule, layer_at, ranked_rules};
+use crate::resting::Resting;
 use crate::waiting::Index;
 use sas_core::{Fact, Items};
 use sas_grounded::Grounded;
 use sas_meaning::{Layered, Settle, State};
 use std::alloc::{AllocError, Global};
 
-/// Settles states of one layered task. All that it needs is reserved by `new`, so `settle` takes no memory, and nothing of
-/// a state stays behind. Its space depends on the numbers of variables, rules and conditions, and not on which layers
-/// there are.
+/// Settles states of one layered task. What each rule begins its layer with is kept from one state to the next, since few
+/// basic variables change between two steps of a plan; any state is settled all the same. All that it needs is reserved by
+/// `new`, so `settle` takes no memory. Its space depends on the numbers of variables, rules and conditions, and not on
+/// which layers there are.
 #[derive(Drop)]
 pub struct Worklist {
     /// The derived variables.
@@ -28,6 +30,8 @@ pub struct Worklist {
     next: usize,
     /// Which rules wait for which facts.
     index: Index,
+    /// How many conditions of each rule are open where its layer begins.
+    resting: Resting,
     /// How many conditions of each rule don't hold yet.
     counters: Items<u32>,
     /// Variables that were given their rules' value, while the rules that wait for it don't know it yet.
@@ -45,6 +49,7 @@ impl Worklist {
             rules: ranked_rules(alloc, task)?,
             next: 0,
             index: Index::new(alloc, task)?,
+            resting: Resting::new(alloc, task)?,
             counters: Items::from_vec(vec![in alloc; 0u32; task.rules() as usize]?),
             stack: Vec::with_capacity(alloc, task.variables() as usize)?,
         })
@@ -66,10 +71,12 @@ impl<T: Grounded> ByLayers<T> for Worklist {
 
     ghost ready = { λ w p. IsReadyFor p w };
 
-    ghost stands = { λ w p layer. IsReadyFrom p layer w };
+    ghost stands = { λ w p layer s. IsReadyFrom p layer s w };
 
     fn begin(&mut self, layered: &Layered<T>, state: &mut State) {
-        set_defaults(layered.task(), self.derived.as_slice(), state);
+        let task = layered.task();
+        set_defaults(task, self.derived.as_slice(), state);
+        self.resting.follow(task, state);
         self.next = 0;
     }
 
@@ -83,6 +90,7 @@ impl<T: Grounded> ByLayers<T> for Worklist {
             span.layer,
             &rules[self.next..span.end],
             &self.index,
+            &self.resting,
             &mut self.counters,
             &mut self.stack,
             state,

@@ -6,7 +6,7 @@ use Rattle.sas_axioms.proofs.by_layers.settle_by_layers.Given as goal
 
 abbrev pub invariant-loop-layer : goal.invariant-loop-layer
 invariant-loop-layer g l = record {
-  stands : g.E.ByLayers.stands l.evaluator l.layered l.from;
+  stands : g.E.ByLayers.stands l.evaluator l.layered l.from l.state;
   state : IsState l.layered.variables l.state;
   basic : SameBasic l.layered l.fn.state l.state;
   below : (m : ℕ) → m < l.from → IsSettledAt l.layered m l.state;

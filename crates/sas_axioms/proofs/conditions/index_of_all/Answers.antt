@@ -2,7 +2,7 @@
 use Rattle.std.proofs.Common.{rules, ◌+◌, ap, ◌∙◌}
 use Rattle.std.proofs.lemmas.List.Sorted.{IsNonDecreasingBy-from_sort_by_key}
 use Rattle.sas_axioms.specs.declared.waiting.Waiting.{Waiting}
-use Rattle.sas_axioms.specs.Incremental.{AreAllConditions}
+use Rattle.sas_axioms.specs.Conditions.{AreAllConditions}
 use Rattle.sas_axioms.proofs.AllConditions.{conditions_permutation, conditions_exist}
 use Rattle.sas_axioms.proofs.conditions.index_of_all.Goals as goal
 

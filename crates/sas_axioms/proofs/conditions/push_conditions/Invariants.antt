@@ -1,7 +1,7 @@
 -- The conditions so far.
 use Rattle.std.proofs.Common.{◌≡◌, ◌++◌, drop}
 use Rattle.sas_grounded.specs.Grounded.{rule_at}
-use Rattle.sas_axioms.specs.Incremental.{entries}
+use Rattle.sas_axioms.specs.Conditions.{entries}
 use Rattle.sas_axioms.proofs.conditions.push_conditions.Given as goal
 
 abbrev pub invariant-loop-condition : goal.invariant-loop-condition

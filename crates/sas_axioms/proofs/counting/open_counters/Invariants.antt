@@ -2,7 +2,7 @@
 use Rattle.std.proofs.Common.{◌≡◌, ℕ, ◌<◌, length, get_or}
 use Rattle.std.specs.Prelude.{slice_index}
 use Rattle.sas_grounded.specs.Grounded.{rule_at}
-use Rattle.sas_axioms.specs.Worklist.{open_conditions}
+use Rattle.sas_axioms.specs.Conditions.{open_conditions}
 use Rattle.sas_axioms.proofs.counting.open_counters.Given as goal
 
 abbrev pub invariant-loop-rule : goal.invariant-loop-rule

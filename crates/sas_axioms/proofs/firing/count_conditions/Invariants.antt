@@ -3,7 +3,7 @@ use Rattle.std.proofs.Common.{◌≡◌, ℕ, ◌<◌, length, get_or}
 use Rattle.std.specs.Prelude.{slice_index}
 use Rattle.sas_grounded.specs.Grounded.{rule_at}
 use Rattle.sas_axioms.specs.declared.layer_rules.LayerRule.{LayerRule}
-use Rattle.sas_axioms.specs.Worklist.{open_conditions}
+use Rattle.sas_axioms.specs.Conditions.{open_conditions}
 use Rattle.sas_axioms.proofs.firing.count_conditions.Given as goal
 
 abbrev pub invariant-loop-entry : goal.invariant-loop-entry

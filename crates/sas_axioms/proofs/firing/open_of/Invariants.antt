@@ -1,7 +1,7 @@
 -- The open conditions so far.
 use Rattle.std.proofs.Common.{◌≡◌, ◌+◌, ◌≤◌, drop}
 use Rattle.std.specs.Prelude.{slice_index}
-use Rattle.sas_axioms.specs.Worklist.{open_conditions}
+use Rattle.sas_axioms.specs.Conditions.{open_conditions}
 use Rattle.sas_axioms.proofs.firing.open_of.Given as goal
 
 abbrev pub invariant-loop-condition : goal.invariant-loop-condition

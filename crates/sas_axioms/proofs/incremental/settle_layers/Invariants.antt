@@ -1,7 +1,8 @@
 -- The layers before the next one are settled.
 use Rattle.std.proofs.Common.{drop, length}
 use Rattle.sas_meaning.specs.Settled.{SameBasic}
-use Rattle.sas_axioms.specs.Incremental.{IsAtRest, AreSpans}
+use Rattle.sas_axioms.specs.LayerRules.{AreSpans}
+use Rattle.sas_axioms.specs.Incremental.{IsAtRest}
 use Rattle.sas_axioms.proofs.AtRest.{SettledTo}
 use Rattle.sas_axioms.proofs.incremental.settle_layers.Given as goal
 

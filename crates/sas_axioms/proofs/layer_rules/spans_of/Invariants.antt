@@ -1,6 +1,6 @@
 -- The layers so far.
 use Rattle.std.proofs.Common.{◌-◌, ◌≤◌, length}
-use Rattle.sas_axioms.specs.Incremental.{AreSpans}
+use Rattle.sas_axioms.specs.LayerRules.{AreSpans}
 use Rattle.sas_axioms.proofs.layer_rules.spans_of.Given as goal
 
 abbrev pub invariant-loop-span : goal.invariant-loop-span

@@ -3,7 +3,7 @@ use Rattle.std.proofs.Common.{◌≡◌, ◌≢◌, ◌<◌, [], ◌∷◌, ◌+
 use Rattle.std.specs.List.{All, Contains}
 use Rattle.std.proofs.lemmas.List.Elements.{Contains-push}
 use Rattle.sas_axioms.specs.declared.waiting.Waiting.{Waiting}
-use Rattle.sas_axioms.specs.Incremental.{IsOfRule}
+use Rattle.sas_axioms.specs.Conditions.{IsOfRule}
 use Rattle.sas_axioms.proofs.AllConditions.{of_rules}
 use Rattle.sas_axioms.proofs.AtRest.{popped, unchanged, done_counted}
 use Rattle.sas_axioms.proofs.memo.Memo.empty_stack.Goals as goal

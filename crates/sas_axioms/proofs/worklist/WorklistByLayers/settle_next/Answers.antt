@@ -1,5 +1,7 @@
 -- The next layer on which a rule can fire.
-use Rattle.std.proofs.Common.{◌≤◌, length}
+use Rattle.std.proofs.Common.{◌≤◌, length, sym, ◌∙◌}
+use Rattle.sas_meaning.proofs.Settling.{basic_off}
+use Rattle.sas_axioms.specs.ByLayers.{SettlesLayer}
 use Rattle.sas_axioms.specs.LayerRules.{IsLayerSpan}
 use Rattle.sas_axioms.proofs.Standing.{idle_in_the_end, from_on, idle_between, rules_of_span, stands_behind}
 use Rattle.sas_axioms.proofs.worklist.WorklistByLayers.settle_next.Goals as goal
@@ -31,15 +33,18 @@ pub returns-clause-stands : goal.returns-clause-stands
 returns-clause-stands g c =
     let some = (goal.at.returns-clause-stands g c).In-Some in
     let ready = c.requires.stands.ready in
+    let settles : SettlesLayer c.args.layered.now c.in-Some.span.layer c.args.state.now c.settle_layer.new.state = rw c.task.ensures.task at c.settle_layer.ensures.settles in
     record {
       ready = record {
         variables = ready.variables;
         firing = ready.firing;
         index = ready.index;
+        resting = ready.resting;
         has_room = rw c.task.ensures.task at c.settle_layer.ensures.room;
         empty = c.settle_layer.ensures.empty;
       };
       stands = stands_behind c.args.layered.now c.args.self.now.rules.items c.args._from c.args.self.now.next ready.firing c.requires.stands.stands c.in-Some.span.layer c.in-Some.span.end (span g some);
+      follows = λ v basic asked. sym (basic_off c.args.layered.now c.in-Some.span.layer c.args.state.now c.settle_layer.new.state c.task.ensures.layered settles.off v basic) ∙ c.requires.stands.follows v basic asked;
     }
 
 pub returns-clause-settles : goal.returns-clause-settles

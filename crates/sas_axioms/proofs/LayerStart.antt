@@ -1,0 +1,71 @@
+-- The counts that a layer begins with.
+use Rattle.std.proofs.Common.{◌≡◌, ℕ, ◌+◌, ◌<◌, ◌↔◌, Bool, true, false, List, [], ◌∷◌, ◌++◌, length, get_or, set, refl, sym, ◌∙◌, subst, inl, inr, arith}
+use Rattle.std.specs.List.{All}
+use Rattle.std.proofs.lemmas.Bool.{cases_eq}
+use Rattle.std.proofs.lemmas.List.{get_or-set_other, get_or_push, get_or_append_left, length_push}
+use Rattle.std.proofs.lemmas.List.Elements.{All-head, All-tail}
+use Rattle.sas_core.specs.declared.parts.Fact.{Fact}
+use Rattle.sas_core.specs.declared.parts.Parts.{Parts}
+use Rattle.sas_grounded.specs.Grounded.{rule_at}
+use Rattle.sas_meaning.specs.Layers.{IsBasic, IsOnLayer}
+use Rattle.sas_meaning.specs.Forced.{AtDefault}
+use Rattle.sas_meaning.proofs.Layers.{layer_cases}
+use Rattle.sas_axioms.specs.LayerRules.{IsRuleOn}
+use Rattle.sas_axioms.specs.Conditions.{open_conditions, SameAsked}
+use Rattle.sas_axioms.specs.Resting.{StaysOn, AreLooks}
+use Rattle.sas_axioms.proofs.Asked.{condition_asked}
+
+-- as many conditions are open under values that are the same where they ask
+open_alike : (value value' : ℕ → ℕ) (cs : List Fact) → All (λ (c : Fact). value c.var ≡ value' c.var) cs → open_conditions value cs ≡ open_conditions value' cs
+open_alike value value' [] same = refl
+open_alike value value' (c ∷ cs) same =
+    rw (All-head (λ (c : Fact). value c.var ≡ value' c.var) c cs same)
+    (let ih = open_alike value value' cs (All-tail (λ (c : Fact). value c.var ≡ value' c.var) c cs same) in omega arith)
+
+-- a rule that doesn't look below begins its layer with what is kept
+pub begins_as_kept : (p : Parts) (layer k : ℕ) (s values : List ℕ) → IsRuleOn p layer k → StaysOn p layer k → SameAsked p s values → AtDefault p layer s → ((l : ℕ) → AtDefault p l values)
+    → open_conditions (λ v. get_or values v 0) (rule_at p k).conditions ≡ open_conditions (λ v. get_or s v 0) (rule_at p k).conditions
+begins_as_kept p layer k s values is stays follows at kept =
+    open_alike (λ v. get_or values v 0) (λ v. get_or s v 0) (rule_at p k).conditions (λ j d lt. elim (layer_cases p (get_or (rule_at p k).conditions j d).var) [
+      | inl basic ↦ sym (follows (get_or (rule_at p k).conditions j d).var basic (condition_asked p layer k (rule_at p k) is refl j d lt))
+      | inr on ↦ kept on.0 (get_or (rule_at p k).conditions j d).var on.1
+          ∙ sym (at (get_or (rule_at p k).conditions j d).var (subst (λ l. IsOnLayer p l (get_or (rule_at p k).conditions j d).var) (stays j d lt on.0 on.1) on.1))
+    ])
+
+-- where a basic variable gets another value, the derived ones keep their default
+pub still_default : (p : Parts) (v value : ℕ) (values : List ℕ) → IsBasic p v → ((l : ℕ) → AtDefault p l values) → (l : ℕ) → AtDefault p l (set values v value)
+still_default p v value values basic kept l u on =
+    get_or-set_other values v u value 0 (λ e. let a : IsOnLayer p l v = subst (λ x. IsOnLayer p l x) e on in let b = basic in cc) ∙ kept l u on
+
+-- ---- which rules look below
+
+-- the first `k` rules
+pub record LooksUpTo (p : Parts) (k : ℕ) (below : List Bool) : Type 0 where
+  pub one_each : length below ≡ k
+  pub each : (layer rule : ℕ) (d : Bool) → rule < k → IsRuleOn p layer rule → (get_or below rule d ≡ false) ↔ StaysOn p layer rule
+
+pub looks_none : (p : Parts) → LooksUpTo p 0 []
+looks_none p = record { one_each = refl; each = λ layer rule d lt is. absurd (omega arith) }
+
+-- what a test tells of a rule
+pub looks_told : (p : Parts) (k layer : ℕ) (looks : Bool) → (looks ≡ true → StaysOn p layer k → ⊥) → (looks ≡ false → StaysOn p layer k) → (looks ≡ false) ↔ StaysOn p layer k
+looks_told p k layer true low stays = ((λ e. cc), (λ s. absurd (low refl s)))
+looks_told p k layer false low stays = (stays, (λ s. refl))
+
+pub looks_more : (p : Parts) (k : ℕ) (below : List Bool) (looks : Bool) → ((layer : ℕ) → IsRuleOn p layer k → (looks ≡ false) ↔ StaysOn p layer k)
+    → LooksUpTo p k below → LooksUpTo p (k + 1) (below ++ looks ∷ [])
+looks_more p k below looks tells up = record {
+  one_each = omega (arith, length_push below looks, up.one_each);
+  each = λ layer rule d lt is. elim (cases_eq rule k) [
+    | inl e ↦ subst (λ (b : Bool). (b ≡ false) ↔ StaysOn p layer rule) (sym (get_or_push below looks d rule (up.one_each ∙ sym e)))
+        (subst (λ i. (looks ≡ false) ↔ StaysOn p layer i) (sym e) (tells layer (subst (λ i. IsRuleOn p layer i) e is)))
+    | inr ne ↦ subst (λ (b : Bool). (b ≡ false) ↔ StaysOn p layer rule) (sym (get_or_append_left below (looks ∷ []) d rule (let l = up.one_each in omega arith)))
+        (up.each layer rule d (omega arith) is)
+  ];
+}
+
+pub looks_all : (p : Parts) (k : ℕ) (below : List Bool) → k ≡ length p.rules → LooksUpTo p k below → AreLooks p below
+looks_all p k below e up = record {
+  one_each = up.one_each ∙ e;
+  each = λ layer rule d is. up.each layer rule d (let lt = is.exists in omega arith) is;
+}
