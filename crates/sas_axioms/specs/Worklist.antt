@@ -1,5 +1,5 @@
 -- How far a worklist has come on a layer, and what it needs.
-use Rattle.std.specs.Prelude.{◌≡◌, ℕ, ◌+◌, ◌*◌, ◌<◌, ◌≤◌, ◌==◌, if◌then◌else◌, IsTrue, List, [], ◌∷◌, length, All, Contains, slice_index, slice_index_or, vec_capacity}
+use Rattle.std.specs.Prelude.{◌≡◌, ℕ, ◌+◌, ◌*◌, ◌<◌, ◌≤◌, ◌==◌, if◌then◌else◌, IsTrue, List, [], ◌∷◌, length, All, Contains, slice_index, slice_index_or, vec_capacity, drop}
 use Rattle.sas_core.specs.declared.parts.Parts.{Parts}
 use Rattle.sas_grounded.specs.Grounded.{rule_at}
 use Rattle.sas_core.specs.Variables.{IsState, IsDerived}
@@ -8,7 +8,7 @@ use Rattle.sas_meaning.specs.Settled.{differs}
 use Rattle.sas_meaning.specs.Forced.{OnlyForced, equal_places, SameOff}
 use Rattle.sas_axioms.specs.declared.layer_rules.LayerRule.{LayerRule}
 use Rattle.sas_axioms.specs.declared.worklist.Worklist.{Worklist}
-use Rattle.sas_axioms.specs.LayerRules.{IsRuleOn, AreLayerRules}
+use Rattle.sas_axioms.specs.LayerRules.{IsRuleOn, AreLayerRules, AreSpans}
 use Rattle.sas_axioms.specs.Waiting.{occurrences, IsIndex}
 use Rattle.sas_axioms.specs.Conditions.{open_conditions, SameAsked}
 use Rattle.sas_axioms.specs.Resting.{IsResting}
@@ -68,6 +68,7 @@ pub record AreDerived (p : Parts) (variables : List ℕ) : Type 0 where
 pub record IsReadyFor (p : Parts) (w : Worklist) : Type 0 where
   pub variables : AreDerived p w.derived.items
   pub firing : AreLayerRules p w.rules.items
+  pub spans : AreSpans w.rules.items 0 w.spans.items (length w.rules.items)
   pub index : IsIndex p w.index.waiting.items w.index.starts.items
   pub has_room : HasRoom p w.counters (vec_capacity w.stack)
   pub resting : IsResting p w.resting
@@ -82,5 +83,6 @@ pub record StandsAt (rules : List LayerRule) (layer place : ℕ) : Type 0 where
 -- it is ready, the layers from this one on are left, and what it keeps are the state's values
 pub record IsReadyFrom (p : Parts) (layer : ℕ) (s : List ℕ) (w : Worklist) : Type 0 where
   pub ready : IsReadyFor p w
-  pub stands : StandsAt w.rules.items layer w.next
+  pub stands : StandsAt w.rules.items layer w.start
+  pub left : AreSpans w.rules.items w.start (drop w.next w.spans.items) (length w.rules.items)
   pub follows : SameAsked p s w.resting.values

@@ -8,7 +8,7 @@ ghost use Rattle.sas_axioms.specs.Worklist.{AreDerived, IsReadyFor};
 
 use crate::by_layers::{ByLayers, settle_by_layers};
 use crate::firing::settle_layer;
-use crate::layer_rules::{LayerRule, layer_at, ranked_rules};
+use crate::layer_rules::{LayerRule, LayerSpan, ranked_rules, spans_of};
 use crate::resting::Resting;
 use crate::waiting::Index;
 use sas_core::{Fact, Items};
@@ -26,8 +26,12 @@ pub struct Worklist {
     derived: Vec<u32>,
     /// The rules that can fire, in ascending order of their layers.
     rules: Vec<LayerRule>,
-    /// Where in `rules` the next layer begins.
+    /// Where in `rules` each layer ends.
+    spans: Vec<LayerSpan>,
+    /// Which of `spans` is the next layer.
     next: usize,
+    /// Where in `rules` the next layer begins.
+    start: usize,
     /// Which rules wait for which facts.
     index: Index,
     /// How many conditions of each rule are open where its layer begins.
@@ -44,10 +48,14 @@ impl Worklist {
         ensures { IfOk result (λ w. IsReadyFor layered.now w) }
     {
         let task = layered.task();
+        let rules = ranked_rules(alloc, task)?;
+        let spans = spans_of(alloc, rules.as_slice())?;
         Ok(Worklist {
             derived: derived_variables(alloc, task)?,
-            rules: ranked_rules(alloc, task)?,
+            rules,
+            spans,
             next: 0,
+            start: 0,
             index: Index::new(alloc, task)?,
             resting: Resting::new(alloc, task)?,
             counters: Items::from_vec(vec![in alloc; 0u32; task.rules() as usize]?),
@@ -78,24 +86,26 @@ impl<T: Grounded> ByLayers<T> for Worklist {
         set_defaults(task, self.derived.as_slice(), state);
         self.resting.follow(task, state);
         self.next = 0;
+        self.start = 0;
     }
 
     fn settle_next(&mut self, layered: &Layered<T>, _from: u64, state: &mut State) -> Option<u32> {
         let rules = self.rules.as_slice();
-        let Some(span) = layer_at(rules, self.next) else {
+        let Some(span) = self.spans.as_slice().get(self.next) else {
             return None;
         };
         settle_layer(
             layered.task(),
             span.layer,
-            &rules[self.next..span.end],
+            &rules[self.start..span.end],
             &self.index,
             &self.resting,
             &mut self.counters,
             &mut self.stack,
             state,
         );
-        self.next = span.end;
+        self.next += 1;
+        self.start = span.end;
         Some(span.layer)
     }
 }
