@@ -1,5 +1,5 @@
--- Which variables conditions ask about, and what depends on these alone.
-use Rattle.std.proofs.Common.{◌≡◌, ℕ, zero, suc, ◌+◌, ◌<◌, ◌≤◌, ◌==◌, Bool, true, not, cond, List, [], ◌∷◌, ◌++◌, length, get_or, refl, sym, ◌∙◌, ap, subst, inl, inr, arith}
+-- Which variables conditions ask about.
+use Rattle.std.proofs.Common.{◌≡◌, ℕ, zero, suc, ◌+◌, ◌<◌, ◌≤◌, not, List, [], ◌∷◌, ◌++◌, length, get_or, refl, sym, ◌∙◌, ap, subst, inl, inr, arith}
 use Rattle.std.specs.List.{All, Contains}
 use Rattle.std.proofs.lemmas.Bool.{cases_eq, eq-eqb}
 use Rattle.std.proofs.lemmas.Bool.Decides.{eqb_tells}
@@ -8,23 +8,15 @@ use Rattle.std.proofs.lemmas.List.Elements.{All-nil, All-push, Contains-append_l
 use Rattle.sas_core.specs.declared.parts.Fact.{Fact}
 use Rattle.sas_core.specs.declared.parts.Rule.{Rule}
 use Rattle.sas_core.specs.declared.parts.Parts.{Parts}
-use Rattle.sas_core.specs.Variables.{IsDerived}
 use Rattle.sas_core.specs.WellRanged.{WellRanged}
 use Rattle.sas_grounded.specs.Grounded.{rule_at}
-use Rattle.sas_meaning.specs.Layers.{IsBasic, IsOnLayer, default_of, CanFire}
-use Rattle.sas_meaning.specs.Settled.{new_value_of, given, IsClosed, differs, IsSettledAt}
-use Rattle.sas_meaning.proofs.Layers.{layer_cases, layer_tells, given_on, given_off}
+use Rattle.sas_meaning.specs.Layers.{IsBasic}
 use Rattle.sas_axioms.specs.declared.waiting.Waiting.{Waiting}
 use Rattle.sas_axioms.specs.LayerRules.{IsRuleOn}
 use Rattle.sas_axioms.specs.Waiting.{asking, waiting_at, released, occurrences}
-use Rattle.sas_axioms.specs.Conditions.{IsAsked, AreAskedBasic, IsFullIndex, SameAsked}
-use Rattle.sas_axioms.specs.Incremental.{SameDerived}
-use Rattle.sas_axioms.proofs.Supporting.{no_rule}
+use Rattle.sas_axioms.specs.Conditions.{IsAsked, AreAskedBasic, IsFullIndex}
 use Rattle.sas_axioms.proofs.Entries.{condition_within}
 use Rattle.sas_axioms.proofs.AllConditions.{waiting_asks}
-
-on_layer_derived : (p : Parts) (layer v : ℕ) → IsOnLayer p layer v → IsDerived p.variables v
-on_layer_derived p layer v on = rw on refl
 
 -- ---- what waits for a variable that is asked about
 
@@ -98,63 +90,7 @@ asked_all p k variables ranged past up = record {
   each = λ v basic asked. up.each v (let lt = asked_within p v ranged asked in omega arith) basic asked;
 }
 
--- ---- whether a layer is settled depends on the derived variables and on those that are asked about
-
--- two states that have the same values in these
-pub record AgreeAsked (p : Parts) (s s' : List ℕ) : Type 0 where
-  pub asked : SameAsked p s s'
-  pub derived : SameDerived p s s'
-
-agree_asked_sym : (p : Parts) (s s' : List ℕ) → AgreeAsked p s s' → AgreeAsked p s' s
-agree_asked_sym p s s' agree = record { asked = λ v b asked. sym (agree.asked v b asked); derived = λ v d. sym (agree.derived v d) }
-
 -- what a condition of a rule that can fire is on is asked about
 pub condition_asked : (p : Parts) (layer k : ℕ) (r : Rule) → IsRuleOn p layer k → rule_at p k ≡ r → (j : ℕ) (d : Fact) → j < length r.conditions → IsAsked p (get_or r.conditions j d).var
 condition_asked p layer k r is same = subst (λ (r' : Rule). (j : ℕ) (d : Fact) → j < length r'.conditions → IsAsked p (get_or r'.conditions j d).var) same
     (λ j d lt. (layer, k, get_or (rule_at p k).conditions j d, is, (j, lt, get_or_default (rule_at p k).conditions j (get_or (rule_at p k).conditions j d) d lt), refl))
-
-module _ (p : Parts) (layer : ℕ) (s s' : List ℕ) (agree : AgreeAsked p s s') where
-  asked_same : (v : ℕ) → IsAsked p v → get_or s v 0 ≡ get_or s' v 0
-  asked_same v asked = elim (layer_cases p v) [
-    | inl basic ↦ agree.asked v basic asked
-    | inr on ↦ agree.derived v (on_layer_derived p on.0 v on.1)
-  ]
-
-  given_asked : (a b : ℕ → Bool) (v : ℕ) → ((v : ℕ) → IsOnLayer p layer v → a v ≡ b v) → IsAsked p v → given p layer s a v ≡ given p layer s' b v
-  given_asked a b v same asked = elim (layer_tells p layer v) [
-    | inl w ↦ given_on p layer s a v w.0 ∙ (ap (λ x. cond x (new_value_of p v) (default_of p v)) (same v w.0) ∙ sym (given_on p layer s' b v w.0))
-    | inr w ↦ given_off p layer s a v w.0 ∙ (asked_same v asked ∙ sym (given_off p layer s' b v w.0))
-  ]
-
-  closed_asked : (a b : ℕ → Bool) → ((v : ℕ) → IsOnLayer p layer v → a v ≡ b v) → IsClosed p layer s' b → IsClosed p layer s a
-  closed_asked a b same closed k d lt on can hold =
-      same (get_or p.rules k d).var on ∙ closed k d lt on can (λ j e lt'. sym (given_asked a b (get_or (get_or p.rules k d).conditions j e).var same (is_asked j e lt')) ∙ hold j e lt')
-    where
-      its : rule_at p k ≡ get_or p.rules k d
-      its = get_or_default p.rules k no_rule d lt
-
-      here : IsRuleOn p layer k
-      here = record {
-        exists = lt;
-        on = subst (λ (r : Rule). IsOnLayer p layer r.var) (sym its) on;
-        can = subst (λ (r : Rule). CanFire p r) (sym its) can;
-      }
-
-      is_asked : (j : ℕ) (e : Fact) → j < length (get_or p.rules k d).conditions → IsAsked p (get_or (get_or p.rules k d).conditions j e).var
-      is_asked = condition_asked p layer k (get_or p.rules k d) here its
-
-pub settled_asked : (p : Parts) (layer : ℕ) (s s' : List ℕ) → AgreeAsked p s s' → IsSettledAt p layer s → IsSettledAt p layer s'
-settled_asked p layer s s' agree a = record {
-  new = λ v on d. sym (here v on) ∙ a.new v on (back v on d);
-  closed = closed_asked p layer s' s (agree_asked_sym p s s' agree) (differs p s') (differs p s) (λ v on. sym (same v on)) a.closed;
-  least = λ set closed v on d. a.least set (closed_asked p layer s s' agree set set (λ _ _. refl) closed) v on (back v on d);
-}
-  where
-    here : (v : ℕ) → IsOnLayer p layer v → get_or s v 0 ≡ get_or s' v 0
-    here v on = agree.derived v (on_layer_derived p layer v on)
-
-    same : (v : ℕ) → IsOnLayer p layer v → differs p s v ≡ differs p s' v
-    same v on = ap (λ x. not (x == default_of p v)) (here v on)
-
-    back : (v : ℕ) → IsOnLayer p layer v → differs p s' v ≡ true → differs p s v ≡ true
-    back v on d = same v on ∙ d

@@ -6,8 +6,6 @@ pub mod Cuts
 pub mod Groups
 pub mod Standing
 pub mod AllConditions
-pub mod Supporting
-pub mod Passing
-pub mod AtRest
 pub mod Asked
+pub mod Spans
 pub mod LayerStart

@@ -12,4 +12,3 @@ pub mod Waiting
 pub mod Conditions
 pub mod Resting
 pub mod Worklist
-pub mod Incremental

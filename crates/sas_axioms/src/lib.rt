@@ -5,15 +5,12 @@ mod by_layers;
 mod conditions;
 mod counting;
 mod firing;
-mod incremental;
 mod layer_rules;
-mod memo;
 mod resting;
 mod rounds;
 mod waiting;
 mod worklist;
 
-pub use incremental::Incremental;
 pub use rounds::Rounds;
 pub use sas_meaning::{LayerFault, Layered, Settle, State, StateFault, meaning_laws};
 pub use worklist::Worklist;

@@ -4,7 +4,7 @@ use Rattle.sas_meaning.proofs.Settling.{basic_off}
 use Rattle.sas_axioms.specs.declared.layer_rules.LayerSpan.{LayerSpan}
 use Rattle.sas_axioms.specs.ByLayers.{SettlesLayer}
 use Rattle.sas_axioms.specs.LayerRules.{IsLayerSpan, AreSpans}
-use Rattle.sas_axioms.proofs.AtRest.{next_span, no_span_left}
+use Rattle.sas_axioms.proofs.Spans.{next_span, no_span_left}
 use Rattle.sas_axioms.proofs.Standing.{idle_in_the_end, from_on, idle_between, rules_of_span, stands_behind}
 use Rattle.sas_axioms.proofs.worklist.WorklistByLayers.settle_next.Goals as goal
 use Rattle.sas_axioms.proofs.worklist.WorklistByLayers.settle_next.Given.{Over}
