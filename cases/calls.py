@@ -36,7 +36,7 @@ LONGEST = 8000
 CORE, FILES, VERDICTS, REQUESTS = "core_calls", "file_calls", "verdict_calls", "request_calls"
 RIGHT = "right\n"
 LAYERED = "layered\nkept\n"
-EVALUATORS = ("rounds", "worklist", "incremental")
+EVALUATORS = ("rounds", "worklist")
 
 
 def case(program, call, given, answer, about=""):
