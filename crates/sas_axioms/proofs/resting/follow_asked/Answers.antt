@@ -1,5 +1,5 @@
 -- One more variable: where it differs, it is counted.
-use Rattle.std.proofs.Common.{◌≡◌, ◌<◌, length, get_or, set, refl, sym, subst, ap, ◌∙◌, inl, inr, arith}
+use Rattle.std.proofs.Common.{◌≡◌, ◌<◌, length, get_or, set, sym, subst, ap, ◌∙◌, inl, inr, arith}
 use Rattle.std.proofs.lemmas.Bool.{cases_eq}
 use Rattle.std.proofs.lemmas.List.{get_or_default, get_or-set_same, get_or-set_other}
 use Rattle.sas_meaning.specs.Layers.{IsBasic}

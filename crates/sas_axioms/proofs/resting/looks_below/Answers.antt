@@ -1,5 +1,5 @@
 -- One more condition that doesn't look below.
-use Rattle.std.proofs.Common.{◌≡◌, ◌<◌, List, Some, length, get_or, sym, subst, ap, ◌∙◌, inl, inr, arith}
+use Rattle.std.proofs.Common.{◌≡◌, ◌<◌, List, Some, length, get_or, sym, ap, ◌∙◌, inl, inr, arith}
 use Rattle.std.proofs.lemmas.Bool.{cases_eq}
 use Rattle.std.proofs.lemmas.List.{get_or_default}
 use Rattle.sas_core.specs.declared.parts.Fact.{Fact}

@@ -1,7 +1,5 @@
 -- One more rule.
-use Rattle.std.proofs.Common.{◌≡◌, ◌∷◌, [], ◌++◌, refl, subst, arith}
-use Rattle.sas_axioms.specs.LayerRules.{IsRuleOn}
-use Rattle.sas_axioms.specs.Resting.{StaysOn}
+use Rattle.std.proofs.Common.{◌≡◌, ◌∷◌, [], ◌++◌, arith}
 use Rattle.sas_axioms.proofs.OneLayer.{one_layer}
 use Rattle.sas_axioms.proofs.LayerStart.{looks_told, looks_more, looks_all}
 use Rattle.sas_axioms.proofs.resting.looks_of.Goals as goal
