@@ -1,4 +1,4 @@
--- All conditions of the rules that can fire: an index of them, the variables that they ask about, and how many are open.
+-- The conditions of the rules that can fire: an index of all, which variables they ask about, and how many are open.
 use Rattle.std.specs.Prelude.{◌≡◌, ℕ, ◌+◌, ◌<◌, ◌==◌, if◌then◌else◌, List, [], ◌∷◌, length, All, Contains, slice_index}
 use Rattle.sas_core.specs.declared.parts.Fact.{Fact}
 use Rattle.sas_core.specs.declared.parts.Parts.{Parts}

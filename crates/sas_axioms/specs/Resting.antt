@@ -16,7 +16,8 @@ StaysOn p layer rule = All (λ (c : Fact). (its : ℕ) → IsOnLayer p its c.var
 -- of each rule whether it looks below its layer
 pub record AreLooks (p : Parts) (below : List Bool) : Type 0 where
   pub one_each : length below ≡ length p.rules
-  pub each : (layer rule : ℕ) (d : Bool) → IsRuleOn p layer rule → (slice_index_or below rule d ≡ false) ↔ StaysOn p layer rule
+  pub each : (layer rule : ℕ) (d : Bool) → IsRuleOn p layer rule
+      → (slice_index_or below rule d ≡ false) ↔ StaysOn p layer rule
 
 -- the rules are counted with each derived variable at its default
 pub record IsResting (p : Parts) (r : Resting) : Type 0 where

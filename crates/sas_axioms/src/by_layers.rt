@@ -17,7 +17,7 @@ pub trait ByLayers<T: Grounded> {
     /// It can settle states of this task.
     ghost ready: { Self → Parts → Type 0 };
 
-    /// And the layers from this one on are those that are left in this state.
+    /// And it can go on with a state of these values, of which the layers from this one on are left.
     ghost stands: { Self → Parts → ℕ → List ℕ → Type 0 };
 
     /// Gives the derived variables their default.

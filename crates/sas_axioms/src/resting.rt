@@ -18,9 +18,10 @@ use sas_grounded::Grounded;
 use sas_meaning::State;
 use std::alloc::{AllocError, Global};
 
-/// How many conditions of each rule are open while all derived variables have their default. A layer is settled with its
-/// own variables at their default, so these are the counts that it begins with, but for rules that ask about a lower layer.
-/// They depend on few basic variables, and are counted anew only where one of these changed.
+/// How many conditions of each rule are open while all derived variables have their default. The variables of a layer have
+/// it where the layer begins, so its rules begin with these counts, but for those that look below: that ask about a lower
+/// layer. The counts depend on basic variables alone, of which few change between two steps of a plan, and are counted
+/// anew only where one did.
 #[derive(Drop)]
 pub struct Resting {
     /// The basic variables that conditions of rules that can fire are on.
@@ -54,7 +55,7 @@ impl Resting {
         })
     }
 
-    /// Takes over the state's values of the basic variables that conditions ask about, and counts those that changed.
+    /// Takes over the state's values of the basic variables that conditions ask about, and counts what changed.
     pub fn follow<T: Grounded>(&mut self, task: &T, state: &State)
         requires layered { IsLayeredTask (T.says task.now) }
         requires resting { IsResting (T.says task.now) self.old }
@@ -72,8 +73,8 @@ impl Resting {
         );
     }
 
-    /// How many conditions of the rule are open where its layer begins. Only those of a rule that looks below have to be
-    /// counted, since lower layers are settled by then.
+    /// How many conditions of the rule are open where its layer begins. Those of a rule that looks below are counted, since
+    /// lower layers have been settled by then.
     pub fn count_of<T: Grounded>(&self, task: &T, layer: u32, rule: u32, state: &State) -> u32
         requires layered { IsLayeredTask (T.says task.now) }
         requires rule { IsRuleOn (T.says task.now) layer rule }
@@ -91,7 +92,7 @@ impl Resting {
     }
 }
 
-/// Takes over the state's values of these variables, and counts those that changed.
+/// Takes over the state's values of these variables, and counts what changed.
 fn follow_asked<T: Grounded>(
     task: &T,
     asked: &[u32],

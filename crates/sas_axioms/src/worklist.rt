@@ -16,10 +16,10 @@ use sas_grounded::Grounded;
 use sas_meaning::{Layered, Settle, State};
 use std::alloc::{AllocError, Global};
 
-/// Settles states of one layered task. What each rule begins its layer with is kept from one state to the next, since few
-/// basic variables change between two steps of a plan; any state is settled all the same. All that it needs is reserved by
-/// `new`, so `settle` takes no memory. Its space depends on the numbers of variables, rules and conditions, and not on
-/// which layers there are.
+/// Settles states of one layered task. From one state to the next it keeps the counts that its layers begin with, as far
+/// as these depend on basic variables; any state is settled all the same. All that it needs is reserved by `new`, so
+/// `settle` takes no memory. Its space depends on the numbers of variables, rules and conditions, and not on which layers
+/// there are.
 #[derive(Drop)]
 pub struct Worklist {
     /// The derived variables.
