@@ -1,4 +1,6 @@
 // What tasks and outlines say, line by line: a word, and what it says.
+ghost use Rattle.std.specs.Prelude.{◌<◌, length};
+
 use sas_core::{Effect, Fact, Items, Operator, Parts, Rule, Variable};
 use sas_lines::{push_line, push_number};
 use sas_text::Outline;
@@ -112,11 +114,30 @@ pub fn text_of_parts(alloc: Global, parts: &Parts) -> Result<Vec<u8>, AllocError
     Ok(text)
 }
 
+/// Adds a variable of an outline: its name, its layer and its values.
+fn push_variable_of(text: &mut Vec<u8>, outline: &Outline, var: usize) -> Result<(), AllocError>
+    requires { var < length outline.now.variables }
+{
+    if let Some(name) = outline.variables.name(var) {
+        push_name(text, b"variable", name)?;
+    }
+    push_numbers(text, b"layer", &[outline.variables.layer(var)])?;
+    for value in 0..usize::MAX {
+        let Some(name) = outline.variables.value_name(var, value) else {
+            break;
+        };
+        push_name(text, b"value", name)?;
+    }
+    Ok(())
+}
+
 /// What an outline says, in the order of the file.
 pub fn text_of_outline(alloc: Global, outline: &Outline) -> Result<Vec<u8>, AllocError> {
     let mut text = Vec::new(alloc);
     push_numbers(&mut text, b"metric", &[Some(u32::from(outline.metric))])?;
-    push_variables(&mut text, &outline.variables)?;
+    for var in 0..outline.variables.len() {
+        push_variable_of(&mut text, outline, var)?;
+    }
     push_numbers(&mut text, b"groups", &[Some(outline.groups)])?;
     push_state(&mut text, &outline.init)?;
     push_facts(&mut text, b"goal", &outline.goal)?;

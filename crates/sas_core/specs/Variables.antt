@@ -12,6 +12,10 @@ range_of variables var = option_map_or (λ (v : Variable). length v.values) (sli
 abbrev pub layer_of : List Variable → ℕ → Option ℕ
 layer_of variables var = option_and_then (λ (v : Variable). v.layer) (slice_get variables var)
 
+-- the name of a variable's value, if it has this value
+abbrev pub value_name : List Variable → ℕ → ℕ → Option (List ℕ)
+value_name variables var value = option_and_then (λ (v : Variable). slice_get v.values value) (slice_get variables var)
+
 -- a variable is derived if it has a layer
 abbrev pub IsDerived : List Variable → ℕ → Type 0
 IsDerived variables var = IsSome (layer_of variables var)

@@ -1,18 +1,22 @@
 -- The variable at a place of the columns.
 use Rattle.std.proofs.Common.{◌≡◌, ℕ, ◌+◌, ◌<◌, ◌≤◌, List, [], ◌∷◌, ◌++◌, length, get_or, sym, ap, ◌∙◌, arith}
-use Rattle.std.specs.Prelude.{slice_index, None}
+use Rattle.std.specs.Prelude.{slice_index, slice_get, None, Some, option_map}
+use Rattle.std.proofs.lemmas.Option.{slice_get-get_or}
 use Rattle.sas_core.specs.declared.parts.Variable.{Variable}
-use Rattle.sas_core.specs.Variables.{range_of, layer_of}
+use Rattle.sas_core.specs.Variables.{range_of, layer_of, value_name}
 use Rattle.sas_flat.specs.declared.variables.Columns.{Columns}
 use Rattle.sas_flat.specs.Lists.{start_of, list_at, lists_of}
 use Rattle.sas_flat.specs.Variables.{variables_in, variables_of, AreAligned, OneMore}
 use Rattle.sas_flat.proofs.Tables.{length-table, get_or-table}
-use Rattle.sas_flat.proofs.Blocks.{lists_more, list_length}
-use Rattle.sas_flat.proofs.Rows.{variable_count, range_is, layer_is, variables_more}
+use Rattle.sas_flat.proofs.Blocks.{lists_more, list_length, item_of_list}
+use Rattle.sas_flat.proofs.Rows.{variable_count, name_is, range_is, layer_is, value_is, variables_more}
 
 module _ (c : Columns) (vs : List Variable) (is : variables_in c ≡ vs) where
   pub as_many : length c.ends ≡ length vs
   as_many = sym (length-table (length c.ends) (list_at c.values c.ends)) ∙ variable_count c.names c.layers.items (lists_of c.values c.ends) vs is
+
+  pub name_found : (k : ℕ) → k < length vs → option_map (λ (v : Variable). v.name) (slice_get vs k) ≡ Some (get_or c.names k [])
+  name_found k h = name_is c.names c.layers.items (lists_of c.values c.ends) vs is k h
 
   pub layer_found : (k : ℕ) → k < length vs → layer_of vs k ≡ get_or c.layers.items k None
   layer_found k h = layer_is c.names c.layers.items (lists_of c.values c.ends) vs is k h
@@ -29,6 +33,24 @@ module _ (c : Columns) (vs : List Variable) (is : variables_in c ≡ vs) where
         ap (λ n. n + start_of c.ends k) (range_is c.names c.layers.items (lists_of c.values c.ends) vs is k h)
         ∙ ap (λ l. length l + start_of c.ends k) (get_or-table (length c.ends) (list_at c.values c.ends) k [] there)
         ∙ list_length c.values c.ends aligned.values k there
+
+    module _ (i : ℕ) (of : i < range_of vs k) where
+      -- it stands so far behind the first one
+      pub value_within : start_of c.ends k + i < length c.values
+      value_within = omega (arith, of, value_number, aligned.values.within k there)
+
+      list_is : get_or (lists_of c.values c.ends) k [] ≡ list_at c.values c.ends k
+      list_is = get_or-table (length c.ends) (list_at c.values c.ends) k [] there
+
+      below : i < length (list_at c.values c.ends k)
+      below = omega (arith, of, value_number, list_length c.values c.ends aligned.values k there)
+
+      pub value_found : value_name vs k i ≡ Some (get_or c.values (start_of c.ends k + i) [])
+      value_found =
+          value_is c.names c.layers.items (lists_of c.values c.ends) vs is k i h
+          ∙ ap (λ l. slice_get l i) list_is
+          ∙ slice_get-get_or (list_at c.values c.ends k) i [] below
+          ∙ ap (λ x. Some x) (item_of_list c.values c.ends aligned.values k there i [] below)
 
 -- ---- one more
 

@@ -1,6 +1,7 @@
 -- Operators and variables in columns: the one at a place, and one more.
-use Rattle.std.proofs.Common.{◌≡◌, ℕ, ◌<◌, List, [], ◌∷◌, ◌++◌, length, get_or, sym, ap, ◌∙◌, arith, length-append}
-use Rattle.std.specs.Prelude.{slice_get, Option, Some, None, option_and_then}
+use Rattle.std.proofs.Common.{◌≡◌, ℕ, ◌<◌, ◌≤◌, List, [], ◌∷◌, ◌++◌, length, get_or, refl, sym, ap, ◌∙◌, arith, length-append}
+use Rattle.std.proofs.lemmas.Option.{slice_get_past}
+use Rattle.std.specs.Prelude.{slice_get, Option, Some, None, option_map, option_and_then}
 use Rattle.std.specs.Option.{option_map_or}
 use Rattle.std.proofs.Math.ListN.{get_or-append}
 use Rattle.std.proofs.Math.Seq.{get_or-append_seam}
@@ -8,7 +9,7 @@ use Rattle.sas_core.specs.declared.parts.Fact.{Fact}
 use Rattle.sas_core.specs.declared.parts.Effect.{Effect}
 use Rattle.sas_core.specs.declared.parts.Variable.{Variable}
 use Rattle.sas_core.specs.declared.parts.Operator.{Operator}
-use Rattle.sas_core.specs.Variables.{range_of, layer_of}
+use Rattle.sas_core.specs.Variables.{range_of, layer_of, value_name}
 use Rattle.sas_flat.specs.Operators.{operator, operators_of, operator_in}
 use Rattle.sas_flat.specs.Variables.{variable, variables_of}
 use Rattle.sas_flat.proofs.Tables.{length-table, table_none, table_more, get_or-table, slice_get-table}
@@ -65,8 +66,26 @@ module _ (ns : List (List ℕ)) (ls : List (Option ℕ)) (vs : List (List (List 
     pub variable_at_place : (i : ℕ) → i < length all → slice_get all i ≡ Some (variable (get_or ns i []) (get_or ls i None) (get_or vs i []))
     variable_at_place i h = ap (λ l. slice_get l i) (sym is) ∙ slice_get-table (length vs) _ i (omega (arith, variable_count))
 
+    pub name_is : (i : ℕ) → i < length all → option_map (λ (v : Variable). v.name) (slice_get all i) ≡ Some (get_or ns i [])
+    name_is i h = ap (λ x. option_map (λ (v : Variable). v.name) x) (variable_at_place i h)
+
     pub range_is : (i : ℕ) → i < length all → range_of all i ≡ length (get_or vs i [])
     range_is i h = ap (λ x. option_map_or (λ (v : Variable). length v.values) x 0) (variable_at_place i h)
 
     pub layer_is : (i : ℕ) → i < length all → layer_of all i ≡ get_or ls i None
     layer_is i h = ap (λ x. option_and_then (λ (v : Variable). v.layer) x) (variable_at_place i h)
+
+    pub value_is : (i j : ℕ) → i < length all → value_name all i j ≡ slice_get (get_or vs i []) j
+    value_is i j h = ap (λ x. option_and_then (λ (v : Variable). slice_get v.values j) x) (variable_at_place i h)
+
+-- ---- what isn't there
+
+pub no_name : (all : List Variable) (i : ℕ) → length all ≤ i → option_map (λ (v : Variable). v.name) (slice_get all i) ≡ None
+no_name all i h = ap (λ x. option_map (λ (v : Variable). v.name) x) (slice_get_past all i h)
+
+no_value_of : (v : Option Variable) (j : ℕ) → option_map_or (λ (v : Variable). length v.values) v 0 ≤ j → option_and_then (λ (v : Variable). slice_get v.values j) v ≡ None
+no_value_of None j h = refl
+no_value_of (Some v) j h = slice_get_past v.values j h
+
+pub no_value : (all : List Variable) (i j : ℕ) → range_of all i ≤ j → value_name all i j ≡ None
+no_value all i j h = no_value_of (slice_get all i) j h

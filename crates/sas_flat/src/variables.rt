@@ -1,6 +1,7 @@
 // Variables in a few blocks of memory.
-ghost use Rattle.std.specs.Prelude.{◌≡◌, ◌<◌, ◌≤◌, [], ◌∷◌, ◌++◌, length, take, OnOk, OnErr};
-ghost use Rattle.sas_core.specs.Variables.{range_of, layer_of};
+ghost use Rattle.std.specs.Prelude.{◌≡◌, ◌<◌, ◌≤◌, [], ◌∷◌, ◌++◌, length, take, slice_get, option_map, OnOk, OnErr};
+ghost use Rattle.sas_core.specs.declared.parts.Variable.{Variable};
+ghost use Rattle.sas_core.specs.Variables as spec;
 ghost use Rattle.sas_flat.specs.Growing.{Kept};
 ghost use Rattle.sas_flat.specs.Lists.{AreEnds};
 ghost use Rattle.sas_flat.specs.Variables.{variable, OneMore};
@@ -92,7 +93,7 @@ impl Variables {
     }
 
     /// How many variables there are.
-    pub(crate) fn len(&self) -> usize
+    pub fn len(&self) -> usize
         ensures { result ≡ length self.now }
     {
         self.columns.ends.len()
@@ -123,16 +124,43 @@ impl Variables {
     /// How many values the variable has.
     pub(crate) fn range(&self, var: usize) -> usize
         requires { var < length self.now }
-        ensures { result ≡ range_of self.now var }
+        ensures { result ≡ spec.range_of self.now var }
     {
         self.columns.ends.end(var) - self.columns.ends.start(var)
     }
 
+    /// The name of the variable at the index, counted from 0, if there is one.
+    pub fn name(&self, var: usize) -> Option<&[u8]>
+        ensures { option_map (λ name. name.now) result
+            ≡ option_map (λ (v : Variable). v.name) (slice_get self.now var) }
+    {
+        if var < self.len() {
+            Some(self.columns.names.get(var))
+        } else {
+            None
+        }
+    }
+
     /// The layer of a derived variable; a basic one has none.
-    pub(crate) fn layer(&self, var: usize) -> Option<u32>
+    pub fn layer(&self, var: usize) -> Option<u32>
         requires { var < length self.now }
-        ensures { result ≡ layer_of self.now var }
+        ensures { result ≡ spec.layer_of self.now var }
     {
         self.columns.layers.as_slice()[var]
+    }
+
+    /// The name of a variable's value, if there is this variable and it has this value.
+    pub fn value_name(&self, var: usize, value: usize) -> Option<&[u8]>
+        ensures { option_map (λ name. name.now) result ≡ spec.value_name self.now var value }
+    {
+        if var >= self.len() {
+            return None;
+        }
+        let first = self.columns.ends.start(var);
+        if value < self.columns.ends.end(var) - first {
+            Some(self.columns.values.get(first + value))
+        } else {
+            None
+        }
     }
 }

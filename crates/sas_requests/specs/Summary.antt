@@ -1,10 +1,11 @@
 -- The summary of a task: a line for each of its numbers, for each variable's initial value and for each fact of its goal.
-use Rattle.std.specs.Prelude.{ℕ, Bool, if◌then◌else◌, List, [], ◌∷◌, ◌++◌, length, flat_map, count_by, is_some, Option, option_and_then, slice_get, codes, decimal}
+use Rattle.std.specs.Prelude.{ℕ, Bool, if◌then◌else◌, List, [], ◌∷◌, ◌++◌, length, flat_map, count_by, is_some, codes, decimal}
 use Rattle.std.specs.Option.{option_map_or}
 use Rattle.std.specs.List.{enumerate_from}
 use Rattle.sas_core.specs.declared.parts.Fact.{Fact}
 use Rattle.sas_core.specs.declared.parts.Variable.{Variable}
 use Rattle.sas_core.specs.declared.parts.Parts.{Parts}
+use Rattle.sas_core.specs.Variables.{value_name}
 
 -- `WORD N`
 abbrev pub number_line : List ℕ → ℕ → List ℕ
@@ -28,10 +29,6 @@ number_lines p =
     ∷ number_line (codes "operators") (length p.operators)
     ∷ number_line (codes "rules") (length p.rules)
     ∷ []
-
--- the name of a variable's value, if it has this value
-abbrev pub value_name : List Variable → ℕ → ℕ → Option (List ℕ)
-value_name variables var value = option_and_then (λ (v : Variable). slice_get v.values value) (slice_get variables var)
 
 -- `WORD VAR VALUE NAME`, where NAME is the value's name
 abbrev pub fact_line : List ℕ → ℕ → ℕ → List ℕ → List ℕ

@@ -1,12 +1,13 @@
 // The summary of a task, as text.
-ghost use Rattle.std.specs.Prelude.{◌≡◌, [], ◌∷◌, ◌++◌, IfOk, OnOk, option_map};
+ghost use Rattle.std.specs.Prelude.{◌≡◌, [], ◌∷◌, ◌++◌, IfOk, OnOk};
 ghost use Rattle.sas_core.specs.declared.parts.Parts.{Parts};
 ghost use Rattle.sas_lines.specs.Lines.{text};
 ghost use Rattle.sas_task_reader.specs.Outline.{outline_of};
 ghost use Rattle.sas_requests.specs.Summary as spec;
 ghost use Rattle.sas_requests.specs.Summary.{summary_lines};
 
-use sas_core::{Fact, Items, Variable};
+use sas_core::{Fact, Items};
+use sas_flat::Variables;
 use sas_lines::{push_line, push_number};
 use sas_text::Outline;
 use std::alloc::{AllocError, Global};
@@ -36,20 +37,22 @@ fn push_numbers(out: &mut Vec<u8>, outline: &Outline) -> Result<(), AllocError>
 }
 
 /// How many of the variables are derived.
-fn derived_count(variables: &Items<Variable>) -> usize
+fn derived_count(variables: &Variables) -> usize
     ensures { result ≡ spec.derived_count variables.now }
 {
-    variables
-        .as_slice()
-        .iter()
-        .filter(|variable| variable.layer.is_some())
-        .count()
+    let mut count = 0;
+    for var in 0..variables.len() {
+        if variables.layer(var).is_some() {
+            count += 1;
+        }
+    }
+    count
 }
 
 /// Appends a line for each variable: its value in the initial state.
 fn push_state(
     out: &mut Vec<u8>,
-    variables: &Items<Variable>,
+    variables: &Variables,
     values: &Items<u32>,
 ) -> Result<(), AllocError>
     ensures { OnOk result (out.new.items ≡ out.old.items ++ text (spec.initial_lines variables.now values.now)) }
@@ -63,7 +66,7 @@ fn push_state(
 /// Appends a line for each fact of the goal.
 fn push_goal(
     out: &mut Vec<u8>,
-    variables: &Items<Variable>,
+    variables: &Variables,
     facts: &Items<Fact>,
 ) -> Result<(), AllocError>
     ensures { OnOk result (out.new.items ≡ out.old.items ++ text (spec.goal_lines variables.now facts.now)) }
@@ -89,14 +92,14 @@ fn push_number_line(out: &mut Vec<u8>, word: &[u8], n: u128) -> Result<(), Alloc
 fn push_fact(
     out: &mut Vec<u8>,
     word: &[u8],
-    variables: &Items<Variable>,
+    variables: &Variables,
     var: usize,
     value: u32,
 ) -> Result<(), AllocError>
     ensures { OnOk result
         (out.new.items ≡ out.old.items ++ text (spec.fact_lines word.now variables.now var value)) }
 {
-    match value_name(variables, var, value) {
+    match variables.value_name(var, value as usize) {
         Some(name) => push_fact_line(out, word, var, value, name),
         None => Ok(()),
     }
@@ -120,13 +123,4 @@ fn push_fact_line(
     push_number(out, u128::from(value))?;
     out.push(b' ')?;
     push_line(out, name)
-}
-
-/// The name of a variable's value, if it has this value.
-fn value_name(variables: &Items<Variable>, var: usize, value: u32) -> Option<&[u8]>
-    ensures { option_map (λ name. name.now) result ≡ spec.value_name variables.now var value }
-{
-    let variable = variables.get(var)?;
-    let name = variable.values.get(value as usize)?;
-    Some(name.as_slice())
 }

@@ -1,1 +1,2 @@
 mod TaskStanding
+mod Outlines

@@ -1,6 +1,8 @@
 -- What is kept of a task for its outline.
 use Rattle.std.specs.Prelude.{ℕ, ◌-◌, ◌^◌, min, List, [], length}
+use Rattle.sas_core.specs.declared.parts.Parts.{Parts}
 use Rattle.sas_task_reader.specs.declared.outline.Outline.{Outline}
+use Rattle.sas_task_reader.specs.Outline.{outline_of}
 use Rattle.sas_task_judge.specs.declared.so_far.SoFar.{SoFar}
 use Rattle.sas_task_reader.specs.declared.task_outline.Seen.{Seen}
 
@@ -17,14 +19,10 @@ seen s = record {
   rules = as_far_as_counted s.parts.rules;
 }
 
+-- the outline of these parts, but with these numbers of groups, operators and rules
+abbrev pub outline_with : Parts → ℕ → ℕ → ℕ → Outline
+outline_with p groups operators rules = record (outline_of p) { groups = groups; operators = operators; rules = rules }
+
 -- the outline that is kept
 abbrev pub outline_in : Seen → Outline
-outline_in kept = record {
-  metric = kept.rest.parts.metric;
-  variables = kept.rest.parts.variables;
-  groups = kept.groups;
-  init = kept.rest.parts.init;
-  goal = kept.rest.parts.goal;
-  operators = kept.operators;
-  rules = kept.rules;
-}
+outline_in kept = outline_with kept.rest.parts kept.groups kept.operators kept.rules

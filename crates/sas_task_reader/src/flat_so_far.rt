@@ -10,8 +10,10 @@ ghost use Rattle.sas_task_judge.specs.declared.task_events.Said.{Said};
 ghost use Rattle.sas_task_line.specs.Sections.{GroupAhead, OperatorAhead, RuleAhead};
 ghost use Rattle.sas_task_judge.specs.TaskEvents.{nothing_yet, after};
 ghost use Rattle.sas_task_machine.specs.Sections.{VariableWithRange, behind_variable, behind_group, behind_operator, behind_rule};
+ghost use Rattle.sas_task_reader.specs.TaskOutline.{outline_with};
 
 use crate::fronts::NO_VARIABLE;
+use crate::outline::Outline;
 use sas_core::{Fact, Items};
 use sas_flat::{Effects, FlatTask, Lists, Operators, Rules, Variables};
 use sas_grounded::Change;
@@ -101,6 +103,35 @@ impl FlatSoFar {
             ..
         } = self;
         FlatTask::of_parts(metric, variables, groups, init, goal, operators, rules)
+    }
+
+    /// The outline of the parts that have come, with these numbers of groups, operators and rules.
+    pub fn into_outline(self, groups: u32, operators: u32, rules: u32) -> Outline
+        ensures { result ≡ outline_with self.parts groups operators rules }
+    {
+        let FlatSoFar {
+            metric,
+            variables,
+            init,
+            goal,
+            ..
+        } = self;
+        Outline {
+            metric,
+            variables,
+            groups,
+            init,
+            goal,
+            operators,
+            rules,
+        }
+    }
+
+    /// Takes the name away that has come, and keeps the memory.
+    pub fn forget_name(&mut self)
+        ensures { self.new ≡ record self.old { name = [] } }
+    {
+        self.name.clear();
     }
 
     fn name(&mut self, line: &[u8]) -> Result<(), AllocError>

@@ -5,7 +5,8 @@ ghost use Rattle.sas_task_format.specs.TaskFormat.{task_format};
 ghost use Rattle.sas_task_reader.specs.Outline.{OutlineOf};
 
 use crate::task_outline::TaskOutline;
-use sas_core::{Fact, Items, Variable};
+use sas_core::{Fact, Items};
+use sas_flat::Variables;
 use sas_lines::Watched;
 use sas_reader::{Fault, LIMIT, read_all};
 use sas_task_machine::TaskMachine;
@@ -13,11 +14,11 @@ use std::alloc::Global;
 use std::io::Read;
 
 /// What a summary shows of a task: all but its groups, operators and rules, and how many of these there are.
-#[derive(Debug, PartialEq, Eq, Drop)]
+#[derive(Debug, Drop)]
 pub struct Outline {
     /// Whether cost lines count (metric 1).
     pub metric: bool,
-    pub variables: Items<Variable>,
+    pub variables: Variables,
     /// How many mutex groups there are.
     pub groups: u32,
     /// The state section: a value for each variable.

@@ -8,20 +8,21 @@ ghost use Rattle.sas_task_judge.specs.TaskEvents.{nothing_yet};
 ghost use Rattle.sas_task_machine.specs.Sections.{behind_group, behind_operator, behind_rule};
 ghost use Rattle.sas_task_reader.specs.TaskOutline.{outline_in, seen};
 
+use crate::flat_so_far::FlatSoFar;
 use crate::fronts::{group_front, operator_front, rule_front};
 use crate::outline::Outline;
 use sas_core::Items;
 use sas_reader::{Front, Kind};
-use sas_task_judge::{Event, Said, SoFar};
+use sas_task_judge::{Event, Said};
 use sas_task_line::Gathered;
-use sas_task_machine::Keeper;
+use sas_task_machine::{Keeper, VariableKept};
 use std::alloc::Global;
 use std::marker::Model;
 
 /// What has come, without groups, operators and rules, and how many of these have come.
 #[derive(Drop)]
 pub struct Seen {
-    rest: SoFar,
+    rest: FlatSoFar,
     groups: u32,
     operators: u32,
     rules: u32,
@@ -55,7 +56,7 @@ impl Seen {
     fn operator(&mut self)
         ensures { (s : SoFar) (o : Operator) → self.old ≡ seen s → self.new ≡ seen (behind_operator s o) }
     {
-        self.rest.name.clear();
+        self.rest.forget_name();
         self.operators = self.operators.saturating_add(1);
     }
 
@@ -74,7 +75,7 @@ impl TaskOutline {
     {
         TaskOutline {
             seen: Seen {
-                rest: SoFar::new(alloc),
+                rest: FlatSoFar::new(alloc),
                 groups: 0,
                 operators: 0,
                 rules: 0,
@@ -94,16 +95,7 @@ impl TaskOutline {
             operators,
             rules,
         } = seen;
-        let parts = rest.into_parts();
-        Outline {
-            metric: parts.metric,
-            variables: parts.variables,
-            groups,
-            init: parts.init,
-            goal: parts.goal,
-            operators,
-            rules,
-        }
+        rest.into_outline(groups, operators, rules)
     }
 }
 
@@ -119,9 +111,13 @@ impl Keeper for TaskOutline {
             Event::Operator => self.seen.operator(),
             Event::Rule => self.seen.rule(),
             Event::Facts | Event::Fact | Event::Effects | Event::Effect => {}
-            other => return self.seen.rest.add(line, other, said),
+            other => return self.seen.rest.keep(line, other, said),
         }
         Ok(())
+    }
+
+    fn keep_variable(&mut self, bytes: &[u8]) -> Result<VariableKept, Kind> {
+        self.seen.rest.keep_variable(bytes)
     }
 
     fn keep_group(&mut self, ranges: &Items<u32>, bytes: &[u8]) -> Result<Front, Kind> {

@@ -1,0 +1,50 @@
+-- What is kept for an outline, behind what a line says and behind a variable.
+use Rattle.std.proofs.Common.{◌≡◌, ℕ, List, refl, ap, ◌∙◌}
+use Rattle.sas_core.specs.declared.parts.Variable.{Variable}
+use Rattle.sas_task_judge.specs.declared.task_events.Event.{Event}
+use Rattle.sas_task_judge.specs.declared.task_events.Event.TheVariants as event
+use Rattle.sas_task_judge.specs.declared.task_events.Said.{Said}
+use Rattle.sas_task_judge.specs.declared.so_far.SoFar.{SoFar}
+use Rattle.sas_task_judge.specs.TaskEvents.{after}
+use Rattle.sas_task_machine.specs.Sections.{behind_variable}
+use Rattle.sas_task_reader.specs.declared.task_outline.Seen.{Seen}
+use Rattle.sas_task_reader.specs.TaskOutline.{seen}
+
+-- a line about none of what is only counted changes the rest alone
+pub record IsOfRest (e : Event) : Type 0 where
+  pub facts : e ≡ event.Facts → ⊥
+  pub fact : e ≡ event.Fact → ⊥
+  pub group : e ≡ event.Group → ⊥
+  pub effects : e ≡ event.Effects → ⊥
+  pub effect : e ≡ event.Effect → ⊥
+  pub operator : e ≡ event.Operator → ⊥
+  pub rule : e ≡ event.Rule → ⊥
+
+rest_after : (s : SoFar) (e : Event) (said : Said) (line : List ℕ) → IsOfRest e → record (seen s) { rest = after (seen s).rest e said line } ≡ seen (after s e said line)
+rest_after s event.Nothing said line of = refl
+rest_after s event.Metric said line of = refl
+rest_after s event.Name said line of = refl
+rest_after s event.Layer said line of = refl
+rest_after s event.Values said line of = refl
+rest_after s event.Value said line of = refl
+rest_after s event.Variable said line of = refl
+rest_after s event.Facts said line of = absurd (of.facts refl)
+rest_after s event.Fact said line of = absurd (of.fact refl)
+rest_after s event.Group said line of = absurd (of.group refl)
+rest_after s event.State said line of = refl
+rest_after s event.Goal said line of = refl
+rest_after s event.Effects said line of = absurd (of.effects refl)
+rest_after s event.Effect said line of = absurd (of.effect refl)
+rest_after s event.Operator said line of = absurd (of.operator refl)
+rest_after s event.Rule said line of = absurd (of.rule refl)
+
+-- what is kept, where the rest alone changes
+module _ (kept : Seen) (new s : SoFar) (is : kept ≡ seen s) where
+  abbrev rest_changed : (t : SoFar) → new ≡ t → record kept { rest = new } ≡ record (seen s) { rest = t }
+  rest_changed t then = ap (λ (r : SoFar). record kept { rest = r }) then ∙ ap (λ (k : Seen). record k { rest = t }) is
+
+  pub seen_after : (e : Event) (said : Said) (line : List ℕ) → IsOfRest e → new ≡ after (seen s).rest e said line → record kept { rest = new } ≡ seen (after s e said line)
+  seen_after e said line of then = rest_changed (after (seen s).rest e said line) then ∙ rest_after s e said line of
+
+  pub seen_variable : (v : Variable) → new ≡ behind_variable (seen s).rest v → record kept { rest = new } ≡ seen (behind_variable s v)
+  seen_variable v then = rest_changed (behind_variable (seen s).rest v) then
