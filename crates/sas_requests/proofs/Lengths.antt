@@ -1,5 +1,5 @@
 -- The lines of some bytes are no longer than they.
-use Rattle.std.proofs.Common.{◌≡◌, ℕ, ◌+◌, ◌≤◌, Bool, true, false, ◌==◌, if◌then◌else◌, List, [], ◌∷◌, ◌++◌, length, length-append, arith}
+use Rattle.std.proofs.Common.{ℕ, ◌+◌, ◌≤◌, Bool, true, false, ◌==◌, if◌then◌else◌, List, [], ◌∷◌, ◌++◌, length, length-append, arith}
 use Rattle.sas_lines.specs.Lines.{text, lines, lines_among, without_return}
 use Rattle.sas_lines.specs.Parts.{parts, onto_first}
 

@@ -1,5 +1,5 @@
 -- Bytes that are put behind others, call after call.
-use Rattle.std.proofs.Common.{◌≡◌, ℕ, ◌+◌, ◌-◌, ◌^◌, ◌<◌, ◌≤◌, List, [], ◌∷◌, ◌++◌, length, take, drop, get_or, flat_map, min, append_assoc, append-nil, length-append, arith, refl, sym, ap, subst, ◌∙◌, Bool, true, false, Option, Result, Ok, Err}
+use Rattle.std.proofs.Common.{◌≡◌, ℕ, ◌+◌, ◌-◌, ◌^◌, ◌<◌, List, [], ◌∷◌, ◌++◌, length, take, drop, get_or, flat_map, min, append_assoc, append-nil, length-append, arith, refl, sym, ap, subst, ◌∙◌, Bool, true, false, Option, Result, Ok, Err}
 use Rattle.std.specs.Prelude.{⊤, ◌↔◌, IsTrue}
 use Rattle.std.specs.Io.KnownBytes.{Appends}
 use Rattle.std.proofs.KnownBytes.{Appends-nil, Appends-trans}

@@ -1,6 +1,6 @@
 -- How long a summary is. What is read of a task is at most 4 GiB, and so a `usize` tells the length of its summary.
 use Rattle.std.proofs.Common.{◌≡◌, ℕ, suc, zero, ◌+◌, ◌*◌, ◌^◌, ◌<◌, ◌≤◌, Bool, true, false, if◌then◌else◌, List, [], ◌∷◌, ◌++◌, length, map, codes, length-append, arith, refl, sym, ap, subst, ◌∙◌, inl, inr, Option, Some, None}
-use Rattle.std.specs.Prelude.{◌⊎◌, decimal, slice_get, option_and_then, is_some}
+use Rattle.std.specs.Prelude.{◌⊎◌, decimal, slice_get, is_some}
 use Rattle.std.specs.Option.{option_map_or}
 use Rattle.std.specs.List.{enumerate_from, flat_map}
 use Rattle.std.proofs.lemmas.Fmt.{length-decimal-le}
@@ -14,7 +14,7 @@ use Rattle.sas_core.specs.declared.parts.Fact.{Fact}
 use Rattle.sas_core.specs.declared.parts.Variable.{Variable}
 use Rattle.sas_core.specs.declared.parts.Parts.{Parts}
 use Rattle.sas_core.specs.WellRanged.{WellRanged}
-use Rattle.sas_lines.specs.Lines.{text, lines}
+use Rattle.sas_lines.specs.Lines.{text}
 use Rattle.sas_reader.specs.Devices.{ValueOf}
 use Rattle.sas_task_format.specs.TaskFormat.{TaskLine, word, name, number, signed, fact, task_line_bytes, line, between, counted, version_lines, metric_lines, variable_lines, group_lines, state_lines, operator_lines, rule_lines, task_layout, task_format}
 use Rattle.sas_task_format.specs.TaskFormat as file
@@ -57,9 +57,6 @@ size_before : (a b : List TaskLine) → size a ≤ size (a ++ b)
 size_before a b = omega (arith, size_of_both a b)
 
 -- ---- names
-
-names_of : List ℕ → List TaskLine
-names_of value = line name value
 
 value_short : (values : List (List ℕ)) (value : ℕ) (bytes : List ℕ) → slice_get values value ≡ Some bytes → length bytes ≤ size (flat_map (line name) values)
 value_short [] value bytes is = absurd (none-some bytes is)

@@ -1,5 +1,5 @@
 // A text that goes out in pieces.
-ghost use Rattle.std.specs.Prelude.{◌≡◌, ◌≤◌, ◌<◌, ◌+◌, ◌↔◌, [], ◌++◌, take, length, false, IfOk, IfErr, IsErr, IsTrue, OnOk, flat_map};
+ghost use Rattle.std.specs.Prelude.{◌≡◌, ◌≤◌, ◌+◌, ◌↔◌, [], ◌++◌, length, false, IfOk, IfErr, IsErr, IsTrue, OnOk, flat_map};
 ghost use Rattle.std.specs.Io.KnownBytes.{Appends};
 ghost use Rattle.sas_requests.specs.Pieces.{Breaks, CountsOn, PutsOrBreaks};
 
@@ -42,11 +42,12 @@ impl Pieces {
         })
     }
 
-    /// Puts the bytes behind what has come. What is held goes out where they don't fit behind it, and so do they where a
-    /// piece hasn't room for them. Not to be called after a failure.
+    /// Puts the bytes behind what has come. What is held goes out where there is no room for them behind it; and they go
+    /// out themselves, without a copy, where they are longer than a piece. Not to be called after a failure.
     pub fn push<W: Write>(&mut self, out: &mut Watched<W>, bytes: &[u8]) -> Result<(), Short>
         requires { out.old.failed ≡ false }
-        ensures puts { PutsOrBreaks (W.contents out.old.device) (W.contents out.new.device) self.old self.new bytes.now result }
+        ensures puts { PutsOrBreaks (W.contents out.old.device) (W.contents out.new.device) self.old self.new
+            bytes.now result }
         ensures note { IsErr result ↔ IsTrue out.new.failed }
     {
         if bytes.len() <= PIECE - self.piece.len() {
@@ -77,7 +78,8 @@ impl Pieces {
     /// Writes what is held. Not to be called after a failure.
     pub fn flush<W: Write>(&mut self, out: &mut Watched<W>) -> Result<(), Short>
         requires { out.old.failed ≡ false }
-        ensures puts { PutsOrBreaks (W.contents out.old.device) (W.contents out.new.device) self.old self.new [] result }
+        ensures puts { PutsOrBreaks (W.contents out.old.device) (W.contents out.new.device) self.old self.new
+            [] result }
         ensures empty { OnOk result (self.new.held ≡ []) }
         ensures note { IsErr result ↔ IsTrue out.new.failed }
     {
@@ -99,7 +101,8 @@ impl Pieces {
     fn pass<W: Write>(&mut self, out: &mut Watched<W>, bytes: &[u8]) -> Result<(), Short>
         requires out { out.old.failed ≡ false }
         requires empty { self.old.held ≡ [] }
-        ensures puts { PutsOrBreaks (W.contents out.old.device) (W.contents out.new.device) self.old self.new bytes.now result }
+        ensures puts { PutsOrBreaks (W.contents out.old.device) (W.contents out.new.device) self.old self.new
+            bytes.now result }
         ensures note { IsErr result ↔ IsTrue out.new.failed }
     {
         self.written = send(self.written, out, bytes)?;

@@ -10,7 +10,6 @@ ghost use Rattle.sas_requests.specs.Summary.{summary_lines};
 use crate::pieces::Pieces;
 use crate::{Status, ToolFault};
 use itoa::Buffer;
-use sas_core::{Fact, Items, Variable};
 use sas_lines::{Short, Watched, push_number};
 use sas_text::Outline;
 use std::alloc::{AllocError, Global};
@@ -82,8 +81,8 @@ fn push_summary<W: Write>(
     ensures note { IsErr result ↔ IsTrue out.new.failed }
 {
     pieces.push(out, numbers)?;
-    push_state(pieces, out, &outline.variables, &outline.init)?;
-    push_goal(pieces, out, &outline.variables, &outline.goal)?;
+    push_state(pieces, out, outline)?;
+    push_goal(pieces, out, outline)?;
     pieces.flush(out)
 }
 
@@ -94,11 +93,7 @@ fn numbers_text(alloc: Global, outline: &Outline) -> Result<Vec<u8>, AllocError>
     let mut text = Vec::new(alloc);
     push_number_line(&mut text, b"metric", u128::from(outline.metric))?;
     push_number_line(&mut text, b"variables", outline.variables.len() as u128)?;
-    push_number_line(
-        &mut text,
-        b"derived",
-        derived_count(&outline.variables) as u128,
-    )?;
+    push_number_line(&mut text, b"derived", derived_count(outline) as u128)?;
     push_number_line(&mut text, b"groups", u128::from(outline.groups))?;
     push_number_line(&mut text, b"operators", u128::from(outline.operators))?;
     push_number_line(&mut text, b"rules", u128::from(outline.rules))?;
@@ -117,10 +112,11 @@ fn push_number_line(out: &mut Vec<u8>, word: &[u8], n: u128) -> Result<(), Alloc
 }
 
 /// How many of the variables are derived.
-fn derived_count(variables: &Items<Variable>) -> usize
-    ensures { result ≡ spec.derived_count variables.now }
+fn derived_count(outline: &Outline) -> usize
+    ensures { result ≡ spec.derived_count outline.now.variables }
 {
-    variables
+    outline
+        .variables
         .as_slice()
         .iter()
         .filter(|variable| variable.layer.is_some())
@@ -131,16 +127,15 @@ fn derived_count(variables: &Items<Variable>) -> usize
 fn push_state<W: Write>(
     pieces: &mut Pieces,
     out: &mut Watched<W>,
-    variables: &Items<Variable>,
-    values: &Items<u32>,
+    outline: &Outline,
 ) -> Result<(), Short>
     requires { out.old.failed ≡ false }
     ensures puts { PutsOrBreaks (W.contents out.old.device) (W.contents out.new.device) pieces.old pieces.new
-        (text (spec.initial_lines variables.now values.now)) result }
+        (text (spec.initial_lines outline.now.variables outline.now.init)) result }
     ensures note { IsErr result ↔ IsTrue out.new.failed }
 {
-    for (var, value) in values.as_slice().iter().enumerate() {
-        push_fact(pieces, out, b"initial", variables, var, *value)?;
+    for (var, value) in outline.init.as_slice().iter().enumerate() {
+        push_fact(pieces, out, b"initial", outline, var, *value)?;
     }
     Ok(())
 }
@@ -149,23 +144,16 @@ fn push_state<W: Write>(
 fn push_goal<W: Write>(
     pieces: &mut Pieces,
     out: &mut Watched<W>,
-    variables: &Items<Variable>,
-    facts: &Items<Fact>,
+    outline: &Outline,
 ) -> Result<(), Short>
     requires { out.old.failed ≡ false }
     ensures puts { PutsOrBreaks (W.contents out.old.device) (W.contents out.new.device) pieces.old pieces.new
-        (text (spec.goal_lines variables.now facts.now)) result }
+        (text (spec.goal_lines outline.now.variables outline.now.goal)) result }
     ensures note { IsErr result ↔ IsTrue out.new.failed }
 {
-    for fact in facts.as_slice() {
-        push_fact(
-            pieces,
-            out,
-            b"goal",
-            variables,
-            fact.var as usize,
-            fact.value,
-        )?;
+    for fact in outline.goal.as_slice() {
+        let var = fact.var as usize;
+        push_fact(pieces, out, b"goal", outline, var, fact.value)?;
     }
     Ok(())
 }
@@ -176,16 +164,16 @@ fn push_fact<W: Write>(
     pieces: &mut Pieces,
     out: &mut Watched<W>,
     word: &[u8],
-    variables: &Items<Variable>,
+    outline: &Outline,
     var: usize,
     value: u32,
 ) -> Result<(), Short>
     requires { out.old.failed ≡ false }
     ensures puts { PutsOrBreaks (W.contents out.old.device) (W.contents out.new.device) pieces.old pieces.new
-        (text (spec.fact_lines word.now variables.now var value)) result }
+        (text (spec.fact_lines word.now outline.now.variables var value)) result }
     ensures note { IsErr result ↔ IsTrue out.new.failed }
 {
-    match value_name(variables, var, value) {
+    match value_name(outline, var, value) {
         Some(name) => push_fact_line(pieces, out, word, var, value, name),
         None => Ok(()),
     }
@@ -223,10 +211,10 @@ fn push_fact_line<W: Write>(
 }
 
 /// The name of a variable's value, if it has this value.
-fn value_name(variables: &Items<Variable>, var: usize, value: u32) -> Option<&[u8]>
-    ensures { option_map (λ name. name.now) result ≡ spec.value_name variables.now var value }
+fn value_name(outline: &Outline, var: usize, value: u32) -> Option<&[u8]>
+    ensures { option_map (λ name. name.now) result ≡ spec.value_name outline.now.variables var value }
 {
-    let variable = variables.get(var)?;
+    let variable = outline.variables.get(var)?;
     let name = variable.values.get(value as usize)?;
     Some(name.as_slice())
 }

@@ -1,4 +1,4 @@
-use Rattle.std.proofs.Common.{[], refl}
+use Rattle.std.proofs.Common.{[]}
 use Rattle.sas_requests.specs.Answering.{output_of}
 use Rattle.sas_requests.specs.Output.{Out}
 use Rattle.sas_requests.proofs.Endings.{ends_as, ends_well}

@@ -1,4 +1,4 @@
-use Rattle.std.proofs.Common.{codes, Ok, refl, ap, sym, ◌∙◌}
+use Rattle.std.proofs.Common.{codes, Ok, refl, ap, ◌∙◌}
 use Rattle.sas_task_reader.specs.declared.outline.Outline.{Outline}
 use Rattle.sas_task_format.specs.TaskFormat.{task_format}
 use Rattle.sas_requests.specs.Answering.{output_of}

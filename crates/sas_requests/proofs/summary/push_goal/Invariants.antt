@@ -7,5 +7,5 @@ use Rattle.sas_requests.proofs.summary.push_goal.Given as goal
 abbrev pub invariant-loop-fact : goal.invariant-loop-fact
 invariant-loop-fact g l = record {
   note : l.out.failed ≡ false;
-  puts : Puts (g.W.Write.contents l.fn.out.device) (g.W.Write.contents l.out.device) l.fn.pieces l.pieces (flat_map (goal_text l.variables) (take l.fact-index l.fact-items));
+  puts : Puts (g.W.Write.contents l.fn.out.device) (g.W.Write.contents l.out.device) l.fn.pieces l.pieces (flat_map (goal_text l.outline.variables) (take l.fact-index l.fact-items));
 }

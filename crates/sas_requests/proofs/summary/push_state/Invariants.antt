@@ -8,5 +8,5 @@ use Rattle.sas_requests.proofs.summary.push_state.Given as goal
 abbrev pub invariant-loop-var : goal.invariant-loop-var
 invariant-loop-var g l = record {
   note : l.out.failed ≡ false;
-  puts : Puts (g.W.Write.contents l.fn.out.device) (g.W.Write.contents l.out.device) l.fn.pieces l.pieces (flat_map (initial_text l.variables) (take l.var (enumerate_from 0 l.value-items)));
+  puts : Puts (g.W.Write.contents l.fn.out.device) (g.W.Write.contents l.out.device) l.fn.pieces l.pieces (flat_map (initial_text l.outline.variables) (take l.var (enumerate_from 0 l.value-items)));
 }
