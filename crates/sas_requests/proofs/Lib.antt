@@ -5,3 +5,7 @@ mod Headlines
 mod Summaries
 mod MutexAnswers
 mod InvariantGroups
+mod Putting
+mod Endings
+mod Lengths
+mod SummaryLengths

@@ -2,14 +2,20 @@
 use Rattle.std.specs.Prelude.{◌≡◌, ◌↔◌, ◌||◌, ℕ, List, Option, Some, None, Result, Ok, Err, IfErr, IsErrOf, IsTrue}
 use Rattle.std.specs.Io.KnownBytes.{Consumes}
 use Rattle.sas_lines.specs.Device.{Device}
+use Rattle.sas_lines.specs.Lines.{text}
 use Rattle.sas_requests.specs.declared.answers.Answer.{Answer}
+use Rattle.sas_requests.specs.declared.answers.Answer.TheVariants.{Text, Summary}
+use Rattle.sas_requests.specs.declared.Status.TheVariants.{Yes}
 use Rattle.sas_requests.specs.declared.ToolFault.{ToolFault}
 use Rattle.sas_requests.specs.declared.ToolFault.TheVariants as fault
 use Rattle.sas_requests.specs.Ending.{IsDecided, IsWrite}
 use Rattle.sas_requests.specs.Output.{Output, IsLayeredText}
+use Rattle.sas_requests.specs.Summary.{summary_lines}
 
+-- a text with its status, or the summary of a task with this outline
 abbrev pub output_of : Answer → Output
-output_of answer = record { text = answer.text.items; status = answer.status }
+output_of (Text text status) = record { text = text.items; status = status }
+output_of (Summary outline) = record { text = text (summary_lines outline); status = Yes }
 
 -- an answer is the output, and past the limit there is none
 abbrev pub Answers : (Option Output → Type 0) → Result Answer ToolFault → Type 0

@@ -6,3 +6,4 @@ pub mod Output
 pub mod Headline
 pub mod Ending
 pub mod Answering
+pub mod Pieces

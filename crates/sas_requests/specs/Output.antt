@@ -14,6 +14,7 @@ use Rattle.sas_reader.specs.Format.{Format, ReadsAs, lines_of}
 use Rattle.sas_reader.specs.Limit.{most_bytes}
 use Rattle.sas_plan_file.specs.PlanFormat.{plan_format}
 use Rattle.sas_task_format.specs.TaskFormat.{task_format}
+use Rattle.sas_task_reader.specs.Outline.{outline_of}
 use Rattle.sas_groups.specs.declared.verdict.Verdict.{Verdict}
 use Rattle.sas_mutex.specs.Joint.{AreJointVerdicts}
 use Rattle.sas_run.specs.declared.plan_check.PlanFault.{PlanFault}
@@ -62,7 +63,7 @@ IsAnswerOrRefusal name IsAnswer (Err fault) output = output ≡ refusal name fau
 
 -- a task is shown by the lines of its summary, each ended by LF
 abbrev pub ShowAnswer : Parts → Output → Type 0
-ShowAnswer p output = output ≡ record { text = text (summary_lines p); status = Yes }
+ShowAnswer p output = output ≡ record { text = text (summary_lines (outline_of p)); status = Yes }
 
 -- the refusal of a task for a fault of its layers; want of memory has none
 abbrev pub layers_refusal : LayerFault → Option Output

@@ -4,8 +4,8 @@ use Rattle.std.specs.Option.{option_map_or}
 use Rattle.std.specs.List.{enumerate_from}
 use Rattle.sas_core.specs.declared.parts.Fact.{Fact}
 use Rattle.sas_core.specs.declared.parts.Variable.{Variable}
-use Rattle.sas_core.specs.declared.parts.Parts.{Parts}
 use Rattle.sas_core.specs.Variables.{value_name}
+use Rattle.sas_task_reader.specs.declared.outline.Outline.{Outline}
 
 -- `WORD N`
 abbrev pub number_line : List ℕ → ℕ → List ℕ
@@ -20,14 +20,14 @@ abbrev pub derived_count : List Variable → ℕ
 derived_count variables = count_by (λ (v : Variable). is_some v.layer) variables
 
 -- the lines of the task's numbers: `metric M`, `variables N`, `derived D`, `groups G`, `operators O`, `rules R`
-abbrev pub number_lines : Parts → List (List ℕ)
-number_lines p =
-    metric_line p.metric
-    ∷ number_line (codes "variables") (length p.variables)
-    ∷ number_line (codes "derived") (derived_count p.variables)
-    ∷ number_line (codes "groups") (length p.groups)
-    ∷ number_line (codes "operators") (length p.operators)
-    ∷ number_line (codes "rules") (length p.rules)
+abbrev pub number_lines : Outline → List (List ℕ)
+number_lines o =
+    metric_line o.metric
+    ∷ number_line (codes "variables") (length o.variables)
+    ∷ number_line (codes "derived") (derived_count o.variables)
+    ∷ number_line (codes "groups") o.groups
+    ∷ number_line (codes "operators") o.operators
+    ∷ number_line (codes "rules") o.rules
     ∷ []
 
 -- `WORD VAR VALUE NAME`, where NAME is the value's name
@@ -48,6 +48,6 @@ initial_lines variables values =
 abbrev pub goal_lines : List Variable → List Fact → List (List ℕ)
 goal_lines variables facts = flat_map (λ (f : Fact). fact_lines (codes "goal") variables f.var f.value) facts
 
--- the lines of a task's summary, in order
-abbrev pub summary_lines : Parts → List (List ℕ)
-summary_lines p = number_lines p ++ initial_lines p.variables p.init ++ goal_lines p.variables p.goal
+-- the lines of the summary of a task with this outline, in order
+abbrev pub summary_lines : Outline → List (List ℕ)
+summary_lines o = number_lines o ++ initial_lines o.variables o.init ++ goal_lines o.variables o.goal

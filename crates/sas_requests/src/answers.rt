@@ -1,25 +1,27 @@
 // The answer to each request, before anything of it is written.
-ghost use Rattle.std.specs.Prelude.{◌≡◌, ◌↔◌, ◌||◌, List, ℕ, false, Some, IfOk, IfErr, IsErrOf, IsFalse, IsTrue};
-ghost use Rattle.std.specs.Io.KnownBytes.{Consumes};
+ghost use Rattle.std.specs.Prelude.{◌≡◌, ◌↔◌, ◌⊎◌, ◌||◌, List, ℕ, false, Some, IfOk, IfErr, IsErrAnd, IsErrOf, IsFalse, IsTrue};
+ghost use Rattle.std.specs.Io.KnownBytes.{Appends, Consumes};
 ghost use Rattle.sas_requests.specs.Answering.{Answers, AnswersFile, output_of};
-ghost use Rattle.sas_requests.specs.Ending.{IsDecided, IsWrite};
+ghost use Rattle.sas_requests.specs.Ending.{Ends, IsDecided, IsWrite};
 ghost use Rattle.sas_requests.specs.Output.{Out, ShowOut, PrintOut, StepsOut, CheckOut, MutexOut, AreInputs, IsLayeredText, reads_plan, reads_task, refusal, refusal_line, word_of};
 
 use crate::groups::groups_answer;
 use crate::layers::layers_answer;
 use crate::plans::plan_answer;
-use crate::summary::summary_text;
+use crate::summary::Summary;
 use crate::{Request, Status, ToolFault};
-use sas_lines::{Watched, push_line, push_number};
+use sas_lines::{Watched, push_line, push_number, write_out};
 use sas_text::{Fault, Kind, read_flat_task, read_outline, read_plan_text, read_task_text};
 use std::alloc::{AllocError, Global};
-use std::io::Read;
+use std::io::{Read, Write};
 
-/// A text to write, and its status.
+/// What is to be written, and its status.
 #[derive(Drop)]
-pub struct Answer {
-    pub text: Vec<u8>,
-    pub status: Status,
+pub enum Answer {
+    /// This text, with this status.
+    Text { text: Vec<u8>, status: Status },
+    /// The summary of a task, which is made only as it goes out. Its status is `Yes`.
+    Summary(Summary),
 }
 
 /// The answer about the inputs.
@@ -54,19 +56,54 @@ pub fn answer_to<T: Read, P: Read>(
     }
 }
 
+/// Writes an answer. At an `Err` without a write nothing was written; it then comes for want of memory. Not to be called
+/// after a failure.
+pub fn write_answer<W: Write>(
+    alloc: Global,
+    answer: &Answer,
+    out: &mut Watched<W>,
+) -> Result<Status, ToolFault>
+    requires { out.old.failed ≡ false }
+    ensures ends { Ends (λ output. output ≡ Some (output_of answer.now))
+        (Appends (W.contents out.old.device) (W.contents out.new.device)) result }
+    ensures nothing { IfErr result (λ e. IsWrite e ⊎ ((e ≡ ToolFault.Memory) × (out.new ≡ out.old))) }
+    ensures writes { IsErrAnd result IsWrite ↔ IsTrue out.new.failed }
+{
+    match answer {
+        Answer::Text { text, status } => write_text(text.as_slice(), *status, out),
+        Answer::Summary(summary) => summary.write(alloc, out),
+    }
+}
+
+/// Writes a text that is at hand.
+fn write_text<W: Write>(
+    text: &[u8],
+    status: Status,
+    out: &mut Watched<W>,
+) -> Result<Status, ToolFault>
+    requires { out.old.failed ≡ false }
+    ensures ends { Ends (λ output. output ≡ Some (record { text = text.now; status = status }))
+        (Appends (W.contents out.old.device) (W.contents out.new.device)) result }
+    ensures write { IfErr result IsWrite }
+    ensures writes { IsErrAnd result IsWrite ↔ IsTrue out.new.failed }
+{
+    match write_out(out, text) {
+        Ok(()) => Ok(status),
+        Err(short) => Err(ToolFault::Write {
+            written: short.written,
+        }),
+    }
+}
+
 /// The summary of a task.
 fn show<R: Read>(alloc: Global, reader: &mut Watched<R>) -> Result<Answer, ToolFault>
     requires { reader.old.failed ≡ false }
     ensures { AnswersFile R.remaining ShowOut reader.old reader.new result }
 {
-    let outline = match read_outline(alloc, reader) {
-        Ok(outline) => outline,
-        Err(fault) => return refuse(alloc, "task", fault),
-    };
-    Ok(Answer {
-        text: summary_text(alloc, &outline)?,
-        status: Status::Yes,
-    })
+    match read_outline(alloc, reader) {
+        Ok(outline) => Ok(Answer::Summary(Summary::new(outline))),
+        Err(fault) => refuse(alloc, "task", fault),
+    }
 }
 
 /// The lines of a task.
@@ -75,7 +112,7 @@ fn print<R: Read>(alloc: Global, reader: &mut Watched<R>) -> Result<Answer, Tool
     ensures { AnswersFile R.remaining PrintOut reader.old reader.new result }
 {
     match read_task_text(alloc, reader) {
-        Ok(text) => Ok(Answer {
+        Ok(text) => Ok(Answer::Text {
             text,
             status: Status::Yes,
         }),
@@ -89,7 +126,7 @@ fn steps<R: Read>(alloc: Global, plan: &mut Watched<R>) -> Result<Answer, ToolFa
     ensures { AnswersFile R.remaining StepsOut plan.old plan.new result }
 {
     match read_plan_text(alloc, plan) {
-        Ok(text) => Ok(Answer {
+        Ok(text) => Ok(Answer::Text {
             text,
             status: Status::Yes,
         }),
@@ -150,7 +187,7 @@ pub fn refuse(alloc: Global, name: &str, fault: Fault) -> Result<Answer, ToolFau
     ensures writes { IfErr result (λ e. IsWrite e → ⊥) }
 {
     match word(fault.kind) {
-        Ok(word) => Ok(Answer {
+        Ok(word) => Ok(Answer::Text {
             text: refusal_text(alloc, name, fault.line, word)?,
             status: Status::No,
         }),

@@ -37,7 +37,7 @@ fn verdicts_answer(alloc: Global, layered: &Layered<FlatTask>) -> Result<Answer,
     ensures { IfOk result (λ a. GroupsAnswer layered.now (output_of a)) }
 {
     let verdicts = check_groups(alloc, layered)?;
-    Ok(Answer {
+    Ok(Answer::Text {
         text: groups_text(alloc, verdicts.as_slice())?,
         status: groups_status(verdicts.as_slice()),
     })

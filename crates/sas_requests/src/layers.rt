@@ -31,7 +31,7 @@ pub fn layers_answer(alloc: Global, task: FlatTask) -> Result<Answer, AllocError
 fn layered_answer(alloc: Global) -> Result<Answer, AllocError>
     ensures { IfOk result (λ a. layers_verdict None ≡ Some (output_of a)) }
 {
-    Ok(Answer {
+    Ok(Answer::Text {
         text: Vec::from_slice(alloc, b"task layered\n")?,
         status: Status::Yes,
     })
@@ -41,7 +41,7 @@ fn layered_answer(alloc: Global) -> Result<Answer, AllocError>
 pub fn refuse_layers(alloc: Global, fault: LayerFault) -> Result<Answer, AllocError>
     ensures { IfOk result (λ a. layers_refusal fault ≡ Some (output_of a)) }
 {
-    Ok(Answer {
+    Ok(Answer::Text {
         text: layers_text(alloc, fault)?,
         status: Status::No,
     })

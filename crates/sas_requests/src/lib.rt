@@ -5,6 +5,7 @@ mod answers;
 mod groups;
 mod laws;
 mod layers;
+mod pieces;
 mod plans;
 mod summary;
 
@@ -14,9 +15,9 @@ ghost use Rattle.sas_requests.specs.Output.{Out, AreInputs, IsLayeredText, reads
 ghost use Rattle.sas_requests.specs.Headline.{Headline, Invariants};
 ghost use Rattle.sas_requests.specs.Ending.{Ends, IsDecided, IsWrite};
 
-use answers::answer_to;
+use answers::{answer_to, write_answer};
 pub use laws::run_laws;
-use sas_lines::{Watched, write_out};
+use sas_lines::Watched;
 use std::alloc::{AllocError, Global};
 use std::io::{Read, Write};
 use thiserror::Error;
@@ -122,10 +123,5 @@ pub fn run<T: Read, P: Read, W: Write>(
     ensures writes { IsErrAnd result IsWrite ↔ IsTrue out.new.failed }
 {
     let answer = answer_to(alloc, request, task, plan)?;
-    match write_out(out, answer.text.as_slice()) {
-        Ok(()) => Ok(answer.status),
-        Err(short) => Err(ToolFault::Write {
-            written: short.written,
-        }),
-    }
+    write_answer(alloc, &answer, out)
 }

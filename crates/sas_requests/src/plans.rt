@@ -79,7 +79,7 @@ fn verdict(
     ensures { IfOk result (λ a. VerdictAnswer layered.now plan.now (output_of a)) }
 {
     match check_plan(alloc, layered, plan) {
-        Ok(_) => Ok(Answer {
+        Ok(_) => Ok(Answer::Text {
             text: valid_text(alloc, plan.steps(), plan.cost())?,
             status: Status::Yes,
         }),
@@ -109,7 +109,7 @@ fn check_plan(
 fn refuse_plan(alloc: Global, cost: u64, fault: PlanFault) -> Result<Answer, AllocError>
     ensures { IfOk result (λ a. invalid_answer cost fault ≡ Some (output_of a)) }
 {
-    Ok(Answer {
+    Ok(Answer::Text {
         text: fault_text(alloc, cost, fault)?,
         status: Status::No,
     })

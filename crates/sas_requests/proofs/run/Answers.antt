@@ -1,27 +1,23 @@
-use Rattle.std.proofs.Common.{[], refl}
+use Rattle.std.proofs.Common.{[]}
 use Rattle.sas_requests.specs.Answering.{output_of}
+use Rattle.sas_requests.specs.Output.{Out}
+use Rattle.sas_requests.proofs.Endings.{ends_as, ends_well}
 use Rattle.sas_requests.proofs.Headlines.{headline_of}
 use Rattle.sas_requests.proofs.InvariantGroups.{invariants_of}
 use Rattle.sas_requests.proofs.run.Goals as goal
 
-pub returns-in-Ok-clause-output : goal.returns-in-Ok-clause-output
-returns-in-Ok-clause-output g c = λ b c' inputs.
-    let sent = rw c.as_slice.ensures.value at c.in-Ok.ensures.ok in
-    (output_of c.in_ok-answer.answer, c.in_ok-answer.ensures.output b c' inputs, refl, sent)
-
 pub returns-clause-output : goal.returns-clause-output
 returns-clause-output g c = λ b c' inputs.
-    let (written, sent) = rw c.as_slice.ensures.value at c.in-Err.ensures.short in
-    (output_of c.in_ok-answer.answer, c.in_ok-answer.ensures.output b c' inputs, written, sent)
+    ends_as (output_of c.in_ok-answer.answer) _ (Out c.args.request b c') _ (c.in_ok-answer.ensures.output b c' inputs) c.write_answer.ensures.ends
 
-pub returns-in-Ok-clause-headline : goal.returns-in-Ok-clause-headline
-returns-in-Ok-clause-headline g c = λ plan b c' before known_b known_c known.
-    let sent = rw c.as_slice.ensures.value at c.in-Ok.ensures.ok in
+pub returns-clause-headline : goal.returns-clause-headline
+returns-clause-headline g c =
+    ends_well (output_of c.in_ok-answer.answer) _ _ _ c.write_answer.ensures.ends (λ status same sent. λ plan b c' before known_b known_c known.
     let answer = c.in_ok-answer.ensures.output b c' (λ _. known_b, λ _. known_c) in
-    headline_of b c' (output_of c.in_ok-answer.answer) (rw plan at answer) _ _ before _ known refl sent
+    headline_of b c' (output_of c.in_ok-answer.answer) (rw plan at answer) _ _ before status known same sent)
 
-pub returns-in-Ok-clause-invariants : goal.returns-in-Ok-clause-invariants
-returns-in-Ok-clause-invariants g c = λ mutex b before known_b known.
-    let sent = rw c.as_slice.ensures.value at c.in-Ok.ensures.ok in
+pub returns-clause-invariants : goal.returns-clause-invariants
+returns-clause-invariants g c =
+    ends_well (output_of c.in_ok-answer.answer) _ _ _ c.write_answer.ensures.ends (λ status same sent. λ mutex b before known_b known.
     let answer = c.in_ok-answer.ensures.output b [] (rw mutex (λ _. known_b, λ e. absurd cc)) in
-    invariants_of b (output_of c.in_ok-answer.answer) (rw mutex at answer) _ _ before known sent
+    invariants_of b (output_of c.in_ok-answer.answer) (rw mutex at answer) _ _ before known sent)

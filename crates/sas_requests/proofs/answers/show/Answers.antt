@@ -1,11 +1,18 @@
-use Rattle.std.proofs.Common.{codes, Ok, refl}
+use Rattle.std.proofs.Common.{codes, Ok, refl, ap, ◌∙◌}
+use Rattle.sas_task_reader.specs.declared.outline.Outline.{Outline}
 use Rattle.sas_task_format.specs.TaskFormat.{task_format}
+use Rattle.sas_requests.specs.Answering.{output_of}
+use Rattle.sas_requests.specs.declared.answers.Answer.TheVariants.{Summary}
 use Rattle.sas_requests.specs.Output.{ShowAnswer}
 use Rattle.sas_requests.proofs.Outputs.{answers_value, answers_refusal}
+use Rattle.sas_requests.proofs.SummaryLengths.{summary_fits}
 use Rattle.sas_requests.proofs.answers.show.Goals as goal
 
-pub returns : goal.returns
-returns g c = answers_value g.R.Read.remaining task_format _ (codes "task") ShowAnswer _ _ c.in-Ok.outline _ c.in-Ok.ensures (λ b outlined. (Ok outlined.0, outlined.1, (_, rw (c.in_ok-summary_text.ensures outlined.0 outlined.2) refl, refl)))
+pub new-requires : goal.new-requires
+new-requires g c = let read = c.in-Ok.ensures.read in summary_fits read.0 c.in-Ok.outline read.2
+
+pub returns-in-Ok : goal.returns-in-Ok
+returns-in-Ok g c = answers_value g.R.Read.remaining task_format _ (codes "task") ShowAnswer _ _ c.in-Ok.outline _ c.in-Ok.ensures (λ b outlined. (Ok outlined.0, outlined.1, (_, ap (λ (o : Outline). output_of (Summary o)) (c.new.ensures ∙ outlined.2), refl)))
 
 pub returns-in-Err : goal.returns-in-Err
 returns-in-Err g c = answers_refusal g.R.Read.remaining task_format _ (codes "task") ShowAnswer _ _ c.in-Err.fault c.refuse.result c.in-Err.ensures c.refuse.ensures.ok c.refuse.ensures.long.0 c.refuse.ensures.read c.refuse.ensures.writes

@@ -1,8 +1,11 @@
-use Rattle.std.proofs.Common.{◌≡◌, ◌++◌, take}
-use Rattle.sas_lines.specs.Lines.{text}
-use Rattle.sas_requests.specs.Summary.{goal_lines}
+use Rattle.std.proofs.Common.{◌≡◌, take, false, flat_map}
+use Rattle.sas_requests.specs.Pieces.{Puts}
+use Rattle.sas_requests.proofs.Summaries.{goal_text}
 use Rattle.sas_requests.proofs.summary.push_goal.Given as goal
 
--- the lines of the facts so far
+-- the lines of the facts so far were put, and no write has failed
 abbrev pub invariant-loop-fact : goal.invariant-loop-fact
-invariant-loop-fact l = l.out.items ≡ l.fn.out.items ++ text (goal_lines l.variables (take l.fact-index l.fact-items))
+invariant-loop-fact g l = record {
+  note : l.out.failed ≡ false;
+  puts : Puts (g.W.Write.contents l.fn.out.device) (g.W.Write.contents l.out.device) l.fn.pieces l.pieces (flat_map (goal_text l.outline.variables) (take l.fact-index l.fact-items));
+}

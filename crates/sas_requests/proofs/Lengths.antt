@@ -1,0 +1,52 @@
+-- The lines of some bytes are no longer than they.
+use Rattle.std.proofs.Common.{ℕ, ◌+◌, ◌≤◌, Bool, true, false, ◌==◌, if◌then◌else◌, List, [], ◌∷◌, ◌++◌, length, length-append, arith}
+use Rattle.sas_lines.specs.Lines.{text, lines, lines_among, without_return}
+use Rattle.sas_lines.specs.Parts.{parts, onto_first}
+
+without_short : (bytes : List ℕ) → length (without_return bytes) ≤ length bytes
+without_short [] = omega arith
+without_short (b ∷ []) = only (b == 13)
+  where
+    only : (ends : Bool) → length (if ends then [] else b ∷ []) ≤ 1
+    only true = omega arith
+    only false = omega arith
+without_short (b ∷ c ∷ bytes) = omega (arith, without_short (c ∷ bytes))
+
+-- how many bytes these parts and the separators between them are, and one more
+spread : List (List ℕ) → ℕ
+spread [] = 1
+spread (p ∷ []) = length p + 1
+spread (p ∷ q ∷ ps) = length p + 1 + spread (q ∷ ps)
+
+among_short : (ps : List (List ℕ)) → length (text (lines_among ps)) + 1 ≤ spread ps
+unfolding spread
+among_short [] = omega arith
+among_short (p ∷ []) = omega arith
+among_short (p ∷ q ∷ ps) =
+    let all = length-append (without_return p ++ 10 ∷ []) (text (lines_among (q ∷ ps))) in
+    let first = length-append (without_return p) (10 ∷ []) in
+    omega (arith, all, first, without_short p, among_short (q ∷ ps))
+
+spread_onto : (b : ℕ) (ps : List (List ℕ)) → spread (onto_first b ps) ≤ spread ps + 1
+unfolding spread
+spread_onto b [] = omega arith
+spread_onto b (p ∷ []) = omega arith
+spread_onto b (p ∷ q ∷ ps) = omega arith
+
+spread_behind : (ps : List (List ℕ)) → spread ([] ∷ ps) ≤ spread ps + 1
+unfolding spread
+spread_behind [] = omega arith
+spread_behind (q ∷ ps) = omega arith
+
+spread_either : (ends : Bool) (b : ℕ) (ps : List (List ℕ)) → spread (if ends then [] ∷ ps else onto_first b ps) ≤ spread ps + 1
+spread_either true b ps = spread_behind ps
+spread_either false b ps = spread_onto b ps
+
+spread_short : (bytes : List ℕ) → spread (parts 10 bytes) ≤ length bytes + 1
+unfolding parts spread
+spread_short [] = omega arith
+spread_short (b ∷ bytes) = omega (arith, spread_either (b == 10) b (parts 10 bytes), spread_short bytes)
+
+pub text_short : (bytes : List ℕ) → length (text (lines bytes)) ≤ length bytes
+unfolding lines
+text_short bytes = omega (arith, among_short (parts 10 bytes), spread_short bytes)
