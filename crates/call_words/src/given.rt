@@ -1,8 +1,11 @@
-// What some calls are given: facts in words, and tasks that are to be the same.
+// What some calls are given: facts in words, the plans and tasks of files, and tasks that are to be the same.
 ghost use Rattle.std.specs.Prelude.{◌≡◌, ◌↔◌, IsTrue};
 
 use crate::asked::{cut, number_in};
-use sas_core::{Fact, Task};
+use sas_core::{Fact, Plan, Task};
+use sas_lines::Watched;
+use sas_text::{read_plan, read_task};
+use std::alloc::Global;
 
 /// The fact of two numbers, as `3 1`.
 pub fn fact_of(words: &[u8]) -> Option<Fact> {
@@ -11,6 +14,16 @@ pub fn fact_of(words: &[u8]) -> Option<Fact> {
         var: number_in(var)?,
         value: number_in(value)?,
     })
+}
+
+/// The plan of a file: none where it isn't one.
+pub fn plan_of(alloc: Global, file: &[u8]) -> Option<Plan> {
+    read_plan(alloc, &mut Watched::new(file)).ok()
+}
+
+/// The task of a file: none where it isn't one.
+pub fn task_of(alloc: Global, file: &[u8]) -> Option<Task> {
+    read_task(alloc, &mut Watched::new(file)).ok()
 }
 
 /// Whether two tasks are equal: exactly if they say the same.

@@ -2,11 +2,11 @@
 ghost use Rattle.std.specs.Prelude.{◌≡◌, ◌↔◌, IsTrue};
 
 use call_words::{
-    Asked, cut, number_in, say, say_bytes, say_either, say_number, say_text, spend, text_of,
+    Asked, cut, number_in, plan_of, say, say_bytes, say_either, say_number, say_text, spend,
+    text_of,
 };
 use sas_core::{BadName, CostKind, Items, Plan, is_name};
-use sas_lines::Watched;
-use sas_text::{encode_plan, read_plan};
+use sas_text::encode_plan;
 use std::alloc::{AllocError, Global};
 
 /// Makes the call, if it is one of these: whether it is.
@@ -73,7 +73,7 @@ fn kind_of(word: &str) -> CostKind {
 }
 
 /// What `Plan::new` says of these steps.
-fn plan_of(
+fn plan_from(
     names: Items<Items<u8>>,
     cost: u64,
     kind: CostKind,
@@ -93,7 +93,7 @@ fn new_plan<R: AllocGlobal + Print>(rt: &R, count: usize, words: &[u8]) -> Resul
     let (kind, names) = cut(words, b' ');
     let steps = names_of(rt.alloc(), names)?;
     let cost = u64::from(number_in(cost).unwrap_or(0));
-    match plan_of(steps, cost, kind_of(text_of(kind))) {
+    match plan_from(steps, cost, kind_of(text_of(kind))) {
         Ok(plan) => say_encoded(rt, count, &plan),
         Err((back, fault)) => {
             let same = are_same_names(&back, &names_of(rt.alloc(), names)?);
@@ -118,18 +118,13 @@ fn say_encoded<R: AllocGlobal + Print>(
     Ok(())
 }
 
-/// The plan of a file: none where it isn't one.
-fn plan_in(alloc: Global, file: &[u8]) -> Option<Plan> {
-    read_plan(alloc, &mut Watched::new(file)).ok()
-}
-
 /// Whether two plans are equal, whose files have `|` between them. It could show an equality that forgets a field.
 fn say_same_plans<R: AllocGlobal + Print>(rt: &R, files: &[u8]) {
     let (file, other) = cut(files, b'|');
-    let Some(plan) = plan_in(rt.alloc(), file) else {
+    let Some(plan) = plan_of(rt.alloc(), file) else {
         return say(rt, "WRONG: no plan");
     };
-    let Some(other) = plan_in(rt.alloc(), other) else {
+    let Some(other) = plan_of(rt.alloc(), other) else {
         return say(rt, "WRONG: no other plan");
     };
     say_either(rt, is_same_plan(&plan, &other), "equal", "different");

@@ -1,9 +1,10 @@
 // Calls of `sas_core` on tasks and their parts. The parts are those of a file, behind changes of them and a `|`.
 use crate::changes::change_all;
-use call_words::{Asked, cut, fact_of, is_same_task, say, say_either, say_number, say_text, spend};
+use call_words::{
+    Asked, cut, fact_of, is_same_task, say, say_either, say_number, say_text, spend, task_of,
+};
 use sas_core::{Parts, PartsFault, Task};
-use sas_lines::Watched;
-use sas_text::{encode_task, read_task};
+use sas_text::encode_task;
 use std::alloc::{AllocError, Global};
 
 /// Makes the call, if it is one of these: whether it is.
@@ -23,15 +24,10 @@ pub fn call_of_tasks<R: AllocGlobal + Print>(
     Ok(true)
 }
 
-/// The task of a file: none where it isn't one.
-fn task_in(alloc: Global, file: &[u8]) -> Option<Task> {
-    read_task(alloc, &mut Watched::new(file)).ok()
-}
-
 /// The changed parts, where the bytes are those of a task.
 fn parts_of(alloc: Global, bytes: &[u8]) -> Result<Option<Parts>, AllocError> {
     let (changes, file) = cut(bytes, b'|');
-    let Some(task) = task_in(alloc, file) else {
+    let Some(task) = task_of(alloc, file) else {
         return Ok(None);
     };
     changed(alloc, task.into_parts(), changes)
@@ -47,7 +43,7 @@ fn changed(alloc: Global, parts: Parts, changes: &[u8]) -> Result<Option<Parts>,
 }
 
 /// What `Task::new` says of the parts.
-fn task_of(parts: Parts) -> Result<Task, (Parts, PartsFault)> {
+fn task_from(parts: Parts) -> Result<Task, (Parts, PartsFault)> {
     Task::new(parts)
 }
 
@@ -74,7 +70,7 @@ fn new_task<R: AllocGlobal + Print>(rt: &R, bytes: &[u8]) -> Result<(), AllocErr
         return Ok(());
     };
     if let Some(parts) = parts_of(rt.alloc(), bytes)? {
-        say_made(rt, task_of(parts), &same);
+        say_made(rt, task_from(parts), &same);
     }
     Ok(())
 }
@@ -99,7 +95,7 @@ fn say_made<R: AllocGlobal + Print>(
 
 /// `encode_task`. It could show that it always wants memory.
 fn encode<R: AllocGlobal + Print>(rt: &R, count: usize, file: &[u8]) -> Result<(), AllocError> {
-    let Some(task) = task_in(rt.alloc(), file) else {
+    let Some(task) = task_of(rt.alloc(), file) else {
         say(rt, "WRONG: no task");
         return Ok(());
     };
@@ -112,13 +108,13 @@ fn encode<R: AllocGlobal + Print>(rt: &R, count: usize, file: &[u8]) -> Result<(
 /// equality that forgets a field.
 fn say_same<R: AllocGlobal + Print>(rt: &R, bytes: &[u8]) -> Result<(), AllocError> {
     let (_, file) = cut(bytes, b'|');
-    let Some(task) = task_in(rt.alloc(), file) else {
+    let Some(task) = task_of(rt.alloc(), file) else {
         say(rt, "WRONG: no task");
         return Ok(());
     };
     if let Some(parts) = parts_of(rt.alloc(), bytes)? {
         say_either(rt, are_same(&parts, task.parts()), "equal", "different");
-        say_same_tasks(rt, &task, task_of(parts));
+        say_same_tasks(rt, &task, task_from(parts));
     }
     Ok(())
 }
@@ -137,7 +133,7 @@ fn say_same_tasks<P: Print>(out: &P, task: &Task, made: Result<Task, (Parts, Par
 
 /// `Task::cost` of each operator. It could show a definition that counts cost lines under metric 0.
 fn say_costs<R: AllocGlobal + Print>(rt: &R, file: &[u8]) {
-    let Some(task) = task_in(rt.alloc(), file) else {
+    let Some(task) = task_of(rt.alloc(), file) else {
         return say(rt, "WRONG: no task");
     };
     for operator in 0..u32::MAX {
@@ -150,7 +146,7 @@ fn say_costs<R: AllocGlobal + Print>(rt: &R, file: &[u8]) {
 
 /// `Task::range` and `Task::derived` of each variable. It could show a definition by which a variable on layer 0 is basic.
 fn say_variables<R: AllocGlobal + Print>(rt: &R, file: &[u8]) {
-    let Some(task) = task_in(rt.alloc(), file) else {
+    let Some(task) = task_of(rt.alloc(), file) else {
         return say(rt, "WRONG: no task");
     };
     for var in 0..u32::MAX {
@@ -170,7 +166,7 @@ fn say_variables<R: AllocGlobal + Print>(rt: &R, file: &[u8]) {
 /// definition of a fact counts from 1.
 fn say_facts<R: AllocGlobal + Print>(rt: &R, bytes: &[u8]) {
     let (facts, file) = cut(bytes, b'|');
-    let Some(task) = task_in(rt.alloc(), file) else {
+    let Some(task) = task_of(rt.alloc(), file) else {
         return say(rt, "WRONG: no task");
     };
     for words in facts.split(|&byte| byte == b';') {

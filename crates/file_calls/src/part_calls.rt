@@ -1,9 +1,7 @@
 // Calls of `sas_text`: what the plan or the task of a file holds, part by part.
 use crate::parts_text::text_of_parts;
-use call_words::{Asked, say, say_bytes, say_either, say_number, say_whole};
-use sas_core::CostKind;
-use sas_lines::Watched;
-use sas_text::{read_plan, read_task};
+use call_words::{Asked, plan_of, say, say_bytes, say_either, say_number, say_whole, task_of};
+use sas_core::{CostKind, Parts};
 use std::alloc::AllocError;
 
 /// Makes the call, if it is one of these: whether it is.
@@ -22,7 +20,7 @@ pub fn call_of_parts<R: AllocGlobal + Print>(
 /// The parts of the plan of a file. It could show a format whose reader and writer make the same mistake, as a name that
 /// keeps its brackets.
 fn say_plan_parts<R: AllocGlobal + Print>(rt: &R, file: &[u8]) {
-    let Ok(plan) = read_plan(rt.alloc(), &mut Watched::new(file)) else {
+    let Some(plan) = plan_of(rt.alloc(), file) else {
         return say(rt, "WRONG: no plan");
     };
     for step in plan.steps().as_slice() {
@@ -37,9 +35,18 @@ fn say_plan_parts<R: AllocGlobal + Print>(rt: &R, file: &[u8]) {
 /// The parts of the task of a file. It could show a format whose reader and writer make the same mistake, as an old value in
 /// place of a new one.
 fn say_task_parts<R: AllocGlobal + Print>(rt: &R, file: &[u8]) -> Result<(), AllocError> {
-    match read_task(rt.alloc(), &mut Watched::new(file)) {
-        Ok(task) => say_whole(rt, text_of_parts(rt.alloc(), task.parts())?.as_slice()),
-        Err(_) => say(rt, "WRONG: no task"),
-    }
+    let Some(task) = task_of(rt.alloc(), file) else {
+        say(rt, "WRONG: no task");
+        return Ok(());
+    };
+    let said = say_parts(rt, task.parts());
+    drop(task);
+    said
+}
+
+/// Says the parts.
+fn say_parts<R: AllocGlobal + Print>(rt: &R, parts: &Parts) -> Result<(), AllocError> {
+    let text = text_of_parts(rt.alloc(), parts)?;
+    say_whole(rt, text.as_slice());
     Ok(())
 }

@@ -97,20 +97,26 @@ fn push_groups(text: &mut Vec<u8>, groups: &Items<Items<Fact>>) -> Result<(), Al
     Ok(())
 }
 
-/// What the parts say, in the order of the file.
-pub fn text_of_parts(alloc: Global, parts: &Parts) -> Result<Vec<u8>, AllocError> {
-    let mut text = Vec::new(alloc);
-    push_numbers(&mut text, b"metric", &[Some(u32::from(parts.metric))])?;
-    push_variables(&mut text, &parts.variables)?;
-    push_groups(&mut text, &parts.groups)?;
-    push_state(&mut text, &parts.init)?;
-    push_facts(&mut text, b"goal", &parts.goal)?;
+/// Adds what the parts say, in the order of the file.
+fn push_parts(text: &mut Vec<u8>, parts: &Parts) -> Result<(), AllocError> {
+    push_numbers(text, b"metric", &[Some(u32::from(parts.metric))])?;
+    push_variables(text, &parts.variables)?;
+    push_groups(text, &parts.groups)?;
+    push_state(text, &parts.init)?;
+    push_facts(text, b"goal", &parts.goal)?;
     for operator in parts.operators.as_slice() {
-        push_operator(&mut text, operator)?;
+        push_operator(text, operator)?;
     }
     for rule in parts.rules.as_slice() {
-        push_rule(&mut text, rule)?;
+        push_rule(text, rule)?;
     }
+    Ok(())
+}
+
+/// What the parts say.
+pub fn text_of_parts(alloc: Global, parts: &Parts) -> Result<Vec<u8>, AllocError> {
+    let mut text = Vec::new(alloc);
+    push_parts(&mut text, parts)?;
     Ok(text)
 }
 

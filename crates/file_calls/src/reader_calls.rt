@@ -46,26 +46,11 @@ fn call_in_pieces<R: AllocGlobal + Print>(rt: &R, asked: &Asked<'_>) -> Result<b
     Ok(true)
 }
 
-/// The laws of plan files.
-fn say_plan_laws() {
-    plan_laws();
-}
-
-/// The laws of task files.
-fn say_task_laws() {
-    task_laws();
-}
-
-/// The law of the parts of a task.
-fn say_laws_of_parts() {
-    sas_core::task_laws();
-}
-
 /// The laws, each called once. It could show that one can't be called.
 fn say_laws<P: Print>(out: &P) {
-    say_plan_laws();
-    say_task_laws();
-    say_laws_of_parts();
+    plan_laws();
+    task_laws();
+    sas_core::task_laws();
     say(out, "laws");
 }
 

@@ -1,18 +1,26 @@
-// The tasks and plans of files in memory.
+// What a call is about: words, and the file of a task.
+use call_words::{Asked, cut, task_of};
 use sas_axioms::Layered;
-use sas_core::{Plan, Task};
-use sas_lines::Watched;
-use sas_text::{read_plan, read_task};
-use std::alloc::Global;
+use sas_core::Task;
+use std::alloc::{AllocError, Global};
 
-/// The plan of a file: none where it isn't one.
-pub fn plan_of(alloc: Global, file: &[u8]) -> Option<Plan> {
-    read_plan(alloc, &mut Watched::new(file)).ok()
+/// What stands before a `|`, and the file behind it. Of some calls the bytes are the file, and nothing else is asked.
+pub fn words_and_file<'a>(asked: &Asked<'a>) -> (&'a [u8], &'a [u8]) {
+    match asked.call {
+        "layered" | "check-groups" | "counted-steps" | "new-runner" | "initial" => {
+            (asked.bytes, asked.bytes)
+        }
+        _ => cut(asked.bytes, b'|'),
+    }
 }
 
-/// The task of a file: none where it isn't one.
-pub fn task_of(alloc: Global, file: &[u8]) -> Option<Task> {
-    read_task(alloc, &mut Watched::new(file)).ok()
+/// The pieces that have `;` between them.
+pub fn pieces_of(alloc: Global, bytes: &[u8]) -> Result<Vec<&[u8]>, AllocError> {
+    let mut pieces = Vec::new(alloc);
+    for piece in bytes.split(|&byte| byte == b';') {
+        pieces.push(piece)?;
+    }
+    Ok(pieces)
 }
 
 /// The task of a file, made layered: none where it isn't.

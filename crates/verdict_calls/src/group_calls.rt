@@ -1,43 +1,14 @@
 // Calls of `sas_mutex`: the verdicts on the groups of a task, and the facts that hold where effects of an operator fire.
-use crate::files::{layered_of, task_of};
-use call_words::{Asked, cut, fact_of, number_in, say, spend};
+use call_words::{cut, fact_of, number_in, say, spend};
 use sas_axioms::Layered;
 use sas_core::{Effect, Operator, Task};
 use sas_mutex::{Facts, Verdict, check_group, check_groups};
 use std::alloc::AllocError;
 
-/// Makes the call, if it is one of these: whether it is.
-pub fn call_of_groups<R: AllocGlobal + Print>(
-    rt: &R,
-    asked: &Asked<'_>,
-) -> Result<bool, AllocError> {
-    match asked.call {
-        "check-groups" => judge_groups(rt, asked.number, asked.bytes)?,
-        "operator-facts" => say_facts(rt, asked.bytes),
-        _ => return Ok(false),
-    }
-    Ok(true)
-}
-
-/// `check_groups` of the task of a file, and `check_group` of each of its groups. It could show a definition by which an
-/// operator has to keep groups that no step of it breaks or doesn't have to keep others, a family that isn't the greatest, an
-/// operator that isn't the lowest, or that the call always wants memory.
-fn judge_groups<R: AllocGlobal + Print>(
-    rt: &R,
-    count: usize,
-    file: &[u8],
-) -> Result<(), AllocError> {
-    let Some(layered) = layered_of(rt.alloc(), file) else {
-        say(rt, "WRONG: no layered task");
-        return Ok(());
-    };
-    let said = judge_groups_of(rt, count, &layered);
-    drop(layered);
-    said
-}
-
-/// The same, of a layered task.
-fn judge_groups_of<R: AllocGlobal + Print>(
+/// `check_groups` of a layered task, and `check_group` of each of its groups. It could show a definition by which an operator
+/// has to keep groups that no step of it breaks or doesn't have to keep others, a family that isn't the greatest, an operator
+/// that isn't the lowest, or that the call always wants memory.
+pub fn judge_groups<R: AllocGlobal + Print>(
     rt: &R,
     count: usize,
     layered: &Layered<Task>,
@@ -53,18 +24,22 @@ fn judge_groups_of<R: AllocGlobal + Print>(
     Ok(())
 }
 
+/// Says a verdict, behind a word.
+fn say_verdict<P: Print>(out: &P, word: &str, verdict: Verdict) {
+    let _ = println!(out; "{word} {verdict:?}");
+}
+
 /// Says the joint verdicts.
 fn say_verdicts<P: Print>(out: &P, verdicts: &[Verdict]) {
     for verdict in verdicts {
-        let _ = println!(out; "joint {verdict:?}");
+        say_verdict(out, "joint", *verdict);
     }
 }
 
 /// Says the verdict on each group by itself. That takes no memory.
 fn say_alone<P: Print>(out: &P, layered: &Layered<Task>) {
     for group in layered.task().parts().groups.as_slice() {
-        let verdict = check_group(layered, group.as_slice());
-        let _ = println!(out; "alone {verdict:?}");
+        say_verdict(out, "alone", check_group(layered, group.as_slice()));
     }
 }
 
@@ -73,26 +48,16 @@ fn effect_of<'a>(operator: &'a Operator, word: &[u8]) -> Option<&'a Effect> {
     operator.effects.as_slice().get(number_in(word)? as usize)
 }
 
-/// The items of `Facts` for an operator of the task of a file: `OPERATOR;EFFECT;EFFECT;FACT|FILE`, where nothing stands for no
-/// effect and no fact. It could show a definition of these facts that forgets the old value of an effect that doesn't fire.
-fn say_facts<R: AllocGlobal + Print>(rt: &R, bytes: &[u8]) {
-    let (words, file) = cut(bytes, b'|');
-    let Some(task) = task_of(rt.alloc(), file) else {
-        return say(rt, "WRONG: no task");
-    };
-    say_facts_of(rt, words, &task);
-    drop(task);
-}
-
-/// The same, of a task.
-fn say_facts_of<P: Print>(rt: &P, words: &[u8], task: &Task) {
+/// The items of `Facts` for an operator of the task: `OPERATOR;EFFECT;EFFECT;FACT|FILE`, where nothing stands for no effect
+/// and no fact. It could show a definition of these facts that forgets the old value of an effect that doesn't fire.
+pub fn say_facts<P: Print>(out: &P, words: &[u8], task: &Task) {
     let (number, words) = cut(words, b';');
     let Some(place) = number_in(number) else {
-        return say(rt, "WRONG: no number");
+        return say(out, "WRONG: no number");
     };
     match task.parts().operators.as_slice().get(place as usize) {
-        Some(operator) => say_each(rt, operator, words),
-        None => say(rt, "WRONG: no operator"),
+        Some(operator) => say_each(out, operator, words),
+        None => say(out, "WRONG: no operator"),
     }
 }
 

@@ -3,29 +3,37 @@
 #![tactic(auto)]
 
 mod axiom_calls;
+mod evaluator_calls;
 mod files;
 mod group_calls;
 mod law_calls;
+mod layered_calls;
 mod plan_calls;
 mod runner_calls;
+mod task_calls;
 
-use axiom_calls::call_of_axioms;
 use call_words::{Asked, LONGEST, asked_by, say, say_made};
-use group_calls::call_of_groups;
-use law_calls::call_of_laws;
-use plan_calls::call_of_plans;
-use runner_calls::call_of_runners;
+use law_calls::say_laws;
+use layered_calls::call_on_layered;
 use std::alloc::AllocError;
+use task_calls::call_on_task;
 
 /// Makes the call: whether it is known.
 fn call<R: AllocGlobal + Print>(rt: &R, asked: &Asked<'_>) -> Result<bool, AllocError> {
-    Ok(
-        call_of_axioms(rt, asked)?
-            || call_of_groups(rt, asked)?
-            || call_of_runners(rt, asked)?
-            || call_of_plans(rt, asked)?
-            || call_of_laws(rt, asked),
-    )
+    match asked.call {
+        "laws" => say_laws(rt),
+        "layered" | "new-state" | "operator-facts" => call_on_task(rt, asked)?,
+        "settle"
+        | "new"
+        | "check-groups"
+        | "steps"
+        | "counted-steps"
+        | "new-runner"
+        | "initial"
+        | "plan" => call_on_layered(rt, asked)?,
+        _ => return Ok(false),
+    }
+    Ok(true)
 }
 
 fn main(rt: HostRuntime) {

@@ -1,96 +1,57 @@
 // Calls of `sas_run` on plans: whether they are valid. A plan file stands before a `|` and a task file.
 use crate::axiom_calls::{say_numbers, say_values};
-use crate::files::{layered_of, plan_of};
-use crate::runner_calls::runner_of;
-use call_words::{Asked, cut, say, say_number, say_want, spend};
-use sas_axioms::{Incremental, Layered, Rounds, Settle, Worklist};
+use call_words::{plan_of, say, say_number, say_want, spend};
+use sas_axioms::Settle;
 use sas_core::{Plan, Task};
 use sas_run::{PlanFault, Runner, Valid};
 use std::alloc::{AllocError, Global};
 
-/// Makes the call, if it is one of these: whether it is.
-pub fn call_of_plans<R: AllocGlobal + Print>(
+/// `check_plan` of the plan of a file, behind the initial state. It could show a definition of valid plans that takes the last
+/// operator of a name and not the first, passes over a fact of the goal, or adds up cost lines under metric 0; and that the
+/// call always wants memory.
+pub fn check_plan<R: AllocGlobal + Print, E: Settle<Task> + Drop>(
     rt: &R,
-    asked: &Asked<'_>,
-) -> Result<bool, AllocError> {
-    match asked.call {
-        "plan" => check_plan(rt, asked.kind, asked.number, asked.bytes)?,
-        _ => return Ok(false),
-    }
-    Ok(true)
-}
-
-/// `check_plan` with an evaluator of the kind, behind the initial state. It could show a definition of valid plans that takes
-/// the last operator of a name and not the first, passes over a fact of the goal, or adds up cost lines under metric 0; and
-/// that the call always wants memory.
-fn check_plan<R: AllocGlobal + Print>(
-    rt: &R,
-    kind: &str,
     count: usize,
-    bytes: &[u8],
+    file: &[u8],
+    runner: &mut Runner<'_, E>,
 ) -> Result<(), AllocError> {
-    let (plan, file) = cut(bytes, b'|');
-    let Some(layered) = layered_of(rt.alloc(), file) else {
-        say(rt, "WRONG: no layered task");
-        return Ok(());
-    };
-    let said = check_plan_of(rt, kind, count, plan, &layered);
-    drop(layered);
-    said
-}
-
-/// The same, of a layered task.
-fn check_plan_of<R: AllocGlobal + Print>(
-    rt: &R,
-    kind: &str,
-    count: usize,
-    plan: &[u8],
-    layered: &Layered<Task>,
-) -> Result<(), AllocError> {
-    let Some(plan) = plan_of(rt.alloc(), plan) else {
+    let Some(plan) = plan_of(rt.alloc(), file) else {
         say(rt, "WRONG: no plan");
         return Ok(());
     };
-    match kind {
-        "rounds" => check_with(rt, count, layered, Rounds, &plan),
-        "worklist" => {
-            let worklist = Worklist::new(rt.alloc(), layered)?;
-            check_with(rt, count, layered, worklist, &plan)
-        }
-        _ => {
-            let incremental = Incremental::new(rt.alloc(), layered)?;
-            check_with(rt, count, layered, incremental, &plan)
-        }
-    }
+    let said = check_behind(rt, count, &plan, runner);
+    drop(plan);
+    said
 }
 
-/// Says the initial state, and what `check_plan` answers behind so many allocations.
-fn check_with<R: AllocGlobal + Print, E: Settle<Task> + Drop>(
+/// The same, of a plan.
+fn check_behind<R: AllocGlobal + Print, E: Settle<Task> + Drop>(
     rt: &R,
     count: usize,
-    layered: &Layered<Task>,
-    evaluator: E,
     plan: &Plan,
-) -> Result<(), AllocError>
-    requires { E.ready evaluator layered.now }
-{
-    let Some(mut runner) = runner_of(rt.alloc(), layered, evaluator) else {
-        return Err(AllocError);
-    };
+    runner: &mut Runner<'_, E>,
+) -> Result<(), AllocError> {
     let state = runner.initial(rt.alloc())?;
-    spend(rt.alloc(), count)?;
-    match runner.check_plan(rt.alloc(), plan) {
-        Err(PlanFault::Memory) => say_want(rt, is_checked(rt.alloc(), &mut runner, plan)),
-        Err(fault) => {
-            say_values(rt, state.values());
-            let _ = println!(rt; "{fault:?}");
-        }
-        Ok(valid) => {
-            say_values(rt, state.values());
-            say_valid(rt, &valid);
-        }
+    let spent = spend(rt.alloc(), count);
+    if spent.is_ok() {
+        say_checked(rt, state.values(), plan, runner);
     }
-    Ok(())
+    drop(state);
+    spent
+}
+
+/// Says the initial state, and what `check_plan` answers.
+fn say_checked<R: AllocGlobal + Print, E: Settle<Task> + Drop>(
+    rt: &R,
+    values: &[u32],
+    plan: &Plan,
+    runner: &mut Runner<'_, E>,
+) {
+    match runner.check_plan(rt.alloc(), plan) {
+        Ok(valid) => say_valid(rt, values, &valid),
+        Err(PlanFault::Memory) => say_want(rt, is_checked(rt.alloc(), runner, plan)),
+        Err(fault) => say_fault(rt, values, fault),
+    }
 }
 
 /// Whether there is an answer about the plan, where memory was refused before.
@@ -106,7 +67,14 @@ fn is_checked<E: Settle<Task> + Drop>(
 }
 
 /// Says of a valid plan its operators and its cost.
-fn say_valid<P: Print>(out: &P, valid: &Valid) {
+fn say_valid<P: Print>(out: &P, values: &[u32], valid: &Valid) {
+    say_values(out, values);
     say_numbers(out, "operators", valid.operators.as_slice());
     say_number(out, "cost", valid.cost);
+}
+
+/// Says why a plan isn't valid.
+fn say_fault<P: Print>(out: &P, values: &[u32], fault: PlanFault) {
+    say_values(out, values);
+    let _ = println!(out; "{fault:?}");
 }

@@ -4,95 +4,87 @@ ghost use Rattle.std.specs.Prelude.{◌<◌, length, IfOk, IfSome};
 ghost use Rattle.sas_axioms.specs.Worklist.{IsReadyFor};
 ghost use Rattle.sas_core.specs.Variables.{IsState};
 
-use crate::axiom_calls::{pieces_of, say_values};
-use crate::files::layered_of;
+use crate::axiom_calls::say_values;
+use crate::files::pieces_of;
+use crate::plan_calls::check_plan;
 use call_words::{Asked, cut, number_in, say, say_either, say_want, spend, text_of};
-use sas_axioms::{Incremental, Layered, Rounds, Settle, State, Worklist};
+use sas_axioms::{Layered, Rounds, Settle, State, Worklist};
 use sas_core::Task;
 use sas_grounded::Grounded;
-use sas_run::{Runner, StepFault};
+use sas_run::{Choice, Runner, StepFault};
 use std::alloc::{AllocError, Global};
 use std::cell::Cell;
 
-/// Makes the call, if it is one of these: whether it is.
-pub fn call_of_runners<R: AllocGlobal + Print>(
-    rt: &R,
-    asked: &Asked<'_>,
-) -> Result<bool, AllocError> {
-    match asked.call {
-        "steps" => make_steps(rt, asked.kind, asked.bytes)?,
-        "counted-steps" => count_steps(rt, asked.bytes),
-        "new-runner" => new_runner(rt, asked.number, asked.bytes)?,
-        "initial" => say_initial(rt, asked.number, asked.bytes)?,
-        _ => return Ok(false),
-    }
-    Ok(true)
-}
-
-/// A runner for the task, with this evaluator: none where memory is refused.
-pub fn runner_of<'a, E: Settle<Task> + Drop>(
+/// A runner for the task, with this evaluator.
+fn runner_of<'a, E: Settle<Task> + Drop>(
     alloc: Global,
     layered: &'a Layered<Task>,
     evaluator: E,
-) -> Option<Runner<'a, E>>
+) -> Result<Runner<'a, E>, AllocError>
     requires { E.ready evaluator layered.now }
 {
     match Runner::new(alloc, layered, evaluator) {
-        Ok(runner) => Some(runner),
-        Err(_) => None,
+        Ok(runner) => Ok(runner),
+        Err(_) => Err(AllocError),
     }
 }
 
-/// Calls of a runner in turn, from the initial state on, with an evaluator of the kind: `CALLS|FILE`, with `;` between the
-/// calls. It could show a definition of steps by which an effect that doesn't fire asks for no old value, effects take place
-/// one after another, or the last of two that conflict counts; or one of choices that compares only how names begin.
-fn make_steps<R: AllocGlobal + Print>(rt: &R, kind: &str, bytes: &[u8]) -> Result<(), AllocError> {
-    let (calls, file) = cut(bytes, b'|');
-    let Some(layered) = layered_of(rt.alloc(), file) else {
-        say(rt, "WRONG: no layered task");
-        return Ok(());
-    };
-    let made = make_steps_of(rt, kind, calls, &layered);
-    drop(layered);
+/// Makes the call with a runner that has this evaluator. The runner is let go in one place.
+pub fn call_with_runner<R: AllocGlobal + Print, E: Settle<Task> + Drop>(
+    rt: &R,
+    asked: &Asked<'_>,
+    words: &[u8],
+    layered: &Layered<Task>,
+    evaluator: E,
+) -> Result<(), AllocError>
+    requires { E.ready evaluator layered.now }
+{
+    let mut runner = runner_of(rt.alloc(), layered, evaluator)?;
+    let made = call_of_runner(rt, asked, words, &mut runner);
+    drop(runner);
     made
 }
 
-/// The same, of a layered task.
-fn make_steps_of<R: AllocGlobal + Print>(
+/// The same, with a runner.
+fn call_of_runner<R: AllocGlobal + Print, E: Settle<Task> + Drop>(
     rt: &R,
-    kind: &str,
-    calls: &[u8],
-    layered: &Layered<Task>,
+    asked: &Asked<'_>,
+    words: &[u8],
+    runner: &mut Runner<'_, E>,
 ) -> Result<(), AllocError> {
-    let pieces = pieces_of(rt.alloc(), calls)?;
-    let calls = pieces.as_slice();
-    match kind {
-        "rounds" => make_calls(rt, layered, Rounds, calls),
-        "worklist" => make_calls(rt, layered, Worklist::new(rt.alloc(), layered)?, calls),
-        _ => make_calls(rt, layered, Incremental::new(rt.alloc(), layered)?, calls),
+    match asked.call {
+        "steps" => make_steps(rt, words, runner),
+        "plan" => check_plan(rt, asked.number, words, runner),
+        _ => say_initial(rt, asked.number, runner),
     }
-    Ok(())
 }
 
-/// Says the initial state, and makes the calls.
+/// Calls of a runner in turn, from the initial state on: `CALLS|FILE`, with `;` between the calls. It could show a definition
+/// of steps by which an effect that doesn't fire asks for no old value, effects take place one after another, or the last of
+/// two that conflict counts; or one of choices that compares only how names begin.
+fn make_steps<R: AllocGlobal + Print, E: Settle<Task> + Drop>(
+    rt: &R,
+    calls: &[u8],
+    runner: &mut Runner<'_, E>,
+) -> Result<(), AllocError> {
+    let pieces = pieces_of(rt.alloc(), calls)?;
+    let made = make_calls(rt, pieces.as_slice(), runner);
+    drop(pieces);
+    made
+}
+
+/// The same, of calls one by one.
 fn make_calls<R: AllocGlobal + Print, E: Settle<Task> + Drop>(
     rt: &R,
-    layered: &Layered<Task>,
-    evaluator: E,
     calls: &[&[u8]],
-)
-    requires { E.ready evaluator layered.now }
-{
-    let Some(mut runner) = runner_of(rt.alloc(), layered, evaluator) else {
-        return say(rt, "WRONG: no runner");
-    };
-    let Ok(mut state) = runner.initial(rt.alloc()) else {
-        return say(rt, "WRONG: no state");
-    };
+    runner: &mut Runner<'_, E>,
+) -> Result<(), AllocError> {
+    let mut state = runner.initial(rt.alloc())?;
     say_values(rt, state.values());
     for call in calls {
-        make_call(rt, &mut runner, &mut state, call);
+        make_call(rt, runner, &mut state, call);
     }
+    Ok(())
 }
 
 /// Makes one of the calls, and says its answer and the state.
@@ -107,18 +99,22 @@ fn make_call<P: Print, E: Settle<Task> + Drop>(
 {
     let (call, word) = cut(call, b' ');
     match text_of(call) {
-        "choose" => {
-            let choice = runner.choose(state, word);
-            let _ = println!(out; "{choice:?}");
-        }
-        "goal" => {
-            let missed = runner.goal(state);
-            let _ = println!(out; "{missed:?}");
-        }
+        "choose" => say_choice(out, runner.choose(state, word)),
+        "goal" => say_missed(out, runner.goal(state)),
         "applicable" => say_applicable(out, runner, state, word),
         _ => make_step(out, runner, state, word),
     }
     say_values(out, state.values());
+}
+
+/// Says what a name means.
+fn say_choice<P: Print>(out: &P, choice: Choice) {
+    let _ = println!(out; "{choice:?}");
+}
+
+/// Says which fact of the goal is missed first, if one is.
+fn say_missed<P: Print>(out: &P, missed: Option<u32>) {
+    let _ = println!(out; "{missed:?}");
 }
 
 /// The operator of this number, if there is one.
@@ -145,8 +141,7 @@ fn say_applicable<P: Print, E: Settle<Task> + Drop>(
     let Some(operator) = operator_of(runner.layered(), word) else {
         return say(out, "WRONG: no operator");
     };
-    let applicable = runner.applicable(state, operator);
-    let _ = println!(out; "{applicable}");
+    say_either(out, runner.applicable(state, operator), "true", "false");
 }
 
 /// Makes the step of the operator of this number, and says whether there is one.
@@ -198,52 +193,45 @@ fn say_called<P: Print>(out: &P, calls: &Cell<u64>, before: u64) {
 
 /// Whether the initial state and a step call the evaluator that a runner was given. It could show a runner that settles by
 /// another one: of that the state tells nothing.
-fn count_steps<R: AllocGlobal + Print>(rt: &R, file: &[u8]) {
-    let Some(layered) = layered_of(rt.alloc(), file) else {
-        return say(rt, "WRONG: no layered task");
-    };
-    count_steps_of(rt, &layered);
-    drop(layered);
-}
-
-/// The same, of a layered task.
-fn count_steps_of<R: AllocGlobal + Print>(rt: &R, layered: &Layered<Task>) {
+pub fn count_steps<R: AllocGlobal + Print>(
+    rt: &R,
+    layered: &Layered<Task>,
+) -> Result<(), AllocError> {
     let calls = Cell::new(0u64);
-    let Some(mut runner) = runner_of(rt.alloc(), layered, Counting { calls: &calls }) else {
-        return say(rt, "WRONG: no runner");
-    };
-    let Ok(mut state) = runner.initial(rt.alloc()) else {
-        return say(rt, "WRONG: no state");
-    };
-    say_called(rt, &calls, 0);
-    let before = calls.get();
-    make_step(rt, &mut runner, &mut state, b"0");
-    say_called(rt, &calls, before);
-}
-
-/// `Runner::new`, and the initial state. It could show that the call always wants memory.
-fn new_runner<R: AllocGlobal + Print>(rt: &R, count: usize, file: &[u8]) -> Result<(), AllocError> {
-    let Some(layered) = layered_of(rt.alloc(), file) else {
-        say(rt, "WRONG: no layered task");
-        return Ok(());
-    };
-    let said = new_runner_of(rt, count, &layered);
-    drop(layered);
+    let mut runner = runner_of(rt.alloc(), layered, Counting { calls: &calls })?;
+    let said = say_counted(rt, &calls, &mut runner);
+    drop(runner);
     said
 }
 
-/// The same, of a layered task.
-fn new_runner_of<R: AllocGlobal + Print>(
+/// The same, with the runner.
+fn say_counted<R: AllocGlobal + Print, E: Settle<Task> + Drop>(
+    rt: &R,
+    calls: &Cell<u64>,
+    runner: &mut Runner<'_, E>,
+) -> Result<(), AllocError> {
+    let mut state = runner.initial(rt.alloc())?;
+    say_called(rt, calls, 0);
+    let before = calls.get();
+    make_step(rt, runner, &mut state, b"0");
+    say_called(rt, calls, before);
+    Ok(())
+}
+
+/// `Runner::new`, and the initial state. It could show that the call always wants memory.
+pub fn new_runner<R: AllocGlobal + Print>(
     rt: &R,
     count: usize,
     layered: &Layered<Task>,
 ) -> Result<(), AllocError> {
     let worklist = worklist_behind(rt.alloc(), count, layered)?;
     match Runner::new(rt.alloc(), layered, worklist) {
-        Ok(runner) => say_first(rt, runner),
-        Err((worklist, _)) => say_want(rt, settles(rt.alloc(), layered, worklist)),
+        Ok(mut runner) => say_initial(rt, 0, &mut runner),
+        Err((worklist, _)) => {
+            say_want(rt, settles(rt.alloc(), layered, worklist));
+            Ok(())
+        }
     }
-    Ok(())
 }
 
 /// An evaluator, and so many allocations behind it.
@@ -257,15 +245,6 @@ fn worklist_behind(
     let worklist = Worklist::new(alloc, layered)?;
     spend(alloc, count)?;
     Ok(worklist)
-}
-
-/// Says the runner's initial state.
-fn say_first<R: AllocGlobal + Print, E: Settle<Task> + Drop>(rt: &R, runner: Runner<'_, E>) {
-    let mut runner = runner;
-    match runner.initial(rt.alloc()) {
-        Ok(state) => say_values(rt, state.values()),
-        Err(_) => say(rt, "wanting"),
-    }
 }
 
 /// Whether the evaluator still settles the state of the state section as `Rounds` does.
@@ -286,30 +265,11 @@ fn settles<E: Settle<Task> + Drop>(alloc: Global, layered: &Layered<Task>, evalu
 }
 
 /// `initial`, and once more where memory is refused. It could show that the call always wants memory.
-fn say_initial<R: AllocGlobal + Print>(
+fn say_initial<R: AllocGlobal + Print, E: Settle<Task> + Drop>(
     rt: &R,
     count: usize,
-    file: &[u8],
+    runner: &mut Runner<'_, E>,
 ) -> Result<(), AllocError> {
-    let Some(layered) = layered_of(rt.alloc(), file) else {
-        say(rt, "WRONG: no layered task");
-        return Ok(());
-    };
-    let said = say_initial_of(rt, count, &layered);
-    drop(layered);
-    said
-}
-
-/// The same, of a layered task.
-fn say_initial_of<R: AllocGlobal + Print>(
-    rt: &R,
-    count: usize,
-    layered: &Layered<Task>,
-) -> Result<(), AllocError> {
-    let Some(mut runner) = runner_of(rt.alloc(), layered, Rounds) else {
-        say(rt, "before");
-        return Ok(());
-    };
     spend(rt.alloc(), count)?;
     match runner.initial(rt.alloc()) {
         Ok(state) => say_values(rt, state.values()),

@@ -1,4 +1,4 @@
-use Rattle.verdict_calls.proofs.axiom_calls.settle_each.Given as goal
+use Rattle.verdict_calls.proofs.evaluator_calls.settle_each.Given as goal
 
 -- the evaluator is still ready
 abbrev pub invariant-loop-words : goal.invariant-loop-words
