@@ -6,7 +6,7 @@ use call_words::{
     Asked, cut, fact_of, is_same_task, number_in, say, say_either, say_number, say_want, spend,
     task_of,
 };
-use sas_axioms::{Incremental, LayerFault, Layered, Settle, State, StateFault, Worklist};
+use sas_axioms::{LayerFault, Layered, Settle, State, StateFault, Worklist};
 use sas_core::{Fact, Task};
 use std::alloc::{AllocError, Global};
 
@@ -155,9 +155,9 @@ pub fn settled<E: Settle<Task>>(
     Ok(state)
 }
 
-/// `new` of an evaluator of the kind, and a state that it settles: `STATE|FILE`. It could show that the call always wants
+/// `Worklist::new`, and a state that it settles: `STATE|FILE`. It could show that the call always wants
 /// memory.
-pub fn new_evaluator<R: AllocGlobal + Print>(
+pub fn new_worklist<R: AllocGlobal + Print>(
     rt: &R,
     asked: &Asked<'_>,
     words: &[u8],
@@ -169,20 +169,10 @@ pub fn new_evaluator<R: AllocGlobal + Print>(
     };
     let spent = spend(rt.alloc(), asked.number);
     if spent.is_ok() {
-        say_new(rt, asked.kind, layered, &mut state);
+        say_settled(rt, Worklist::new(rt.alloc(), layered), layered, &mut state);
     }
     drop(state);
     spent
-}
-
-/// Says the state, settled by a new evaluator of the kind, or that there is none.
-fn say_new<R: AllocGlobal + Print>(rt: &R, kind: &str, layered: &Layered<Task>, state: &mut State)
-    requires { IsState layered.now.variables state.old }
-{
-    match kind {
-        "worklist" => say_settled(rt, Worklist::new(rt.alloc(), layered), layered, state),
-        _ => say_settled(rt, Incremental::new(rt.alloc(), layered), layered, state),
-    }
 }
 
 /// Says the state, settled by this evaluator, or that there is none. To settle it takes no memory.

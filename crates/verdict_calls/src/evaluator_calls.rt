@@ -6,7 +6,7 @@ use crate::axiom_calls::{say_state, settled};
 use crate::files::pieces_of;
 use crate::runner_calls::call_with_runner;
 use call_words::{Asked, say_either};
-use sas_axioms::{Incremental, Layered, Rounds, Settle, State, StateFault, Worklist};
+use sas_axioms::{Layered, Rounds, Settle, State, StateFault, Worklist};
 use sas_core::Task;
 use std::alloc::AllocError;
 
@@ -24,13 +24,6 @@ pub fn call_by_kind<R: AllocGlobal + Print>(
             words,
             layered,
             Worklist::new(rt.alloc(), layered),
-        ),
-        "incremental" => call_with(
-            rt,
-            asked,
-            words,
-            layered,
-            Incremental::new(rt.alloc(), layered),
         ),
         "both" => compare(rt, words, layered),
         _ => call_with(rt, asked, words, layered, Ok(Rounds)),

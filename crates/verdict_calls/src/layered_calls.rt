@@ -1,5 +1,5 @@
 // Calls on the layered task of a file, which is let go in one place.
-use crate::axiom_calls::new_evaluator;
+use crate::axiom_calls::new_worklist;
 use crate::evaluator_calls::call_by_kind;
 use crate::files::{layered_of, words_and_file};
 use crate::group_calls::judge_groups;
@@ -32,7 +32,7 @@ fn call_on<R: AllocGlobal + Print>(
     layered: &Layered<Task>,
 ) -> Result<(), AllocError> {
     match asked.call {
-        "new" => new_evaluator(rt, asked, words, layered),
+        "new" => new_worklist(rt, asked, words, layered),
         "check-groups" => judge_groups(rt, asked.number, layered),
         "counted-steps" => count_steps(rt, layered),
         "new-runner" => new_runner(rt, asked.number, layered),
