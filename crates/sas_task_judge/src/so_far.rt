@@ -81,7 +81,7 @@ impl SoFar {
         ensures ok { (said : Said) → OnOk result (self.new ≡ after self.old event.Name said line.now) }
         ensures err { IfErr result (λ k. k ≡ Kind.Memory) }
     {
-        // An outline gives no operator's name away, so its memory serves the next one.
+        // Where the name before was not given away, its memory serves this one.
         self.name.clear();
         match self.name.extend_from_slice(line) {
             Ok(()) => Ok(()),

@@ -195,6 +195,7 @@ impl FlatSoFar {
 
     /// Takes the variable that stands first in the bytes, all its lines at once, where it is found. It tells how long they
     /// are, and how many values the variable has. After an `Err` anything may have been taken.
+    #[inline(always)]
     fn variable_ahead(&mut self, bytes: &[u8]) -> Result<VariableKept, AllocError>
         ensures took { IfOk result (λ kept. 0 < kept.front.bytes
             → (v : Variable) × VariableWithRange bytes.now v kept × (self.new ≡ behind_variable self.old v)) }
@@ -305,6 +306,7 @@ impl Keeper for FlatSoFar {
         }
     }
 
+    #[inline(always)]
     fn keep_variable(&mut self, bytes: &[u8]) -> Result<VariableKept, Kind> {
         match self.variable_ahead(bytes) {
             Ok(kept) => Ok(kept),
