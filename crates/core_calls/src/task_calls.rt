@@ -14,14 +14,56 @@ pub fn call_of_tasks<R: AllocGlobal + Print>(
 ) -> Result<bool, AllocError> {
     match asked.call {
         "new-task" => new_task(rt, asked.bytes)?,
-        "encode-task" => encode(rt, asked.number, asked.bytes)?,
-        "same-parts" => say_same(rt, asked.bytes)?,
-        "costs" => say_costs(rt, asked.bytes),
-        "variables" => say_variables(rt, asked.bytes),
-        "facts" => say_facts(rt, asked.bytes),
+        "encode-task" | "costs" | "variables" => call_on_task(rt, asked, b"", asked.bytes)?,
+        "same-parts" | "facts" => {
+            let (words, file) = cut(asked.bytes, b'|');
+            call_on_task(rt, asked, words, file)?
+        }
         _ => return Ok(false),
     }
     Ok(true)
+}
+
+/// Makes the call on the task of the file, which is let go in one place.
+fn call_on_task<R: AllocGlobal + Print>(
+    rt: &R,
+    asked: &Asked<'_>,
+    words: &[u8],
+    file: &[u8],
+) -> Result<(), AllocError> {
+    let Some(task) = task_of(rt.alloc(), file) else {
+        say(rt, "WRONG: no task");
+        return Ok(());
+    };
+    let made = call_on(rt, asked, words, &task);
+    drop(task);
+    made
+}
+
+/// The same, on a task.
+fn call_on<R: AllocGlobal + Print>(
+    rt: &R,
+    asked: &Asked<'_>,
+    words: &[u8],
+    task: &Task,
+) -> Result<(), AllocError> {
+    match asked.call {
+        "encode-task" => encode(rt, asked.number, task),
+        "same-parts" => say_same(rt, asked.bytes, task),
+        _ => {
+            say_of_task(rt, asked.call, words, task);
+            Ok(())
+        }
+    }
+}
+
+/// Says what such a call says.
+fn say_of_task<P: Print>(out: &P, call: &str, words: &[u8], task: &Task) {
+    match call {
+        "costs" => say_costs(out, task),
+        "variables" => say_variables(out, task),
+        _ => say_facts(out, words, task),
+    }
 }
 
 /// The changed parts, where the bytes are those of a task.
@@ -94,27 +136,18 @@ fn say_made<R: AllocGlobal + Print>(
 }
 
 /// `encode_task`. It could show that it always wants memory.
-fn encode<R: AllocGlobal + Print>(rt: &R, count: usize, file: &[u8]) -> Result<(), AllocError> {
-    let Some(task) = task_of(rt.alloc(), file) else {
-        say(rt, "WRONG: no task");
-        return Ok(());
-    };
+fn encode<R: AllocGlobal + Print>(rt: &R, count: usize, task: &Task) -> Result<(), AllocError> {
     spend(rt.alloc(), count)?;
-    say_text(rt, encode_task(rt.alloc(), &task));
+    say_text(rt, encode_task(rt.alloc(), task));
     Ok(())
 }
 
 /// Whether the parts are the same without their changes, and the tasks of both, where they are tasks. It could show an
 /// equality that forgets a field.
-fn say_same<R: AllocGlobal + Print>(rt: &R, bytes: &[u8]) -> Result<(), AllocError> {
-    let (_, file) = cut(bytes, b'|');
-    let Some(task) = task_of(rt.alloc(), file) else {
-        say(rt, "WRONG: no task");
-        return Ok(());
-    };
+fn say_same<R: AllocGlobal + Print>(rt: &R, bytes: &[u8], task: &Task) -> Result<(), AllocError> {
     if let Some(parts) = parts_of(rt.alloc(), bytes)? {
         say_either(rt, are_same(&parts, task.parts()), "equal", "different");
-        say_same_tasks(rt, &task, task_from(parts));
+        say_same_tasks(rt, task, task_from(parts));
     }
     Ok(())
 }
@@ -132,23 +165,17 @@ fn say_same_tasks<P: Print>(out: &P, task: &Task, made: Result<Task, (Parts, Par
 }
 
 /// `Task::cost` of each operator. It could show a definition that counts cost lines under metric 0.
-fn say_costs<R: AllocGlobal + Print>(rt: &R, file: &[u8]) {
-    let Some(task) = task_of(rt.alloc(), file) else {
-        return say(rt, "WRONG: no task");
-    };
+fn say_costs<P: Print>(out: &P, task: &Task) {
     for operator in 0..u32::MAX {
         if operator as usize >= task.parts().operators.len() {
             return;
         }
-        say_number(rt, "cost", u64::from(task.cost(operator)));
+        say_number(out, "cost", u64::from(task.cost(operator)));
     }
 }
 
 /// `Task::range` and `Task::derived` of each variable. It could show a definition by which a variable on layer 0 is basic.
-fn say_variables<R: AllocGlobal + Print>(rt: &R, file: &[u8]) {
-    let Some(task) = task_of(rt.alloc(), file) else {
-        return say(rt, "WRONG: no task");
-    };
+fn say_variables<P: Print>(out: &P, task: &Task) {
     for var in 0..u32::MAX {
         if var as usize >= task.parts().variables.len() {
             return;
@@ -158,21 +185,17 @@ fn say_variables<R: AllocGlobal + Print>(rt: &R, file: &[u8]) {
         } else {
             "basic"
         };
-        say_number(rt, word, u64::from(task.range(var)));
+        say_number(out, word, u64::from(task.range(var)));
     }
 }
 
-/// `Task::has_fact` of each of the facts, which stand with `;` between them before a `|` and a file. It could show that the
-/// definition of a fact counts from 1.
-fn say_facts<R: AllocGlobal + Print>(rt: &R, bytes: &[u8]) {
-    let (facts, file) = cut(bytes, b'|');
-    let Some(task) = task_of(rt.alloc(), file) else {
-        return say(rt, "WRONG: no task");
-    };
+/// `Task::has_fact` of each of the facts, which have `;` between them. It could show that the definition of a fact counts
+/// from 1.
+fn say_facts<P: Print>(out: &P, facts: &[u8], task: &Task) {
     for words in facts.split(|&byte| byte == b';') {
         let Some(fact) = fact_of(words) else {
-            return say(rt, "WRONG: no fact");
+            return say(out, "WRONG: no fact");
         };
-        say_either(rt, task.has_fact(fact), "exists", "doesn't exist");
+        say_either(out, task.has_fact(fact), "exists", "doesn't exist");
     }
 }
