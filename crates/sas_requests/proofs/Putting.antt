@@ -2,7 +2,7 @@
 use Rattle.std.proofs.Common.{◌≡◌, ℕ, ◌+◌, ◌-◌, ◌^◌, ◌<◌, List, [], ◌∷◌, ◌++◌, length, take, drop, get_or, flat_map, min, append_assoc, append-nil, length-append, arith, refl, sym, ap, subst, ◌∙◌, Bool, true, false, Option, Result, Ok, Err}
 use Rattle.std.specs.Prelude.{⊤, ◌↔◌, IsTrue}
 use Rattle.std.specs.Io.KnownBytes.{Appends}
-use Rattle.std.proofs.KnownBytes.{Appends-nil, Appends-trans}
+use Rattle.std.proofs.KnownBytes.{Appends-trans}
 use Rattle.std.proofs.lemmas.Grind.{flat_map-append}
 use Rattle.std.proofs.lemmas.List.{take_more, take-append-drop, length-drop, length-take}
 use Rattle.sas_lines.specs.declared.devices.Short.{Short}
@@ -34,10 +34,6 @@ next_item says items i d h =
     ∙ ap (λ (l : List ℕ). flat_map says (take i items) ++ l) (append-nil (says (get_or items i d)))
 
 module _ (a b : Option (List ℕ)) (p q : Piece) (x : List ℕ) where
-  -- no bytes
-  pub puts_nothing : Puts a a p p []
-  puts_nothing = record { gone = []; sent = Appends-nil a; whole = append-nil p.held; counted = λ fits. omega arith }
-
   -- behind bytes that were put, others were put, or broke off
   pub puts_then : (c : Option (List ℕ)) (r : Piece) (y : List ℕ) → Puts a b p q x → Puts b c q r y → Puts a c p r (x ++ y)
   puts_then c r y first second = record {
