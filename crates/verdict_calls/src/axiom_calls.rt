@@ -9,6 +9,7 @@ use call_words::{
 use sas_axioms::{LayerFault, Layered, Settle, State, StateFault, Worklist};
 use sas_core::{Fact, Task};
 use std::alloc::{AllocError, Global};
+use std::fmt::Debug;
 
 /// `Layered::new` of the task of a file, which is already known: whether it is layered, or its fault. It could show a
 /// definition that takes a task whose layers are broken or refuses another, an order of faults that isn't that of the file, or
@@ -54,7 +55,12 @@ fn say_back<P: Print>(out: &P, back: &Task, given: &Task, fault: LayerFault) {
         return say_want(out, is_same_task(back, given));
     }
     say_kept(out, back, given, "kept");
-    let _ = println!(out; "{fault:?}");
+    say_debug(out, &fault);
+}
+
+/// Says a value as it is derived.
+pub fn say_debug<P: Print, T: Debug>(out: &P, value: &T) {
+    let _ = println!(out; "{value:?}");
 }
 
 /// Says this word, if the task is the given one.

@@ -1,5 +1,5 @@
 // Calls of `sas_run` on plans: whether they are valid. A plan file stands before a `|` and a task file.
-use crate::axiom_calls::{say_numbers, say_values};
+use crate::axiom_calls::{say_debug, say_numbers, say_values};
 use call_words::{plan_of, say, say_number, say_want, spend};
 use sas_axioms::Settle;
 use sas_core::{Plan, Task};
@@ -76,5 +76,5 @@ fn say_valid<P: Print>(out: &P, values: &[u32], valid: &Valid) {
 /// Says why a plan isn't valid.
 fn say_fault<P: Print>(out: &P, values: &[u32], fault: PlanFault) {
     say_values(out, values);
-    let _ = println!(out; "{fault:?}");
+    say_debug(out, &fault);
 }

@@ -4,14 +4,14 @@ ghost use Rattle.std.specs.Prelude.{◌<◌, length, IfOk, IfSome};
 ghost use Rattle.sas_axioms.specs.Worklist.{IsReadyFor};
 ghost use Rattle.sas_core.specs.Variables.{IsState};
 
-use crate::axiom_calls::say_values;
+use crate::axiom_calls::{say_debug, say_values};
 use crate::files::pieces_of;
 use crate::plan_calls::check_plan;
 use call_words::{Asked, cut, number_in, say, say_either, say_want, spend, text_of};
 use sas_axioms::{Layered, Rounds, Settle, State, Worklist};
 use sas_core::Task;
 use sas_grounded::Grounded;
-use sas_run::{Choice, Runner, StepFault};
+use sas_run::{Runner, StepFault};
 use std::alloc::{AllocError, Global};
 use std::cell::Cell;
 
@@ -99,22 +99,12 @@ fn make_call<P: Print, E: Settle<Task> + Drop>(
 {
     let (call, word) = cut(call, b' ');
     match text_of(call) {
-        "choose" => say_choice(out, runner.choose(state, word)),
-        "goal" => say_missed(out, runner.goal(state)),
+        "choose" => say_debug(out, &runner.choose(state, word)),
+        "goal" => say_debug(out, &runner.goal(state)),
         "applicable" => say_applicable(out, runner, state, word),
         _ => make_step(out, runner, state, word),
     }
     say_values(out, state.values());
-}
-
-/// Says what a name means.
-fn say_choice<P: Print>(out: &P, choice: Choice) {
-    let _ = println!(out; "{choice:?}");
-}
-
-/// Says which fact of the goal is missed first, if one is.
-fn say_missed<P: Print>(out: &P, missed: Option<u32>) {
-    let _ = println!(out; "{missed:?}");
 }
 
 /// The operator of this number, if there is one.
@@ -164,9 +154,7 @@ fn make_step<P: Print, E: Settle<Task> + Drop>(
 fn say_made<P: Print>(out: &P, made: Result<(), StepFault>) {
     match made {
         Ok(()) => say(out, "made"),
-        Err(fault) => {
-            let _ = println!(out; "{fault:?}");
-        }
+        Err(fault) => say_debug(out, &fault),
     }
 }
 
