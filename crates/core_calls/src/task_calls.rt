@@ -48,22 +48,13 @@ fn call_on<R: AllocGlobal + Print>(
     task: &Task,
 ) -> Result<(), AllocError> {
     match asked.call {
-        "encode-task" => encode(rt, asked.number, task),
-        "same-parts" => say_same(rt, asked.bytes, task),
-        _ => {
-            say_of_task(rt, asked.call, words, task);
-            Ok(())
-        }
+        "encode-task" => encode(rt, asked.number, task)?,
+        "same-parts" => say_same(rt, asked.bytes, task)?,
+        "costs" => say_costs(rt, task),
+        "variables" => say_variables(rt, task),
+        _ => say_facts(rt, words, task),
     }
-}
-
-/// Says what such a call says.
-fn say_of_task<P: Print>(out: &P, call: &str, words: &[u8], task: &Task) {
-    match call {
-        "costs" => say_costs(out, task),
-        "variables" => say_variables(out, task),
-        _ => say_facts(out, words, task),
-    }
+    Ok(())
 }
 
 /// The changed parts, where the bytes are those of a task.
@@ -104,8 +95,8 @@ fn made_again(task: Task) -> Task {
     Task::of_parts(task.into_parts())
 }
 
-/// `Task::new`: the text of the task, or the first fault. It could show a rule of the format that its definition lacks, or an
-/// order of faults that isn't that of the file.
+/// `Task::new`: the text of the task, or the first fault. It could show a rule of the format that its definition lacks,
+/// or an order of faults that isn't that of the file.
 fn new_task<R: AllocGlobal + Print>(rt: &R, bytes: &[u8]) -> Result<(), AllocError> {
     let Some(same) = parts_of(rt.alloc(), bytes)? else {
         say(rt, "WRONG: no task");
@@ -174,7 +165,8 @@ fn say_costs<P: Print>(out: &P, task: &Task) {
     }
 }
 
-/// `Task::range` and `Task::derived` of each variable. It could show a definition by which a variable on layer 0 is basic.
+/// `Task::range` and `Task::derived` of each variable. It could show a definition by which a variable on layer 0 is
+/// basic.
 fn say_variables<P: Print>(out: &P, task: &Task) {
     for var in 0..u32::MAX {
         if var as usize >= task.parts().variables.len() {
@@ -189,8 +181,8 @@ fn say_variables<P: Print>(out: &P, task: &Task) {
     }
 }
 
-/// `Task::has_fact` of each of the facts, which have `;` between them. It could show that the definition of a fact counts
-/// from 1.
+/// `Task::has_fact` of each of the facts, which have `;` between them. It could show that the definition of a fact
+/// counts from 1.
 fn say_facts<P: Print>(out: &P, facts: &[u8], task: &Task) {
     for words in facts.split(|&byte| byte == b';') {
         let Some(fact) = fact_of(words) else {

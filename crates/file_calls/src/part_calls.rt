@@ -17,8 +17,8 @@ pub fn call_of_parts<R: AllocGlobal + Print>(
     Ok(true)
 }
 
-/// The parts of the plan of a file. It could show a format whose reader and writer make the same mistake, as a name that
-/// keeps its brackets.
+/// The parts of the plan of a file. It could show a format whose reader and writer make the same mistake, as a name
+/// that keeps its brackets.
 fn say_plan_parts<R: AllocGlobal + Print>(rt: &R, file: &[u8]) {
     let Some(plan) = plan_of(rt.alloc(), file) else {
         return say(rt, "WRONG: no plan");
@@ -32,8 +32,8 @@ fn say_plan_parts<R: AllocGlobal + Print>(rt: &R, file: &[u8]) {
     say_number(rt, "cost", plan.cost());
 }
 
-/// The parts of the task of a file. It could show a format whose reader and writer make the same mistake, as an old value in
-/// place of a new one.
+/// The parts of the task of a file. It could show a format whose reader and writer make the same mistake, as an old
+/// value in place of a new one.
 fn say_task_parts<R: AllocGlobal + Print>(rt: &R, file: &[u8]) -> Result<(), AllocError> {
     let Some(task) = task_of(rt.alloc(), file) else {
         say(rt, "WRONG: no task");

@@ -54,7 +54,8 @@ fn say_laws<P: Print>(out: &P) {
     say(out, "laws");
 }
 
-/// A call that reads a file from a device. It could show that it always wants memory, or an answer that changes without it.
+/// A call that reads a file from a device. It could show that it always wants memory, or an answer that changes without
+/// it.
 fn read<R: AllocGlobal + Print>(
     rt: &R,
     count: usize,
@@ -96,8 +97,8 @@ fn is_fault_at_end(read: &Result<Vec<u8>, Fault>, bytes: &[u8], kind: Kind) -> b
     }
 }
 
-/// The length of the first front of a file that doesn't end early, on its last line. It could show a definition that counts
-/// lines otherwise, or refuses what may still become a file.
+/// The length of the first front of a file that doesn't end early, on its last line. It could show a definition that
+/// counts lines otherwise, or refuses what may still become a file.
 fn wrong_front(alloc: Global, way: Way, file: &[u8]) -> Option<usize> {
     for length in 0..file.len() {
         let front = &file[..length];
@@ -115,8 +116,8 @@ fn is_failure(alloc: Global, way: Way, bytes: &[u8], interrupted: bool) -> bool 
     failed && is_fault_at_end(&read, bytes, Kind::Read)
 }
 
-/// The length of the first front of a file with another answer where the device then fails. It could show a failure that is
-/// taken for the end, or a read that is tried again.
+/// The length of the first front of a file with another answer where the device then fails. It could show a failure
+/// that is taken for the end, or a read that is tried again.
 fn wrong_failure(alloc: Global, way: Way, file: &[u8]) -> Option<usize> {
     for length in 0..=file.len() {
         let front = &file[..length];
@@ -127,8 +128,8 @@ fn wrong_failure(alloc: Global, way: Way, file: &[u8]) -> Option<usize> {
     None
 }
 
-/// A reader that is given pieces, which have `|` between them: its answer to each, and at the end. Of no bytes there is no
-/// piece. It could show a fault that is told too early or too late, or that doesn't stay.
+/// A reader that is given pieces, which have `|` between them: its answer to each, and at the end. Of no bytes there is
+/// no piece. It could show a fault that is told too early or too late, or that doesn't stay.
 fn feed<R: AllocGlobal + Print, F: Pieces>(
     rt: &R,
     count: usize,
@@ -181,8 +182,8 @@ fn text_of_bytes<F: Pieces>(alloc: Global, file: &[u8]) -> Result<Vec<u8>, Fault
     reader.text(alloc)
 }
 
-/// The first place where a file, cut in two there, with or without an empty piece between, isn't read as it is byte by byte.
-/// It could show a line that is judged otherwise where a piece ends in it.
+/// The first place where a file, cut in two there, with or without an empty piece between, isn't read as it is byte by
+/// byte. It could show a line that is judged otherwise where a piece ends in it.
 fn wrong_cut<F: Pieces>(alloc: Global, file: &[u8]) -> Result<Option<usize>, AllocError> {
     let Ok(text) = text_of_bytes::<F>(alloc, file) else {
         return Ok(Some(0));
@@ -198,8 +199,8 @@ fn wrong_cut<F: Pieces>(alloc: Global, file: &[u8]) -> Result<Option<usize>, All
     Ok(None)
 }
 
-/// The first byte that isn't refused behind a file, on the line behind its last. It could show a byte that is taken there,
-/// as a space or a CR.
+/// The first byte that isn't refused behind a file, on the line behind its last. It could show a byte that is taken
+/// there, as a space or a CR.
 fn wrong_byte<F: Pieces>(alloc: Global, file: &[u8]) -> Option<usize> {
     for last in 0..=u8::MAX {
         let mut reader = F::start(alloc);

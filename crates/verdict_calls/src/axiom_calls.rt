@@ -12,8 +12,8 @@ use std::alloc::{AllocError, Global};
 use std::fmt::Debug;
 
 /// `Layered::new` of the task of a file, which is already known: whether it is layered, or its fault. It could show a
-/// definition that takes a task whose layers are broken or refuses another, an order of faults that isn't that of the file, or
-/// that the call always wants memory.
+/// definition that takes a task whose layers are broken or refuses another, an order of faults that isn't that of the
+/// file, or that the call always wants memory.
 pub fn new_layered<R: AllocGlobal + Print>(
     rt: &R,
     count: usize,
@@ -102,8 +102,9 @@ pub fn say_state<P: Print>(out: &P, state: &Result<State, StateFault>) {
     }
 }
 
-/// `State::of` such values, and what the state says of a fact, before and after it is set: `VALUES;FACT|FILE`. It could show
-/// a definition of states that takes a value too many or one out of its range, or that the call always wants memory.
+/// `State::of` such values, and what the state says of a fact, before and after it is set: `VALUES;FACT|FILE`. It could
+/// show a definition of states that takes a value too many or one out of its range, or that the call always wants
+/// memory.
 pub fn new_state<R: AllocGlobal + Print>(
     rt: &R,
     count: usize,
@@ -121,7 +122,8 @@ pub fn new_state<R: AllocGlobal + Print>(
     Ok(())
 }
 
-/// Says whether the fact holds in the state, and, where there is its variable, its value and what setting the fact changes.
+/// Says whether the fact holds in the state, and, where there is its variable, its value and what setting the fact
+/// changes.
 fn say_fact<P: Print>(out: &P, state: State, fact: Fact) {
     let mut state = state;
     say_holds(out, &state, fact);
@@ -161,8 +163,7 @@ pub fn settled<E: Settle<Task>>(
     Ok(state)
 }
 
-/// `Worklist::new`, and a state that it settles: `STATE|FILE`. It could show that the call always wants
-/// memory.
+/// `Worklist::new`, and a state that it settles: `STATE|FILE`. It could show that the call always wants memory.
 pub fn new_worklist<R: AllocGlobal + Print>(
     rt: &R,
     asked: &Asked<'_>,

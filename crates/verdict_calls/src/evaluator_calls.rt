@@ -48,8 +48,8 @@ fn call_with<R: AllocGlobal + Print, E: Settle<Task> + Drop>(
 }
 
 /// Says each of the states, which have `;` between them, settled one after another by this evaluator. It could show a
-/// definition of settled states that counts a rule which can't fire, takes layers in another order, or lets a cycle hold
-/// itself up.
+/// definition of settled states that counts a rule which can't fire, takes layers in another order, or lets a cycle
+/// hold itself up.
 fn settle<R: AllocGlobal + Print, E: Settle<Task>>(
     rt: &R,
     evaluator: &mut E,
@@ -77,8 +77,8 @@ fn settle_each<R: AllocGlobal + Print, E: Settle<Task>>(
     }
 }
 
-/// Says of each of the states whether two evaluators settle it alike. It could show a definition by which a state settles to
-/// two others.
+/// Says of each of the states whether two evaluators settle it alike. It could show a definition by which a state
+/// settles to two others.
 fn compare<R: AllocGlobal + Print>(
     rt: &R,
     states: &[u8],

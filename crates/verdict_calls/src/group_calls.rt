@@ -1,13 +1,14 @@
-// Calls of `sas_mutex`: the verdicts on the groups of a task, and the facts that hold where effects of an operator fire.
+// Calls of `sas_mutex`: the verdicts on the groups of a task, and the facts that hold where effects of an operator
+// fire.
 use call_words::{cut, fact_of, number_in, say, spend};
 use sas_axioms::Layered;
 use sas_core::{Effect, Operator, Task};
 use sas_mutex::{Facts, Verdict, check_group, check_groups};
 use std::alloc::AllocError;
 
-/// `check_groups` of a layered task, and `check_group` of each of its groups. It could show a definition by which an operator
-/// has to keep groups that no step of it breaks or doesn't have to keep others, a family that isn't the greatest, an operator
-/// that isn't the lowest, or that the call always wants memory.
+/// `check_groups` of a layered task, and `check_group` of each of its groups. It could show a definition by which an
+/// operator has to keep groups that no step of it breaks or doesn't have to keep others, a family that isn't the
+/// greatest, an operator that isn't the lowest, or that the call always wants memory.
 pub fn judge_groups<R: AllocGlobal + Print>(
     rt: &R,
     count: usize,
@@ -48,8 +49,9 @@ fn effect_of<'a>(operator: &'a Operator, word: &[u8]) -> Option<&'a Effect> {
     operator.effects.as_slice().get(number_in(word)? as usize)
 }
 
-/// The items of `Facts` for an operator of the task: `OPERATOR;EFFECT;EFFECT;FACT|FILE`, where nothing stands for no effect
-/// and no fact. It could show a definition of these facts that forgets the old value of an effect that doesn't fire.
+/// The items of `Facts` for an operator of the task: `OPERATOR;EFFECT;EFFECT;FACT|FILE`, where nothing stands for no
+/// effect and no fact. It could show a definition of these facts that forgets the old value of an effect that doesn't
+/// fire.
 pub fn say_facts<P: Print>(out: &P, words: &[u8], task: &Task) {
     let (number, words) = cut(words, b';');
     let Some(place) = number_in(number) else {

@@ -1,5 +1,5 @@
-//! Makes calls on what tasks mean, and on plans and mutex groups, for tests: standard input says which one, as `call_words`
-//! tells.
+//! Makes calls on what tasks mean, and on plans and mutex groups, for tests: standard input says which one, as
+//! `call_words` tells.
 #![tactic(auto)]
 
 mod axiom_calls;

@@ -1,5 +1,5 @@
-// Calls of `sas_run` on runners: what a name means in a state, steps, and the goal. What is asked stands before a `|` and a
-// file.
+// Calls of `sas_run` on runners: what a name means in a state, steps, and the goal. What is asked stands before a `|`
+// and a file.
 ghost use Rattle.std.specs.Prelude.{◌<◌, length, IfOk, IfSome};
 ghost use Rattle.sas_axioms.specs.Worklist.{IsReadyFor};
 ghost use Rattle.sas_core.specs.Variables.{IsState};
@@ -59,9 +59,9 @@ fn call_of_runner<R: AllocGlobal + Print, E: Settle<Task> + Drop>(
     }
 }
 
-/// Calls of a runner in turn, from the initial state on: `CALLS|FILE`, with `;` between the calls. It could show a definition
-/// of steps by which an effect that doesn't fire asks for no old value, effects take place one after another, or the last of
-/// two that conflict counts; or one of choices that compares only how names begin.
+/// Calls of a runner in turn, from the initial state on: `CALLS|FILE`, with `;` between the calls. It could show a
+/// definition of steps by which an effect that doesn't fire asks for no old value, effects take place one after
+/// another, or the last of two that conflict counts; or one of choices that compares only how names begin.
 fn make_steps<R: AllocGlobal + Print, E: Settle<Task> + Drop>(
     rt: &R,
     calls: &[u8],
@@ -179,8 +179,8 @@ fn say_called<P: Print>(out: &P, calls: &Cell<u64>, before: u64) {
     say_either(out, before < calls.get(), "called", "WRONG: not called");
 }
 
-/// Whether the initial state and a step call the evaluator that a runner was given. It could show a runner that settles by
-/// another one: of that the state tells nothing.
+/// Whether the initial state and a step call the evaluator that a runner was given. It could show a runner that settles
+/// by another one: of that the state tells nothing.
 pub fn count_steps<R: AllocGlobal + Print>(
     rt: &R,
     layered: &Layered<Task>,
