@@ -77,7 +77,7 @@ impl From<AllocError> for ToolFault {
 }
 
 /// Answers the request about the inputs. `Show`, `Print`, `Check` and `Mutex` read the task alone, and `Steps` the plan; `Plan`
-/// reads the task, and then the plan if the task is layered. Nothing is written before the answer is whole, so at any fault
+/// reads the task, and then the plan if the task is layered. Nothing is written before the answer is known, so at any fault
 /// but `Write` nothing was written, and at `Write` the first bytes of the answer. A fault of a file's content is no fault of
 /// the run: the answer then is a refusal, and the status `No`; so it is where `Check`, `Plan` or `Mutex` finds that the
 /// task isn't layered, where the plan isn't valid, and where a group isn't shown to be exclusive. Not to be called with a device that has failed.
@@ -102,7 +102,7 @@ pub fn run<T: Read, P: Read, W: Write>(
         × Consumes (T.remaining task.old.device) (T.remaining task.new.device) b
         × Consumes (P.remaining plan.old.device) (P.remaining plan.new.device) c
         × Ends (Out request b c) (Appends (W.contents out.old.device) (W.contents out.new.device)) result }
-    // Before the answer is whole nothing is written.
+    // Before the answer is known nothing is written.
     ensures nothing { IfErr result (λ e. IsWrite e ⊎ (out.new ≡ out.old)) }
     // `plan valid` is printed exactly if the plan solves the task at the printed cost.
     ensures headline { IfOk result (λ status. request ≡ Request.Plan → (b c before : List ℕ)

@@ -94,7 +94,11 @@ fn numbers_text(alloc: Global, outline: &Outline) -> Result<Vec<u8>, AllocError>
     let mut text = Vec::new(alloc);
     push_number_line(&mut text, b"metric", u128::from(outline.metric))?;
     push_number_line(&mut text, b"variables", outline.variables.len() as u128)?;
-    push_number_line(&mut text, b"derived", derived_count(&outline.variables) as u128)?;
+    push_number_line(
+        &mut text,
+        b"derived",
+        derived_count(&outline.variables) as u128,
+    )?;
     push_number_line(&mut text, b"groups", u128::from(outline.groups))?;
     push_number_line(&mut text, b"operators", u128::from(outline.operators))?;
     push_number_line(&mut text, b"rules", u128::from(outline.rules))?;
