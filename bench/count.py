@@ -111,4 +111,5 @@ def main():
         print(machine.row(case_row(given, case)), flush=True)
 
 
-main()
+if __name__ == "__main__":
+    main()

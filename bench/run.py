@@ -174,4 +174,5 @@ def main():
     print("\nAfter: " + machine.load())
 
 
-main()
+if __name__ == "__main__":
+    main()
