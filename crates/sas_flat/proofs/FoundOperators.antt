@@ -4,10 +4,10 @@ use Rattle.std.specs.Prelude.{slice_index}
 use Rattle.sas_core.specs.declared.parts.Operator.{Operator}
 use Rattle.sas_flat.specs.declared.operators.Columns.{Columns}
 use Rattle.sas_flat.specs.Effects.{effect_in}
-use Rattle.sas_flat.specs.Lists.{start_of, list_at, lists_of}
+use Rattle.sas_lists.specs.Lists.{start_of, list_at, lists_of}
 use Rattle.sas_flat.specs.Operators.{operator, operators_in, operators_of, operator_in, AreAligned, OneMore}
-use Rattle.sas_flat.proofs.Tables.{length-table, get_or-table}
-use Rattle.sas_flat.proofs.Blocks.{lists_more, list_length, item_of_list}
+use Rattle.sas_lists.proofs.Tables.{length-table, get_or-table}
+use Rattle.sas_lists.proofs.Blocks.{lists_more, list_length, item_of_list}
 use Rattle.sas_flat.proofs.Rows.{operator_count, operator_at_place, operators_more}
 
 module _ (c : Columns) (os : List Operator) (is : operators_in c ≡ os) where

@@ -1,5 +1,3 @@
-mod Tables
-mod Blocks
 mod EffectRows
 mod Rows
 mod FoundOperators

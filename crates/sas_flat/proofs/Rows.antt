@@ -12,7 +12,7 @@ use Rattle.sas_core.specs.declared.parts.Operator.{Operator}
 use Rattle.sas_core.specs.Variables.{range_of, layer_of, value_name}
 use Rattle.sas_flat.specs.Operators.{operator, operators_of, operator_in}
 use Rattle.sas_flat.specs.Variables.{variable, variables_of}
-use Rattle.sas_flat.proofs.Tables.{length-table, table_none, table_more, get_or-table, slice_get-table}
+use Rattle.sas_lists.proofs.Tables.{length-table, table_none, table_more, get_or-table, slice_get-table}
 
 -- in a column with as many items as another, what is put behind the items stands at the other's end
 last_item : {X : Type 0} (xs : List X) (x : X) (d : X) (n : ℕ) → length xs ≡ n → get_or (xs ++ x ∷ []) n d ≡ x

@@ -1,6 +1,4 @@
-pub mod Table
 pub mod Growing
-pub mod Lists
 pub mod Effects
 pub mod Rules
 pub mod Operators

@@ -3,7 +3,7 @@ ghost use Rattle.std.specs.Prelude.{◌≡◌, ◌<◌, ◌≤◌, [], ◌∷◌
 ghost use Rattle.sas_grounded.specs.Grounded as grounded;
 ghost use Rattle.sas_flat.specs.Effects.{effect, plain_effects, effect_in};
 
-use crate::lists::Lists;
+use sas_lists::Lists;
 use sas_core::Fact;
 use sas_grounded::Change;
 use std::alloc::{AllocError, Global};

@@ -2,8 +2,6 @@
 #![tactic(auto)]
 
 mod effects;
-mod ends;
-mod lists;
 mod operators;
 mod plan;
 mod rules;
@@ -11,7 +9,6 @@ mod task;
 mod variables;
 
 pub use effects::Effects;
-pub use lists::Lists;
 pub use operators::Operators;
 pub use plan::FlatPlan;
 pub use rules::Rules;

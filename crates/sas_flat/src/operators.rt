@@ -3,12 +3,11 @@ ghost use Rattle.std.specs.Prelude.{◌≡◌, ◌<◌, ◌≤◌, [], ◌∷◌
 ghost use Rattle.sas_grounded.specs.Grounded as grounded;
 ghost use Rattle.sas_flat.specs.Effects.{effect_in, plain_effects};
 ghost use Rattle.sas_flat.specs.Growing.{Kept};
-ghost use Rattle.sas_flat.specs.Lists.{start_of, AreEnds};
+ghost use Rattle.sas_lists.specs.Lists.{start_of, AreEnds};
 ghost use Rattle.sas_flat.specs.Operators.{operator, operator_in, ColumnsKept, OneMore};
 
 use crate::effects::Effects;
-use crate::ends::Ends;
-use crate::lists::Lists;
+use sas_lists::{Ends, Lists};
 use sas_core::Fact;
 use sas_grounded::Change;
 use std::alloc::{AllocError, Global};

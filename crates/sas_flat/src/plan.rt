@@ -3,7 +3,7 @@ ghost use Rattle.std.specs.Prelude.{◌≡◌};
 ghost use Rattle.std.specs.List.{AllByRecursion};
 ghost use Rattle.sas_core.specs.Names.{IsName};
 
-use crate::lists::Lists;
+use sas_lists::Lists;
 use sas_core::CostKind;
 use sas_grounded::Stepwise;
 use std::marker::Model;

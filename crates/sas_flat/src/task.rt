@@ -3,7 +3,7 @@ ghost use Rattle.std.specs.Prelude.{◌≡◌};
 ghost use Rattle.sas_core.specs.WellRanged.{WellRanged};
 ghost use Rattle.sas_flat.specs.FlatTasks.{parts};
 
-use crate::lists::Lists;
+use sas_lists::Lists;
 use crate::operators::Operators;
 use crate::rules::Rules;
 use crate::variables::Variables;

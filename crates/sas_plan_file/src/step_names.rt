@@ -2,7 +2,7 @@
 ghost use Rattle.std.specs.Prelude.{◌≡◌, ◌∷◌, ◌++◌, [], OnOk, OnErr};
 
 use sas_core::Items;
-use sas_flat::Lists;
+use sas_lists::Lists;
 use std::alloc::{AllocError, Global};
 
 /// The names of the steps so far, however they are stored.

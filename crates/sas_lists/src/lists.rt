@@ -15,7 +15,7 @@ pub struct Lists<T> {
 
 impl<T> Model for Lists<T> {
     ghost use Rattle.std.specs.Prelude.{List, length};
-    ghost use Rattle.sas_flat.specs.Lists.{lists_of, AreEnds};
+    ghost use Rattle.sas_lists.specs.Lists.{lists_of, AreEnds};
 
     ghost Value = { List (List T) };
 
@@ -80,7 +80,7 @@ impl<T: Copy> Lists<T> {
     }
 
     /// Empty lists behind the others, until there are so many. After an `Err` the lists are as they were.
-    pub(crate) fn fill(&mut self, count: usize) -> Result<(), AllocError>
+    pub fn fill(&mut self, count: usize) -> Result<(), AllocError>
         ensures ok { OnOk result (self.new ≡ self.old ++ replicate (count - length self.old) []) }
         ensures err { OnErr result (self.new ≡ self.old) }
     {
@@ -93,7 +93,7 @@ impl<T: Copy> Lists<T> {
 
     /// All these lists more. After an `Err` the lists are as they were.
     #[inline(always)]
-    pub(crate) fn append(&mut self, more: &Lists<T>) -> Result<(), AllocError>
+    pub fn append(&mut self, more: &Lists<T>) -> Result<(), AllocError>
         ensures ok { OnOk result (self.new ≡ self.old ++ more.now) }
         ensures err { OnErr result (self.new ≡ self.old) }
     {
@@ -109,7 +109,7 @@ impl<T: Copy> Lists<T> {
     }
 
     /// Leaves so many lists, the first ones.
-    pub(crate) fn truncate(&mut self, count: usize)
+    pub fn truncate(&mut self, count: usize)
         requires { count ≤ length self.old }
         ensures { self.new ≡ take count self.old }
     {

@@ -1,6 +1,6 @@
 use Rattle.std.proofs.Common.{◌-◌, [], ◌++◌, length, replicate, ap, ◌∙◌}
-use Rattle.sas_flat.proofs.Blocks.{empty_more}
-use Rattle.sas_flat.proofs.lists.Lists.fill.Goals as goal
+use Rattle.sas_lists.proofs.Blocks.{empty_more}
+use Rattle.sas_lists.proofs.lists.Lists.fill.Goals as goal
 
 pub returns-in_ok-push_same-clause-ok : goal.returns-in_ok-push_same-clause-ok
 returns-in_ok-push_same-clause-ok g c =

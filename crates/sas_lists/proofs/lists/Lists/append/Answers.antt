@@ -1,7 +1,7 @@
 use Rattle.std.proofs.Common.{◌++◌, ap, ◌∙◌}
-use Rattle.sas_flat.specs.Lists.{lists_of}
-use Rattle.sas_flat.proofs.Blocks.{lists_append, ends_append}
-use Rattle.sas_flat.proofs.lists.Lists.append.Goals as goal
+use Rattle.sas_lists.specs.Lists.{lists_of}
+use Rattle.sas_lists.proofs.Blocks.{lists_append, ends_append}
+use Rattle.sas_lists.proofs.lists.Lists.append.Goals as goal
 
 pub invariant_of-self-in-Ok : goal.invariant_of-self-in-Ok
 invariant_of-self-in-Ok g c =

@@ -1,6 +1,6 @@
 -- Lists that stand one behind the other, each with its end.
 use Rattle.std.specs.Prelude.{◌≡◌, ℕ, zero, suc, ◌<◌, ◌≤◌, List, length, slice_index, slice_range}
-use Rattle.sas_flat.specs.Table.{table}
+use Rattle.sas_lists.specs.Table.{table}
 
 -- a list starts where the one before it ends
 abbrev pub start_of : List ℕ → ℕ → ℕ

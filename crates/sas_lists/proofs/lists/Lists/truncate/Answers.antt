@@ -1,6 +1,6 @@
 use Rattle.std.proofs.Common.{◌≤◌, take, length, ap, ◌∙◌, arith}
-use Rattle.sas_flat.proofs.Blocks.{count_of, ends_taken, lists_taken}
-use Rattle.sas_flat.proofs.lists.Lists.truncate.Goals as goal
+use Rattle.sas_lists.proofs.Blocks.{count_of, ends_taken, lists_taken}
+use Rattle.sas_lists.proofs.lists.Lists.truncate.Goals as goal
 
 pub start-requires : goal.start-requires
 start-requires g c = omega (arith, c.requires, count_of c.self.inside.items.items c.self.inside.ends c.args.self.now c.self.view_is)

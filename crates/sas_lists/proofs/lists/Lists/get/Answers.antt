@@ -1,6 +1,6 @@
 use Rattle.std.proofs.Common.{arith, ◌<◌, length}
-use Rattle.sas_flat.proofs.Blocks.{count_of, list_of}
-use Rattle.sas_flat.proofs.lists.Lists.get.Goals as goal
+use Rattle.sas_lists.proofs.Blocks.{count_of, list_of}
+use Rattle.sas_lists.proofs.lists.Lists.get.Goals as goal
 
 pub start-start-requires : goal.start-start-requires
 start-start-requires g c = omega (arith, c.requires, count_of c.self.inside.items.items c.self.inside.ends c.args.self.now c.self.view_is)

@@ -6,9 +6,9 @@ use Rattle.std.proofs.lemmas.Bool.Decides.{leb_tells}
 use Rattle.std.proofs.Math.Nat.{eq-or-lt_of_le}
 use Rattle.std.proofs.Math.ListN.{get_or-append}
 use Rattle.std.proofs.Math.Seq.{get_or-append_seam, drop-append_seam, drop-append-add, take-length}
-use Rattle.sas_flat.specs.Table.{table}
-use Rattle.sas_flat.specs.Lists.{start_of, list_at, lists_of, AreEnds}
-use Rattle.sas_flat.proofs.Tables.{length-table, table_same, table_more, table_append, get_or-table, take-table}
+use Rattle.sas_lists.specs.Table.{table}
+use Rattle.sas_lists.specs.Lists.{start_of, list_at, lists_of, AreEnds}
+use Rattle.sas_lists.proofs.Tables.{length-table, table_same, table_more, table_append, get_or-table, take-table}
 
 start_same : (ends more : List ℕ) (k : ℕ) → k ≤ length ends → start_of (ends ++ more) k ≡ start_of ends k
 start_same ends more zero h = refl

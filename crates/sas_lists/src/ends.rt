@@ -1,6 +1,6 @@
 // Where lists that stand one behind the other end.
 ghost use Rattle.std.specs.Prelude.{◌≡◌, ◌<◌, ◌≤◌, ◌+◌, ◌^◌, [], ◌∷◌, ◌++◌, length, take, map, replicate, OnOk, OnErr, EachIndex, slice_index};
-ghost use Rattle.sas_flat.specs.Lists.{start_of};
+ghost use Rattle.sas_lists.specs.Lists.{start_of};
 
 use std::alloc::{AllocError, Global};
 use std::marker::Model;

@@ -1,6 +1,6 @@
 use Rattle.std.proofs.Common.{◌∷◌, [], ◌++◌, ap, ◌∙◌, arith}
-use Rattle.sas_flat.proofs.Blocks.{lists_more}
-use Rattle.sas_flat.proofs.lists.Lists.push.Goals as goal
+use Rattle.sas_lists.proofs.Blocks.{lists_more}
+use Rattle.sas_lists.proofs.lists.Lists.push.Goals as goal
 
 pub returns-in-Ok-clause-ok : goal.returns-in-Ok-clause-ok
 returns-in-Ok-clause-ok g c =
