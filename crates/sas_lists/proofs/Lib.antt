@@ -1,2 +1,4 @@
 pub mod Tables
 pub mod Blocks
+pub mod ByKey
+mod Placing

@@ -39,6 +39,13 @@ impl Ends {
         }
     }
 
+    /// The lists that end at these places. It takes no memory.
+    pub(crate) fn of_places(places: Vec<usize>) -> Self
+        ensures { result ≡ places.items }
+    {
+        Ends { places }
+    }
+
     /// How many lists there are.
     pub fn len(&self) -> usize
         ensures { result ≡ length self.now }

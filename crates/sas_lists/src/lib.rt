@@ -1,8 +1,10 @@
 //! Lists that stand one behind the other in one block of memory.
 #![tactic(auto)]
 
+mod by_key;
 mod ends;
 mod lists;
 
+pub use by_key::Entry;
 pub use ends::Ends;
 pub use lists::Lists;

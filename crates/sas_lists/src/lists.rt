@@ -1,6 +1,7 @@
 // Lists that stand one behind the other in one block of memory.
 ghost use Rattle.std.specs.Prelude.{◌≡◌, ◌<◌, ◌≤◌, ◌-◌, [], ◌∷◌, ◌++◌, length, take, replicate, OnOk, OnErr, slice_range};
 ghost use Rattle.std.specs.List.{slice_index_or};
+ghost use Rattle.sas_lists.specs.Lists.{lists_of, AreEnds};
 
 use crate::ends::Ends;
 use std::alloc::{AllocError, Global};
@@ -42,6 +43,14 @@ impl<T> Lists<T> {
             items: Vec::new(alloc),
             ends: Ends::new(alloc),
         }
+    }
+
+    /// The lists that these items are, one behind the other, and that end there. It takes no memory.
+    pub(crate) fn of_parts(items: Vec<T>, ends: Ends) -> Self
+        requires { AreEnds ends (length items.items) }
+        ensures { result ≡ lists_of items.items ends }
+    {
+        Lists { items, ends }
     }
 
     /// How many lists there are.
