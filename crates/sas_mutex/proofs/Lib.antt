@@ -1,5 +1,3 @@
-pub mod KeyCuts
-pub mod Filed
 pub mod Numbering
 pub mod Lists
 pub mod Entering

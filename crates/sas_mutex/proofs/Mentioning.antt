@@ -13,10 +13,11 @@ use Rattle.sas_grounded.specs.Grounded.{operator_at}
 use Rattle.sas_core.specs.Variables.{FactExists, MayHaveValue}
 use Rattle.sas_core.specs.WellRanged.{WellRanged, OperatorFits, EffectFits}
 use Rattle.sas_core.proofs.Places.{holds_at}
+use Rattle.sas_lists.specs.declared.by_key.Entry.{Entry}
+use Rattle.sas_lists.specs.ByKey.{by_key}
+use Rattle.sas_lists.proofs.ByKey.{under_holds}
 use Rattle.sas_meaning.specs.Steps.{old_fact}
-use Rattle.sas_mutex.specs.declared.directory.Entry.{Entry}
 use Rattle.sas_mutex.specs.declared.index.Index.{Index}
-use Rattle.sas_mutex.specs.Directories.{IsDirectoryOf}
 use Rattle.sas_mutex.specs.Index.{IsIndexOf, HasFact, groups_of, Mentions, AreMentions, entries_of_fact, entries_of_facts, facts_of_effect, facts_of_operator}
 use Rattle.sas_mutex.proofs.Lists.{in_none, in_map, from_map, in_flat, from_flat, given_is}
 use Rattle.sas_mutex.proofs.Entering.{group_fact_exists}
@@ -79,8 +80,8 @@ mentioned_exists p operator f ranged lt there = elim (Contains-append_cases o.pr
     fits = holds_at (OperatorFits p.variables) (record { name = []; prevail = []; effects = []; cost = 0 }) p.operators ranged.operators.each operator lt
 
 -- the entries of the first `k` operators
-pub record MentionedUpTo (p : Parts) (index : Index) (k : ℕ) (entries : List Entry) : Type 0 where
-  pub only : (e : Entry) → Contains entries e
+pub record MentionedUpTo (p : Parts) (index : Index) (k : ℕ) (entries : List (Entry ℕ)) : Type 0 where
+  pub only : (e : Entry ℕ) → Contains entries e
       → (e.item < k) × ((f : Fact) × Contains (facts_of_operator (operator_at p e.item)) f × Contains (groups_of index f) e.key)
   pub each : (operator group : ℕ) (f : Fact) → operator < k → Contains (facts_of_operator (operator_at p operator)) f → Contains (groups_of index f) group
       → Contains entries (record { key = group; item = operator })
@@ -89,18 +90,18 @@ pub mentioned_none : (p : Parts) (index : Index) → MentionedUpTo p index 0 []
 mentioned_none p index = record { only = λ e there. absurd (in_none e there); each = λ operator group f lt there its. absurd (omega arith) }
 
 -- the entry that stands for a group whose fact an operator mentions
-abbrev entry_of : ℕ → ℕ → Entry
+abbrev entry_of : ℕ → ℕ → Entry ℕ
 entry_of operator group = record { key = group; item = operator }
 
-pub mentioned_more : (p : Parts) (index : Index) (k : ℕ) (entries : List Entry) → MentionedUpTo p index k entries
+pub mentioned_more : (p : Parts) (index : Index) (k : ℕ) (entries : List (Entry ℕ)) → MentionedUpTo p index k entries
     → MentionedUpTo p index (k + 1) (entries ++ entries_of_facts index k (facts_of_operator (operator_at p k)))
 mentioned_more p index k entries up = record {
   only = λ e there. elim (Contains-append_cases entries (new k) e there) [
     | inl before ↦ (let h = up.only e before in ((let lt = h.0 in omega arith), h.1))
     | inr its ↦ (let h = from_flat (entries_of_fact index k) (facts_of_operator (operator_at p k)) e its in
         let group = from_map (entry_of k) (groups_of index h.0) e 0 h.2 in
-        let item : k ≡ e.item = ap (λ (x : Entry). x.item) group.2 in
-        let key : group.0 ≡ e.key = ap (λ (x : Entry). x.key) group.2 in
+        let item : k ≡ e.item = ap (λ (x : Entry ℕ). x.item) group.2 in
+        let key : group.0 ≡ e.key = ap (λ (x : Entry ℕ). x.key) group.2 in
         ((let i = item in omega arith), (h.0, subst (λ o. Contains (facts_of_operator (operator_at p o)) h.0) item h.1, subst (Contains (groups_of index h.0)) key group.1)))
   ];
   each = λ operator group f lt there its. elim (cases_eq operator k) [
@@ -112,26 +113,27 @@ mentioned_more p index k entries up = record {
   ];
 }
   where
-    new : ℕ → List Entry
+    new : ℕ → List (Entry ℕ)
     new k = entries_of_facts index k (facts_of_operator (operator_at p k))
 
 -- the keys are groups
-pub mentioned_low : (p : Parts) (index : Index) (entries : List Entry) → WellRanged p → IsIndexOf p index → MentionedUpTo p index (length p.operators) entries
-    → All (λ (e : Entry). e.key < length p.groups) entries
+pub mentioned_low : (p : Parts) (index : Index) (entries : List (Entry ℕ)) → WellRanged p → IsIndexOf p index → MentionedUpTo p index (length p.operators) entries
+    → All (λ (e : Entry ℕ). e.key < length p.groups) entries
 mentioned_low p index entries ranged is up k d lt =
     let e = get_or entries k d in
     let h = up.only e (Contains-get_or entries k d lt) in
     let has : HasFact p e.key h.1.0 = (is.groups h.1.0 (mentioned_exists p e.item h.1.0 ranged h.0 h.1.1) e.key).0 h.1.2 in
     has.exists
 
--- a directory of these entries has under each group the operators that mention a fact of it
-pub mentioned_all : (p : Parts) (index : Index) (entries : List Entry) (mentions : List (List ℕ)) → WellRanged p → IsIndexOf p index
-    → MentionedUpTo p index (length p.operators) entries → IsDirectoryOf entries mentions → AreMentions p mentions
-mentioned_all p index entries mentions ranged is up filed place exists operator = (
-  (λ there. (let h = up.only (entry_of operator place) ((filed place operator).0 there) in
-      let has : HasFact p place h.1.0 = (is.groups h.1.0 (mentioned_exists p operator h.1.0 ranged h.0 h.1.1) place).0 h.1.2 in
-      record { exists = h.0; fact = h.1.0; mentions = facts_only (operator_at p operator) h.1.0 h.1.1; among = has.among })),
-  (λ m. (let has : HasFact p place m.fact = record { exists = exists; among = m.among } in
-      (filed place operator).1 (up.each operator place m.fact m.exists (facts_all (operator_at p operator) m.fact m.mentions)
-      ((is.groups m.fact (group_fact_exists p place m.fact ranged exists m.among) place).1 has)))),
-)
+-- by key, these entries have under each group the operators that mention a fact of it
+pub mentioned_all : (p : Parts) (index : Index) (entries : List (Entry ℕ)) → WellRanged p → IsIndexOf p index
+    → MentionedUpTo p index (length p.operators) entries → AreMentions p (by_key entries (length p.groups))
+mentioned_all p index entries ranged is up place exists operator =
+    let holds = under_holds entries (length p.groups) place operator (mentioned_low p index entries ranged is up) in (
+      (λ there. (let h = up.only (entry_of operator place) (holds.0 there) in
+          let has : HasFact p place h.1.0 = (is.groups h.1.0 (mentioned_exists p operator h.1.0 ranged h.0 h.1.1) place).0 h.1.2 in
+          record { exists = h.0; fact = h.1.0; mentions = facts_only (operator_at p operator) h.1.0 h.1.1; among = has.among })),
+      (λ m. (let has : HasFact p place m.fact = record { exists = exists; among = m.among } in
+          holds.1 (up.each operator place m.fact m.exists (facts_all (operator_at p operator) m.fact m.mentions)
+          ((is.groups m.fact (group_fact_exists p place m.fact ranged exists m.among) place).1 has)))),
+    )

@@ -11,12 +11,12 @@ ghost use Rattle.sas_mutex.specs.Marks.{IsClean};
 ghost use Rattle.sas_mutex.specs.Noting.{AreNoted, IsNotedFor};
 ghost use Rattle.sas_mutex.specs.Falling.{count, HasRoom, AreCandidates, newly, Falls, IsAtRest, IsEffectAtRest, IsPlain, ArePlainAtRest, RestsAt};
 
-use crate::directory::Directory;
 use crate::effects::keeps_by_notes;
-use crate::index::Index;
+use crate::index::{Index, under};
 use crate::marks::{Marks, forget_known, note_known};
 use sas_core::{Fact, Items};
 use sas_grounded::Grounded;
+use sas_lists::Lists;
 
 /// The groups that may still be kept jointly, and those that fell out of them.
 #[derive(Drop)]
@@ -32,7 +32,7 @@ pub struct Family {
 pub fn find_greatest<T: Grounded>(
     task: &T,
     index: &Index,
-    mentions: &Directory,
+    mentions: &Lists<u32>,
     family: &mut Family,
     marks: &mut Marks,
 )
@@ -70,7 +70,7 @@ fn look_at_all<T: Grounded>(task: &T, index: &Index, family: &mut Family, marks:
 fn look_again<T: Grounded>(
     task: &T,
     index: &Index,
-    mentions: &Directory,
+    mentions: &Lists<u32>,
     family: &mut Family,
     marks: &mut Marks,
 )
@@ -90,7 +90,7 @@ fn look_again<T: Grounded>(
     while next < family.fallen.len() {
         let group = family.fallen[next];
         next += 1;
-        look_at_each(task, index, mentions.under(group as usize), family, marks);
+        look_at_each(task, index, under(mentions, group as usize), family, marks);
     }
 }
 

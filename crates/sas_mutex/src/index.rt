@@ -1,14 +1,15 @@
 // Which groups have which facts.
 ghost use Rattle.std.specs.Prelude.{◌≡◌, ◌<◌, ◌≤◌, ◌^◌, ◌↔◌, ◌++◌, ℕ, [], length, IsTrue, IfOk, OnOk, All, Contains};
+ghost use Rattle.std.specs.List.Sorted.{IsNonDecreasing};
 ghost use Rattle.sas_grounded.specs.Grounded.{group_at};
 ghost use Rattle.sas_core.specs.WellRanged.{WellRanged};
 ghost use Rattle.sas_mutex.specs.Index as spec;
-ghost use Rattle.sas_mutex.specs.Index.{IsIndexOf, AreFirstNumbers, facts_below, entries_of_group};
+ghost use Rattle.sas_mutex.specs.Index.{under, IsIndexOf, AreFirstNumbers, AreGroupsByFact, facts_below, entries_of_group};
 
-use crate::directory::{Directory, Entry};
 use crate::runs::runs_of_groups;
 use sas_core::{Fact, Items};
 use sas_grounded::Grounded;
+use sas_lists::{Entry, Lists};
 use std::alloc::{AllocError, Global};
 
 /// Which groups have which fact. Facts are numbered, variable after variable, so that a look at one takes a fixed time.
@@ -17,7 +18,7 @@ pub struct Index {
     /// The number of each variable's first fact.
     pub firsts: Vec<usize>,
     /// The groups under the number of each fact of theirs.
-    pub groups: Directory,
+    pub groups: Lists<u32>,
     /// For each group, how many of its facts stand in a row on one variable.
     pub runs: Items<Items<u32>>,
 }
@@ -29,11 +30,7 @@ impl Index {
     {
         let mut firsts = Vec::with_capacity(alloc, task.variables() as usize)?;
         let facts = number_facts(task, &mut firsts)?;
-        let mut entries = Vec::new(alloc);
-        for group in 0..task.groups() {
-            enter_group(task, firsts.as_slice(), group, &mut entries)?;
-        }
-        let groups = Directory::new(alloc, entries, facts)?;
+        let groups = groups_by_fact(alloc, task, firsts.as_slice(), facts)?;
         let runs = runs_of_groups(alloc, task)?;
         Ok(Index {
             firsts,
@@ -52,15 +49,16 @@ impl Index {
             Some(first) => *first,
             None => 0,
         };
-        self.groups.under(first + fact.value as usize)
+        under(&self.groups, first + fact.value as usize)
     }
 
     /// Whether the group has the fact.
     pub fn has(&self, group: u32, fact: Fact) -> bool
-        requires { All (λ (first : ℕ). first ≤ 2 ^ 62) self.now.firsts.items }
+        requires low { All (λ (first : ℕ). first ≤ 2 ^ 62) self.now.firsts.items }
+        requires ascending { IsNonDecreasing (spec.groups_of self.now fact) }
         ensures { IsTrue result ↔ Contains (spec.groups_of self.now fact) group }
     {
-        self.groups_of(fact).iter().any(|place| *place == group)
+        self.groups_of(fact).binary_search(&group).is_ok()
     }
 }
 
@@ -79,12 +77,33 @@ fn number_facts<T: Grounded>(task: &T, firsts: &mut Vec<usize>) -> Result<usize,
     Ok(facts)
 }
 
+/// The groups of the task, each under the numbers of its facts, of which there are so many.
+fn groups_by_fact<T: Grounded>(
+    alloc: Global,
+    task: &T,
+    firsts: &[usize],
+    facts: usize,
+) -> Result<Lists<u32>, AllocError>
+    requires firsts { AreFirstNumbers (T.says task.now) firsts.now }
+    requires low { All (λ (first : ℕ). first ≤ 2 ^ 62) firsts.now }
+    requires all { facts ≡ facts_below (T.says task.now) (length (T.says task.now).variables) }
+    ensures { IfOk result (λ groups. AreGroupsByFact (T.says task.now) groups) }
+{
+    // The contract of this call tells that what the task says is well ranged.
+    let _ = task.variables();
+    let mut entries = Vec::new(alloc);
+    for group in 0..task.groups() {
+        enter_group(task, firsts, group, &mut entries)?;
+    }
+    Lists::by_key(alloc, entries.as_slice(), facts)
+}
+
 /// Adds an entry for each fact of the group, under the fact's number.
 fn enter_group<T: Grounded>(
     task: &T,
     firsts: &[usize],
     group: u32,
-    entries: &mut Vec<Entry>,
+    entries: &mut Vec<Entry<u32>>,
 ) -> Result<(), AllocError>
     requires ranged { WellRanged (T.says task.now) }
     requires group { group < length (T.says task.now).groups }
@@ -100,4 +119,15 @@ fn enter_group<T: Grounded>(
         })?;
     }
     Ok(())
+}
+
+/// The list under the key; behind the last one there is none.
+pub fn under(lists: &Lists<u32>, key: usize) -> &[u32]
+    ensures { result.now ≡ under lists.now key }
+{
+    if key < lists.len() {
+        lists.get(key)
+    } else {
+        &[]
+    }
 }

@@ -2,7 +2,6 @@
 //! and the check of one group stand in `sas_groups`, whose calls this crate passes on.
 #![tactic(auto)]
 
-mod directory;
 mod effects;
 mod family;
 mod index;

@@ -3,10 +3,10 @@ ghost use Rattle.std.specs.Prelude.{◌≡◌, ◌<◌, ◌≤◌, ◌^◌, ◌+
 ghost use Rattle.sas_grounded.specs.Grounded.{operator_at, effect_at};
 ghost use Rattle.sas_mutex.specs.Index.{IsIndexOf, AreMentions, entries_of_fact, entries_of_facts, facts_of_effect, facts_of_operator};
 
-use crate::directory::{Directory, Entry};
 use crate::index::Index;
 use sas_core::Fact;
 use sas_grounded::Grounded;
+use sas_lists::{Entry, Lists};
 use std::alloc::{AllocError, Global};
 
 /// For each group, the operators that mention a fact of it, as a precondition or as a condition of an effect.
@@ -14,7 +14,7 @@ pub fn mentions_of<T: Grounded>(
     alloc: Global,
     task: &T,
     index: &Index,
-) -> Result<Directory, AllocError>
+) -> Result<Lists<u32>, AllocError>
     requires index { IsIndexOf (T.says task.now) index.now }
     ensures { IfOk result (λ mentions. AreMentions (T.says task.now) mentions) }
 {
@@ -24,7 +24,7 @@ pub fn mentions_of<T: Grounded>(
     for operator in 0..task.operators() {
         enter_operator(task, index, operator, &mut entries)?;
     }
-    Directory::new(alloc, entries, task.groups() as usize)
+    Lists::by_key(alloc, entries.as_slice(), task.groups() as usize)
 }
 
 /// Adds an entry for each fact that the operator mentions and each group that has it.
@@ -32,7 +32,7 @@ fn enter_operator<T: Grounded>(
     task: &T,
     index: &Index,
     operator: u32,
-    entries: &mut Vec<Entry>,
+    entries: &mut Vec<Entry<u32>>,
 ) -> Result<(), AllocError>
     requires operator { operator < length (T.says task.now).operators }
     requires low { All (λ (first : ℕ). first ≤ 2 ^ 62) index.now.firsts.items }
@@ -52,7 +52,7 @@ fn enter_effect<T: Grounded>(
     index: &Index,
     operator: u32,
     effect: u32,
-    entries: &mut Vec<Entry>,
+    entries: &mut Vec<Entry<u32>>,
 ) -> Result<(), AllocError>
     requires operator { operator < length (T.says task.now).operators }
     requires effect { effect < length (operator_at (T.says task.now) operator).effects }
@@ -81,7 +81,7 @@ fn enter_facts(
     index: &Index,
     operator: u32,
     facts: &[Fact],
-    entries: &mut Vec<Entry>,
+    entries: &mut Vec<Entry<u32>>,
 ) -> Result<(), AllocError>
     requires { All (λ (first : ℕ). first ≤ 2 ^ 62) index.now.firsts.items }
     ensures { OnOk result (entries.new.items ≡ entries.old.items ++ entries_of_facts index.now operator facts.now) }
@@ -97,7 +97,7 @@ fn enter_fact(
     index: &Index,
     operator: u32,
     fact: Fact,
-    entries: &mut Vec<Entry>,
+    entries: &mut Vec<Entry<u32>>,
 ) -> Result<(), AllocError>
     requires { All (λ (first : ℕ). first ≤ 2 ^ 62) index.now.firsts.items }
     ensures { OnOk result (entries.new.items ≡ entries.old.items ++ entries_of_fact index.now operator fact) }
