@@ -2,22 +2,23 @@
 use Rattle.std.proofs.Common.{◌≡◌, ◌≢◌, ℕ, ◌+◌, ◌<◌, ◌≤◌, ◌==◌, ◌&&◌, ◌^◌, Bool, true, false, cond, List, [], ◌∷◌, ◌++◌, length, get_or, set, None, refl, sym, ◌∙◌, ap, subst, inl, inr, arith}
 use Rattle.std.specs.List.{All}
 use Rattle.std.proofs.lemmas.List.{get_or-set_same, get_or-set_other, length-set}
-use Rattle.std.specs.List.Sorted.{IsPermutation}
 use Rattle.std.proofs.lemmas.Bool.{cases_eq, eq-eqb}
 use Rattle.std.proofs.lemmas.Bool.Decides.{eqb_tells}
 use Rattle.std.proofs.lemmas.List.Elements.{All-nil, All-cons, All-tail, All-append, All-weaker}
-use Rattle.std.proofs.lemmas.List.Sorted.{All-permutation}
 use Rattle.sas_core.specs.declared.parts.Fact.{Fact}
 use Rattle.sas_core.specs.declared.parts.Parts.{Parts}
 use Rattle.sas_grounded.specs.Grounded.{rule_at}
 use Rattle.sas_core.specs.WellRanged.{WellRanged, RuleFits}
 use Rattle.sas_core.proofs.Places.{holds_at}
+use Rattle.sas_lists.specs.declared.by_key.Entry.{Entry}
+use Rattle.sas_lists.specs.ByKey.{items_of, by_key}
+use Rattle.sas_lists.proofs.Tables.{length-table}
+use Rattle.sas_lists.proofs.ByKey.{under_key, all_items}
 use Rattle.sas_axioms.specs.declared.waiting.Waiting.{Waiting}
 use Rattle.sas_axioms.specs.LayerRules.{IsRuleOn}
-use Rattle.sas_axioms.specs.Waiting.{asking, waits, waiting_at, released, occurrences}
+use Rattle.sas_axioms.specs.Waiting.{asking, entry_of, waits, waiting_at, released, occurrences}
 use Rattle.sas_axioms.specs.Conditions.{open_conditions, IsOfRule, IsCondition, entries, AreAllConditions, IsFullIndex, AreCounted}
-use Rattle.sas_axioms.proofs.Entries.{asked, counted_own, counted_other, waits_append, waits_permutation, condition_within}
-use Rattle.sas_axioms.proofs.Groups.{all_part, of_variable, released_counts, waits_at}
+use Rattle.sas_axioms.proofs.Entries.{asked, counted_own, counted_other, waits_append, condition_within, released_counts}
 
 -- ---- building the index
 
@@ -29,14 +30,14 @@ waits_other : (other rule var value : ℕ) (cs : List Fact) → other ≢ rule �
 waits_other other rule var value [] ne = refl
 waits_other other rule var value (c ∷ cs) ne = let ih = waits_other other rule var value cs ne in let e = counted_other other rule var value c ne in omega arith
 
-all_entries : (p : Parts) (rule : ℕ) (cs : List Fact) → IsOfRule p (record { fact = record { var = 0; value = 0 }; rule = rule }) → All (λ (c : Fact). c.var < length p.variables) cs → All (IsCondition p) (entries rule cs)
+all_entries : (p : Parts) (rule : ℕ) (cs : List Fact) → IsOfRule p (record { value = 0; rule = rule }) → All (λ (c : Fact). c.var < length p.variables) cs → All (IsCondition p) (entries rule cs)
 all_entries p rule [] of_rule exist = All-nil (IsCondition p)
 all_entries p rule (c ∷ cs) of_rule exist =
-    All-cons (IsCondition p) (record { fact = c; rule = rule }) (entries rule cs) (record { of_rule = of_rule; exists = exist 0 c (omega arith) })
+    All-cons (IsCondition p) (entry_of c rule) (entries rule cs) (record { of_rule = of_rule; exists = exist 0 c (omega arith) })
     (all_entries p rule cs of_rule (All-tail (λ (c : Fact). c.var < length p.variables) c cs exist))
 
 -- the conditions of the first `k` rules
-pub record ConditionsUpTo (p : Parts) (k : ℕ) (ws : List Waiting) : Type 0 where
+pub record ConditionsUpTo (p : Parts) (k : ℕ) (ws : List (Entry Waiting)) : Type 0 where
   pub only : All (IsCondition p) ws
   pub each : (layer var value rule : ℕ) → rule < k → IsRuleOn p layer rule → waits rule var value ws ≡ asking var value (rule_at p rule).conditions
   pub later : (var value rule : ℕ) → k ≤ rule → waits rule var value ws ≡ 0
@@ -44,7 +45,7 @@ pub record ConditionsUpTo (p : Parts) (k : ℕ) (ws : List Waiting) : Type 0 whe
 pub conditions_none : (p : Parts) → ConditionsUpTo p 0 []
 conditions_none p = record { only = All-nil (IsCondition p); each = λ layer var value rule lt is. absurd (omega arith); later = λ var value rule le. refl }
 
-pub conditions_skip : (p : Parts) (k : ℕ) (ws : List Waiting) → ((layer : ℕ) → IsRuleOn p layer k → ⊥) → ConditionsUpTo p k ws → ConditionsUpTo p (k + 1) ws
+pub conditions_skip : (p : Parts) (k : ℕ) (ws : List (Entry Waiting)) → ((layer : ℕ) → IsRuleOn p layer k → ⊥) → ConditionsUpTo p k ws → ConditionsUpTo p (k + 1) ws
 conditions_skip p k ws not up = record {
   only = up.only;
   each = λ layer var value rule lt is. elim (cases_eq rule k) [
@@ -54,7 +55,7 @@ conditions_skip p k ws not up = record {
   later = λ var value rule le. up.later var value rule (omega arith);
 }
 
-pub conditions_more : (p : Parts) (k layer : ℕ) (ws : List Waiting) → WellRanged p → IsRuleOn p layer k → ConditionsUpTo p k ws → ConditionsUpTo p (k + 1) (ws ++ entries k (rule_at p k).conditions)
+pub conditions_more : (p : Parts) (k layer : ℕ) (ws : List (Entry Waiting)) → WellRanged p → IsRuleOn p layer k → ConditionsUpTo p k ws → ConditionsUpTo p (k + 1) (ws ++ entries k (rule_at p k).conditions)
 conditions_more p k layer ws ranged here up = record {
   only = All-append (IsCondition p) ws (entries k (rule_at p k).conditions) up.only
       (all_entries p k (rule_at p k).conditions (layer, here) (λ j d lt. condition_within p k j d ranged here.exists lt));
@@ -74,34 +75,27 @@ conditions_more p k layer ws ranged here up = record {
       let before = up.later var value rule (omega arith) in omega arith);
 }
 
-pub conditions_all : (p : Parts) (k : ℕ) (ws : List Waiting) → k ≡ length p.rules → ConditionsUpTo p k ws → AreAllConditions p ws
+pub conditions_all : (p : Parts) (k : ℕ) (ws : List (Entry Waiting)) → k ≡ length p.rules → ConditionsUpTo p k ws → AreAllConditions p ws
 conditions_all p k ws e up = record {
   only = up.only;
   each = λ layer var value rule is. up.each layer var value rule (let lt = is.exists in omega arith) is;
 }
 
-pub conditions_permutation : (p : Parts) (ws ws' : List Waiting) → IsPermutation ws ws' → AreAllConditions p ws → AreAllConditions p ws'
-conditions_permutation p ws ws' moved is = record {
-  only = All-permutation (IsCondition p) ws ws' moved is.only;
-  each = λ layer var value rule here. waits_permutation rule var value ws ws' moved ∙ is.each layer var value rule here;
+pub conditions_exist : (p : Parts) (ws : List (Entry Waiting)) → AreAllConditions p ws → All (λ (e : Entry Waiting). e.key < length p.variables) ws
+conditions_exist p ws is = All-weaker (IsCondition p) (λ (e : Entry Waiting). e.key < length p.variables) (λ w h. h.exists) ws is.only
+
+-- by key, the conditions are an index of all
+pub conditions_index : (p : Parts) (es : List (Entry Waiting)) → AreAllConditions p es → IsFullIndex p (by_key es (length p.variables))
+conditions_index p es is = record {
+  one_each = length-table (length p.variables) (λ var. items_of var es);
+  only = λ var. subst (All (IsOfRule p)) (sym (under var))
+      (all_items (λ (var : ℕ) (w : Waiting). IsOfRule p w) es var (All-weaker (IsCondition p) (λ (e : Entry Waiting). IsOfRule p e.item) (λ e h. h.of_rule) es is.only));
+  each = λ layer var value rule here. ap (λ ws. occurrences rule (released value ws)) (under var)
+      ∙ released_counts rule var value es ∙ is.each layer var value rule here;
 }
-
-pub conditions_exist : (p : Parts) (ws : List Waiting) → AreAllConditions p ws → All (λ (w : Waiting). w.fact.var < length p.variables) ws
-conditions_exist p ws is = All-weaker (IsCondition p) (λ (w : Waiting). w.fact.var < length p.variables) (λ w h. h.exists) ws is.only
-
--- ---- the entries of a variable
-
-module _ (p : Parts) (ws : List Waiting) (starts : List ℕ) (var : ℕ) (index : IsFullIndex p ws starts) (exists : var < length p.variables) where
-  pub place_within : var + 1 < length starts
-  place_within = let l = index.one_more in omega arith
-
-  pub of_rules : All (IsOfRule p) (waiting_at ws starts var)
-  of_rules = all_part (IsOfRule p) ws (get_or starts var 0) (get_or starts (var + 1) 0) (λ place d low high within. (index.waiting.only place d within).of_rule)
-
-  pub waiting_asks : (layer value rule : ℕ) → IsRuleOn p layer rule → occurrences rule (released value (waiting_at ws starts var)) ≡ asking var value (rule_at p rule).conditions
-  waiting_asks layer value rule is =
-      released_counts rule var value (waiting_at ws starts var) (of_variable ws starts var index.starts place_within)
-      ∙ (waits_at ws starts rule var value index.starts place_within ∙ index.waiting.each layer var value rule is)
+  where
+    under : (var : ℕ) → get_or (by_key es (length p.variables)) var [] ≡ items_of var es
+    under var = under_key es (length p.variables) var (conditions_exist p es is)
 
 -- ---- counts
 
@@ -159,18 +153,21 @@ few_conditions p k ranged lt = (holds_at (RuleFits p.variables) (record { condit
 
 -- ---- counting anew what waits for a variable that gets another value
 
-module _ (p : Parts) (ws : List Waiting) (starts : List ℕ) (var : ℕ) (ranged : WellRanged p) (index : IsFullIndex p ws starts) (exists : var < length p.variables)
+module _ (p : Parts) (index : List (List Waiting)) (var : ℕ) (ranged : WellRanged p) (is_index : IsFullIndex p index) (exists : var < length p.variables)
     (counted counters : List ℕ) (counts : AreCounted p counted counters) where
-  pub small : All (λ (w : Waiting). get_or counters w.rule 0 + occurrences w.rule (released (get_or counted var 0) (waiting_at ws starts var)) < 2 ^ 32) (waiting_at ws starts var)
-  small k d lt = bound (get_or (waiting_at ws starts var) k d).rule (of_rules p ws starts var index exists k d lt)
+  pub counters_exist : All (λ (w : Waiting). w.rule < length counters) (waiting_at index var)
+  counters_exist k d lt = omega (arith, (is_index.only var k d lt).1.exists, counts.one_each)
+
+  pub small : All (λ (w : Waiting). get_or counters w.rule 0 + occurrences w.rule (released (get_or counted var 0) (waiting_at index var)) < 2 ^ 32) (waiting_at index var)
+  small k d lt = bound (get_or (waiting_at index var) k d).rule (is_index.only var k d lt)
     where
-      bound : (rule : ℕ) → (layer : ℕ) × IsRuleOn p layer rule → get_or counters rule 0 + occurrences rule (released (get_or counted var 0) (waiting_at ws starts var)) < 2 ^ 32
+      bound : (rule : ℕ) → (layer : ℕ) × IsRuleOn p layer rule → get_or counters rule 0 + occurrences rule (released (get_or counted var 0) (waiting_at index var)) < 2 ^ 32
       bound rule is =
           let few = few_conditions p rule ranged is.1.exists in
           let a = asking_length var (get_or counted var 0) (rule_at p rule).conditions in
           let b = open_length (λ v. get_or counted v 0) (rule_at p rule).conditions in
           let e = counts.exact is.0 rule is.1 in
-          let f = waiting_asks p ws starts var index exists is.0 (get_or counted var 0) rule is.1 in
+          let f = is_index.each is.0 var (get_or counted var 0) rule is.1 in
           omega arith
 
   module _ (value : ℕ) where
@@ -181,19 +178,19 @@ module _ (p : Parts) (ws : List Waiting) (starts : List ℕ) (var : ℕ) (ranged
         let e = open_changed (λ v. get_or counted v 0) (λ v. get_or (set counted var value) v 0) var (rule_at p rule).conditions (λ u ne. sym (get_or-set_other counted var u value 0 ne)) in
         rw same at e
 
-    pub enough : get_or counted var 0 ≢ value → All (λ (w : Waiting). occurrences w.rule (released value (waiting_at ws starts var)) ≤ get_or counters w.rule 0) (waiting_at ws starts var)
-    enough ne k d lt = bound (get_or (waiting_at ws starts var) k d).rule (of_rules p ws starts var index exists k d lt)
+    pub enough : get_or counted var 0 ≢ value → All (λ (w : Waiting). occurrences w.rule (released value (waiting_at index var)) ≤ get_or counters w.rule 0) (waiting_at index var)
+    enough ne k d lt = bound (get_or (waiting_at index var) k d).rule (is_index.only var k d lt)
       where
-        bound : (rule : ℕ) → (layer : ℕ) × IsRuleOn p layer rule → occurrences rule (released value (waiting_at ws starts var)) ≤ get_or counters rule 0
+        bound : (rule : ℕ) → (layer : ℕ) × IsRuleOn p layer rule → occurrences rule (released value (waiting_at index var)) ≤ get_or counters rule 0
         bound rule is =
             let a = asking_open (λ v. get_or counted v 0) var value (rule_at p rule).conditions ne in
             let e = counts.exact is.0 rule is.1 in
-            let h = waiting_asks p ws starts var index exists is.0 value rule is.1 in
+            let h = is_index.each is.0 var value rule is.1 in
             omega arith
 
     pub recounted : (counters' : List ℕ) → length counters' ≡ length counters
-        → ((rule : ℕ) → rule < length counters → get_or counters' rule 0 + occurrences rule (released value (waiting_at ws starts var))
-        ≡ get_or counters rule 0 + occurrences rule (released (get_or counted var 0) (waiting_at ws starts var)))
+        → ((rule : ℕ) → rule < length counters → get_or counters' rule 0 + occurrences rule (released value (waiting_at index var))
+        ≡ get_or counters rule 0 + occurrences rule (released (get_or counted var 0) (waiting_at index var)))
         → AreCounted p (set counted var value) counters'
     recounted counters' one_each moved = record {
       one_each = one_each ∙ counts.one_each;
@@ -202,10 +199,10 @@ module _ (p : Parts) (ws : List Waiting) (starts : List ℕ) (var : ℕ) (ranged
           (let a = changed rule in
           let b = moved rule (let l = counts.one_each in omega (arith, is.exists)) in
           let e = counts.exact layer rule is in
-          let f = waiting_asks p ws starts var index exists layer (get_or counted var 0) rule is in
-          let h = waiting_asks p ws starts var index exists layer value rule is in
+          let f = is_index.each layer var (get_or counted var 0) rule is in
+          let h = is_index.each layer var value rule is in
           omega arith);
     }
 
     pub same_counts : get_or counted var 0 ≡ value → AreCounted p (set counted var value) counters
-    same_counts same = recounted counters refl (λ rule lt. ap (λ v. get_or counters rule 0 + occurrences rule (released v (waiting_at ws starts var))) (sym same))
+    same_counts same = recounted counters refl (λ rule lt. ap (λ v. get_or counters rule 0 + occurrences rule (released v (waiting_at index var))) (sym same))

@@ -16,7 +16,6 @@ use Rattle.sas_axioms.specs.LayerRules.{IsRuleOn}
 use Rattle.sas_axioms.specs.Waiting.{asking, waiting_at, released, occurrences}
 use Rattle.sas_axioms.specs.Conditions.{IsAsked, AreAskedBasic, IsFullIndex}
 use Rattle.sas_axioms.proofs.Entries.{condition_within}
-use Rattle.sas_axioms.proofs.AllConditions.{waiting_asks}
 
 -- ---- what waits for a variable that is asked about
 
@@ -27,21 +26,21 @@ asking_some c (x ∷ xs) (suc k) lt is = let ih = asking_some c xs k (omega arit
 
 occurrences_length : (n value : ℕ) (ws : List Waiting) → occurrences n (released value ws) ≤ length ws
 occurrences_length n value [] = omega arith
-occurrences_length n value (w ∷ ws) = let ih = occurrences_length n value ws in elim (eqb_tells w.fact.value value) [
+occurrences_length n value (w ∷ ws) = let ih = occurrences_length n value ws in elim (eqb_tells w.value value) [
   | inl e ↦ elim (eqb_tells w.rule n) [ inl f ↦ rw (e.0, f.0) (omega arith) | inr f ↦ rw (e.0, f.0) (omega arith) ]
   | inr e ↦ rw e.0 (omega arith)
 ]
 
-pub asked_waits : (p : Parts) (ws : List Waiting) (starts : List ℕ) (var : ℕ) → IsFullIndex p ws starts → var < length p.variables → IsAsked p var → 0 < length (waiting_at ws starts var)
-asked_waits p ws starts var index exists asked =
+pub asked_waits : (p : Parts) (index : List (List Waiting)) (var : ℕ) → IsFullIndex p index → IsAsked p var → 0 < length (waiting_at index var)
+asked_waits p index var is asked =
     let layer = asked.0 in
     let rule = asked.1 in
     let c = asked.2 in
     let there = asked.4 in
     let some : 0 < asking var c.value (rule_at p rule).conditions =
     subst (λ v. 0 < asking v c.value (rule_at p rule).conditions) asked.5 (asking_some c (rule_at p rule).conditions there.0 there.1 there.2) in
-    let e = waiting_asks p ws starts var index exists layer c.value rule asked.3 in
-    let le = occurrences_length rule c.value (waiting_at ws starts var) in
+    let e = is.each layer var c.value rule asked.3 in
+    let le = occurrences_length rule c.value (waiting_at index var) in
     omega arith
 
 -- a variable that is asked about exists

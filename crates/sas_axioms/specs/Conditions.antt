@@ -3,36 +3,38 @@ use Rattle.std.specs.Prelude.{◌≡◌, ℕ, ◌+◌, ◌<◌, ◌==◌, if◌t
 use Rattle.sas_core.specs.declared.parts.Fact.{Fact}
 use Rattle.sas_core.specs.declared.parts.Parts.{Parts}
 use Rattle.sas_grounded.specs.Grounded.{rule_at}
+use Rattle.sas_lists.specs.declared.by_key.Entry.{Entry}
 use Rattle.sas_meaning.specs.Layers.{IsBasic}
 use Rattle.sas_axioms.specs.declared.waiting.Waiting.{Waiting}
 use Rattle.sas_axioms.specs.LayerRules.{IsRuleOn}
-use Rattle.sas_axioms.specs.Waiting.{asking, waits, AreStarts}
+use Rattle.sas_axioms.specs.Waiting.{asking, entry_of, waits, released, occurrences, waiting_at}
 
 -- the entry is of a rule that can fire
 abbrev pub IsOfRule : Parts → Waiting → Type 0
 IsOfRule p w = (layer : ℕ) × IsRuleOn p layer w.rule
 
 -- the entry is of a rule that can fire, and of a variable of the task
-pub record IsCondition (p : Parts) (w : Waiting) : Type 0 where
-  pub of_rule : IsOfRule p w
-  pub exists : w.fact.var < length p.variables
+pub record IsCondition (p : Parts) (e : Entry Waiting) : Type 0 where
+  pub of_rule : IsOfRule p e.item
+  pub exists : e.key < length p.variables
 
 -- the conditions of a rule as entries
-abbrev pub entries : ℕ → List Fact → List Waiting
+abbrev pub entries : ℕ → List Fact → List (Entry Waiting)
 entries rule [] = []
-entries rule (c ∷ cs) = record { fact = c; rule = rule } ∷ entries rule cs
+entries rule (c ∷ cs) = entry_of c rule ∷ entries rule cs
 
 -- each rule that can fire waits for a fact as often as its conditions have it
-pub record AreAllConditions (p : Parts) (ws : List Waiting) : Type 0 where
-  pub only : All (IsCondition p) ws
+pub record AreAllConditions (p : Parts) (es : List (Entry Waiting)) : Type 0 where
+  pub only : All (IsCondition p) es
   pub each : (layer var value rule : ℕ) → IsRuleOn p layer rule
-      → waits rule var value ws ≡ asking var value (rule_at p rule).conditions
+      → waits rule var value es ≡ asking var value (rule_at p rule).conditions
 
--- an index of all conditions of the rules that can fire
-pub record IsFullIndex (p : Parts) (ws : List Waiting) (places : List ℕ) : Type 0 where
-  pub waiting : AreAllConditions p ws
-  pub starts : AreStarts ws places
-  pub one_more : length places ≡ length p.variables + 1
+-- under each variable each rule that can fire waits for a value as often as its conditions ask for it
+pub record IsFullIndex (p : Parts) (index : List (List Waiting)) : Type 0 where
+  pub one_each : length index ≡ length p.variables
+  pub only : (var : ℕ) → All (IsOfRule p) (waiting_at index var)
+  pub each : (layer var value rule : ℕ) → IsRuleOn p layer rule
+      → occurrences rule (released value (waiting_at index var)) ≡ asking var value (rule_at p rule).conditions
 
 -- a rule that can fire has a condition on the variable
 abbrev pub IsAsked : Parts → ℕ → Type 0

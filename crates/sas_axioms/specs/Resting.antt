@@ -22,7 +22,7 @@ pub record AreLooks (p : Parts) (below : List Bool) : Type 0 where
 -- the rules are counted with each derived variable at its default
 pub record IsResting (p : Parts) (r : Resting) : Type 0 where
   pub asked : AreAskedBasic p r.asked.items
-  pub index : IsFullIndex p r.index.waiting.items r.index.starts.items
+  pub index : IsFullIndex p r.index
   pub default : (layer : ℕ) → AtDefault p layer r.values
   pub counts : AreCounted p r.values r.counters
   pub looks : AreLooks p r.looks_below.items

@@ -69,7 +69,7 @@ pub record IsReadyFor (p : Parts) (w : Worklist) : Type 0 where
   pub variables : AreDerived p w.derived.items
   pub firing : AreLayerRules p w.rules.items
   pub spans : AreSpans w.rules.items 0 w.spans.items (length w.rules.items)
-  pub index : IsIndex p w.index.waiting.items w.index.starts.items
+  pub index : IsIndex p w.index
   pub has_room : HasRoom p w.counters (vec_capacity w.stack)
   pub resting : IsResting p w.resting
   pub empty : w.stack.items ≡ []

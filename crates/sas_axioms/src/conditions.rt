@@ -6,34 +6,33 @@ ghost use Rattle.sas_axioms.specs.LayerRules.{IsRuleOn};
 ghost use Rattle.sas_axioms.specs.Conditions.{IsFullIndex, AreAllConditions, AreAskedBasic, entries};
 
 use crate::layer_rules::firing_layer;
-use crate::waiting::{Index, Waiting, starts_of};
+use crate::waiting::{Waiting, entry_of};
 use sas_grounded::Grounded;
+use sas_lists::{Entry, Lists};
 use std::alloc::{AllocError, Global};
 
 /// The index of all conditions of the rules that can fire.
-pub fn index_of_all<T: Grounded>(alloc: Global, task: &T) -> Result<Index, AllocError>
+pub fn index_of_all<T: Grounded>(alloc: Global, task: &T) -> Result<Lists<Waiting>, AllocError>
     requires layered { IsLayeredTask (T.says task.now) }
-    ensures { IfOk result (λ index. IsFullIndex (T.says task.now) index.waiting.items index.starts.items) }
+    ensures { IfOk result (λ index. IsFullIndex (T.says task.now) index) }
 {
-    let mut waiting = all_conditions(alloc, task)?;
-    waiting.sort_by_key(|entry| entry.fact.var)?;
-    let starts = starts_of(alloc, waiting.as_slice(), task.variables())?;
-    Ok(Index { waiting, starts })
+    let waiting = all_conditions(alloc, task)?;
+    Lists::by_key(alloc, waiting.as_slice(), task.variables() as usize)
 }
 
 /// The basic variables that conditions of rules that can fire are on.
 pub fn asked_variables<T: Grounded>(
     alloc: Global,
     task: &T,
-    index: &Index,
+    index: &Lists<Waiting>,
 ) -> Result<Vec<u32>, AllocError>
     requires layered { IsLayeredTask (T.says task.now) }
-    requires index { IsFullIndex (T.says task.now) index.now.waiting.items index.now.starts.items }
+    requires index { IsFullIndex (T.says task.now) index.now }
     ensures { IfOk result (λ variables. AreAskedBasic (T.says task.now) variables.items) }
 {
     let mut variables = Vec::new(alloc);
     for var in 0..task.variables() {
-        if task.layer(var).is_none() && !index.of_variable(var).is_empty() {
+        if task.layer(var).is_none() && !index.get(var as usize).is_empty() {
             variables.push(var)?;
         }
     }
@@ -41,7 +40,7 @@ pub fn asked_variables<T: Grounded>(
 }
 
 /// The conditions of the rules that can fire, rule after rule.
-fn all_conditions<T: Grounded>(alloc: Global, task: &T) -> Result<Vec<Waiting>, AllocError>
+fn all_conditions<T: Grounded>(alloc: Global, task: &T) -> Result<Vec<Entry<Waiting>>, AllocError>
     requires layered { IsLayeredTask (T.says task.now) }
     ensures { IfOk result (λ waiting. AreAllConditions (T.says task.now) waiting.items) }
 {
@@ -58,17 +57,14 @@ fn all_conditions<T: Grounded>(alloc: Global, task: &T) -> Result<Vec<Waiting>, 
 fn push_conditions<T: Grounded>(
     task: &T,
     rule: u32,
-    waiting: &mut Vec<Waiting>,
+    waiting: &mut Vec<Entry<Waiting>>,
 ) -> Result<(), AllocError>
     requires rule { rule < length (T.says task.now).rules }
     ensures { OnOk result (waiting.new.items
         ≡ waiting.old.items ++ entries rule (rule_at (T.says task.now) rule).conditions) }
 {
     for condition in task.rule_conditions(rule) {
-        waiting.push(Waiting {
-            fact: *condition,
-            rule,
-        })?;
+        waiting.push(entry_of(*condition, rule))?;
     }
     Ok(())
 }

@@ -6,9 +6,10 @@ ghost use Rattle.sas_axioms.specs.Waiting.{occurrences, released};
 ghost use Rattle.sas_axioms.specs.Conditions.{IsFullIndex, AreCounted};
 
 use crate::firing::open_of;
-use crate::waiting::{Index, Waiting};
+use crate::waiting::Waiting;
 use sas_core::{Fact, Items};
 use sas_grounded::Grounded;
+use sas_lists::Lists;
 use sas_meaning::State;
 use std::alloc::{AllocError, Global};
 
@@ -33,13 +34,13 @@ pub fn open_counters<T: Grounded>(
 /// nothing: it is what the contract speaks of.
 pub fn recount<T: Grounded>(
     _task: &T,
-    index: &Index,
+    index: &Lists<Waiting>,
     fact: Fact,
     counted: &mut State,
     counters: &mut Items<u32>,
 )
     requires layered { IsLayeredTask (T.says _task.now) }
-    requires index { IsFullIndex (T.says _task.now) index.now.waiting.items index.now.starts.items }
+    requires index { IsFullIndex (T.says _task.now) index.now }
     requires var { fact.var < length (T.says _task.now).variables }
     requires counts { AreCounted (T.says _task.now) counted.old counters.old }
     ensures counts { AreCounted (T.says _task.now) counted.new counters.new }
@@ -47,7 +48,7 @@ pub fn recount<T: Grounded>(
 {
     let former = counted.value(fact.var);
     if former != fact.value {
-        let waiting = index.of_variable(fact.var);
+        let waiting = index.get(fact.var as usize);
         count_change(waiting, former, fact.value, counters);
     }
     counted.set(fact);
@@ -69,10 +70,10 @@ fn count_change(waiting: &[Waiting], former: u32, value: u32, counters: &mut Ite
 {
     for entry in waiting {
         let rule = entry.rule as usize;
-        if entry.fact.value == former {
+        if entry.value == former {
             let more = counters.as_slice()[rule] + 1;
             counters.set(rule, more);
-        } else if entry.fact.value == value {
+        } else if entry.value == value {
             let fewer = counters.as_slice()[rule] - 1;
             counters.set(rule, fewer);
         }

@@ -14,9 +14,10 @@ ghost use Rattle.sas_axioms.specs.Worklist.{IsRunning, Counts, HaveFired, HasRoo
 
 use crate::layer_rules::LayerRule;
 use crate::resting::Resting;
-use crate::waiting::{Index, Waiting};
+use crate::waiting::Waiting;
 use sas_core::{Fact, Items};
 use sas_grounded::Grounded;
+use sas_lists::Lists;
 use sas_meaning::State;
 
 /// Settles a layer on which all variables have their default. These are its rules that can fire.
@@ -24,7 +25,7 @@ pub fn settle_layer<T: Grounded>(
     task: &T,
     layer: u32,
     rules: &[LayerRule],
-    index: &Index,
+    index: &Lists<Waiting>,
     resting: &Resting,
     counters: &mut Items<u32>,
     stack: &mut Vec<u32>,
@@ -32,7 +33,7 @@ pub fn settle_layer<T: Grounded>(
 )
     requires layered { IsLayeredTask (T.says task.now) }
     requires rules { AreRulesOn (T.says task.now) layer rules.now }
-    requires index { IsIndex (T.says task.now) index.now.waiting.items index.now.starts.items }
+    requires index { IsIndex (T.says task.now) index.now }
     requires resting { IsResting (T.says task.now) resting.now }
     requires follows { SameAsked (T.says task.now) state.old resting.now.values }
     requires room { HasRoom (T.says task.now) counters.old (vec_capacity stack.old) }
@@ -137,13 +138,13 @@ fn fire<T: Grounded>(task: &T, layer: u32, rule: u32, stack: &mut Vec<u32>, stat
 fn empty_stack<T: Grounded>(
     task: &T,
     layer: u32,
-    index: &Index,
+    index: &Lists<Waiting>,
     counters: &mut Items<u32>,
     stack: &mut Vec<u32>,
     state: &mut State,
 )
     requires layered { IsLayeredTask (T.says task.now) }
-    requires index { IsIndex (T.says task.now) index.now.waiting.items index.now.starts.items }
+    requires index { IsIndex (T.says task.now) index.now }
     requires room { HasRoom (T.says task.now) counters.old (vec_capacity stack.old) }
     requires at_work { IsAtWork (T.says task.now) layer state.old stack.old.items counters.old [] }
     ensures settles { SettlesLayer (T.says task.now) layer state.old state.new }
@@ -156,7 +157,7 @@ fn empty_stack<T: Grounded>(
             task,
             layer,
             value,
-            index.of_variable(var),
+            index.get(var as usize),
             counters,
             stack,
             state,
@@ -185,7 +186,7 @@ fn release<T: Grounded>(
         ≤ work (T.says task.now) state.old stack.old.items }
 {
     for entry in waiting {
-        if entry.fact.value == value {
+        if entry.value == value {
             count_down(task, layer, entry.rule, counters, stack, state);
         }
     }

@@ -12,9 +12,10 @@ use crate::conditions::{asked_variables, index_of_all};
 use crate::counting::{open_counters, recount};
 use crate::firing::open_of;
 use crate::layer_rules::firing_layer;
-use crate::waiting::Index;
+use crate::waiting::Waiting;
 use sas_core::{Fact, Items};
 use sas_grounded::Grounded;
+use sas_lists::Lists;
 use sas_meaning::State;
 use std::alloc::{AllocError, Global};
 
@@ -27,7 +28,7 @@ pub struct Resting {
     /// The basic variables that conditions of rules that can fire are on.
     asked: Vec<u32>,
     /// Which rules wait for which facts, on any layer and of any variable.
-    index: Index,
+    index: Lists<Waiting>,
     /// The values that the conditions are counted by: those that the asked variables had last, and the default of each
     /// derived one.
     values: State,
@@ -96,14 +97,14 @@ impl Resting {
 fn follow_asked<T: Grounded>(
     task: &T,
     asked: &[u32],
-    index: &Index,
+    index: &Lists<Waiting>,
     state: &State,
     values: &mut State,
     counters: &mut Items<u32>,
 )
     requires layered { IsLayeredTask (T.says task.now) }
     requires asked { AreAskedBasic (T.says task.now) asked.now }
-    requires index { IsFullIndex (T.says task.now) index.now.waiting.items index.now.starts.items }
+    requires index { IsFullIndex (T.says task.now) index.now }
     requires state { IsState (T.says task.now).variables state.now }
     requires counts { AreCounted (T.says task.now) values.old counters.old }
     requires default { (layer : ℕ) → AtDefault (T.says task.now) layer values.old }

@@ -1,56 +1,36 @@
 // Which rules wait for which facts: an index from the variables of facts to the rules that have them as conditions.
-ghost use Rattle.std.specs.Prelude.{◌≡◌, ◌<◌, ◌≤◌, ◌+◌, ℕ, length, IfOk, OnOk, All};
-ghost use Rattle.std.specs.List.Sorted.{IsNonDecreasingBy};
-ghost use Rattle.sas_axioms.specs.declared.waiting.Waiting.{Waiting};
+ghost use Rattle.std.specs.Prelude.{◌≡◌, IfOk, OnOk};
 ghost use Rattle.sas_axioms.specs.ByLayers.{IsLayeredTask};
 ghost use Rattle.sas_axioms.specs.LayerRules.{IsRuleOn};
-ghost use Rattle.sas_axioms.specs.Waiting.{IsWaiting, AddsWaiting, IsVariableEnd, AreStarts, IsIndex, waiting_at};
+ghost use Rattle.sas_axioms.specs.Waiting.{entry_of, IsWaiting, AddsWaiting, IsIndex};
 
 use crate::layer_rules::firing_layer;
 use sas_core::Fact;
 use sas_grounded::Grounded;
+use sas_lists::{Entry, Lists};
 use std::alloc::{AllocError, Global};
 
-/// A rule that can fire waits for a fact: a condition of it, on a variable of the rule's own layer.
+/// A rule that can fire waits for a value of a variable: a condition of it. Under the variable it stands in an index.
 #[derive(Clone, Copy, Debug, PartialEq, Eq)]
 pub struct Waiting {
-    pub fact: Fact,
+    pub value: u32,
     pub rule: u32,
 }
 
-/// Which rules wait for the facts of each variable: `starts` says where those of a variable start in `waiting`, and where
-/// those of the last variable end.
-#[derive(Drop)]
-pub struct Index {
-    pub waiting: Vec<Waiting>,
-    pub starts: Vec<usize>,
-}
-
-impl Index {
-    /// The index of the rules of the task.
-    pub fn new<T: Grounded>(alloc: Global, task: &T) -> Result<Index, AllocError>
-        requires layered { IsLayeredTask (T.says task.now) }
-        ensures { IfOk result (λ index. IsIndex (T.says task.now) index.waiting.items index.starts.items) }
-    {
-        let mut waiting = all_waiting(alloc, task)?;
-        waiting.sort_by_key(|entry| entry.fact.var)?;
-        let starts = starts_of(alloc, waiting.as_slice(), task.variables())?;
-        Ok(Index { waiting, starts })
-    }
-
-    /// What waits for facts of the variable.
-    pub fn of_variable(&self, var: u32) -> &[Waiting]
-        requires var { var + 1 < length self.now.starts.items }
-        requires starts { AreStarts self.now.waiting.items self.now.starts.items }
-        ensures { result.now ≡ waiting_at self.now.waiting.items self.now.starts.items var }
-    {
-        let var = var as usize;
-        &self.waiting.as_slice()[self.starts[var]..self.starts[var + 1]]
-    }
+/// For each variable which rules wait for its values: the conditions of rules that can fire, on variables of their own layer.
+pub fn index_of_own_layers<T: Grounded>(
+    alloc: Global,
+    task: &T,
+) -> Result<Lists<Waiting>, AllocError>
+    requires layered { IsLayeredTask (T.says task.now) }
+    ensures { IfOk result (λ index. IsIndex (T.says task.now) index) }
+{
+    let waiting = all_waiting(alloc, task)?;
+    Lists::by_key(alloc, waiting.as_slice(), task.variables() as usize)
 }
 
 /// What waits, rule after rule.
-fn all_waiting<T: Grounded>(alloc: Global, task: &T) -> Result<Vec<Waiting>, AllocError>
+fn all_waiting<T: Grounded>(alloc: Global, task: &T) -> Result<Vec<Entry<Waiting>>, AllocError>
     requires layered { IsLayeredTask (T.says task.now) }
     ensures { IfOk result (λ waiting. IsWaiting (T.says task.now) waiting.items) }
 {
@@ -68,7 +48,7 @@ fn push_waiting<T: Grounded>(
     task: &T,
     layer: u32,
     rule: u32,
-    waiting: &mut Vec<Waiting>,
+    waiting: &mut Vec<Entry<Waiting>>,
 ) -> Result<(), AllocError>
     requires layered { IsLayeredTask (T.says task.now) }
     requires rule { IsRuleOn (T.says task.now) layer rule }
@@ -76,45 +56,21 @@ fn push_waiting<T: Grounded>(
 {
     for condition in task.rule_conditions(rule) {
         if task.layer(condition.var) == Some(layer) {
-            waiting.push(Waiting {
-                fact: *condition,
-                rule,
-            })?;
+            waiting.push(entry_of(*condition, rule))?;
         }
     }
     Ok(())
 }
 
-/// Where what waits for facts of each variable starts, and where that of the last variable ends. What waits stands in
-/// ascending order of the variables.
-pub fn starts_of(
-    alloc: Global,
-    waiting: &[Waiting],
-    variables: u32,
-) -> Result<Vec<usize>, AllocError>
-    requires ascending { IsNonDecreasingBy (λ (w : Waiting). w.fact.var) waiting.now }
-    requires exist { All (λ (w : Waiting). w.fact.var < variables) waiting.now }
-    ensures starts { IfOk result (λ starts. AreStarts waiting.now starts.items) }
-    ensures one_more { IfOk result (λ starts. length starts.items ≡ variables + 1) }
+/// What the rule waits for, which has this condition, under the condition's variable.
+pub fn entry_of(condition: Fact, rule: u32) -> Entry<Waiting>
+    ensures { result ≡ entry_of condition rule }
 {
-    let mut starts = Vec::with_capacity(alloc, variables as usize + 1)?;
-    let mut start = 0;
-    for var in 0..variables {
-        starts.push(start)?;
-        start = end_of_variable(waiting, start, var);
+    Entry {
+        key: condition.var as usize,
+        item: Waiting {
+            value: condition.value,
+            rule,
+        },
     }
-    starts.push(start)?;
-    Ok(starts)
-}
-
-/// Where what waits for facts of the variable ends that begins at this place.
-fn end_of_variable(waiting: &[Waiting], start: usize, var: u32) -> usize
-    requires { start ≤ length waiting.now }
-    ensures { IsVariableEnd waiting.now start var result }
-{
-    let mut end = start;
-    while end < waiting.len() && waiting[end].fact.var == var {
-        end += 1;
-    }
-    end
 }

@@ -10,9 +10,10 @@ use crate::by_layers::{ByLayers, settle_by_layers};
 use crate::firing::settle_layer;
 use crate::layer_rules::{LayerRule, LayerSpan, ranked_rules, spans_of};
 use crate::resting::Resting;
-use crate::waiting::Index;
+use crate::waiting::{Waiting, index_of_own_layers};
 use sas_core::{Fact, Items};
 use sas_grounded::Grounded;
+use sas_lists::Lists;
 use sas_meaning::{Layered, Settle, State};
 use std::alloc::{AllocError, Global};
 
@@ -33,7 +34,7 @@ pub struct Worklist {
     /// Where in `rules` the next layer begins.
     start: usize,
     /// Which rules wait for which facts.
-    index: Index,
+    index: Lists<Waiting>,
     /// How many conditions of each rule are open where its layer begins.
     resting: Resting,
     /// How many conditions of each rule don't hold yet.
@@ -56,7 +57,7 @@ impl Worklist {
             spans,
             next: 0,
             start: 0,
-            index: Index::new(alloc, task)?,
+            index: index_of_own_layers(alloc, task)?,
             resting: Resting::new(alloc, task)?,
             counters: Items::from_vec(vec![in alloc; 0u32; task.rules() as usize]?),
             stack: Vec::with_capacity(alloc, task.variables() as usize)?,

@@ -34,9 +34,9 @@ loop-var-preserved g c =
           rw (w.variables-is, pushed) (asked_more p var variables basic within c.loop-var.invariant))
       | else-is_none w ↦ rw w.variables-is (asked_skip p var variables (λ basic asked. elim w.else-is_none.branch [
         | else-is_none-via-then-is_none+else-not-is_empty w' ↦
-            (let some = asked_waits p c.args.index.now.waiting.items c.args.index.now.starts.items var c.requires.index within asked in
-            let none : length w'.of_variable.result.now ≡ 0 = is_zero (length w'.of_variable.result.now) (sym w'.is_empty.ensures ∙ w'.if-not-is_empty.false) in
-            let same = ap length w'.of_variable.ensures in omega arith)
+            (let some = asked_waits p c.args.index.now var c.requires.index asked in
+            let none : length w'.get.result.now ≡ 0 = is_zero (length w'.get.result.now) (sym w'.is_empty.ensures ∙ w'.if-not-is_empty.false) in
+            let same = ap length w'.get.ensures in omega arith)
         | else-is_none-via-else-is_none w' ↦ none_is_none c.layer.result c.is_none.result c.is_none.ensures w'.if-is_none.false (c.layer.ensures ∙ basic)
       ]) c.loop-var.invariant)
     ]

@@ -1,29 +1,21 @@
--- Sorting keeps the conditions, and puts them in order.
-use Rattle.std.proofs.Common.{rules, ◌+◌, ap, ◌∙◌}
-use Rattle.std.proofs.lemmas.List.Sorted.{IsNonDecreasingBy-from_sort_by_key}
-use Rattle.sas_axioms.specs.declared.waiting.Waiting.{Waiting}
-use Rattle.sas_axioms.specs.Conditions.{AreAllConditions}
-use Rattle.sas_axioms.proofs.AllConditions.{conditions_permutation, conditions_exist}
+-- By key, the conditions are an index.
+use Rattle.std.proofs.Common.{◌≡◌, sym, ap, subst, ◌∙◌}
+use Rattle.std.proofs.lemmas.Result.{IfOk-weaker}
+use Rattle.sas_lists.specs.ByKey.{by_key}
+use Rattle.sas_axioms.specs.Conditions.{IsFullIndex}
+use Rattle.sas_axioms.proofs.AllConditions.{conditions_exist, conditions_index}
 use Rattle.sas_axioms.proofs.conditions.index_of_all.Goals as goal
 
-pub starts_of-requires-clause-ascending : goal.starts_of-requires-clause-ascending
-starts_of-requires-clause-ascending g c =
-    rw c.as_slice.ensures.value
-    (IsNonDecreasingBy-from_sort_by_key (λ (w : Waiting). w.fact.var) c.sort_by_key.new.self.items c.in_ok-sort_by_key.ensures.sorted (λ a r q k. search rules))
-
-pub starts_of-requires-clause-exist : goal.starts_of-requires-clause-exist
-starts_of-requires-clause-exist g c =
+pub by_key-requires : goal.by_key-requires
+by_key-requires g c =
     let p = g.T.Grounded.says c.args.task.now in
-    let after = c.sort_by_key.new.self.items in
-    let all : AreAllConditions p after = conditions_permutation p c.in_ok-waiting.waiting.items after c.sort_by_key.ensures.permutation c.in_ok-waiting.ensures in
-    rw (c.as_slice.ensures.value, c.variables.ensures.count) (conditions_exist p after all)
+    rw (c.as_slice.ensures.value, c.variables.ensures.count) (conditions_exist p c.in_ok-waiting.waiting.items c.in_ok-waiting.ensures)
 
 pub returns : goal.returns
 returns g c =
     let p = g.T.Grounded.says c.args.task.now in
-    let after = c.sort_by_key.new.self.items in
-    record {
-      waiting = conditions_permutation p c.in_ok-waiting.waiting.items after c.sort_by_key.ensures.permutation c.in_ok-waiting.ensures;
-      starts = rw c.as_slice.ensures.value at c.in_ok-starts.ensures.starts;
-      one_more = c.in_ok-starts.ensures.one_more ∙ ap (λ n. n + 1) c.variables.ensures.count;
-    }
+    let es = c.in_ok-waiting.waiting.items in
+    IfOk-weaker c.by_key.result (λ lists. lists ≡ by_key c.as_slice.result.now c.variables.result) (IsFullIndex p)
+    (λ lists is. subst (IsFullIndex p) (sym (is ∙ ap (λ l. by_key l c.variables.result) c.as_slice.ensures.value ∙ ap (λ n. by_key es n) c.variables.ensures.count))
+    (conditions_index p es c.in_ok-waiting.ensures))
+    c.by_key.ensures

@@ -9,7 +9,6 @@ use Rattle.sas_axioms.specs.LayerRules.{IsRuleOn}
 use Rattle.sas_axioms.specs.Waiting.{released, occurrences, asking}
 use Rattle.sas_axioms.specs.Worklist.{IsAtWork}
 use Rattle.sas_axioms.proofs.Counters.{popped_running, popped_counts, top_is, settled_when_empty}
-use Rattle.sas_axioms.proofs.Groups.{waiting_only, waiting_counts}
 use Rattle.sas_axioms.proofs.firing.empty_stack.Goals as goal
 use Rattle.sas_axioms.proofs.firing.empty_stack.Given.{Over}
 use Rattle.sas_axioms.proofs.firing.empty_stack.Goals.{In-Some}
@@ -26,15 +25,15 @@ within g c = on_layer_within (g.T.Grounded.says c.args.task.now) c.args.layer c.
 pub value-value-requires : goal.value-value-requires
 value-value-requires g c = omega (arith, within g c, c.loop-var.invariant.at_work.running.state.one_each)
 
-pub of_variable-requires-clause-var : goal.of_variable-requires-clause-var
-of_variable-requires-clause-var g c = omega (arith, within g (goal.at.of_variable-requires-clause-var g c).In-Some, c.requires.index.one_more)
+pub get-requires : goal.get-requires
+get-requires g c = omega (arith, within g (goal.at.get-requires g c).In-Some, c.requires.index.one_each)
 
 pub release-requires-clause-waiting : goal.release-requires-clause-waiting
 release-requires-clause-waiting g c =
     let p = g.T.Grounded.says c.args.task.now in
     let some = (goal.at.release-requires-clause-waiting g c).In-Some in
-    subst (λ (ws : List Waiting). All (λ (w : Waiting). IsRuleOn p c.args.layer w.rule) ws) (sym c.of_variable.ensures)
-    (waiting_only p c.args.index.now.waiting.items c.args.index.now.starts.items c.args.layer c.in-Some.var c.requires.index (on g some))
+    subst (λ (ws : List Waiting). All (λ (w : Waiting). IsRuleOn p c.args.layer w.rule) ws) (sym c.get.ensures)
+    (c.requires.index.only c.args.layer c.in-Some.var (on g some))
 
 pub release-requires-clause-at_work : goal.release-requires-clause-at_work
 release-requires-clause-at_work g c =
@@ -44,13 +43,13 @@ release-requires-clause-at_work g c =
     let v = c.in-Some.var in
     let some = (goal.at.release-requires-clause-at_work g c).In-Some in
     let was = was_at_work g some in
-    let each : (k : ℕ) → IsRuleOn p layer k → occurrences k (released c.value-value.result c.of_variable.result.now) ≡ asking v (get_or s v 0) (rule_at p k).conditions =
-    λ k on_k. ap (λ (ws : List Waiting). occurrences k (released c.value-value.result ws)) c.of_variable.ensures
-    ∙ (waiting_counts p c.args.index.now.waiting.items c.args.index.now.starts.items layer v c.value-value.result k c.requires.index (on g some) on_k
+    let each : (k : ℕ) → IsRuleOn p layer k → occurrences k (released c.value-value.result c.get.result.now) ≡ asking v (get_or s v 0) (rule_at p k).conditions =
+    λ k on_k. ap (λ (ws : List Waiting). occurrences k (released c.value-value.result ws)) c.get.ensures
+    ∙ (c.requires.index.each layer v c.value-value.result k (on g some) on_k
     ∙ ap (λ x. asking v x (rule_at p k).conditions) c.value-value.ensures) in
     record {
       running = popped_running p layer s c.pop.new.self.items v was.running;
-      counts = popped_counts p layer s c.pop.new.self.items c.loop-var.counters (released c.value-value.result c.of_variable.result.now) v c.requires.layered.layered was.running each was.counts;
+      counts = popped_counts p layer s c.pop.new.self.items c.loop-var.counters (released c.value-value.result c.get.result.now) v c.requires.layered.layered was.running each was.counts;
       fired = was.fired;
     }
 

@@ -10,13 +10,13 @@ use Rattle.sas_axioms.proofs.firing.release.Goals as goal
 use Rattle.sas_axioms.proofs.firing.release.Goals.{then-entry-value, else-entry-value}
 
 abbrev no_entry : Waiting
-no_entry = record { fact = record { var = 0; value = 0 }; rule = 0 }
+no_entry = record { value = 0; rule = 0 }
 
-released_one : (value : ℕ) (w : Waiting) (ws : List Waiting) → w.fact.value ≡ value → released value (w ∷ ws) ≡ w.rule ∷ released value ws
-released_one value w ws e = rw (eq-eqb w.fact.value value e) refl
+released_one : (value : ℕ) (w : Waiting) (ws : List Waiting) → w.value ≡ value → released value (w ∷ ws) ≡ w.rule ∷ released value ws
+released_one value w ws e = rw (eq-eqb w.value value e) refl
 
-released_none : (value : ℕ) (w : Waiting) (ws : List Waiting) → (w.fact.value ≡ value → ⊥) → released value (w ∷ ws) ≡ released value ws
-released_none value w ws ne = elim (eqb_tells w.fact.value value) [ inl e ↦ absurd (ne e.1) | inr e ↦ rw e.0 refl ]
+released_none : (value : ℕ) (w : Waiting) (ws : List Waiting) → (w.value ≡ value → ⊥) → released value (w ∷ ws) ≡ released value ws
+released_none value w ws ne = elim (eqb_tells w.value value) [ inl e ↦ absurd (ne e.1) | inr e ↦ rw e.0 refl ]
 
 pub loop-entry-preserved : goal.loop-entry-preserved
 loop-entry-preserved g c =

@@ -5,7 +5,10 @@ use Rattle.std.specs.Option.{option_eq}
 use Rattle.sas_core.specs.declared.parts.Fact.{Fact}
 use Rattle.sas_grounded.specs.Grounded.{rule_at}
 use Rattle.sas_core.specs.Variables.{layer_of}
+use Rattle.sas_lists.specs.declared.by_key.Entry.{Entry}
 use Rattle.sas_meaning.specs.Layers.{IsOnLayer}
+use Rattle.sas_axioms.specs.declared.waiting.Waiting.{Waiting}
+use Rattle.sas_axioms.specs.Waiting.{entry_of}
 use Rattle.sas_axioms.proofs.Entries.{AddsUpTo, adds_none, adds_more, adds_skip, adds_all, condition_within, same_option}
 use Rattle.sas_axioms.proofs.waiting.push_waiting.Goals as goal
 use Rattle.sas_axioms.proofs.waiting.push_waiting.Goals.{then-eq+in_ok-push, else-eq}
@@ -43,8 +46,10 @@ loop-condition-preserved g c =
             | inl a ↦ a.0
             | inr a ↦ (let f : true ≡ false = sym w.if-eq.true ∙ (tested ∙ a.1) in absurd cc)
           ] in
-          let pushed : w.push.new.self.items ≡ waiting ++ record { fact = condition; rule = c.args.rule } ∷ [] =
-          w.in_ok-push.ensures.items ∙ ap (λ (cs : List Fact). waiting ++ record { fact = get_or cs place (record { var = 0; value = 0 }); rule = c.args.rule } ∷ []) same in
+          let entered : w.entry_of.result ≡ entry_of condition c.args.rule =
+          w.entry_of.ensures ∙ ap (λ (cs : List Fact). entry_of (get_or cs place (record { var = 0; value = 0 })) c.args.rule) same in
+          let pushed : w.push.new.self.items ≡ waiting ++ entry_of condition c.args.rule ∷ [] =
+          w.in_ok-push.ensures.items ∙ ap (λ (e : Entry Waiting). waiting ++ e ∷ []) entered in
           rw (w.waiting-is, pushed) (adds_more p c.args.layer c.args.rule conditions left condition before waiting c.requires.rule on so_far))
       | else-eq w ↦
           (let not : IsOnLayer p c.args.layer condition.var → ⊥ = elim (same_option (layer_of p.variables condition.var) c.args.layer) [
