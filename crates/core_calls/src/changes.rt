@@ -1,4 +1,5 @@
-// Changes of the parts of a task, in words, such as `goal 0 2` or `rule 1 new 5`: so parts can be made that no file says.
+// Changes of the parts of a task, in words, such as `goal 0 2` or `rule 1 new 5`:
+// so parts can be made that no file says.
 use call_words::{cut, number_in, text_of};
 use sas_core::{Effect, Fact, Items, Operator, Parts, Rule, Variable};
 use std::alloc::{AllocError, Global};

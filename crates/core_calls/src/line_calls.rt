@@ -98,8 +98,8 @@ fn say_lines<R: AllocGlobal + Print>(rt: &R, pieces: &[u8]) -> Result<(), AllocE
     Ok(())
 }
 
-/// `Lines::feed`, of a line in two pieces. It could show that a piece is lost without memory: then what was refused may be
-/// fed again.
+/// `Lines::feed`, of a line in two pieces. It could show that a piece is lost without memory: then what was refused may
+/// be fed again.
 fn feed_lines<R: AllocGlobal + Print>(
     rt: &R,
     count: usize,
@@ -154,8 +154,8 @@ fn append_line<R: AllocGlobal + Print>(
     Ok(())
 }
 
-/// `Watched::take`, two bytes at a time, of a reader that gives the bytes and then fails. It could show a failure that isn't
-/// noted, or one that is noted at an end.
+/// `Watched::take`, two bytes at a time, of a reader that gives the bytes and then fails. It could show a failure that
+/// isn't noted, or one that is noted at an end.
 fn say_taken<P: Print>(out: &P, bytes: &[u8], interrupted: bool) {
     let mut input = Watched::new(Breaks::new(bytes, interrupted));
     let mut buffer = [0; 2];
@@ -174,8 +174,8 @@ fn say_taken<P: Print>(out: &P, bytes: &[u8], interrupted: bool) {
     }
 }
 
-/// Whether a writer of this room, which takes so much at a time and then fails or takes none, gets as much of the text as
-/// there is room.
+/// Whether a writer of this room, which takes so much at a time and then fails or takes none, gets as much of the text
+/// as there is room.
 fn is_written_out(
     alloc: Global,
     piece: usize,
@@ -195,8 +195,8 @@ fn is_written_out(
     Ok(stands && text.starts_with(written.kept()) && written.kept().len() == room)
 }
 
-/// `write_out`, to writers of each room up to that of the text: the least with another answer. It could show bytes that go
-/// out twice or not at all.
+/// `write_out`, to writers of each room up to that of the text: the least with another answer. It could show bytes that
+/// go out twice or not at all.
 fn wrong_room(alloc: Global, text: &[u8]) -> Result<Option<usize>, AllocError> {
     for room in 0..=text.len() {
         for piece in [1, 3] {

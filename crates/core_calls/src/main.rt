@@ -1,5 +1,5 @@
-//! Makes calls on names, plans, tasks and their parts, and lines, for tests: standard input says which one, as `call_words`
-//! tells.
+//! Makes calls on names, plans, tasks and their parts, and lines, for tests: standard input says which one, as
+//! `call_words` tells.
 #![tactic(auto)]
 
 mod changes;

@@ -86,8 +86,8 @@ fn are_same_names(names: &Items<Items<u8>>, others: &Items<Items<u8>>) -> bool {
     names == others
 }
 
-/// `Plan::new` of steps with `|` between them, behind a cost and its words: the text of the plan. It could show that the
-/// definition of a plan allows another step, or counts steps from 0.
+/// `Plan::new` of steps with `|` between them, behind a cost and its words: the text of the plan. It could show that
+/// the definition of a plan allows another step, or counts steps from 0.
 fn new_plan<R: AllocGlobal + Print>(rt: &R, count: usize, words: &[u8]) -> Result<(), AllocError> {
     let (cost, words) = cut(words, b' ');
     let (kind, names) = cut(words, b' ');

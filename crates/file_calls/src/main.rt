@@ -1,5 +1,5 @@
-//! Makes calls on the files of tasks and plans, read from devices and in pieces, for tests: standard input says which one, as
-//! `call_words` tells.
+//! Makes calls on the files of tasks and plans, read from devices and in pieces, for tests: standard input says which
+//! one, as `call_words` tells.
 #![tactic(auto)]
 
 mod fault_words;

@@ -41,8 +41,8 @@ fn request_of(name: &str) -> Request {
     }
 }
 
-/// The task and the plan that bytes are: a plan, a `|` and a task where a plan is to solve a task, else both are the same
-/// file.
+/// The task and the plan that bytes are: a plan, a `|` and a task where a plan is to solve a task, else both are the
+/// same file.
 fn inputs(request: Request, bytes: &[u8]) -> (&[u8], &[u8]) {
     if request == Request::Plan {
         let (plan, task) = cut(bytes, b'|');
@@ -100,8 +100,8 @@ fn say_answer<P: Print>(out: &P, answer: &Result<Status, ToolFault>, written: &[
     }
 }
 
-/// `run` over these inputs, and a writer that then fails behind so many bytes. It could show that it always wants memory,
-/// writes before its answer is whole, or writes where the answer is empty.
+/// `run` over these inputs, and a writer that then fails behind so many bytes. It could show that it always wants
+/// memory, writes before its answer is whole, or writes where the answer is empty.
 fn run_whole<R: AllocGlobal + Print>(
     rt: &R,
     count: usize,
@@ -130,8 +130,8 @@ fn run_broken<R: AllocGlobal + Print>(
     Ok(())
 }
 
-/// The same, where the task comes whole, and only the plan's device fails. It could show a plan that is read before the task
-/// was found to be layered.
+/// The same, where the task comes whole, and only the plan's device fails. It could show a plan that is read before the
+/// task was found to be layered.
 fn run_broken_plan<R: AllocGlobal + Print>(
     rt: &R,
     request: Request,
@@ -173,8 +173,8 @@ fn is_plan_failure(
     Ok(result == Err(ToolFault::Read) && written.kept().is_empty())
 }
 
-/// The length of the first front of a plan with another answer where its device then fails. It could show a failure that is
-/// passed over where the verdict is known before, or is told of the task.
+/// The length of the first front of a plan with another answer where its device then fails. It could show a failure
+/// that is passed over where the verdict is known before, or is told of the task.
 fn wrong_plan_front(
     alloc: Global,
     request: Request,
@@ -192,8 +192,8 @@ fn wrong_plan_front(
     Ok(None)
 }
 
-/// The length of the first front of a file with another answer where the devices then fail. It could show a failure that is
-/// taken for the end.
+/// The length of the first front of a file with another answer where the devices then fail. It could show a failure
+/// that is taken for the end.
 fn wrong_front(alloc: Global, request: Request, file: &[u8]) -> Result<Option<usize>, AllocError> {
     for length in 0..=file.len() {
         let front = &file[..length];
@@ -234,8 +234,8 @@ fn is_right_room(
     )
 }
 
-/// The least room, up to that of the answer, with which a writer doesn't get so much of it, or the answer isn't that. It could
-/// show bytes that go out twice or not at all.
+/// The least room, up to that of the answer, with which a writer doesn't get so much of it, or the answer isn't that.
+/// It could show bytes that go out twice or not at all.
 fn wrong_room(alloc: Global, request: Request, bytes: &[u8]) -> Result<Option<usize>, AllocError> {
     let files = inputs(request, bytes);
     let ample = Narrow::new(alloc, ROOM, ROOM, true)?;

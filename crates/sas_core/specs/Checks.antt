@@ -1,8 +1,10 @@
 -- The rules of a task file as tests in the order of the file, each with the fault that it finds.
-use Rattle.std.specs.Prelude.{◌≡◌, ℕ, ◌↔◌, ◌==◌, Bool, not, nat_lt, if◌then◌else◌, List, [], ◌∷◌, ◌++◌, length, zip, flat_map, Option, Some, None}
+use Rattle.std.specs.Prelude.{◌≡◌, ℕ, ◌↔◌, ◌==◌, Bool, not, nat_lt, if◌then◌else◌}
+use Rattle.std.specs.Prelude.{List, [], ◌∷◌, ◌++◌, length, zip, flat_map, Option, Some, None}
 use Rattle.std.specs.List.{list_all}
 use Rattle.sas_core.specs.declared.checks.PartsFault.{PartsFault}
-use Rattle.sas_core.specs.declared.checks.PartsFault.TheVariants.{NoVariable, TooMany, BadName, BadNumber, BadRange, BadFact, InitLength}
+use Rattle.sas_core.specs.declared.checks.PartsFault.TheVariants.{NoVariable, TooMany, BadName, BadNumber}
+use Rattle.sas_core.specs.declared.checks.PartsFault.TheVariants.{BadRange, BadFact, InitLength}
 use Rattle.sas_core.specs.declared.parts.Fact.{Fact}
 use Rattle.sas_core.specs.declared.parts.Variable.{Variable}
 use Rattle.sas_core.specs.declared.parts.Effect.{Effect}
@@ -57,7 +59,8 @@ change_checks variables var (Some old) new =
     check (has_value variables var old) BadFact ++ check (has_value variables var new) BadFact
 
 abbrev pub effect_checks : List Variable → Effect → List (Check PartsFault)
-effect_checks variables e = listed TooMany (fact_checks variables) e.conditions ++ change_checks variables e.var e.old e.new
+effect_checks variables e =
+    listed TooMany (fact_checks variables) e.conditions ++ change_checks variables e.var e.old e.new
 
 abbrev pub operator_checks : List Variable → Operator → List (Check PartsFault)
 operator_checks variables o =
@@ -67,11 +70,13 @@ operator_checks variables o =
     ++ check (is_number o.cost) BadNumber
 
 abbrev pub rule_checks : List Variable → Rule → List (Check PartsFault)
-rule_checks variables r = listed TooMany (fact_checks variables) r.conditions ++ change_checks variables r.var r.old r.new
+rule_checks variables r =
+    listed TooMany (fact_checks variables) r.conditions ++ change_checks variables r.var r.old r.new
 
 -- whether each value is in the range of the variable at its place
 abbrev pub values_in_range : List Variable → List ℕ → Bool
-values_in_range variables values = list_all (λ (p : Variable × ℕ). nat_lt p.1 (length p.0.values)) (zip variables values)
+values_in_range variables values =
+    list_all (λ (p : Variable × ℕ). nat_lt p.1 (length p.0.values)) (zip variables values)
 
 abbrev pub state_checks : List Variable → List ℕ → List (Check PartsFault)
 state_checks variables values =

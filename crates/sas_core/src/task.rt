@@ -33,12 +33,12 @@ impl Task {
     /// The task of these parts, if they are well ranged; else their first fault in the order of the file, and the parts
     /// unchanged. It takes no memory.
     ///
-    /// That order is: `NoVariable`, and `TooMany` variables; per variable its name, its layer, `BadRange` where it has no
-    /// value, the number and the names of its values; the number of groups, and per group the number of its facts and
-    /// these; `InitLength`, and the values of the state section; the goal; the number of operators, and per operator its
-    /// name, the number of its prevail conditions and these, the number of its effects and these, and its cost; the
-    /// number of rules, and these. Of an effect or a rule the number of its conditions and these come first, then its
-    /// variable with its old and its new value.
+    /// That order is: `NoVariable`, and `TooMany` variables; per variable its name, its layer, `BadRange` where it has
+    /// no value, the number and the names of its values; the number of groups, and per group the number of its facts
+    /// and these; `InitLength`, and the values of the state section; the goal; the number of operators, and per
+    /// operator its name, the number of its prevail conditions and these, the number of its effects and these, and its
+    /// cost; the number of rules, and these. Of an effect or a rule the number of its conditions and these come first,
+    /// then its variable with its old and its new value.
     pub fn new(parts: Parts) -> Result<Task, (Parts, PartsFault)>
         ensures well_ranged { IsOk result ↔ WellRanged parts }
         ensures task { IfOk result (λ t. t ≡ parts) }

@@ -14,12 +14,13 @@ pub struct Change {
     pub new: u32,
 }
 
-/// A grounded task. All that gives a task meaning asks it through these calls; what it says is the value `says`, the parts
-/// of a task file. Variables, operators, effects, rules and groups are named by their place, counted from 0.
+/// A grounded task. All that gives a task meaning asks it through these calls; what it says is the value `says`, the
+/// parts of a task file. Variables, operators, effects, rules and groups are named by their place, counted from 0.
 pub trait Grounded {
     ghost use Rattle.std.specs.Prelude.{◌≡◌, ◌<◌, length, slice_index};
     ghost use Rattle.sas_core.specs.declared.parts.Parts.{Parts};
-    ghost use Rattle.sas_grounded.specs.Grounded.{operator_at, effect_at, rule_at, group_at, effect_change, rule_change};
+    ghost use Rattle.sas_grounded.specs.Grounded.{operator_at, effect_at, rule_at};
+    ghost use Rattle.sas_grounded.specs.Grounded.{group_at, effect_change, rule_change};
     ghost use Rattle.sas_core.specs.Tasks.{cost_of};
     ghost use Rattle.sas_core.specs.Variables.{range_of, layer_of};
     ghost use Rattle.sas_core.specs.WellRanged.{WellRanged};

@@ -1,5 +1,5 @@
--- Which facts can't hold together, and which operators keep a group. Groups are lists of facts, taken as sets; which of them
--- count is said by a condition on groups, `Counts`.
+-- Which facts can't hold together, and which operators keep a group. Groups are lists of facts, taken as sets; which of
+-- them count is said by a condition on groups, `Counts`.
 use Rattle.std.specs.Prelude.{◌≡◌, ◌≢◌, ◌⊎◌, List, [], ◌∷◌, ◌++◌, All, Contains}
 use Rattle.sas_core.specs.declared.parts.Fact.{Fact}
 use Rattle.sas_core.specs.declared.parts.Effect.{Effect}
@@ -40,11 +40,13 @@ pub record IsRemoved (o : Operator) (facts : List Fact) (fact : Fact) : Type 0 w
   pub var : effect.var ≡ fact.var
   pub other : effect.new ≢ fact.value
 
--- (ii) where an effect sets a fact of the group, and another fact of it on another variable held before, what holds when it
--- fires clashes, or that other fact is removed
+-- (ii) where an effect sets a fact of the group, and another fact of it on another variable held before, what holds
+-- when it fires clashes, or that other fact is removed
 abbrev pub RemovesOthers : (List Fact → Type 0) → Operator → List Fact → Type 0
-RemovesOthers Counts o group = (e : Effect) (f : Fact) → Contains o.effects e → Contains group (sets e) → Contains group f → e.var ≢ f.var
-    → Clash Counts (preconditions o ++ e.conditions ++ f ∷ []) ⊎ IsRemoved o (preconditions o ++ e.conditions ++ f ∷ []) f
+RemovesOthers Counts o group = (e : Effect) (f : Fact) → Contains o.effects e
+    → Contains group (sets e) → Contains group f → e.var ≢ f.var
+    → Clash Counts (preconditions o ++ e.conditions ++ f ∷ [])
+    ⊎ IsRemoved o (preconditions o ++ e.conditions ++ f ∷ []) f
 
 -- the operator keeps the group
 pub record Keeps (Counts : List Fact → Type 0) (o : Operator) (group : List Fact) : Type 0 where

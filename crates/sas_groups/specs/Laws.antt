@@ -27,7 +27,8 @@ ExclusiveJointlyIsInvariant = (p : Parts) (place : ℕ) (s : List ℕ) → IsLay
 
 -- two families that are kept jointly are one together
 abbrev pub FamiliesUnite : Type 0
-FamiliesUnite = (p : Parts) (a b : ℕ → Bool) → IsKeptJointly p a → IsKeptJointly p b → IsKeptJointly p (λ place. a place || b place)
+FamiliesUnite = (p : Parts) (a b : ℕ → Bool) → IsKeptJointly p a → IsKeptJointly p b
+    → IsKeptJointly p (λ place. a place || b place)
 
 -- there is a greatest family; no test is given for it, so it is only said that there can't be none
 abbrev pub GreatestExists : Type 0
@@ -35,7 +36,8 @@ GreatestExists = (p : Parts) → ((family : ℕ → Bool) → IsGreatest p famil
 
 -- and one only: two have the same groups
 abbrev pub GreatestIsOne : Type 0
-GreatestIsOne = (p : Parts) (a b : ℕ → Bool) → IsGreatest p a → IsGreatest p b → (place : ℕ) → IsIn p a place → IsIn p b place
+GreatestIsOne = (p : Parts) (a b : ℕ → Bool) → IsGreatest p a → IsGreatest p b
+    → (place : ℕ) → IsIn p a place → IsIn p b place
 
 -- it has every group that is exclusive alone
 abbrev pub GreatestHasAlone : Type 0

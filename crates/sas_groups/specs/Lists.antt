@@ -16,7 +16,8 @@ conditions_of (Some e) = e.conditions
 
 -- what is left of `Facts`
 abbrev pub facts_left : Facts → List Fact
-facts_left it = it.prevail.now ++ (filter_map old_fact it.effects.now ++ (it.first.now ++ (it.second.now ++ option_to_list it.extra)))
+facts_left it = it.prevail.now
+    ++ (filter_map old_fact it.effects.now ++ (it.first.now ++ (it.second.now ++ option_to_list it.extra)))
 
 -- an operator's preconditions, and two lists of facts
 abbrev pub known : Operator → List Fact → List Fact → List Fact

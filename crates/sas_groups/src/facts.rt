@@ -7,9 +7,9 @@ ghost use Rattle.sas_groups.specs.Lists.{facts_left, conditions_of};
 
 use sas_core::{Effect, Fact, Operator};
 
-/// An iterator over the facts that hold where up to two effects of an operator fire: its prevail conditions, the old values
-/// that its effects ask for, the conditions of the first effect and of the second, and one fact more. It copies nothing and
-/// takes no memory; what it has still to give is `facts_left`.
+/// An iterator over the facts that hold where up to two effects of an operator fire: its prevail conditions, the old
+/// values that its effects ask for, the conditions of the first effect and of the second, and one fact more. It copies
+/// nothing and takes no memory; what it has still to give is `facts_left`.
 #[derive(Clone, Copy)]
 pub struct Facts<'a> {
     prevail: &'a [Fact],

@@ -15,8 +15,8 @@ use sas_meaning::Layered;
 
 /// Whether the group is exclusive by itself, its facts alone being known to exclude each other. It takes no memory.
 ///
-/// The order is: a fact on a derived variable; two different facts that hold in the state section; the first operator that
-/// doesn't keep the group.
+/// The order is: a fact on a derived variable; two different facts that hold in the state section; the first operator
+/// that doesn't keep the group.
 pub fn check_group<T: Grounded>(layered: &Layered<T>, group: &[Fact]) -> Verdict
     requires { All (FactExists layered.now.variables) group.now }
     ensures { IsVerdictAlone layered.now group.now result }

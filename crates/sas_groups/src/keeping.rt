@@ -60,9 +60,11 @@ fn not_both<T: Grounded>(task: &T, operator: u32, group: &[Fact], effect: u32, o
     requires effect { effect < length (operator_at (T.says task.now) operator).effects }
     requires other { other < length (operator_at (T.says task.now) operator).effects }
     ensures yes { IsTrue result → NotBoth (Alone group.now) (operator_at (T.says task.now) operator) group.now
-        (effect_at (operator_at (T.says task.now) operator) effect) (effect_at (operator_at (T.says task.now) operator) other) }
+        (effect_at (operator_at (T.says task.now) operator) effect)
+        (effect_at (operator_at (T.says task.now) operator) other) }
     ensures no { IsFalse result → NotBoth (Alone group.now) (operator_at (T.says task.now) operator) group.now
-        (effect_at (operator_at (T.says task.now) operator) effect) (effect_at (operator_at (T.says task.now) operator) other)
+        (effect_at (operator_at (T.says task.now) operator) effect)
+        (effect_at (operator_at (T.says task.now) operator) other)
         → ⊥ }
 {
     let change = task.effect_change(operator, effect);

@@ -8,7 +8,8 @@ use sas_core::Fact;
 use sas_grounded::Grounded;
 use sas_meaning::Preconditions;
 
-/// An iterator over an operator's preconditions, then the facts of two lists. What it has still to give is `known_left`.
+/// An iterator over an operator's preconditions, then the facts of two lists.
+/// What it has still to give is `known_left`.
 #[derive(Drop)]
 pub struct Known<'a, T: Grounded> {
     preconditions: Preconditions<'a, T>,

@@ -1,10 +1,12 @@
 // Laws of groups.
-ghost use Rattle.sas_groups.specs.Laws.{JointlyKeptIsExclusive, ExclusiveAloneIsInvariant, ExclusiveJointlyIsInvariant, FamiliesUnite, GreatestExists, GreatestIsOne, GreatestHasAlone, OutsideIsBroken, JointVerdictIsOne, SomeJointVerdict};
+ghost use Rattle.sas_groups.specs.Laws.{JointlyKeptIsExclusive, ExclusiveAloneIsInvariant};
+ghost use Rattle.sas_groups.specs.Laws.{ExclusiveJointlyIsInvariant, FamiliesUnite, GreatestExists, GreatestIsOne};
+ghost use Rattle.sas_groups.specs.Laws.{GreatestHasAlone, OutsideIsBroken, JointVerdictIsOne, SomeJointVerdict};
 
 /// What holds of groups. Invariance: no reachable state of a layered task holds two different facts of a group that is
-/// exclusive, alone or jointly, or of any family that is kept jointly. Two such families are one together, and there is one
-/// greatest; it has every group that is exclusive alone, and a group outside it that may be exclusive isn't kept by all
-/// operators under it and itself. Each group has exactly one joint verdict.
+/// exclusive, alone or jointly, or of any family that is kept jointly. Two such families are one together, and there is
+/// one greatest; it has every group that is exclusive alone, and a group outside it that may be exclusive isn't kept by
+/// all operators under it and itself. Each group has exactly one joint verdict.
 pub fn group_laws()
     ensures invariance { JointlyKeptIsExclusive }
     ensures alone { ExclusiveAloneIsInvariant }

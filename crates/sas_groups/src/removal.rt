@@ -19,7 +19,8 @@ fn is_known<T: Grounded>(
 ) -> bool
     requires { operator < length (T.says task.now).operators }
     ensures yes { IsTrue result → Contains (known (operator_at (T.says task.now) operator) first.now second.now) fact }
-    ensures no { IsFalse result → Contains (known (operator_at (T.says task.now) operator) first.now second.now) fact → ⊥ }
+    ensures no { IsFalse result
+        → Contains (known (operator_at (T.says task.now) operator) first.now second.now) fact → ⊥ }
 {
     for g in Known::new(task, operator, first, second) {
         if g == fact {
@@ -38,7 +39,8 @@ fn all_known<T: Grounded>(
     conditions: &[Fact],
 ) -> bool
     requires { operator < length (T.says task.now).operators }
-    ensures yes { IsTrue result → All (Contains (known (operator_at (T.says task.now) operator) first.now second.now)) conditions.now }
+    ensures yes { IsTrue result
+        → All (Contains (known (operator_at (T.says task.now) operator) first.now second.now)) conditions.now }
     ensures no { IsFalse result
         → All (Contains (known (operator_at (T.says task.now) operator) first.now second.now)) conditions.now → ⊥ }
 {

@@ -1,5 +1,6 @@
 -- Lines: every byte list is some complete lines, each with its line end, and a rest without LF.
-use Rattle.std.specs.Prelude.{◌≡◌, ◌≢◌, ℕ, ◌+◌, ◌≤◌, Bool, true, false, length, List, [], ◌∷◌, ◌++◌, ◌==◌, if◌then◌else◌, take}
+use Rattle.std.specs.Prelude.{◌≡◌, ◌≢◌, ℕ, ◌+◌, ◌≤◌, Bool, true, false, ◌==◌, if◌then◌else◌}
+use Rattle.std.specs.Prelude.{List, [], ◌∷◌, ◌++◌, length, take}
 use Rattle.std.specs.List.{flat_map, AllByRecursion}
 use Rattle.sas_lines.specs.Parts.{parts}
 
@@ -39,7 +40,8 @@ NoEnd bytes = AllByRecursion (λ b. b ≢ 10) bytes
 
 -- a feed takes its piece up to and with the first LF, or all of it where there is none
 abbrev pub TakesLine : List ℕ → ℕ → Bool → Type 0
-TakesLine piece taken true = (front rest : List ℕ) × NoEnd front × (piece ≡ front ++ 10 ∷ rest) × (taken ≡ length front + 1)
+TakesLine piece taken true = (front rest : List ℕ)
+    × NoEnd front × (piece ≡ front ++ 10 ∷ rest) × (taken ≡ length front + 1)
 TakesLine piece taken false = NoEnd piece × (taken ≡ length piece)
 
 -- a line stands first in the bytes, and takes n of them with its end

@@ -1,5 +1,6 @@
 // Devices that note a failure.
-ghost use Rattle.std.specs.Prelude.{◌≡◌, ◌≤◌, ◌<◌, ◌↔◌, [], take, length, true, false, OnOk, IfOk, IfErr, IsErr, IsTrue};
+ghost use Rattle.std.specs.Prelude.{◌≡◌, ◌≤◌, ◌<◌, ◌↔◌, [], take, length};
+ghost use Rattle.std.specs.Prelude.{true, false, OnOk, IfOk, IfErr, IsErr, IsTrue};
 ghost use Rattle.std.specs.Io.KnownBytes.{ReadConsumes, WriteAppends, Appends};
 ghost use Rattle.sas_lines.specs.Device.{Device};
 

@@ -1,5 +1,6 @@
 // The lines of a stream, however it is cut into pieces.
-ghost use Rattle.std.specs.Prelude.{◌≡◌, ◌<◌, [], ◌∷◌, ◌++◌, take, false, true, IfOk, OnErr, IfSome, IfNone, if◌then◌else◌};
+ghost use Rattle.std.specs.Prelude.{◌≡◌, ◌<◌, [], ◌∷◌, ◌++◌, take, false, true};
+ghost use Rattle.std.specs.Prelude.{IfOk, OnErr, IfSome, IfNone, if◌then◌else◌};
 ghost use Rattle.sas_lines.specs.Lines.{lines, unfinished, without_return, NoEnd, TakesLine, LineStandsFirst};
 ghost use Rattle.sas_lines.specs.Progress.{completed};
 
@@ -76,7 +77,10 @@ impl Model for Lines {
 
     ghost Value = { Progress };
 
-    ghost view = { λ l. record { line = if l.complete then l.held.items else []; pending = if l.complete then [] else l.held.items } };
+    ghost view = { λ l. record {
+      line = if l.complete then l.held.items else [];
+      pending = if l.complete then [] else l.held.items;
+    } };
 
     ghost invariant = { λ l. NoEnd l.held.items };
 }

@@ -1,5 +1,6 @@
 // Numbers from their spelling.
-ghost use Rattle.std.specs.Prelude.{◌≡◌, ◌<◌, ◌≤◌, ◌^◌, ◌↔◌, ℕ, Option, Some, None, IfSome, IfNone, IsTrue, length, slice_index, decimal};
+ghost use Rattle.std.specs.Prelude.{◌≡◌, ◌<◌, ◌≤◌, ◌^◌, ◌↔◌, ℕ, Option, Some, None};
+ghost use Rattle.std.specs.Prelude.{IfSome, IfNone, IsTrue, length, slice_index, decimal};
 ghost use Rattle.sas_core.specs.Numbers.{IsNumber, IsSigned, IsPlanCost};
 ghost use Rattle.sas_lines.specs.Spelling.{SpellingIsDecimal, signed_decimal};
 

@@ -41,7 +41,8 @@ impl<'a> Read for Breaks<'a> {
         // As many as there are and as there is room for.
         ensures count { (self.old.bytes ≡ [] → ⊥) → result ≡ Ok (min (length self.old.bytes) (length buf.old)) }
         ensures copied { IfOk result (λ n. buf.new ≡ take n self.old.bytes ++ drop n buf.old) }
-        ensures rest { IfOk result (λ n. self.new ≡ record { bytes = drop n self.old.bytes; interrupted = self.old.interrupted }) }
+        ensures rest { IfOk result (λ n.
+            self.new ≡ record { bytes = drop n self.old.bytes; interrupted = self.old.interrupted }) }
         // It fails when all bytes were given, and changes nothing then.
         ensures fails { self.old.bytes ≡ [] → IsErrAnd result (λ e. error_kind e ≡ break_kind self.old.interrupted) }
         ensures unchanged { OnErr result (self.new ≡ self.old) }
@@ -81,8 +82,8 @@ impl Model for Narrow {
 }
 
 impl Narrow {
-    /// Takes at most `piece` bytes at a time, and `room` in all. It then fails if `fails`, and else takes none. An `Err`
-    /// comes only for want of memory.
+    /// Takes at most `piece` bytes at a time, and `room` in all. It then fails if `fails`, and else takes none. An
+    /// `Err` comes only for want of memory.
     pub fn new(alloc: Global, piece: usize, room: usize, fails: bool) -> Result<Narrow, AllocError>
         ensures { IfOk result (λ n. n ≡ record { kept = []; piece = piece; room = room; fails = fails }) }
     {

@@ -6,7 +6,8 @@ use Rattle.sas_meaning.specs.States.{AllHold}
 use Rattle.sas_meaning.specs.Layers.{IsOnLayer, default_of, CanFire}
 use Rattle.sas_meaning.specs.Settled.{new_value_of, IsClosed, differs}
 
--- on this layer a variable differs from its default only if every closed set has it, and then it has its rules' new value
+-- on this layer a variable differs from its default only if every closed set has it,
+-- and then it has its rules' new value
 pub record OnlyForced (t : Parts) (layer : ℕ) (s : List ℕ) : Type 0 where
   pub new : (v : ℕ) → IsOnLayer t layer v → IsTrue (differs t s v) → slice_index s v ≡ new_value_of t v
   pub least : (set : ℕ → Bool) → IsClosed t layer s set
@@ -20,7 +21,8 @@ equal_places (x ∷ xs) (y ∷ ys) = (if x == y then 1 else 0) + equal_places xs
 
 -- the rule has given its variable its value, where it is on the layer and fires
 abbrev pub HasFired : Parts → ℕ → List ℕ → Rule → Type 0
-HasFired t layer s rule = IsOnLayer t layer rule.var → CanFire t rule → AllHold (slice_index s) rule.conditions → slice_index s rule.var ≡ rule.new
+HasFired t layer s rule = IsOnLayer t layer rule.var → CanFire t rule
+    → AllHold (slice_index s) rule.conditions → slice_index s rule.var ≡ rule.new
 
 -- the rule is on the layer, fires, and has not given its variable its value yet
 pub record Changes (t : Parts) (layer : ℕ) (s : List ℕ) (rule : Rule) : Type 0 where

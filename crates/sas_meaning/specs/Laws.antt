@@ -11,7 +11,8 @@ use Rattle.sas_meaning.specs.Reachable.{IsInitial}
 
 -- each choice of basic values has a settled state
 abbrev pub SettledExists : Type 0
-SettledExists = (p : Parts) (s : List ℕ) → WellRanged p → IsLayered p → IsState p.variables s → (s' : List ℕ) × Settles p s s'
+SettledExists = (p : Parts) (s : List ℕ) → WellRanged p → IsLayered p → IsState p.variables s
+    → (s' : List ℕ) × Settles p s s'
 
 -- and one alone
 abbrev pub SettledIsOne : Type 0

@@ -1,5 +1,6 @@
 -- The conditions of a layered task as tests in order, each with the fault that it finds.
-use Rattle.std.specs.Prelude.{◌≡◌, ◌↔◌, ℕ, ◌==◌, ◌&&◌, ◌||◌, Bool, not, nat_lt, nat_le, if◌then◌else◌, is_some, true, List, [], ◌++◌, take, flat_map, None}
+use Rattle.std.specs.Prelude.{◌≡◌, ◌↔◌, ℕ, ◌==◌, ◌&&◌, ◌||◌, Bool, not, nat_lt, nat_le}
+use Rattle.std.specs.Prelude.{if◌then◌else◌, is_some, true, List, [], ◌++◌, take, flat_map, None}
 use Rattle.std.specs.List.{list_all, enumerate_from}
 use Rattle.std.specs.Option.{option_map_or}
 use Rattle.sas_core.specs.declared.parts.Fact.{Fact}
@@ -10,7 +11,8 @@ use Rattle.sas_core.specs.declared.parts.Parts.{Parts}
 use Rattle.sas_core.specs.Checks.{Check, first_fault, check}
 use Rattle.sas_core.specs.Variables.{layer_of}
 use Rattle.sas_meaning.specs.declared.layered.LayerFault.{LayerFault}
-use Rattle.sas_meaning.specs.declared.layered.LayerFault.TheVariants.{EffectOnDerived, RuleOnBasic, OldValue, TwoValues, LayerOrder}
+use Rattle.sas_meaning.specs.declared.layered.LayerFault.TheVariants.{EffectOnDerived, RuleOnBasic}
+use Rattle.sas_meaning.specs.declared.layered.LayerFault.TheVariants.{OldValue, TwoValues, LayerOrder}
 use Rattle.sas_meaning.specs.Layers.{default_of, can_fire, IsLayered}
 
 -- the checks of each item in turn, which is named by its place

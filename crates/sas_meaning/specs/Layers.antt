@@ -25,8 +25,8 @@ CanFire p rule = rule.new ≢ default_of p rule.var
 abbrev pub can_fire : Parts → Rule → Bool
 can_fire p rule = not (rule.new == default_of p rule.var)
 
--- a condition of a rule for this variable, where it is on a derived variable: that is on the same layer or on a lower one,
--- and on a lower one where its default is asked for
+-- a condition of a rule for this variable, where it is on a derived variable: that is on the same layer or on a lower
+-- one, and on a lower one where its default is asked for
 abbrev pub LooksDown : Parts → ℕ → Fact → Type 0
 LooksDown p var condition = (here its : ℕ) → IsOnLayer p here var → IsOnLayer p its condition.var
     → (its ≤ here) × (condition.value ≡ default_of p condition.var → its < here)

@@ -13,11 +13,11 @@ is_on_layer p layer var = option_map_or (λ its. its == layer) (layer_of p.varia
 
 -- the new value of the variable's rules that can fire, of which a layered task has one; where none can, the default
 abbrev pub new_value_of : Parts → ℕ → ℕ
-new_value_of p var =
-    option_map_or (λ (rule : Rule). rule.new) (find (λ (rule : Rule). (rule.var == var) && can_fire p rule) p.rules) (default_of p var)
+new_value_of p var = option_map_or (λ (rule : Rule). rule.new)
+    (find (λ (rule : Rule). (rule.var == var) && can_fire p rule) p.rules) (default_of p var)
 
--- a variable's value where of this layer just the variables of the set get their rules' new value: the others of the layer
--- have their default, and all others their value in the state s
+-- a variable's value where of this layer just the variables of the set get their rules' new value: the others of the
+-- layer have their default, and all others their value in the state s
 abbrev pub given : Parts → ℕ → List ℕ → (ℕ → Bool) → ℕ → ℕ
 given p layer s set var =
     if is_on_layer p layer var

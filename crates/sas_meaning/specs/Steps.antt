@@ -26,7 +26,8 @@ pub record Step (p : Parts) (s : List ℕ) (o : Operator) (s' : List ℕ) : Type
   -- its preconditions hold in s
   pub applicable : AllHold (slice_index s) (preconditions o)
   -- no two effects that fire in s set one variable to different values
-  pub agree : All (λ (e : Effect). All (λ (f : Effect). Fires s e → Fires s f → e.var ≡ f.var → e.new ≡ f.new) o.effects) o.effects
+  pub agree : All (λ (e : Effect). All (λ (f : Effect). Fires s e → Fires s f
+      → e.var ≡ f.var → e.new ≡ f.new) o.effects) o.effects
   -- s' is a settled state of the task
   pub state : IsState p.variables s'
   pub settled : IsSettled p s'

@@ -3,8 +3,8 @@ ghost use Rattle.sas_meaning.specs.LayerChecks.{LayerChecksAreTheRules};
 ghost use Rattle.sas_meaning.specs.Laws.{SettledExists, SettledIsOne, InitialExists, InitialIsOne, StepIsOne};
 
 /// What holds of each layered task: each choice of basic values has exactly one settled state, so there is exactly one
-/// initial state, and a step of an operator leads to one state at most. And the checks of layers find a fault exactly where
-/// a task isn't layered.
+/// initial state, and a step of an operator leads to one state at most. And the checks of layers find a fault exactly
+/// where a task isn't layered.
 pub fn meaning_laws()
     ensures checks { LayerChecksAreTheRules }
     ensures settled { SettledExists }

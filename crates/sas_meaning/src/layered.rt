@@ -21,8 +21,8 @@ pub enum LayerFault {
     OldValue { rule: u32 },
     /// The rule can fire, and so can an earlier rule of its variable with another new value.
     TwoValues { rule: u32 },
-    /// The rule can fire, and its condition is on a derived variable of a higher layer, or of the same layer and asks for
-    /// its default.
+    /// The rule can fire, and its condition is on a derived variable of a higher layer, or of the same layer and asks
+    /// for its default.
     LayerOrder { rule: u32, condition: u32 },
     /// Memory was refused.
     Memory,
@@ -61,9 +61,9 @@ impl<T: Grounded> Layered<T> {
 
     /// The task, if it is layered; else its first fault, and the task unchanged.
     ///
-    /// The order is: over the operators, and in each over its effects, `EffectOnDerived`; then over the rules, and in each
-    /// `RuleOnBasic` and, where the rule can fire, `OldValue`, `TwoValues`, and `LayerOrder` for its first such condition.
-    /// `Memory` may come at any point.
+    /// The order is: over the operators, and in each over its effects, `EffectOnDerived`; then over the rules, and in
+    /// each `RuleOnBasic` and, where the rule can fire, `OldValue`, `TwoValues`, and `LayerOrder` for its first such
+    /// condition. `Memory` may come at any point.
     pub fn new(alloc: Global, task: T) -> Result<Layered<T>, (T, LayerFault)>
         ensures task { IfOk result (λ l. l ≡ T.says task) }
         ensures layered { IfOk result (λ l. IsLayered l) }

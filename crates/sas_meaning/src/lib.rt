@@ -1,4 +1,5 @@
-//! What a task means: which tasks are layered, states, settled states, preconditions, steps, and which states can be reached.
+//! What a task means: which tasks are layered, states, settled states, preconditions, steps,
+//! and which states can be reached.
 #![tactic(auto)]
 
 mod laws;

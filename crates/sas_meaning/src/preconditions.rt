@@ -7,8 +7,8 @@ use sas_core::Fact;
 use sas_grounded::Grounded;
 use std::marker::Model;
 
-/// An iterator over an operator's preconditions: its prevail conditions, then the old values that its effects ask for. It
-/// takes no memory. In a contract it is the facts that it has still to give.
+/// An iterator over an operator's preconditions: its prevail conditions, then the old values that its effects ask for.
+/// It takes no memory. In a contract it is the facts that it has still to give.
 #[derive(Drop)]
 pub struct Preconditions<'a, T: Grounded> {
     task: &'a T,

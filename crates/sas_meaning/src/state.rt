@@ -1,5 +1,6 @@
 // States of a task.
-ghost use Rattle.std.specs.Prelude.{◌≡◌, ◌<◌, ◌↔◌, Some, List, ℕ, length, slice_get, slice_index, slice_set, IfOk, IsErrOf, IsTrue, IsFalse};
+ghost use Rattle.std.specs.Prelude.{◌≡◌, ◌<◌, ◌↔◌, Some, List, ℕ, length};
+ghost use Rattle.std.specs.Prelude.{slice_get, slice_index, slice_set, IfOk, IsErrOf, IsTrue, IsFalse};
 ghost use Rattle.sas_core.specs.Variables.{IsState};
 
 use sas_core::{Fact, Items};
@@ -41,8 +42,8 @@ impl From<AllocError> for StateFault {
 }
 
 impl State {
-    /// The state with these values, if they are one for each variable of the task, each in its range. Whether they are is
-    /// tested before memory is asked for.
+    /// The state with these values, if they are one for each variable of the task, each in its range. Whether they are
+    /// is tested before memory is asked for.
     pub fn of<T: Grounded>(alloc: Global, task: &T, values: &[u32]) -> Result<State, StateFault>
         ensures values { IfOk result (λ s. s ≡ values.now) }
         ensures fits { IfOk result (λ s. IsState (T.says task.now).variables s) }

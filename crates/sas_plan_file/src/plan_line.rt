@@ -97,8 +97,8 @@ fn in_parentheses(line: &[u8]) -> Option<&[u8]>
     }
 }
 
-/// The name of the step whose line stands first in the bytes, where that is quick to see: there is no CR before its LF. All
-/// else is left to `plan_line`.
+/// The name of the step whose line stands first in the bytes, where that is quick to see: there is no CR before its LF.
+/// All else is left to `plan_line`.
 pub fn step_ahead(bytes: &[u8]) -> Option<&[u8]>
     ensures { IfSome result (λ name. StepStandsFirst bytes.now name.now) }
 {

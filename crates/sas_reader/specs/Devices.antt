@@ -1,5 +1,6 @@
 -- What is read of a device: an answer for its bytes, or why there is none.
-use Rattle.std.specs.Prelude.{◌≡◌, ◌≢◌, ◌↔◌, ℕ, ◌+◌, List, ◌++◌, length, Option, Result, Ok, IfOk, IfErr, IsErrAnd, IsTrue}
+use Rattle.std.specs.Prelude.{◌≡◌, ◌≢◌, ◌↔◌, ℕ, ◌+◌, List, ◌++◌, length}
+use Rattle.std.specs.Prelude.{Option, Result, Ok, IfOk, IfErr, IsErrAnd, IsTrue}
 use Rattle.std.specs.Io.KnownBytes.{Consumes, IsAtEnd}
 use Rattle.sas_lines.specs.Device.{Device}
 use Rattle.sas_lines.specs.Lines.{lines, text}
@@ -17,10 +18,11 @@ module _ {V I S : Type 0} (F : Format V I S) where
   abbrev pub TextOf : List ℕ → List ℕ → Type 0
   TextOf input bytes = (v : V) × ValueOf input v × (bytes ≡ text (lines_of F v))
 
-  -- Why an input is refused, by the bytes of it that were read: a read failed behind live bytes, on the line after their
-  -- complete ones; or the bytes are all, and more was due; or they have a fault.
+  -- Why an input is refused, by the bytes of it that were read: a read failed behind live bytes, on the line after
+  -- their complete ones; or the bytes are all, and more was due; or they have a fault.
   pub data Refuses (bytes : List ℕ) (At_end : Type 0) (f : Fault) : Type 0 where
-    unread_at : Live F most_bytes bytes → f.line ≡ length (lines bytes) + 1 → f.kind ≡ kinds.Read → Refuses bytes At_end f
+    unread_at : Live F most_bytes bytes → f.line ≡ length (lines bytes) + 1 → f.kind ≡ kinds.Read
+        → Refuses bytes At_end f
     ended_at : At_end → EndOf F most_bytes bytes f → Refuses bytes At_end f
     faulty_at : FaultOf F most_bytes bytes f → f.kind ≢ kinds.Read → Refuses bytes At_end f
 
@@ -36,7 +38,8 @@ module _ {D : Type 0} (left : D → Option (List ℕ)) where
 
   -- What a call says that reads a device to its end or to the first fault. `Gives` says which answer is right for which
   -- bytes.
-  pub record ReadsAll {V I S A : Type 0} (F : Format V I S) (Gives : List ℕ → A → Type 0) (old new : Device D) (result : Result A Fault) : Type 0 where
+  pub record ReadsAll {V I S A : Type 0} (F : Format V I S) (Gives : List ℕ → A → Type 0)
+      (old new : Device D) (result : Result A Fault) : Type 0 where
     -- what was read is all, and the answer is right for it
     pub read : IfOk result (λ a. (bytes : List ℕ) × WasReadWhole old new bytes × Gives bytes a)
     -- or what was read shows the fault, unless memory was refused

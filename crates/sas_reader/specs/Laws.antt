@@ -42,14 +42,16 @@ module _ {V I S : Type 0} (F : Format V I S) where
 
   -- bytes without a fault can't but be live
   abbrev pub FaultlessIsLive : Type 0
-  FaultlessIsLive = (limit : ℕ) (bytes : List ℕ) → ((f : Fault) → FaultOf F limit bytes f → ⊥) → (Live F limit bytes → ⊥) → ⊥
+  FaultlessIsLive = (limit : ℕ) (bytes : List ℕ) → ((f : Fault) → FaultOf F limit bytes f → ⊥)
+      → (Live F limit bytes → ⊥) → ⊥
 
   -- bytes have one fault at most, and however they go on it stays their fault
   abbrev pub OneFault : Type 0
   OneFault = (limit : ℕ) (bytes : List ℕ) (f g : Fault) → FaultOf F limit bytes f → FaultOf F limit bytes g → f ≡ g
 
   abbrev pub FaultStays : Type 0
-  FaultStays = (limit : ℕ) (bytes more : List ℕ) (f : Fault) → FaultOf F limit bytes f → FaultOf F limit (bytes ++ more) f
+  FaultStays = (limit : ℕ) (bytes more : List ℕ) (f : Fault) → FaultOf F limit bytes f
+      → FaultOf F limit (bytes ++ more) f
 
   -- no text begins with bytes that have a fault, other than that they are too long
   abbrev pub FaultIsNoText : Type 0

@@ -1,5 +1,6 @@
 -- What a reader that takes a text in pieces stands for.
-use Rattle.std.specs.Prelude.{◌≡◌, ◌≢◌, ◌⊎◌, ◌↔◌, ℕ, ◌+◌, ◌<◌, ◌≤◌, List, [], ◌∷◌, ◌++◌, length, take, Option, Some, None, Result, Err, IfOk, IfErr, OnOk, IsErrAnd, IsTrue}
+use Rattle.std.specs.Prelude.{◌≡◌, ◌≢◌, ◌⊎◌, ◌↔◌, ℕ, ◌+◌, ◌<◌, ◌≤◌, List, [], ◌∷◌, ◌++◌, length, take}
+use Rattle.std.specs.Prelude.{Option, Some, None, Result, Err, IfOk, IfErr, OnOk, IsErrAnd, IsTrue}
 use Rattle.std.specs.Io.KnownBytes.{Consumes, IsAtEnd}
 use Rattle.sas_lines.specs.Device.{Device}
 use Rattle.sas_lines.specs.Lines.{lines, unfinished, without_return}
@@ -42,7 +43,8 @@ module _ {M : Type 0} (led_by : List (List ℕ) → M → Type 0) (ended : M →
     pub open_still : ended machine → ⊥
     pub room : length (bytes ++ take at piece) < limit
 
-module _ {M : Type 0} (led_by : List (List ℕ) → M → Type 0) (ended : M → Type 0) (rejects : M → List ℕ → Kind → Type 0) where
+module _ {M : Type 0} (led_by : List (List ℕ) → M → Type 0) (ended : M → Type 0)
+    (rejects : M → List ℕ → Kind → Type 0) where
   -- why the byte may not follow these bytes, which led the machine here
   pub data Stops (limit : ℕ) (machine : M) (bytes : List ℕ) (byte : ℕ) (k : Kind) : Type 0 where
     full : length bytes ≡ limit → k ≡ kinds.TooLong → Stops limit machine bytes byte k
@@ -75,7 +77,8 @@ module _ {M : Type 0} (led_by : List (List ℕ) → M → Type 0) (ended : M →
   pub record TookFront (old new : Reader M) (piece : List ℕ) (n : ℕ) : Type 0 where
     pub within : n ≤ length piece
     pub count : new.taken ≡ old.taken + n
-    pub accepted : (bytes : List ℕ) → Accepted led_by ended old bytes → Accepted led_by ended new (bytes ++ take n piece)
+    pub accepted : (bytes : List ℕ) → Accepted led_by ended old bytes
+        → Accepted led_by ended new (bytes ++ take n piece)
 
   -- the reader was stopped in the piece: a byte of it may not follow, or memory was refused where a line is due
   pub record Stopped (old new : Reader M) (piece : List ℕ) (k : Kind) : Type 0 where
@@ -95,7 +98,8 @@ module _ {M : Type 0} (led_by : List (List ℕ) → M → Type 0) (ended : M →
   -- ---- all pieces
 
   -- what a reader says that takes a piece
-  pub record TakesPiece (old : Reader M) (piece : List ℕ) (new : Reader M) (result : Result (Unit {0}) Fault) : Type 0 where
+  pub record TakesPiece (old : Reader M) (piece : List ℕ) (new : Reader M)
+      (result : Result (Unit {0}) Fault) : Type 0 where
     -- it stands for what it stood for, followed by the piece
     pub stands : (bytes : List ℕ) → Stands old bytes → Stands new (bytes ++ piece)
     -- its first fault is answered from then on

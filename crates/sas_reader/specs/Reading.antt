@@ -5,8 +5,8 @@ use Rattle.sas_reader.specs.declared.fault.Kind.TheVariants as kinds
 use Rattle.sas_reader.specs.Faults.{IsOfBytes, answer}
 use Rattle.sas_reader.specs.Format.{Format, Live, FaultOf, MoreIsDue, ReadsAs}
 
--- how a reader R of a format is seen: by the byte lists that it stands for, its first fault, where one has come, and the
--- most bytes that it takes
+-- how a reader R of a format is seen: by the byte lists that it stands for, its first fault, where one has come, and
+-- the most bytes that it takes
 pub record View (V I S R : Type 0) : Type 1 where
   pub format : Format V I S
   pub Stands : R → List ℕ → Type 0
@@ -36,8 +36,8 @@ module _ {V I S R : Type 0} (view : View V I S R) where
     -- a new fault is one that bytes show as they come
     pub kind : IfErr result (λ f. view.fault old ≡ None → IsOfBytes f.kind)
     -- memory is wanted only where more is due behind live bytes
-    pub memory : IfErr result (λ f. view.fault old ≡ None → f.kind ≡ kinds.Memory → (bytes : List ℕ) → view.Stands old bytes
-        → MoreIsDue view.format (view.limit old) bytes piece)
+    pub memory : IfErr result (λ f. view.fault old ≡ None → f.kind ≡ kinds.Memory
+        → (bytes : List ℕ) → view.Stands old bytes → MoreIsDue view.format (view.limit old) bytes piece)
     pub limit : view.limit new ≡ view.limit old
 
   -- what a reader says at the end

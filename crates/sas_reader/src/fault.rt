@@ -7,8 +7,8 @@ pub enum Kind {
     Keyword,
     /// A name was due and the line isn't one; in a plan, the line begins with `(` and isn't a step line.
     Name,
-    /// The line isn't made of the numbers due, in their count and spelling; in a plan, the line begins like the cost line
-    /// and isn't one.
+    /// The line isn't made of the numbers due, in their count and spelling; in a plan, the line begins like the cost
+    /// line and isn't one.
     Shape,
     /// In a task: the line has its shape, and a number in it isn't allowed there.
     Value,

@@ -1,5 +1,6 @@
 // Reads a text that comes in pieces, whichever its format: a machine judges one line after another.
-ghost use Rattle.std.specs.Prelude.{◌≡◌, ◌≢◌, ◌≤◌, ◌<◌, ◌+◌, ◌-◌, ◌^◌, ◌↔◌, ℕ, List, [], ◌∷◌, ◌++◌, length, take, Some, None, Err, IfOk, IfErr, IfSome, IfNone, OnOk, IsTrue};
+ghost use Rattle.std.specs.Prelude.{◌≡◌, ◌≢◌, ◌≤◌, ◌<◌, ◌+◌, ◌-◌, ◌^◌, ◌↔◌, ℕ, List, [], ◌∷◌, ◌++◌, length};
+ghost use Rattle.std.specs.Prelude.{take, Some, None, Err, IfOk, IfErr, IfSome, IfNone, OnOk, IsTrue};
 ghost use Rattle.sas_reader.specs.Faults.{IsOfBytes};
 ghost use Rattle.sas_reader.specs.Limit.{most_bytes};
 ghost use Rattle.sas_reader.specs.Machine.{AcceptsAhead};
@@ -156,7 +157,8 @@ impl<M: Machine> Reader<M> {
         }
     }
 
-    /// Takes some of the first lines of the piece if the machine is quick to see that they may stand here, else nothing.
+    /// Takes some of the first lines of the piece if the machine is quick to see that they may stand here,
+    /// else nothing.
     fn take_ahead(&mut self, piece: &[u8]) -> Result<usize, Kind>
         requires some { 0 < length piece.now }
         requires room { self.old.taken + length piece.now ≤ self.old.limit }

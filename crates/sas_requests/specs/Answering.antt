@@ -22,8 +22,8 @@ abbrev pub Answers : (Option Output → Type 0) → Result Answer ToolFault → 
 Answers Out (Ok answer) = Out (Some (output_of answer))
 Answers Out (Err why) = why ≡ fault.TooLong → Out None
 
--- What the answer to a request over one file says, before anything of it is written. `left` tells the bytes that a device
--- has left, if it tells them, and `FileOutput` the output about the bytes of a file.
+-- What the answer to a request over one file says, before anything of it is written. `left` tells the bytes that a
+-- device has left, if it tells them, and `FileOutput` the output about the bytes of a file.
 module _ {D : Type 0} (left : D → Option (List ℕ)) (FileOutput : List ℕ → Option Output → Type 0) where
   pub record AnswersFile (old new : Device D) (result : Result Answer ToolFault) : Type 0 where
     -- of an input whose bytes are known, the answer is its output
@@ -35,8 +35,8 @@ module _ {D : Type 0} (left : D → Option (List ℕ)) (FileOutput : List ℕ �
     pub reads : IsErrOf result fault.Read ↔ IsTrue new.failed
     pub writes : IfErr result (λ e. IsWrite e → ⊥)
 
--- And what it says over two files, of which the plan is read only where the task is known to be layered. `left_task` and
--- `left_plan` tell the bytes that the devices have left, and `FilesOutput` the output about the bytes of both.
+-- And what it says over two files, of which the plan is read only where the task is known to be layered. `left_task`
+-- and `left_plan` tell the bytes that the devices have left, and `FilesOutput` the output about the bytes of both.
 module _ {T P : Type 0} (left_task : T → Option (List ℕ)) (left_plan : P → Option (List ℕ)) where
   pub record AnswersFiles (FilesOutput : List ℕ → List ℕ → Option Output → Type 0) (old_task new_task : Device T)
       (old_plan new_plan : Device P) (result : Result Answer ToolFault) : Type 0 where

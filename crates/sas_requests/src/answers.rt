@@ -1,9 +1,11 @@
 // The answer to each request, before anything of it is written.
-ghost use Rattle.std.specs.Prelude.{◌≡◌, ◌↔◌, ◌⊎◌, ◌||◌, List, ℕ, false, Some, IfOk, IfErr, IsErrAnd, IsErrOf, IsFalse, IsTrue};
+ghost use Rattle.std.specs.Prelude.{◌≡◌, ◌↔◌, ◌⊎◌, ◌||◌, ℕ, List, false, Some};
+ghost use Rattle.std.specs.Prelude.{IfOk, IfErr, IsErrAnd, IsErrOf, IsFalse, IsTrue};
 ghost use Rattle.std.specs.Io.KnownBytes.{Appends, Consumes};
 ghost use Rattle.sas_requests.specs.Answering.{Answers, AnswersFile, output_of};
 ghost use Rattle.sas_requests.specs.Ending.{Ends, IsDecided, IsWrite};
-ghost use Rattle.sas_requests.specs.Output.{Out, ShowOut, PrintOut, StepsOut, CheckOut, MutexOut, AreInputs, IsLayeredText, reads_plan, reads_task, refusal, refusal_line, word_of};
+ghost use Rattle.sas_requests.specs.Output.{Out, ShowOut, PrintOut, StepsOut, CheckOut, MutexOut, AreInputs};
+ghost use Rattle.sas_requests.specs.Output.{IsLayeredText, reads_plan, reads_task, refusal, refusal_line, word_of};
 
 use crate::groups::groups_answer;
 use crate::layers::layers_answer;
@@ -56,8 +58,8 @@ pub fn answer_to<T: Read, P: Read>(
     }
 }
 
-/// Writes an answer. At an `Err` without a write nothing was written; it then comes for want of memory. Not to be called
-/// after a failure.
+/// Writes an answer. At an `Err` without a write nothing was written; it then comes for want of memory. Not to be
+/// called after a failure.
 pub fn write_answer<W: Write>(
     alloc: Global,
     answer: &Answer,

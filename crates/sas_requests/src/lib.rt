@@ -9,7 +9,8 @@ mod pieces;
 mod plans;
 mod summary;
 
-ghost use Rattle.std.specs.Prelude.{◌≡◌, ◌⊎◌, ◌↔◌, ◌||◌, false, List, ℕ, Some, IfErr, IfOk, IsErrAnd, IsErrOf, IsFalse, IsTrue};
+ghost use Rattle.std.specs.Prelude.{◌≡◌, ◌⊎◌, ◌↔◌, ◌||◌, false, List, ℕ, Some};
+ghost use Rattle.std.specs.Prelude.{IfErr, IfOk, IsErrAnd, IsErrOf, IsFalse, IsTrue};
 ghost use Rattle.std.specs.Io.KnownBytes.{Appends, Consumes};
 ghost use Rattle.sas_requests.specs.Output.{Out, AreInputs, IsLayeredText, reads_plan, reads_task};
 ghost use Rattle.sas_requests.specs.Headline.{Headline, Invariants};
@@ -76,14 +77,15 @@ impl From<AllocError> for ToolFault {
     }
 }
 
-/// Answers the request about the inputs. `Show`, `Print`, `Check` and `Mutex` read the task alone, and `Steps` the plan; `Plan`
-/// reads the task, and then the plan if the task is layered. Nothing is written before the answer is known, so at any fault
-/// but `Write` nothing was written, and at `Write` the first bytes of the answer. A fault of a file's content is no fault of
-/// the run: the answer then is a refusal, and the status `No`; so it is where `Check`, `Plan` or `Mutex` finds that the
-/// task isn't layered, where the plan isn't valid, and where a group isn't shown to be exclusive. Not to be called with a device that has failed.
+/// Answers the request about the inputs. `Show`, `Print`, `Check` and `Mutex` read the task alone, and `Steps` the
+/// plan; `Plan` reads the task, and then the plan if the task is layered. Nothing is written before the answer is
+/// known, so at any fault but `Write` nothing was written, and at `Write` the first bytes of the answer. A fault of a
+/// file's content is no fault of the run: the answer then is a refusal, and the status `No`; so it is where `Check`,
+/// `Plan` or `Mutex` finds that the task isn't layered, where the plan isn't valid, and where a group isn't shown to be
+/// exclusive. Not to be called with a device that has failed.
 ///
-/// The theorem, `output`, holds for every reader that tells its bytes, such as one over memory. The code is generic, and so
-/// the same for a file, which tells none; that a file gives what the disk holds is trusted.
+/// The theorem, `output`, holds for every reader that tells its bytes, such as one over memory. The code is generic,
+/// and so the same for a file, which tells none; that a file gives what the disk holds is trusted.
 pub fn run<T: Read, P: Read, W: Write>(
     alloc: Global,
     request: Request,

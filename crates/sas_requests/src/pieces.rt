@@ -1,5 +1,6 @@
 // A text that goes out in pieces.
-ghost use Rattle.std.specs.Prelude.{◌≡◌, ◌≤◌, ◌+◌, ◌↔◌, [], ◌++◌, length, false, IfOk, IfErr, IsErr, IsTrue, OnOk, flat_map};
+ghost use Rattle.std.specs.Prelude.{◌≡◌, ◌≤◌, ◌+◌, ◌↔◌, [], ◌++◌, length, false};
+ghost use Rattle.std.specs.Prelude.{IfOk, IfErr, IsErr, IsTrue, OnOk, flat_map};
 ghost use Rattle.std.specs.Io.KnownBytes.{Appends};
 ghost use Rattle.sas_requests.specs.Pieces.{Breaks, CountsOn, PutsOrBreaks};
 
@@ -42,8 +43,8 @@ impl Pieces {
         })
     }
 
-    /// Puts the bytes behind what has come. What is held goes out where there is no room for them behind it; and they go
-    /// out themselves, without a copy, where they are longer than a piece. Not to be called after a failure.
+    /// Puts the bytes behind what has come. What is held goes out where there is no room for them behind it; and they
+    /// go out themselves, without a copy, where they are longer than a piece. Not to be called after a failure.
     pub fn push<W: Write>(&mut self, out: &mut Watched<W>, bytes: &[u8]) -> Result<(), Short>
         requires { out.old.failed ≡ false }
         ensures puts { PutsOrBreaks (W.contents out.old.device) (W.contents out.new.device) self.old self.new

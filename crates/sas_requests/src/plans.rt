@@ -4,7 +4,8 @@ ghost use Rattle.sas_run.specs.Plans.{IsValid};
 ghost use Rattle.sas_run.specs.Verdicts.{IsFaultOf};
 ghost use Rattle.sas_requests.specs.Answering.{AnswersFile, AnswersFiles, output_of};
 ghost use Rattle.sas_requests.specs.Output.{PlanOut, VerdictAnswer, VerdictOut, invalid_answer, layers_refusal};
-ghost use Rattle.sas_requests.specs.PlanWords.{valid_line, fault_words, step_words, goal_words, cost_words, invalid_line};
+ghost use Rattle.sas_requests.specs.PlanWords.{valid_line, fault_words, step_words};
+ghost use Rattle.sas_requests.specs.PlanWords.{goal_words, cost_words, invalid_line};
 
 use crate::answers::{Answer, refuse};
 use crate::layers::refuse_layers;

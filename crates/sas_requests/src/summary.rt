@@ -1,5 +1,6 @@
 // The summary of a task, written as it is made: it may be far longer than the task.
-ghost use Rattle.std.specs.Prelude.{◌≡◌, ◌<◌, ◌^◌, ◌⊎◌, ◌↔◌, [], ◌∷◌, ◌++◌, length, false, Some, IfErr, IfOk, IsErr, IsErrAnd, IsTrue, OnOk};
+ghost use Rattle.std.specs.Prelude.{◌≡◌, ◌<◌, ◌^◌, ◌⊎◌, ◌↔◌, [], ◌∷◌, ◌++◌, length, false};
+ghost use Rattle.std.specs.Prelude.{Some, IfErr, IfOk, IsErr, IsErrAnd, IsTrue, OnOk};
 ghost use Rattle.std.specs.Io.KnownBytes.{Appends};
 ghost use Rattle.sas_lines.specs.Lines.{text};
 ghost use Rattle.sas_requests.specs.Ending.{Ends, IsWrite};

@@ -1,4 +1,5 @@
--- What follows: a plan of a layered task is valid in one way, or has exactly one fault; where its steps lead is reachable.
+-- What follows: a plan of a layered task is valid in one way, or has exactly one fault;
+-- where its steps lead is reachable.
 use Rattle.std.specs.Prelude.{◌≡◌, ◌⊎◌, ℕ, List}
 use Rattle.sas_core.specs.declared.parts.Parts.{Parts}
 use Rattle.sas_core.specs.PlanParts.{PlanParts}
@@ -25,12 +26,15 @@ ValidIsOne = (p : Parts) (plan : PlanParts) (a b : List ℕ) → IsLayered p →
 
 -- and has one fault at most
 abbrev pub FaultIsOne : Type 0
-FaultIsOne = (p : Parts) (plan : PlanParts) (a b : PlanFault) → IsLayered p → IsFaultOf p plan a → IsFaultOf p plan b → a ≡ b
+FaultIsOne = (p : Parts) (plan : PlanParts) (a b : PlanFault) → IsLayered p
+    → IsFaultOf p plan a → IsFaultOf p plan b → a ≡ b
 
 -- steps that go through from the initial state lead to a reachable one
 abbrev pub LeadsToReachable : Type 0
-LeadsToReachable = (p : Parts) (steps : List (List ℕ)) (operators last : List ℕ) → LeadsTo p steps operators last → Reachable p last
+LeadsToReachable = (p : Parts) (steps : List (List ℕ)) (operators last : List ℕ) → LeadsTo p steps operators last
+    → Reachable p last
 
 -- so the last state of a valid plan is reachable
 abbrev pub LastIsReachable : Type 0
-LastIsReachable = (p : Parts) (plan : PlanParts) (operators : List ℕ) (valid : IsValid p plan operators) → Reachable p valid.last
+LastIsReachable = (p : Parts) (plan : PlanParts) (operators : List ℕ) (valid : IsValid p plan operators)
+    → Reachable p valid.last

@@ -13,8 +13,8 @@ use Rattle.sas_run.specs.Names.{IsNextNamed}
 abbrev pub is_called : List ℕ → NameKey → Bool
 is_called name key = pointwise nat_eq name key.bytes.now
 
--- The map tells of each name the lowest operator of it, or that no operator has it; the table tells of each operator the
--- next one of its name, or that there is none.
+-- The map tells of each name the lowest operator of it, or that no operator has it; the table tells of each operator
+-- the next one of its name, or that there is none.
 pub record AreNames (p : Parts) (names : Names) : Type 0 where
   pub first : (name : List ℕ) → IsNextNamed p name 0 (get_by (is_called name) names.first)
   pub one_each : length names.next.items ≡ length p.operators

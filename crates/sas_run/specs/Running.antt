@@ -1,5 +1,6 @@
 -- What the calls of a runner say.
-use Rattle.std.specs.Prelude.{◌≡◌, ◌≢◌, ℕ, ◌<◌, ◌≤◌, ◌+◌, ◌++◌, ◌∷◌, List, length, All, slice_index, slice_index_or, Option, None, Some, Result, Ok, Err}
+use Rattle.std.specs.Prelude.{◌≡◌, ◌≢◌, ℕ, ◌<◌, ◌≤◌, ◌+◌, ◌++◌, ◌∷◌, List, length, All}
+use Rattle.std.specs.Prelude.{slice_index, slice_index_or, Option, None, Some, Result, Ok, Err}
 use Rattle.sas_core.specs.declared.parts.Fact.{Fact}
 use Rattle.sas_core.specs.declared.parts.Effect.{Effect}
 use Rattle.sas_core.specs.declared.parts.Operator.{Operator}
@@ -20,7 +21,8 @@ use Rattle.sas_run.specs.Verdicts.{IsFirstMissed}
 -- which operator a name means in a state: no operator has the name, none that has it is applicable, or the chosen one
 abbrev pub IsChoice : Parts → List ℕ → List ℕ → Choice → Type 0
 IsChoice p s name Unknown = (operator : ℕ) → IsNamed p name operator → ⊥
-IsChoice p s name Blocked = ((operator : ℕ) × IsNamed p name operator) × ((operator : ℕ) → IsChosen p s name operator → ⊥)
+IsChoice p s name Blocked = ((operator : ℕ) × IsNamed p name operator)
+    × ((operator : ℕ) → IsChosen p s name operator → ⊥)
 IsChoice p s name (Found operator) = IsChosen p s name operator
 
 -- the first operator from this one on that has its name and is applicable, if there is one
@@ -40,7 +42,8 @@ pub record Contradicts (e f : Effect) : Type 0 where
 
 -- no two effects that fire contradict each other
 abbrev pub Agree : List ℕ → List Effect → Type 0
-Agree s effects = All (λ (e : Effect). All (λ (f : Effect). Fires s e → Fires s f → e.var ≡ f.var → e.new ≡ f.new) effects) effects
+Agree s effects = All (λ (e : Effect). All (λ (f : Effect). Fires s e → Fires s f
+    → e.var ≡ f.var → e.new ≡ f.new) effects) effects
 
 -- the first effect that fires and contradicts an earlier one that fires
 pub record IsFirstConflict (s : List ℕ) (o : Operator) (effect : ℕ) : Type 0 where
@@ -50,7 +53,8 @@ pub record IsFirstConflict (s : List ℕ) (o : Operator) (effect : ℕ) : Type 0
   pub before : earlier < effect
   pub earlier_fires : Fires s (effect_at o earlier)
   pub contradicts : Contradicts (effect_at o earlier) (effect_at o effect)
-  pub first : (e f : ℕ) → e < f → f < effect → Fires s (effect_at o e) → Fires s (effect_at o f) → Contradicts (effect_at o e) (effect_at o f) → ⊥
+  pub first : (e f : ℕ) → e < f → f < effect → Fires s (effect_at o e) → Fires s (effect_at o f)
+      → Contradicts (effect_at o e) (effect_at o f) → ⊥
 
 -- the fact is the first of the facts that doesn't hold
 abbrev pub IsFirstMissedFact : (ℕ → ℕ) → List Fact → Fact → Type 0
@@ -69,7 +73,8 @@ pub record IsApplied (p : Parts) (s : List ℕ) (o : Operator) (s' : List ℕ) :
   pub agree : Agree s o.effects
   pub state : IsState p.variables s'
   pub set : All (λ (e : Effect). Fires s e → slice_index s' e.var ≡ e.new) o.effects
-  pub kept : (var : ℕ) → All (λ (e : Effect). Fires s e → e.var ≢ var) o.effects → slice_index s' var ≡ slice_index s var
+  pub kept : (var : ℕ) → All (λ (e : Effect). Fires s e → e.var ≢ var) o.effects
+      → slice_index s' var ≡ slice_index s var
 
 -- the effects were done, or refused with the state as it was
 abbrev pub Applies : Parts → List ℕ → ℕ → List ℕ → Result (Unit {0}) StepFault → Type 0
@@ -106,7 +111,9 @@ StopsAt p s name step plan_fault.Memory = ⊥
 
 -- all steps go through from the state s, or those before one that stops
 abbrev pub GoesThrough : Parts → List ℕ → List (List ℕ) → List ℕ → List ℕ → Result (Unit {0}) PlanFault → Type 0
-GoesThrough p s steps operators s' (Ok _) = GoThrough p s steps operators s' × IsState p.variables s' × All (λ (o : ℕ). o < length p.operators) operators
+GoesThrough p s steps operators s' (Ok _) = GoThrough p s steps operators s'
+    × IsState p.variables s'
+    × All (λ (o : ℕ). o < length p.operators) operators
 GoesThrough p s steps operators s' (Err fault) = (before behind : List (List ℕ)) × (name mid : List ℕ)
     × (steps ≡ before ++ name ∷ behind)
     × GoThrough p s before operators mid

@@ -7,7 +7,8 @@ use Rattle.sas_core.specs.PlanParts.{PlanParts}
 use Rattle.sas_meaning.specs.States.{Holds, AllHold}
 use Rattle.sas_meaning.specs.Steps.{Step}
 use Rattle.sas_run.specs.declared.plan_check.PlanFault.{PlanFault}
-use Rattle.sas_run.specs.declared.plan_check.PlanFault.TheVariants.{Memory, NoOperator, NotApplicable, Conflict, GoalMissed, CostDiffers}
+use Rattle.sas_run.specs.declared.plan_check.PlanFault.TheVariants.{Memory, NoOperator, NotApplicable}
+use Rattle.sas_run.specs.declared.plan_check.PlanFault.TheVariants.{Conflict, GoalMissed, CostDiffers}
 use Rattle.sas_run.specs.Plans.{IsNamed, IsChosen, LeadsTo, cost_of_all}
 
 -- the steps before this one, counted from 1, go through and lead to the state s; the name is its own

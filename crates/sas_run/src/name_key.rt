@@ -8,8 +8,8 @@ ghost use Rattle.sas_run.specs.NameTable.{is_called};
 use indexmap::Equivalent;
 use std::hash::{Hash, Hasher};
 
-/// A name whose bytes stand elsewhere. They are compared at once, and go to a hasher at once, where a list of bytes goes
-/// byte by byte.
+/// A name whose bytes stand elsewhere. They are compared at once, and go to a hasher at once, where a list of bytes
+/// goes byte by byte.
 #[derive(Clone, Copy)]
 pub struct NameKey<'a> {
     pub(crate) bytes: &'a [u8],

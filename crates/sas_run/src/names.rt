@@ -26,8 +26,8 @@ pub struct LookedUp<'n> {
 }
 
 impl<'a> Names<'a> {
-    /// The names of the task's operators. It goes from the last operator to the first, so that the lowest one of each name
-    /// comes last.
+    /// The names of the task's operators. It goes from the last operator to the first, so that the lowest one of each
+    /// name comes last.
     pub fn new<T: Grounded>(alloc: Global, task: &'a T) -> Result<Names<'a>, AllocError>
         ensures { IfOk result (λ names. AreNames (T.says task.now) names) }
     {

@@ -1,5 +1,6 @@
 // Whether a plan is valid.
-ghost use Rattle.std.specs.Prelude.{◌≡◌, ◌≢◌, ◌<◌, ◌≤◌, ◌++◌, ◌∷◌, [], length, All, IfOk, IfErr, OnOk, OnErr, vec_capacity};
+ghost use Rattle.std.specs.Prelude.{◌≡◌, ◌≢◌, ◌<◌, ◌≤◌, ◌++◌, ◌∷◌, [], length};
+ghost use Rattle.std.specs.Prelude.{All, IfOk, IfErr, OnOk, OnErr, vec_capacity};
 ghost use Rattle.sas_grounded.specs.Grounded.{operator_at};
 ghost use Rattle.sas_core.specs.Variables.{IsState};
 ghost use Rattle.sas_run.specs.Plans.{IsValid, GoThrough, cost_of_all};
@@ -48,8 +49,8 @@ impl From<AllocError> for PlanFault {
 }
 
 impl<'a, E: Settle<T> + Drop, T: Grounded> Runner<'a, E, T> {
-    /// Whether the plan is valid: its operators and its cost, or its fault. A step means the lowest-numbered operator of its
-    /// name that is applicable. All memory is asked for before the first step.
+    /// Whether the plan is valid: its operators and its cost, or its fault. A step means the lowest-numbered operator
+    /// of its name that is applicable. All memory is asked for before the first step.
     pub fn check_plan<P: Stepwise>(&mut self, alloc: Global, plan: &P) -> Result<Valid, PlanFault>
         ensures valid { IfOk result (λ v. IsValid self.old (P.says plan.now) v.operators.items) }
         ensures cost { IfOk result (λ v. v.cost ≡ (P.says plan.now).cost) }
@@ -74,8 +75,8 @@ impl<'a, E: Settle<T> + Drop, T: Grounded> Runner<'a, E, T> {
         })
     }
 
-    /// Makes the plan's steps in turn, and adds their operators, for which there is room. A name that comes several times in
-    /// a row is looked up once.
+    /// Makes the plan's steps in turn, and adds their operators, for which there is room. A name that comes several
+    /// times in a row is looked up once.
     fn go_through<P: Stepwise>(
         &mut self,
         plan: &P,

@@ -28,8 +28,8 @@ pub enum Choice {
     Found(u32),
 }
 
-/// What goes through the steps of a layered task, with an evaluator that is ready for it. In a contract it is the parts that
-/// its task says.
+/// What goes through the steps of a layered task, with an evaluator that is ready for it. In a contract it is the parts
+/// that its task says.
 #[derive(Drop)]
 pub struct Runner<'a, E: Settle<T> + Drop, T: Grounded = Task> {
     layered: &'a Layered<T>,
@@ -54,8 +54,8 @@ impl<'a, E: Settle<T> + Drop, T: Grounded> Model for Runner<'a, E, T> {
 }
 
 impl<'a, E: Settle<T> + Drop, T: Grounded> Runner<'a, E, T> {
-    /// A runner for the task, with an evaluator that is ready for it. It reserves what steps need. The evaluator comes back
-    /// where memory is refused.
+    /// A runner for the task, with an evaluator that is ready for it. It reserves what steps need. The evaluator comes
+    /// back where memory is refused.
     pub fn new(
         alloc: Global,
         layered: &'a Layered<T>,
@@ -99,8 +99,8 @@ impl<'a, E: Settle<T> + Drop, T: Grounded> Runner<'a, E, T> {
         is_applicable(self.layered.task(), state, operator)
     }
 
-    /// Which operator the name means in the state: the lowest-numbered one that has exactly this name and is applicable. It
-    /// takes no memory.
+    /// Which operator the name means in the state: the lowest-numbered one that has exactly this name and is
+    /// applicable. It takes no memory.
     pub fn choose(&self, state: &State, name: &[u8]) -> Choice
         requires { IsState self.now.variables state.now }
         ensures { IsChoice self.now state.now name.now result }

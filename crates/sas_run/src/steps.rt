@@ -39,8 +39,8 @@ pub fn missed_precondition<T: Grounded>(task: &T, operator: u32, state: &State) 
     None
 }
 
-/// Does what the effects that fire do, where the preconditions hold, unless two of the effects conflict. What is given to
-/// variables meanwhile is nothing again in the end.
+/// Does what the effects that fire do, where the preconditions hold, unless two of the effects conflict. What is given
+/// to variables meanwhile is nothing again in the end.
 pub fn apply<T: Grounded>(
     task: &T,
     operator: u32,
@@ -64,8 +64,8 @@ pub fn apply<T: Grounded>(
     Ok(())
 }
 
-/// Gives each variable what the effects that fire set it to, up to the first that conflicts with an earlier one: that is
-/// the answer.
+/// Gives each variable what the effects that fire set it to, up to the first that conflicts with an earlier one: that
+/// is the answer.
 fn give_effects<T: Grounded>(
     task: &T,
     operator: u32,

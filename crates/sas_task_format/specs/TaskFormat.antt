@@ -23,7 +23,8 @@ pub data TaskLine : Type 0 where
   word : List ℕ → TaskLine
   -- the name of a variable, a value or an operator
   name : List ℕ → TaskLine
-  -- a count, or a number with a meaning of its own: the version, the metric, a range, a value in the initial state, a cost
+  -- a count, or a number with a meaning of its own: the version, the metric, a range,
+  -- a value in the initial state, a cost
   number : ℕ → TaskLine
   -- an axiom layer, if any
   signed : Option ℕ → TaskLine
@@ -64,7 +65,8 @@ head_words var old new = decimal var ∷ signed_decimal old ∷ decimal new ∷ 
 
 -- the number c of the conditions, then each as `var value`, then `var old new`: 2c + 4 words
 abbrev pub effect_words : Effect → List (List ℕ)
-effect_words e = (decimal (length e.conditions) ∷ []) ++ flat_map fact_words e.conditions ++ head_words e.var e.old e.new
+effect_words e =
+    (decimal (length e.conditions) ∷ []) ++ flat_map fact_words e.conditions ++ head_words e.var e.old e.new
 
 -- the bytes of a line; its words stand with one space between each two
 abbrev pub task_line_bytes : TaskLine → List ℕ
@@ -186,8 +188,8 @@ pub data NumbersKind (slot : TaskSlot) (bytes : List ℕ) : Kind → Type 0 wher
   no_shape : (HasShape slot bytes → ⊥) → NumbersKind slot bytes Shape
   no_value : HasShape slot bytes → NumbersKind slot bytes Value
 
--- the kind of fault of a line that may not stand: it isn't the word that was due, or no name where one was due; or it is
--- a wrong line of numbers
+-- the kind of fault of a line that may not stand: it isn't the word that was due, or no name where one was due; or it
+-- is a wrong line of numbers
 abbrev pub TaskKind : TaskSlot → List ℕ → Kind → Type 0
 TaskKind (word_slot w) bytes kind = kind ≡ Keyword
 TaskKind name_slot bytes kind = kind ≡ Name

@@ -4,16 +4,22 @@ use Rattle.std.specs.Cmp.Lexicographic.{pointwise}
 use Rattle.sas_core.specs.declared.parts.Parts.{Parts}
 use Rattle.sas_core.specs.WellRanged.{WellRanged}
 use Rattle.sas_reader.specs.Format.{IsBegun}
-use Rattle.sas_task_format.specs.TaskFormat.{TaskLine, word, name, number, signed, fact, effect, head, TaskSlot, word_slot, name_slot, number_slot, signed_slot, fact_slot, effect_slot, head_slot, task_slot, task_line_bytes, task_layout, task_format}
+use Rattle.sas_task_format.specs.TaskFormat.{TaskLine, word, name, number, signed, fact, effect, head, TaskSlot}
+use Rattle.sas_task_format.specs.TaskFormat.{word_slot, name_slot, number_slot, signed_slot, fact_slot, effect_slot}
+use Rattle.sas_task_format.specs.TaskFormat.{head_slot, task_slot, task_line_bytes, task_layout, task_format}
 
 -- what a number is filled by, by the slot of the line before it: behind `begin_version` it is the version, 3; behind
 -- `end_metric` the number of variables, 1; behind an axiom layer a range, 1; and everywhere else 0
 abbrev pub number_filling : Option TaskSlot → ℕ
-number_filling (Some (word_slot w)) = if pointwise nat_eq w (codes "begin_version") then 3 else (if pointwise nat_eq w (codes "end_metric") then 1 else 0)
+number_filling (Some (word_slot w)) =
+    if pointwise nat_eq w (codes "begin_version")
+    then 3
+    else (if pointwise nat_eq w (codes "end_metric") then 1 else 0)
 number_filling (Some signed_slot) = 1
 number_filling _ = 0
 
--- what fills a slot: its word, the name `x`, such a number, `-1`, the fact `0 0`, the effect `0 0 -1 0`, the head `0 -1 0`
+-- what fills a slot: its word, the name `x`, such a number, `-1`, the fact `0 0`, the effect `0 0 -1 0`,
+-- the head `0 -1 0`
 abbrev pub filling : Option TaskSlot → TaskSlot → TaskLine
 filling before (word_slot w) = word w
 filling before name_slot = name (codes "x")

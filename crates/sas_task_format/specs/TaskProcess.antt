@@ -10,7 +10,8 @@ use Rattle.sas_core.specs.declared.parts.Parts.{Parts}
 use Rattle.sas_core.specs.Names.{is_name}
 use Rattle.sas_core.specs.Variables.{has_value, fact_exists}
 use Rattle.sas_task_format.specs.Process.{Process, done, Part, ◌>>=◌, ◌>>◌, a_line, a_list, each}
-use Rattle.sas_task_format.specs.TaskFormat.{TaskLine, name, number, signed, fact, effect, head, TaskSlot, word_slot, name_slot, number_slot, signed_slot, fact_slot, effect_slot, head_slot}
+use Rattle.sas_task_format.specs.TaskFormat.{TaskLine, name, number, signed, fact, effect, head, TaskSlot, word_slot}
+use Rattle.sas_task_format.specs.TaskFormat.{name_slot, number_slot, signed_slot, fact_slot, effect_slot, head_slot}
 
 -- what may still come in a task file
 abbrev pub TaskProcess : Type 0
@@ -200,7 +201,15 @@ a_task k = do
   goal ← a_goal variables
   operators ← a_list (a_number any) (an_operator variables)
   rules ← a_list (a_number any) (a_rule variables)
-  k (record { metric = metric; variables = variables; groups = groups; init = init; goal = goal; operators = operators; rules = rules })
+  k (record {
+    metric = metric;
+    variables = variables;
+    groups = groups;
+    init = init;
+    goal = goal;
+    operators = operators;
+    rules = rules;
+  })
 
 -- nothing has come
 abbrev pub task_start : TaskProcess

@@ -36,15 +36,18 @@ VariableWithRange bytes v kept = VariableAhead bytes v kept.front × (kept.range
 module _ {K : Type 0} (keeps : List (List ℕ) → SoFar → K → Type 0) where
   -- What a keeper says that may keep the section that stands first in some bytes: it keeps an A that stands there, with
   -- all its lines, or it is as it was; only memory can be refused. Its answer has the front of those lines.
-  pub record KeepsAhead {A R : Type 0} (front_in : R → Front) (Ahead : A → R → Type 0) (lines_of : A → List TaskLine) (behind : SoFar → A → SoFar) (old new : K) (result : Result R Kind) : Type 0 where
+  pub record KeepsAhead {A R : Type 0} (front_in : R → Front) (Ahead : A → R → Type 0)
+      (lines_of : A → List TaskLine) (behind : SoFar → A → SoFar) (old new : K) (result : Result R Kind) : Type 0 where
     pub took : IfOk result (λ kept. 0 < (front_in kept).bytes → (a : A) × Ahead a kept
-        × ((lines : List (List ℕ)) (s : SoFar) → keeps lines s old → keeps (lines ++ spelled (lines_of a)) (behind s a) new))
+        × ((lines : List (List ℕ)) (s : SoFar) → keeps lines s old
+        → keeps (lines ++ spelled (lines_of a)) (behind s a) new))
     pub none : IfOk result (λ kept. (front_in kept).bytes ≡ 0 → new ≡ old)
     pub memory : IfErr result (λ k. k ≡ kinds.Memory)
 
   -- the section is a variable
   abbrev pub KeepsVariable : List ℕ → K → K → Result VariableKept Kind → Type 0
-  KeepsVariable bytes = KeepsAhead (λ (kept : VariableKept). kept.front) (VariableWithRange bytes) variable_lines behind_variable
+  KeepsVariable bytes =
+      KeepsAhead (λ (kept : VariableKept). kept.front) (VariableWithRange bytes) variable_lines behind_variable
 
   -- the section is a mutex group of variables with these ranges
   abbrev pub KeepsGroup : List ℕ → List ℕ → K → K → Result Front Kind → Type 0
@@ -52,7 +55,8 @@ module _ {K : Type 0} (keeps : List (List ℕ) → SoFar → K → Type 0) where
 
   -- the section is an operator of variables with these ranges
   abbrev pub KeepsOperator : List ℕ → List ℕ → K → K → Result Front Kind → Type 0
-  KeepsOperator ranges bytes = KeepsAhead (λ (front : Front). front) (OperatorAhead ranges bytes) operator_lines behind_operator
+  KeepsOperator ranges bytes =
+      KeepsAhead (λ (front : Front). front) (OperatorAhead ranges bytes) operator_lines behind_operator
 
   -- the section is a rule for variables with these ranges
   abbrev pub KeepsRule : List ℕ → List ℕ → K → K → Result Front Kind → Type 0

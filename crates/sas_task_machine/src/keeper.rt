@@ -38,8 +38,8 @@ pub trait Keeper: Drop {
         })
     }
 
-    /// Keeps the mutex group that stands first in the bytes likewise, where it is quick to see that it may stand there for
-    /// variables with these ranges.
+    /// Keeps the mutex group that stands first in the bytes likewise, where it is quick to see that it may stand there
+    /// for variables with these ranges.
     fn keep_group(&mut self, ranges: &Items<u32>, bytes: &[u8]) -> Result<Front, Kind>
         ensures { KeepsGroup keeps ranges.now bytes.now self.old self.new result }
     {
@@ -47,7 +47,8 @@ pub trait Keeper: Drop {
     }
 
     /// Keeps the operator that stands first in the bytes, all its lines at once, where it is quick to see that it may
-    /// stand there for variables with these ranges. It tells how long the lines are, or an empty front if it kept nothing.
+    /// stand there for variables with these ranges. It tells how long the lines are,
+    /// or an empty front if it kept nothing.
     fn keep_operator(&mut self, ranges: &Items<u32>, bytes: &[u8]) -> Result<Front, Kind>
         ensures { KeepsOperator keeps ranges.now bytes.now self.old self.new result }
     {

@@ -105,7 +105,8 @@ impl<K: Keeper> TaskMachine<K> {
         }
     }
 
-    /// Takes the whole section that is due and stands first in the bytes, if its keeper keeps it. Else it takes nothing.
+    /// Takes the whole section that is due and stands first in the bytes, if its keeper keeps it.
+    /// Else it takes nothing.
     fn section_ahead(&mut self, bytes: &[u8]) -> Result<Front, Kind>
         ensures { AcceptsAhead (LedBy K.keeps) self.old bytes.now self.new result }
     {

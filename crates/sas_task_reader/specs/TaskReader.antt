@@ -6,9 +6,9 @@ use Rattle.sas_task_format.specs.TaskFormat.{TaskLine, TaskSlot, task_format}
 use Rattle.sas_task_reader.specs.declared.task_reader.TaskReader.{TaskReader}
 use Rattle.sas_task_machine.specs.TaskMachine.{LedTo, EndedAt, RejectsAt}
 
--- How a reader of tasks is seen. Without a fault it stands for the bytes that it has taken: their complete lines are those
--- that it accepted, their rest is the line that has begun, and their length is what it counted. With a fault, memory
--- aside, that is theirs.
+-- How a reader of tasks is seen. Without a fault it stands for the bytes that it has taken: their complete lines are
+-- those that it accepted, their rest is the line that has begun, and their length is what it counted. With a fault,
+-- memory aside, that is theirs.
 abbrev pub task_view : View Parts TaskLine TaskSlot TaskReader
 task_view = record {
   format = task_format;

@@ -9,15 +9,16 @@ ghost use Rattle.sas_task_judge.specs.declared.task_events.Event.TheVariants as 
 ghost use Rattle.sas_task_judge.specs.declared.task_events.Said.{Said};
 ghost use Rattle.sas_task_line.specs.Sections.{GroupAhead, OperatorAhead, RuleAhead};
 ghost use Rattle.sas_task_judge.specs.TaskEvents.{nothing_yet, after};
-ghost use Rattle.sas_task_machine.specs.Sections.{VariableWithRange, behind_variable, behind_group, behind_operator, behind_rule};
+ghost use Rattle.sas_task_machine.specs.Sections.{VariableWithRange, behind_variable};
+ghost use Rattle.sas_task_machine.specs.Sections.{behind_group, behind_operator, behind_rule};
 ghost use Rattle.sas_task_reader.specs.TaskOutline.{outline_with};
 
 use crate::fronts::NO_VARIABLE;
 use crate::outline::Outline;
 use sas_core::{Fact, Items};
 use sas_flat::{Effects, FlatTask, Operators, Rules, Variables};
-use sas_lists::Lists;
 use sas_grounded::Change;
+use sas_lists::Lists;
 use sas_reader::{Front, Kind};
 use sas_task_judge::{Event, Said};
 use sas_task_line::{Gathered, group_found, operator_found, rule_found, variable_found};
@@ -25,9 +26,9 @@ use sas_task_machine::{Keeper, VariableKept};
 use std::alloc::{AllocError, Global};
 use std::marker::Model;
 
-/// What has come, as `SoFar` has it: its parts, and what has come of a variable, group, operator or rule that has begun.
-/// What has begun is kept in memory that serves the next one too, so that a line takes none of its own. In a contract it
-/// is the `SoFar` of the same lines.
+/// What has come, as `SoFar` has it: its parts, and what has come of a variable, group, operator or rule that has
+/// begun. What has begun is kept in memory that serves the next one too, so that a line takes none of its own. In a
+/// contract it is the `SoFar` of the same lines.
 #[derive(Drop)]
 pub struct FlatSoFar {
     alloc: Global,
@@ -194,8 +195,8 @@ impl FlatSoFar {
         Ok(())
     }
 
-    /// Takes the variable that stands first in the bytes, all its lines at once, where it is found. It tells how long they
-    /// are, and how many values the variable has. After an `Err` anything may have been taken.
+    /// Takes the variable that stands first in the bytes, all its lines at once, where it is found. It tells how long
+    /// they are, and how many values the variable has. After an `Err` anything may have been taken.
     #[inline(always)]
     fn variable_ahead(&mut self, bytes: &[u8]) -> Result<VariableKept, AllocError>
         ensures took { IfOk result (λ kept. 0 < kept.front.bytes
@@ -220,7 +221,8 @@ impl FlatSoFar {
     /// Takes the mutex group that stands first in the bytes likewise. It tells how long its lines are.
     fn group_ahead(&mut self, ranges: &Items<u32>, bytes: &[u8]) -> Result<Front, AllocError>
         ensures took { IfOk result (λ front. 0 < front.bytes
-            → (facts : List Fact) × GroupAhead ranges.now bytes.now facts front × (self.new ≡ behind_group self.old facts)) }
+            → (facts : List Fact) × GroupAhead ranges.now bytes.now facts front
+            × (self.new ≡ behind_group self.old facts)) }
         ensures none { IfOk result (λ front. front.bytes ≡ 0 → self.new ≡ self.old) }
     {
         let found = group_found(ranges, bytes, &mut self.gathered)?;

@@ -11,8 +11,8 @@ use sas_task_machine::TaskMachine;
 use std::alloc::Global;
 use std::io::Read;
 
-/// Reads a task from a device as `read_task` does, into a few blocks of memory: no line takes memory of its own. The faults
-/// are those of `read_task`.
+/// Reads a task from a device as `read_task` does, into a few blocks of memory: no line takes memory of its own. The
+/// faults are those of `read_task`.
 pub fn read_flat_task<R: Read>(alloc: Global, reader: &mut Watched<R>) -> Result<FlatTask, Fault>
     requires { reader.old.failed ≡ false }
     ensures { ReadsAll R.remaining task_format (ValueOf task_format) reader.old reader.new result }

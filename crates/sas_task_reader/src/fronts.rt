@@ -18,8 +18,8 @@ pub const NO_VARIABLE: VariableKept = VariableKept {
     range: 0,
 };
 
-/// The lines of the variable that stands first in the bytes, and how many values it has, where it is found. Anything may
-/// be gathered.
+/// The lines of the variable that stands first in the bytes, and how many values it has, where it is found. Anything
+/// may be gathered.
 pub fn variable_front(bytes: &[u8], gathered: &mut Gathered) -> Result<Option<VariableKept>, Kind>
     ensures found { IfOk result (λ found. IfSome found (λ kept.
         (v : Variable) × VariableWithRange bytes.now v kept)) }

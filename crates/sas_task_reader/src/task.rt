@@ -12,11 +12,11 @@ use sas_task_machine::TaskMachine;
 use std::alloc::Global;
 use std::io::Read;
 
-/// Reads a task from a device: in pieces of at most 4,096 bytes, to its end or to the first fault. A failed read is told as
-/// `Kind::Read`, want of memory as `Kind::Memory`. Not to be called with a device that has failed.
+/// Reads a task from a device: in pieces of at most 4,096 bytes, to its end or to the first fault. A failed read is
+/// told as `Kind::Read`, want of memory as `Kind::Memory`. Not to be called with a device that has failed.
 ///
-/// What is said of the bytes is said of those that the device tells (`remaining`). A reader over memory tells them. A file
-/// or standard input tells none, and then nothing more is said than that there are such bytes.
+/// What is said of the bytes is said of those that the device tells (`remaining`). A reader over memory tells them. A
+/// file or standard input tells none, and then nothing more is said than that there are such bytes.
 pub fn read_task<R: Read>(alloc: Global, reader: &mut Watched<R>) -> Result<Task, Fault>
     requires { reader.old.failed ≡ false }
     ensures { ReadsAll R.remaining task_format (ValueOf task_format) reader.old reader.new result }

@@ -5,7 +5,9 @@ ghost use Rattle.sas_lines.specs.Lines.{text};
 ghost use Rattle.sas_lines.specs.Spelling.{signed_decimal, joined};
 ghost use Rattle.sas_reader.specs.Format.{lines_of};
 ghost use Rattle.sas_task_format.specs.TaskFormat as format;
-ghost use Rattle.sas_task_format.specs.TaskFormat.{TaskLine, line, counted, version_lines, metric_lines, variable_lines, group_lines, state_lines, goal_lines, operator_lines, rule_lines, fact_words, task_format};
+ghost use Rattle.sas_task_format.specs.TaskFormat.{TaskLine, line, counted, version_lines, metric_lines};
+ghost use Rattle.sas_task_format.specs.TaskFormat.{variable_lines, group_lines, state_lines, goal_lines};
+ghost use Rattle.sas_task_format.specs.TaskFormat.{operator_lines, rule_lines, fact_words, task_format};
 ghost use Rattle.sas_task_writer.specs.TaskText.{text_of, spaced};
 
 use sas_core::{Effect, Fact, Items, Operator, Rule, Task, Variable};

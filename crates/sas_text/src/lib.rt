@@ -1,4 +1,5 @@
-//! The two formats of text, the task file and the plan file: read in pieces with each fault at its exact place, and written.
+//! The two formats of text, the task file and the plan file: read in pieces with each fault at its exact place,
+//! and written.
 #![tactic(auto)]
 
 pub use sas_plan_file::{
