@@ -3,7 +3,7 @@ use crate::fault_words::say_fault;
 use call_words::{Asked, say};
 use sas_plan_file::PlanMachine;
 use sas_reader::{Fault, Machine, Reader};
-use sas_task_judge::SoFar;
+use sas_task_events::SoFar;
 use sas_task_machine::TaskMachine;
 
 /// Makes the call, if it is one of these: whether it is. Its kind is the limit.

@@ -12,9 +12,9 @@ use Rattle.sas_task_format.specs.TaskFormat.{TaskLine, effect, TaskSlot, number_
 use Rattle.sas_core.specs.declared.parts.Parts.{Parts}
 use Rattle.sas_core.specs.declared.parts.Variable.{Variable}
 use Rattle.sas_core.specs.Variables.{range_of}
-use Rattle.sas_task_judge.specs.declared.task_events.Event.{Event}
-use Rattle.sas_task_judge.specs.declared.task_events.Said.{Said}
-use Rattle.sas_task_judge.specs.declared.so_far.SoFar.{SoFar}
+use Rattle.sas_task_events.specs.declared.task_events.Event.{Event}
+use Rattle.sas_task_events.specs.declared.task_events.Said.{Said}
+use Rattle.sas_task_events.specs.declared.so_far.SoFar.{SoFar}
 use Rattle.sas_task_judge.specs.declared.task_judge.Place.{Place}
 use Rattle.sas_task_judge.specs.declared.task_judge.Place.TheVariants as at
 use Rattle.sas_task_judge.specs.declared.task_judge.TaskJudge.{TaskJudge}

@@ -1,3 +1,2 @@
 pub mod TaskPlaces
-pub mod TaskEvents
 pub mod TaskJudge

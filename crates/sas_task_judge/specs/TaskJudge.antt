@@ -4,8 +4,8 @@ use Rattle.sas_core.specs.declared.parts.Variable.{Variable}
 use Rattle.sas_lines.specs.Lines.{LineStandsFirst}
 use Rattle.sas_reader.specs.declared.fault.Kind.{Kind}
 use Rattle.sas_reader.specs.declared.fault.Kind.TheVariants as kinds
-use Rattle.sas_task_judge.specs.declared.task_events.Event.{Event}
-use Rattle.sas_task_judge.specs.declared.so_far.SoFar.{SoFar}
+use Rattle.sas_task_events.specs.declared.task_events.Event.{Event}
+use Rattle.sas_task_events.specs.declared.so_far.SoFar.{SoFar}
 use Rattle.sas_task_judge.specs.declared.task_judge.Place.{Place}
 use Rattle.sas_task_judge.specs.declared.task_judge.Place.TheVariants as at
 use Rattle.sas_task_judge.specs.declared.task_judge.sections.Section.{Section}
@@ -14,7 +14,7 @@ use Rattle.sas_task_judge.specs.declared.task_judge.TaskJudge.{TaskJudge}
 use Rattle.sas_reader.specs.Faults.{IsOfBytes}
 use Rattle.sas_task_format.specs.Process.{process_node, ◌>>◌}
 use Rattle.sas_reader.specs.System.{OneLine, Rejects, Takes}
-use Rattle.sas_task_judge.specs.TaskEvents.{after}
+use Rattle.sas_task_events.specs.TaskEvents.{after}
 use Rattle.sas_task_format.specs.TaskFormat.{TaskLine, task_slot, task_line_bytes, task_format, TaskLineFits}
 use Rattle.sas_task_format.specs.TaskProcess.{TaskProcess, TaskPart, a_word}
 use Rattle.sas_task_line.specs.TaskRanges.{ranges_of}

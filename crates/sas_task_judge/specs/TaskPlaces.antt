@@ -1,6 +1,6 @@
 -- The states of a task file: what may still come, by what came. They stand here from the last to the first. Each has the
 -- parts so far and, inside a list, how many are left behind those so far.
-use Rattle.std.specs.Prelude.{ℕ, false, List, [], ◌∷◌, ◌++◌, ◌==◌, nat_lt, drop, length, Option, codes}
+use Rattle.std.specs.Prelude.{ℕ, List, [], ◌∷◌, ◌++◌, ◌==◌, nat_lt, drop, length, Option, codes}
 use Rattle.sas_core.specs.declared.parts.Fact.{Fact}
 use Rattle.sas_core.specs.declared.parts.Variable.{Variable}
 use Rattle.sas_core.specs.declared.parts.Effect.{Effect}
@@ -238,7 +238,3 @@ abbrev pub version_begin : Parts → TaskProcess
 version_begin p = do
   a_word (codes "begin_version")
   version_number p
-
--- no parts have come
-abbrev pub no_parts : Parts
-no_parts = record { metric = false; variables = []; groups = []; init = []; goal = []; operators = []; rules = [] }

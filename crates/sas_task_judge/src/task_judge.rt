@@ -1,6 +1,6 @@
 // What judges the lines of a task file, one after another: whether each may stand where it stands, and what it adds.
 ghost use Rattle.std.specs.Prelude.{◌≡◌, ◌≢◌, ◌<◌, ◌≤◌, ◌-◌, ◌^◌, ◌↔◌, length, nat_lt, IsTrue, [], ◌∷◌, ◌++◌};
-ghost use Rattle.sas_task_judge.specs.declared.so_far.SoFar.{SoFar};
+ghost use Rattle.sas_task_events.specs.declared.so_far.SoFar.{SoFar};
 ghost use Rattle.sas_task_format.specs.TaskFormat as format;
 ghost use Rattle.sas_task_format.specs.TaskProcess.{a_word, a_number, a_fact, any, number_in, fact_in, effect_in, head_in};
 ghost use Rattle.sas_task_line.specs.TaskRanges.{range_in, fact_in_ranges, effect_in_ranges, head_in_ranges};
@@ -9,10 +9,10 @@ ghost use Rattle.sas_task_judge.specs.TaskJudge.{Due, Moves, MovesBy, HasEnded, 
 mod ahead;
 mod sections;
 
-use crate::task_events::{Event, Said};
 use sas_core::{Fact, Items};
 use sas_grounded::Change;
 use sas_reader::Kind;
+use sas_task_events::{Event, Said};
 use sas_task_line::{
     effect_at, fact_at, head_at, name_at, number_at, number_below, positive_at, signed_at,
     version_at, word_at,

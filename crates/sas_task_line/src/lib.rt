@@ -1,17 +1,17 @@
-//! One line of a task file: what it says, or the kind of its fault.
+//! One line of a task file: what it says, or the kind of its fault; and whole sections that stand first in some bytes.
 #![tactic(auto)]
 
 mod ahead;
-mod first_sections;
 mod sections;
 mod task_line;
+mod variables_and_groups;
 
 pub use ahead::{
     Ahead, effect_ahead, fact_ahead, head_ahead, name_ahead, number_ahead, word_ahead,
 };
-pub use first_sections::{VariableFound, group_found, variable_found};
 pub use sections::{Gathered, OperatorFound, RuleFound, operator_found, rule_found};
 pub use task_line::{
     change_in, effect_at, fact_at, head_at, name_at, number_at, number_below, positive_at,
     signed_at, value_in, version_at, word_at,
 };
+pub use variables_and_groups::{VariableFound, group_found, variable_found};

@@ -12,8 +12,8 @@ use crate::ahead::{
 };
 use crate::task_line::{change_in, value_in};
 use sas_core::{Fact, Items};
-use sas_lists::Lists;
 use sas_grounded::Change;
+use sas_lists::Lists;
 use sas_reader::Front;
 use std::alloc::{AllocError, Global};
 

@@ -13,7 +13,7 @@ use Rattle.sas_task_format.specs.TaskFormat.{TaskLine, task_line_bytes, task_for
 use Rattle.sas_task_format.specs.TaskProcess.{TaskProcess, task_start}
 use Rattle.sas_task_line.specs.Sections.{spelled, IsNamed, OperatorInRanges, RuleInRanges}
 use Rattle.sas_task_line.specs.TaskRanges.{ranges_of, fact_in_ranges}
-use Rattle.sas_task_judge.specs.declared.so_far.SoFar.{SoFar}
+use Rattle.sas_task_events.specs.declared.so_far.SoFar.{SoFar}
 use Rattle.sas_task_judge.specs.declared.task_judge.Place.{Place}
 use Rattle.sas_task_judge.specs.declared.task_judge.Place.TheVariants as at
 use Rattle.sas_task_judge.specs.declared.task_judge.TaskJudge.{TaskJudge}

@@ -4,11 +4,11 @@ use Rattle.sas_reader.specs.System.{After, Leads}
 use Rattle.sas_task_format.specs.Process.{process_node}
 use Rattle.sas_task_format.specs.TaskFormat.{TaskLine, task_line_bytes, task_format, TaskLineFits}
 use Rattle.sas_task_format.specs.TaskProcess.{TaskProcess, task_start}
-use Rattle.sas_task_judge.specs.declared.so_far.SoFar.{SoFar}
-use Rattle.sas_task_judge.specs.declared.task_events.Event.{Event}
-use Rattle.sas_task_judge.specs.declared.task_events.Said.{Said}
+use Rattle.sas_task_events.specs.declared.so_far.SoFar.{SoFar}
+use Rattle.sas_task_events.specs.declared.task_events.Event.{Event}
+use Rattle.sas_task_events.specs.declared.task_events.Said.{Said}
 use Rattle.sas_task_judge.specs.declared.task_judge.TaskJudge.{TaskJudge}
-use Rattle.sas_task_judge.specs.TaskEvents.{after}
+use Rattle.sas_task_events.specs.TaskEvents.{after}
 use Rattle.sas_task_judge.specs.TaskJudge.{state_of, Moves}
 use Rattle.sas_task_machine.specs.declared.task_machine.TaskMachine.{TaskMachine}
 use Rattle.sas_task_machine.specs.TaskMachine.{LedBy}

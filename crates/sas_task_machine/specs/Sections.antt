@@ -9,9 +9,9 @@ use Rattle.sas_reader.specs.declared.fault.Kind.TheVariants as kinds
 use Rattle.sas_reader.specs.declared.reader.Front.{Front}
 use Rattle.sas_task_format.specs.TaskFormat.{TaskLine, variable_lines, group_lines, operator_lines, rule_lines}
 use Rattle.sas_task_line.specs.Sections.{spelled, VariableAhead, GroupAhead, OperatorAhead, RuleAhead}
-use Rattle.sas_task_judge.specs.declared.so_far.SoFar.{SoFar}
+use Rattle.sas_task_events.specs.declared.so_far.SoFar.{SoFar}
 use Rattle.sas_task_machine.specs.declared.keeper.VariableKept.{VariableKept}
-use Rattle.sas_task_judge.specs.TaskEvents.{with_variable, with_operator, with_rule}
+use Rattle.sas_task_events.specs.TaskEvents.{with_variable, with_operator, with_rule}
 
 -- what has come behind all lines of a variable
 abbrev pub behind_variable : SoFar → Variable → SoFar

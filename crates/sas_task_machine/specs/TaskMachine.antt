@@ -2,13 +2,13 @@
 use Rattle.std.specs.Prelude.{◌≡◌, ℕ, List, []}
 use Rattle.std.specs.Global.{Global}
 use Rattle.sas_reader.specs.declared.fault.Kind.{Kind}
-use Rattle.sas_task_judge.specs.declared.so_far.SoFar.{SoFar}
+use Rattle.sas_task_events.specs.declared.so_far.SoFar.{SoFar}
 use Rattle.sas_task_machine.specs.declared.task_machine.TaskMachine.{TaskMachine}
 use Rattle.sas_task_format.specs.Process.{process_node}
 use Rattle.sas_reader.specs.System.{Leads}
 use Rattle.sas_task_format.specs.TaskFormat.{task_format, TaskLineFits}
 use Rattle.sas_task_format.specs.TaskProcess.{task_start}
-use Rattle.sas_task_judge.specs.TaskEvents.{nothing_yet}
+use Rattle.sas_task_events.specs.TaskEvents.{nothing_yet}
 use Rattle.sas_task_judge.specs.TaskJudge.{KnownTo, state_of, HasEnded, RejectsLine}
 
 module _ {K : Type 0} (keeps : List (List ℕ) → SoFar → K → Type 0) where

@@ -3,7 +3,7 @@ ghost use Rattle.std.specs.Prelude.{◌≡◌, ◌++◌, ◌∷◌, [], List, �
 
 use sas_core::Items;
 use sas_reader::{Front, Kind};
-use sas_task_judge::{Event, Said, SoFar};
+use sas_task_events::{Event, Said, SoFar};
 
 /// What a keeper tells of a variable that it kept: how long its lines are, and how many values it has.
 #[derive(Clone, Copy, Debug, PartialEq, Eq)]
@@ -14,8 +14,8 @@ pub struct VariableKept {
 
 /// What is kept of a task as its lines come.
 pub trait Keeper: Drop {
-    ghost use Rattle.sas_task_judge.specs.declared.so_far.SoFar.{SoFar};
-    ghost use Rattle.sas_task_judge.specs.TaskEvents.{after};
+    ghost use Rattle.sas_task_events.specs.declared.so_far.SoFar.{SoFar};
+    ghost use Rattle.sas_task_events.specs.TaskEvents.{after};
     ghost use Rattle.sas_task_machine.specs.Sections.{KeepsVariable, KeepsGroup, KeepsOperator, KeepsRule};
 
     /// It keeps what it is asked to of these lines, with which so much of a task has come.

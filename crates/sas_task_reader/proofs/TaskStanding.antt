@@ -4,7 +4,7 @@ use Rattle.std.proofs.Math.Logic.{∥∥₁_elim}
 use Rattle.std.proofs.Props.{props}
 use Rattle.sas_core.proofs.ChecksAreRules.{checks_are_the_rules}
 use Rattle.sas_core.specs.WellRanged.{WellRanged}
-use Rattle.sas_task_judge.specs.declared.so_far.SoFar.{SoFar}
+use Rattle.sas_task_events.specs.declared.so_far.SoFar.{SoFar}
 use Rattle.sas_task_machine.specs.declared.task_machine.TaskMachine.{TaskMachine}
 use Rattle.sas_reader.specs.Format.{Reads, ReadsAs}
 use Rattle.sas_task_format.specs.Process.{process_node}

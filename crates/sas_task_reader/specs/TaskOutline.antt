@@ -3,7 +3,7 @@ use Rattle.std.specs.Prelude.{ℕ, ◌-◌, ◌^◌, min, List, [], length}
 use Rattle.sas_core.specs.declared.parts.Parts.{Parts}
 use Rattle.sas_task_reader.specs.declared.outline.Outline.{Outline}
 use Rattle.sas_task_reader.specs.Outline.{outline_of}
-use Rattle.sas_task_judge.specs.declared.so_far.SoFar.{SoFar}
+use Rattle.sas_task_events.specs.declared.so_far.SoFar.{SoFar}
 use Rattle.sas_task_reader.specs.declared.task_outline.Seen.{Seen}
 
 -- how many there are, as far as 32 bits count; no task has more

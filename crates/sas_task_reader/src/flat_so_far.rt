@@ -5,10 +5,10 @@ ghost use Rattle.sas_core.specs.declared.parts.Variable.{Variable};
 ghost use Rattle.sas_core.specs.declared.parts.Operator.{Operator};
 ghost use Rattle.sas_core.specs.declared.parts.Rule.{Rule};
 ghost use Rattle.sas_core.specs.WellRanged.{WellRanged};
-ghost use Rattle.sas_task_judge.specs.declared.task_events.Event.TheVariants as event;
-ghost use Rattle.sas_task_judge.specs.declared.task_events.Said.{Said};
+ghost use Rattle.sas_task_events.specs.declared.task_events.Event.TheVariants as event;
+ghost use Rattle.sas_task_events.specs.declared.task_events.Said.{Said};
 ghost use Rattle.sas_task_line.specs.Sections.{GroupAhead, OperatorAhead, RuleAhead};
-ghost use Rattle.sas_task_judge.specs.TaskEvents.{nothing_yet, after};
+ghost use Rattle.sas_task_events.specs.TaskEvents.{nothing_yet, after};
 ghost use Rattle.sas_task_machine.specs.Sections.{VariableWithRange, behind_variable};
 ghost use Rattle.sas_task_machine.specs.Sections.{behind_group, behind_operator, behind_rule};
 ghost use Rattle.sas_task_reader.specs.TaskOutline.{outline_with};
@@ -20,7 +20,7 @@ use sas_flat::{Effects, FlatTask, Operators, Rules, Variables};
 use sas_grounded::Change;
 use sas_lists::Lists;
 use sas_reader::{Front, Kind};
-use sas_task_judge::{Event, Said};
+use sas_task_events::{Event, Said};
 use sas_task_line::{Gathered, group_found, operator_found, rule_found, variable_found};
 use sas_task_machine::{Keeper, VariableKept};
 use std::alloc::{AllocError, Global};
@@ -51,7 +51,7 @@ pub struct FlatSoFar {
 
 impl Model for FlatSoFar {
     ghost use Rattle.sas_flat.specs.FlatTasks.{parts};
-    ghost use Rattle.sas_task_judge.specs.declared.so_far.SoFar.{SoFar};
+    ghost use Rattle.sas_task_events.specs.declared.so_far.SoFar.{SoFar};
 
     ghost Value = { SoFar };
 

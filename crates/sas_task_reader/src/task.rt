@@ -7,7 +7,7 @@ use crate::task_text::TaskText;
 use sas_core::Task;
 use sas_lines::Watched;
 use sas_reader::{Fault, LIMIT, read_all};
-use sas_task_judge::SoFar;
+use sas_task_events::SoFar;
 use sas_task_machine::TaskMachine;
 use std::alloc::Global;
 use std::io::Read;

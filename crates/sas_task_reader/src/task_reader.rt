@@ -7,7 +7,7 @@ ghost use Rattle.sas_task_machine.specs.TaskMachine.{LedTo, EndedAt, RejectsAt};
 
 use sas_core::Task;
 use sas_reader::{Fault, LIMIT, Reader};
-use sas_task_judge::SoFar;
+use sas_task_events::SoFar;
 use sas_task_machine::TaskMachine;
 use std::alloc::Global;
 

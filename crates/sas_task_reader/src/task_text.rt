@@ -5,7 +5,7 @@ use crate::fronts::{NO_VARIABLE, group_front, operator_front, rule_front, variab
 use sas_core::Items;
 use sas_lines::push_line;
 use sas_reader::{Front, Kind};
-use sas_task_judge::{Event, Said};
+use sas_task_events::{Event, Said};
 use sas_task_line::Gathered;
 use sas_task_machine::{Keeper, VariableKept};
 use std::alloc::Global;

@@ -2,12 +2,12 @@
 // that large files are made of; all others, and all faults, are left to `take`.
 ghost use Rattle.std.specs.Prelude.{◌≡◌, ◌≢◌, ◌<◌, ◌≤◌, ◌-◌, ◌^◌, length, [], ◌∷◌, ◌++◌, IfSome, IfNone};
 ghost use Rattle.sas_core.specs.Names.{IsName};
-ghost use Rattle.sas_task_judge.specs.declared.so_far.SoFar.{SoFar};
+ghost use Rattle.sas_task_events.specs.declared.so_far.SoFar.{SoFar};
 ghost use Rattle.sas_task_format.specs.TaskProcess.{a_word, a_name, a_number, a_fact, any};
 ghost use Rattle.sas_task_judge.specs.TaskJudge.{Due, MovesAhead, HasEnded};
 
 use super::{Place, TaskJudge};
-use crate::task_events::Event;
+use sas_task_events::Event;
 use sas_task_line::{
     Ahead, change_in, effect_ahead, fact_ahead, head_ahead, name_ahead, number_ahead, value_in,
     word_ahead,

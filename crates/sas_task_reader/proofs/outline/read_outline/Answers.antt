@@ -6,7 +6,7 @@ use Rattle.sas_task_reader.specs.declared.task_outline.Seen.{Seen}
 use Rattle.sas_task_reader.specs.Outline.{outline_of}
 use Rattle.sas_task_reader.specs.TaskOutline.{outline_in, seen}
 use Rattle.sas_reader.specs.declared.fault.Kind.{Kind}
-use Rattle.sas_task_judge.specs.declared.so_far.SoFar.{SoFar}
+use Rattle.sas_task_events.specs.declared.so_far.SoFar.{SoFar}
 use Rattle.sas_task_machine.specs.declared.task_machine.TaskMachine.{TaskMachine}
 use Rattle.sas_task_judge.specs.TaskJudge.{HasEnded, RejectsLine}
 use Rattle.sas_task_machine.specs.TaskMachine.{LedBy}

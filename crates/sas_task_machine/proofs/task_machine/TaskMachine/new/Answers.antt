@@ -1,5 +1,5 @@
 use Rattle.std.proofs.Common.{refl, sym, ap, ◌∙◌, []}
-use Rattle.sas_task_judge.specs.TaskEvents.{nothing_yet}
+use Rattle.sas_task_events.specs.TaskEvents.{nothing_yet}
 use Rattle.sas_task_judge.specs.TaskJudge.{state_at}
 use Rattle.sas_task_machine.proofs.task_machine.TaskMachine.new.Goals as goal
 

@@ -7,7 +7,7 @@ use Rattle.sas_task_format.specs.Process.{process_node}
 use Rattle.sas_task_format.specs.TaskFormat.{task_format, TaskLineFits}
 use Rattle.sas_task_format.specs.TaskProcess.{task_start}
 use Rattle.sas_task_format.proofs.TaskGrammar.{task_grammar}
-use Rattle.sas_task_judge.specs.declared.so_far.SoFar.{SoFar}
+use Rattle.sas_task_events.specs.declared.so_far.SoFar.{SoFar}
 use Rattle.sas_task_machine.specs.TaskMachine.{LedTo, EndedAt, RejectsAt}
 use Rattle.sas_reader.proofs.Reading.{end_fault}
 use Rattle.sas_task_reader.proofs.TaskStanding.{reader_follows, read_task_parts, ranged}

@@ -1,4 +1,4 @@
-use Rattle.sas_task_judge.proofs.so_far.SoFar.add.Goals as goal
+use Rattle.sas_task_events.proofs.so_far.SoFar.add.Goals as goal
 
 pub returns-in-Name-clause-ok : goal.returns-in-Name-clause-ok
 returns-in-Name-clause-ok c = rw c.in-Name.is (c.name.ensures.ok c.args.said.now)

@@ -1,7 +1,7 @@
 use Rattle.std.proofs.Common.{refl, arith}
 use Rattle.sas_task_line.specs.declared.sections.Gathered.{Gathered}
 use Rattle.sas_task_line.proofs.LinesReading.{variable_is_ahead}
-use Rattle.sas_task_line.proofs.first_sections.variable_found.Goals as goal
+use Rattle.sas_task_line.proofs.variables_and_groups.variable_found.Goals as goal
 
 pub returns : goal.returns
 returns c =

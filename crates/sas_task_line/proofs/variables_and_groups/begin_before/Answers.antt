@@ -1,6 +1,6 @@
 use Rattle.sas_task_line.proofs.AheadReading.{signed_is_ahead}
 use Rattle.sas_task_line.proofs.LinesReading.{lines_then, one_line, two_lines}
-use Rattle.sas_task_line.proofs.first_sections.begin_before.Goals as goal
+use Rattle.sas_task_line.proofs.variables_and_groups.begin_before.Goals as goal
 
 pub returns : goal.returns
 returns c =

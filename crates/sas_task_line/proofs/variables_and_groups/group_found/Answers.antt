@@ -1,6 +1,6 @@
 use Rattle.std.proofs.Common.{refl, arith}
 use Rattle.sas_task_line.proofs.LinesReading.{group_is_ahead}
-use Rattle.sas_task_line.proofs.first_sections.group_found.Goals as goal
+use Rattle.sas_task_line.proofs.variables_and_groups.group_found.Goals as goal
 
 pub returns : goal.returns
 returns c =

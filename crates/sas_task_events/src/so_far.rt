@@ -1,8 +1,8 @@
 // What keeps all that a task file says.
 ghost use Rattle.std.specs.Prelude.{◌≡◌, [], ◌∷◌, ◌++◌, IfErr, IfOk, OnOk};
-ghost use Rattle.sas_task_judge.specs.declared.task_events.Event.TheVariants as event;
-ghost use Rattle.sas_task_judge.specs.declared.task_events.Said.{Said};
-ghost use Rattle.sas_task_judge.specs.TaskEvents.{nothing_yet, after};
+ghost use Rattle.sas_task_events.specs.declared.task_events.Event.TheVariants as event;
+ghost use Rattle.sas_task_events.specs.declared.task_events.Said.{Said};
+ghost use Rattle.sas_task_events.specs.TaskEvents.{nothing_yet, after};
 
 use crate::task_events::{Event, Said};
 use sas_core::{Effect, Fact, Items, Operator, Parts, Rule, Variable};

@@ -1,15 +1,18 @@
 -- What each line of a task file adds to what has come.
 use Rattle.std.specs.Global.{Global}
-use Rattle.std.specs.Prelude.{ℕ, List, [], ◌∷◌, ◌++◌, ◌==◌, None}
+use Rattle.std.specs.Prelude.{ℕ, false, List, [], ◌∷◌, ◌++◌, ◌==◌, None}
 use Rattle.sas_core.specs.declared.parts.Variable.{Variable}
 use Rattle.sas_core.specs.declared.parts.Operator.{Operator}
 use Rattle.sas_core.specs.declared.parts.Rule.{Rule}
 use Rattle.sas_core.specs.declared.parts.Parts.{Parts}
-use Rattle.sas_task_judge.specs.declared.task_events.Event.{Event}
-use Rattle.sas_task_judge.specs.declared.task_events.Event.TheVariants as event
-use Rattle.sas_task_judge.specs.declared.task_events.Said.{Said}
-use Rattle.sas_task_judge.specs.declared.so_far.SoFar.{SoFar}
-use Rattle.sas_task_judge.specs.TaskPlaces.{no_parts}
+use Rattle.sas_task_events.specs.declared.task_events.Event.{Event}
+use Rattle.sas_task_events.specs.declared.task_events.Event.TheVariants as event
+use Rattle.sas_task_events.specs.declared.task_events.Said.{Said}
+use Rattle.sas_task_events.specs.declared.so_far.SoFar.{SoFar}
+
+-- no parts have come
+abbrev pub no_parts : Parts
+no_parts = record { metric = false; variables = []; groups = []; init = []; goal = []; operators = []; rules = [] }
 
 -- nothing has come
 abbrev pub nothing_yet : Global → SoFar
