@@ -1,46 +1,18 @@
--- Operators and variables in columns: the one at a place, and one more.
+-- Variables in columns: the one at a place, and one more.
 use Rattle.std.proofs.Common.{◌≡◌, ℕ, ◌<◌, ◌≤◌, List, [], ◌∷◌, ◌++◌, length, get_or, refl, sym, ap, ◌∙◌, arith, length-append}
 use Rattle.std.proofs.lemmas.Option.{slice_get_past}
 use Rattle.std.specs.Prelude.{slice_get, Option, Some, None, option_map, option_and_then}
 use Rattle.std.specs.Option.{option_map_or}
 use Rattle.std.proofs.Math.ListN.{get_or-append}
 use Rattle.std.proofs.Math.Seq.{get_or-append_seam}
-use Rattle.sas_core.specs.declared.parts.Fact.{Fact}
-use Rattle.sas_core.specs.declared.parts.Effect.{Effect}
 use Rattle.sas_core.specs.declared.parts.Variable.{Variable}
-use Rattle.sas_core.specs.declared.parts.Operator.{Operator}
 use Rattle.sas_core.specs.Variables.{range_of, layer_of, value_name}
-use Rattle.sas_flat.specs.Operators.{operator, operators_of, operator_in}
 use Rattle.sas_flat.specs.Variables.{variable, variables_of}
-use Rattle.sas_lists.proofs.Tables.{length-table, table_none, table_more, get_or-table, slice_get-table}
+use Rattle.sas_lists.proofs.Tables.{length-table, table_none, table_more, slice_get-table}
 
 -- in a column with as many items as another, what is put behind the items stands at the other's end
-last_item : {X : Type 0} (xs : List X) (x : X) (d : X) (n : ℕ) → length xs ≡ n → get_or (xs ++ x ∷ []) n d ≡ x
+pub last_item : {X : Type 0} (xs : List X) (x : X) (d : X) (n : ℕ) → length xs ≡ n → get_or (xs ++ x ∷ []) n d ≡ x
 last_item xs x d n is = ap (λ k. get_or (xs ++ x ∷ []) k d) (sym is) ∙ get_or-append_seam xs x [] d
-
--- ---- operators
-
-pub no_operator : (ns : List (List ℕ)) (ps : List (List Fact)) (es : List (List Effect)) (cs : List ℕ) → cs ≡ [] → operators_of ns ps es cs ≡ []
-no_operator ns ps es cs none = table_none (length cs) _ (ap length none)
-
-same_operator : (n m : List ℕ) (p q : List Fact) (e f : List Effect) (c d : ℕ) → n ≡ m → p ≡ q → e ≡ f → c ≡ d → operator n p e c ≡ operator m q f d
-same_operator n m p q e f c d names prevails effects costs =
-    ap (λ x. operator x p e c) names ∙ ap (λ x. operator m x e c) prevails ∙ ap (λ x. operator m q x c) effects ∙ ap (λ x. operator m q f x) costs
-
-module _ (ns : List (List ℕ)) (ps : List (List Fact)) (es : List (List Effect)) (cs : List ℕ) where
-  pub operators_more : (n : List ℕ) (p : List Fact) (e : List Effect) (c : ℕ) → length ns ≡ length cs → length ps ≡ length cs → length es ≡ length cs
-      → operators_of (ns ++ n ∷ []) (ps ++ p ∷ []) (es ++ e ∷ []) (cs ++ c ∷ []) ≡ operators_of ns ps es cs ++ operator n p e c ∷ []
-  operators_more n p e c names prevails effects = table_more (length cs) (length (cs ++ c ∷ [])) _ _ (operator n p e c) (omega (arith, length-append cs (c ∷ [])))
-      (λ i h. same_operator _ _ _ _ _ _ _ _ (get_or-append ns (n ∷ []) [] i (omega (arith, names))) (get_or-append ps (p ∷ []) [] i (omega (arith, prevails)))
-      (get_or-append es (e ∷ []) [] i (omega (arith, effects))) (get_or-append cs (c ∷ []) 0 i h))
-      (same_operator _ _ _ _ _ _ _ _ (last_item ns n [] (length cs) names) (last_item ps p [] (length cs) prevails) (last_item es e [] (length cs) effects) (get_or-append_seam cs c [] 0))
-
-  module _ (os : List Operator) (is : operators_of ns ps es cs ≡ os) where
-    pub operator_count : length cs ≡ length os
-    operator_count = sym (length-table (length cs) _) ∙ ap length is
-
-    pub operator_at_place : (i : ℕ) → i < length os → operator_in os i ≡ operator (get_or ns i []) (get_or ps i []) (get_or es i []) (get_or cs i 0)
-    operator_at_place i h = ap (λ l. operator_in l i) (sym is) ∙ get_or-table (length cs) _ i _ (omega (arith, operator_count))
 
 -- ---- variables
 

@@ -1,47 +1,48 @@
--- Operators in columns.
-use Rattle.std.specs.Prelude.{◌≡◌, ℕ, List, [], ◌∷◌, ◌++◌, ◌+◌, length, slice_index, slice_index_or}
+-- Operators in columns: the items of all one behind the other, and the head of each.
+use Rattle.std.specs.Prelude.{ℕ, List, [], length, map, slice_index, slice_index_or}
 use Rattle.sas_core.specs.declared.parts.Fact.{Fact}
 use Rattle.sas_core.specs.declared.parts.Effect.{Effect}
 use Rattle.sas_core.specs.declared.parts.Operator.{Operator}
+use Rattle.sas_flat.specs.declared.operators.Head.{Head}
 use Rattle.sas_flat.specs.declared.operators.Columns.{Columns}
-use Rattle.sas_flat.specs.Growing.{Kept}
-use Rattle.sas_lists.specs.Lists.{lists_of, AreEnds}
+use Rattle.sas_lists.specs.Lists.{list_at, AreEnds}
 use Rattle.sas_lists.specs.Table.{table}
 
 abbrev pub operator : List ℕ → List Fact → List Effect → ℕ → Operator
 operator name prevail effects cost = record { name = name; prevail = prevail; effects = effects; cost = cost }
 
--- the operators with these names, prevail conditions, effects and costs, each at its place
-abbrev pub operators_of : List (List ℕ) → List (List Fact) → List (List Effect) → List ℕ → List Operator
-operators_of names prevail effects costs = table (length costs) (λ index.
-    operator (slice_index_or names index []) (slice_index_or prevail index [])
-    (slice_index_or effects index []) (slice_index costs index))
+-- where the name, the prevail conditions and the effects of each operator end, and what each costs
+abbrev pub name_ends : List Head → List ℕ
+name_ends heads = map (λ (h : Head). h.name) heads
+
+abbrev pub prevail_ends : List Head → List ℕ
+prevail_ends heads = map (λ (h : Head). h.prevail) heads
+
+abbrev pub effect_ends : List Head → List ℕ
+effect_ends heads = map (λ (h : Head). h.effects) heads
+
+abbrev pub costs : List Head → List ℕ
+costs heads = map (λ (h : Head). h.cost) heads
+
+-- the operators of these heads, whose items stand in these blocks
+abbrev pub operators_of : List ℕ → List Fact → List Effect → List Head → List Operator
+operators_of names prevail effects heads = table (length heads) (λ index. operator
+    (list_at names (name_ends heads) index) (list_at prevail (prevail_ends heads) index)
+    (list_at effects (effect_ends heads) index) (slice_index (costs heads) index))
 
 abbrev pub operators_in : Columns → List Operator
-operators_in c = operators_of c.names c.prevail (lists_of c.effects c.ends) c.costs.items
+operators_in c = operators_of c.names.items c.prevail.items c.effects c.heads.items
 
--- each operator has an item in each column, and the ends are those of the effects
+-- the items of the last operator are the last items
 pub record AreAligned (c : Columns) : Type 0 where
-  pub names : length c.names ≡ length c.costs.items
-  pub prevail : length c.prevail ≡ length c.costs.items
-  pub ends : length c.ends ≡ length c.costs.items
-  pub effects : AreEnds c.ends (length c.effects)
+  pub names : AreEnds (name_ends c.heads.items) (length c.names.items)
+  pub prevail : AreEnds (prevail_ends c.heads.items) (length c.prevail.items)
+  pub effects : AreEnds (effect_ends c.heads.items) (length c.effects)
 
--- what each column had is still there, at its place
-pub record ColumnsKept (old new : Columns) : Type 0 where
-  pub names : Kept old.names new.names
-  pub prevail : Kept old.prevail new.prevail
-  pub effects : Kept old.effects new.effects
-  pub ends : Kept old.ends new.ends
-  pub costs : Kept old.costs.items new.costs.items
-
--- each column has what the operator puts there behind what it had
-pub record OneMore (old new : Columns) (o : Operator) : Type 0 where
-  pub names : new.names ≡ old.names ++ o.name ∷ []
-  pub prevail : new.prevail ≡ old.prevail ++ o.prevail ∷ []
-  pub effects : new.effects ≡ old.effects ++ o.effects
-  pub ends : new.ends ≡ old.ends ++ (length old.effects + length o.effects) ∷ []
-  pub costs : new.costs.items ≡ old.costs.items ++ o.cost ∷ []
+-- the head of an operator of this cost whose items end where all items end
+abbrev pub end_head : Columns → ℕ → Head
+end_head c cost =
+    record { name = length c.names.items; prevail = length c.prevail.items; effects = length c.effects; cost = cost }
 
 -- the operator at this place; behind the last one that of no name and no effect
 abbrev pub operator_in : List Operator → ℕ → Operator

@@ -3,25 +3,32 @@ ghost use Rattle.std.specs.Prelude.{◌≡◌, ◌<◌, ◌≤◌, [], ◌∷◌
 ghost use Rattle.sas_grounded.specs.Grounded as grounded;
 ghost use Rattle.sas_flat.specs.Effects.{effect_in, plain_effects};
 ghost use Rattle.sas_flat.specs.Growing.{Kept};
-ghost use Rattle.sas_lists.specs.Lists.{start_of, AreEnds};
-ghost use Rattle.sas_flat.specs.Operators.{operator, operator_in, ColumnsKept, OneMore};
+ghost use Rattle.sas_lists.specs.Lists.{start_of};
+ghost use Rattle.sas_flat.specs.Operators.{operator, operator_in, name_ends, prevail_ends, effect_ends, end_head};
 
 use crate::effects::Effects;
-use sas_lists::{Ends, Lists};
 use sas_core::Fact;
 use sas_grounded::Change;
 use std::alloc::{AllocError, Global};
 use std::marker::Model;
 
-/// The columns of operators. The effects of all operators stand one behind the other, and `ends` says where those of
-/// each operator end.
+/// What is of fixed size of an operator: where its name, its prevail conditions and its effects end, each behind those of
+/// the operators before it, and its cost.
+#[derive(Clone, Copy, Debug)]
+pub struct Head {
+    name: usize,
+    prevail: usize,
+    effects: usize,
+    cost: u32,
+}
+
+/// The columns of operators: the items of all operators one behind the other, and the head of each.
 #[derive(Debug, Drop)]
 pub struct Columns {
-    names: Lists<u8>,
-    prevail: Lists<Fact>,
+    names: Vec<u8>,
+    prevail: Vec<Fact>,
     effects: Effects,
-    ends: Ends,
-    costs: Vec<u32>,
+    heads: Vec<Head>,
 }
 
 /// Operators. In a contract they are the list of them.
@@ -43,88 +50,69 @@ impl Model for Operators {
 }
 
 impl Columns {
-    /// One item more in each column. After an `Err` some columns have it.
-    fn push(
-        &mut self,
-        name: &[u8],
-        prevail: &[Fact],
-        effects: &Effects,
-        cost: u32,
-    ) -> Result<(), AllocError>
-        requires { AreEnds self.old.ends (length self.old.effects) }
-        ensures kept { ColumnsKept self.old self.new }
-        ensures ok { OnOk result (OneMore self.old self.new (operator name.now prevail.now effects.now cost)) }
-    {
-        self.push_head(name, prevail)?;
-        self.effects.append(effects)?;
-        self.push_end(cost)
-    }
-
-    /// The same for an operator whose effects make these changes without conditions.
-    fn push_plain(
-        &mut self,
-        name: &[u8],
-        prevail: &[Fact],
-        changes: &[Change],
-        cost: u32,
-    ) -> Result<(), AllocError>
-        requires { AreEnds self.old.ends (length self.old.effects) }
-        ensures kept { ColumnsKept self.old self.new }
-        ensures ok { OnOk result (OneMore self.old self.new
-            (operator name.now prevail.now (plain_effects changes.now) cost)) }
-    {
-        self.push_head(name, prevail)?;
-        self.effects.append_plain(changes)?;
-        self.push_end(cost)
-    }
-
-    /// The name and the prevail conditions of one operator more.
+    /// The head before the operator's: it says where the operator's items start. Before the first one all is 0.
     #[inline(always)]
-    fn push_head(&mut self, name: &[u8], prevail: &[Fact]) -> Result<(), AllocError>
-        ensures names { Kept self.old.names self.new.names }
-        ensures prevail { Kept self.old.prevail self.new.prevail }
-        ensures effects { self.new.effects ≡ self.old.effects }
-        ensures ends { self.new.ends ≡ self.old.ends }
-        ensures costs { self.new.costs.items ≡ self.old.costs.items }
-        ensures name_ok { OnOk result (self.new.names ≡ self.old.names ++ name.now ∷ []) }
-        ensures prevail_ok { OnOk result (self.new.prevail ≡ self.old.prevail ++ prevail.now ∷ []) }
+    fn before(&self, operator: usize) -> Head
+        requires { operator ≤ length self.now.heads.items }
+        ensures name { result.name ≡ start_of (name_ends self.now.heads.items) operator }
+        ensures prevail { result.prevail ≡ start_of (prevail_ends self.now.heads.items) operator }
+        ensures effects { result.effects ≡ start_of (effect_ends self.now.heads.items) operator }
     {
-        self.names.push(name)?;
-        self.prevail.push(prevail)
+        if operator == 0 {
+            Head {
+                name: 0,
+                prevail: 0,
+                effects: 0,
+                cost: 0,
+            }
+        } else {
+            self.heads[operator - 1]
+        }
     }
 
-    /// The end of the effects of the operator that has come, and its cost.
-    fn push_end(&mut self, cost: u32) -> Result<(), AllocError>
-        requires { start_of self.old.ends (length self.old.ends) ≤ length self.old.effects }
-        ensures names { self.new.names ≡ self.old.names }
-        ensures prevail { self.new.prevail ≡ self.old.prevail }
-        ensures effects { self.new.effects ≡ self.old.effects }
-        ensures ends { Kept self.old.ends self.new.ends }
-        ensures costs { Kept self.old.costs.items self.new.costs.items }
-        ensures end_ok { OnOk result (self.new.ends ≡ self.old.ends ++ length self.old.effects ∷ []) }
-        ensures cost_ok { OnOk result (self.new.costs.items ≡ self.old.costs.items ++ cost ∷ []) }
+    /// The head of an operator of this cost whose items end where all items end.
+    #[inline(always)]
+    fn end(&self, cost: u32) -> Head
+        ensures { result ≡ end_head self.now cost }
     {
-        self.ends.push(self.effects.len())?;
-        self.costs.push(cost)?;
+        Head {
+            name: self.names.len(),
+            prevail: self.prevail.len(),
+            effects: self.effects.len(),
+            cost,
+        }
+    }
+
+    /// The name, the prevail conditions and the head of one operator more, whose effects are here already, behind those of
+    /// the others. After an `Err` some of its items are here.
+    #[inline(always)]
+    fn push(&mut self, name: &[u8], prevail: &[Fact], cost: u32) -> Result<(), AllocError>
+        ensures names { Kept self.old.names.items self.new.names.items }
+        ensures prevail { Kept self.old.prevail.items self.new.prevail.items }
+        ensures effects { self.new.effects ≡ self.old.effects }
+        ensures name_ok { OnOk result (self.new.names.items ≡ self.old.names.items ++ name.now) }
+        ensures prevail_ok { OnOk result (self.new.prevail.items ≡ self.old.prevail.items ++ prevail.now) }
+        ensures head_ok { OnOk result (self.new.heads.items ≡ self.old.heads.items ++ end_head self.new cost ∷ []) }
+        ensures head_err { OnErr result (self.new.heads.items ≡ self.old.heads.items) }
+    {
+        self.names.extend_from_slice(name)?;
+        self.prevail.extend_from_slice(prevail)?;
+        let head = self.end(cost);
+        self.heads.push(head)?;
         Ok(())
     }
 
-    /// Leaves so many operators, the first ones, which have so many effects.
-    fn truncate(&mut self, operators: usize, effects: usize)
-        requires names { operators ≤ length self.old.names }
-        requires prevail { operators ≤ length self.old.prevail }
-        requires effects { effects ≤ length self.old.effects }
-        ensures names { self.new.names ≡ take operators self.old.names }
-        ensures prevail { self.new.prevail ≡ take operators self.old.prevail }
-        ensures effects { self.new.effects ≡ take effects self.old.effects }
-        ensures ends { self.new.ends ≡ take operators self.old.ends }
-        ensures costs { self.new.costs.items ≡ take operators self.old.costs.items }
+    /// Leaves the items that stand before where the head ends.
+    fn truncate(&mut self, end: Head)
+        requires { end.effects ≤ length self.old.effects }
+        ensures names { self.new.names.items ≡ take end.name self.old.names.items }
+        ensures prevail { self.new.prevail.items ≡ take end.prevail self.old.prevail.items }
+        ensures effects { self.new.effects ≡ take end.effects self.old.effects }
+        ensures heads { self.new.heads.items ≡ self.old.heads.items }
     {
-        self.names.truncate(operators);
-        self.prevail.truncate(operators);
-        self.effects.truncate(effects);
-        self.ends.truncate(operators);
-        self.costs.truncate(operators);
+        self.names.truncate(end.name);
+        self.prevail.truncate(end.prevail);
+        self.effects.truncate(end.effects);
     }
 }
 
@@ -135,11 +123,10 @@ impl Operators {
     {
         Operators {
             columns: Columns {
-                names: Lists::new(alloc),
-                prevail: Lists::new(alloc),
+                names: Vec::new(alloc),
+                prevail: Vec::new(alloc),
                 effects: Effects::new(alloc),
-                ends: Ends::new(alloc),
-                costs: Vec::new(alloc),
+                heads: Vec::new(alloc),
             },
         }
     }
@@ -148,7 +135,7 @@ impl Operators {
     pub(crate) fn len(&self) -> usize
         ensures { result ≡ length self.now }
     {
-        self.columns.costs.len()
+        self.columns.heads.len()
     }
 
     /// One operator more. After an `Err` the operators are as they were.
@@ -162,12 +149,12 @@ impl Operators {
         ensures ok { OnOk result (self.new ≡ self.old ++ operator name.now prevail.now effects.now cost ∷ []) }
         ensures err { OnErr result (self.new ≡ self.old) }
     {
-        let operators = self.columns.costs.len();
-        let all_effects = self.columns.effects.len();
-        match self.columns.push(name, prevail, effects, cost) {
+        let end = self.columns.end(cost);
+        self.columns.effects.append(effects)?;
+        match self.columns.push(name, prevail, cost) {
             Ok(()) => Ok(()),
             Err(error) => {
-                self.columns.truncate(operators, all_effects);
+                self.columns.truncate(end);
                 Err(error)
             }
         }
@@ -185,12 +172,12 @@ impl Operators {
             ≡ self.old ++ operator name.now prevail.now (plain_effects changes.now) cost ∷ []) }
         ensures err { OnErr result (self.new ≡ self.old) }
     {
-        let operators = self.columns.costs.len();
-        let effects = self.columns.effects.len();
-        match self.columns.push_plain(name, prevail, changes, cost) {
+        let end = self.columns.end(cost);
+        self.columns.effects.append_plain(changes)?;
+        match self.columns.push(name, prevail, cost) {
             Ok(()) => Ok(()),
             Err(error) => {
-                self.columns.truncate(operators, effects);
+                self.columns.truncate(end);
                 Err(error)
             }
         }
@@ -201,7 +188,9 @@ impl Operators {
         requires { operator < length self.now }
         ensures { result.now ≡ (operator_in self.now operator).name }
     {
-        self.columns.names.get(operator)
+        let start = self.columns.before(operator).name;
+        let end = self.columns.heads[operator].name;
+        &self.columns.names.as_slice()[start..end]
     }
 
     /// The operator's prevail conditions.
@@ -209,7 +198,9 @@ impl Operators {
         requires { operator < length self.now }
         ensures { result.now ≡ (operator_in self.now operator).prevail }
     {
-        self.columns.prevail.get(operator)
+        let start = self.columns.before(operator).prevail;
+        let end = self.columns.heads[operator].prevail;
+        &self.columns.prevail.as_slice()[start..end]
     }
 
     /// What the operator's cost line says.
@@ -217,7 +208,7 @@ impl Operators {
         requires { operator < length self.now }
         ensures { result ≡ (operator_in self.now operator).cost }
     {
-        self.columns.costs.as_slice()[operator]
+        self.columns.heads[operator].cost
     }
 
     /// How many effects the operator has.
@@ -225,7 +216,7 @@ impl Operators {
         requires { operator < length self.now }
         ensures { result ≡ length (operator_in self.now operator).effects }
     {
-        self.columns.ends.end(operator) - self.columns.ends.start(operator)
+        self.columns.heads[operator].effects - self.columns.before(operator).effects
     }
 
     /// What the operator's effect changes.
@@ -238,7 +229,7 @@ impl Operators {
         let _effects = self.columns.effects.len();
         self.columns
             .effects
-            .change(self.columns.ends.start(operator) + effect)
+            .change(self.columns.before(operator).effects + effect)
     }
 
     /// The conditions of the operator's effect.
@@ -251,6 +242,6 @@ impl Operators {
         let _effects = self.columns.effects.len();
         self.columns
             .effects
-            .conditions(self.columns.ends.start(operator) + effect)
+            .conditions(self.columns.before(operator).effects + effect)
     }
 }

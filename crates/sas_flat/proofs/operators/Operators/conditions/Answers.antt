@@ -4,19 +4,16 @@ use Rattle.sas_flat.specs.Effects.{effect_in}
 use Rattle.sas_flat.proofs.FoundOperators.{as_many, effect_within, effect_found}
 use Rattle.sas_flat.proofs.operators.Operators.conditions.Goals as goal
 
-pub start-requires : goal.start-requires
-start-requires c = omega (arith, c.requires.operator, c.self.invariant.ends, as_many c.self.inside.columns c.args.self.now c.self.view_is)
+pub before-requires : goal.before-requires
+before-requires c = omega (arith, c.requires.operator, as_many c.self.inside.columns c.args.self.now c.self.view_is)
 
-pub overflow_add-start : goal.overflow_add-start
-overflow_add-start c =
-    omega (arith, c.start.ensures, c.len-effects.ensures, c.len-effects.type_inv, effect_within c.self.inside.columns c.args.self.now c.self.view_is c.self.invariant c.args.operator c.requires.operator c.args.effect c.requires.effect)
+pub overflow_add-before : goal.overflow_add-before
+overflow_add-before c = omega (arith, c.before-2.ensures.effects, c.len-effects.ensures, c.len-effects.type_inv, effect_within c.self.inside.columns c.args.self.now c.self.view_is c.args.operator c.requires.operator c.self.invariant c.args.effect c.requires.effect)
 
 pub conditions-requires : goal.conditions-requires
-conditions-requires c =
-    omega (arith, c.start.ensures, effect_within c.self.inside.columns c.args.self.now c.self.view_is c.self.invariant c.args.operator c.requires.operator c.args.effect c.requires.effect)
+conditions-requires c = omega (arith, c.before-2.ensures.effects, effect_within c.self.inside.columns c.args.self.now c.self.view_is c.args.operator c.requires.operator c.self.invariant c.args.effect c.requires.effect)
 
 pub returns : goal.returns
 returns c =
     c.conditions.ensures
-    ∙ ap (λ (e : Effect). e.conditions) (ap (λ n. effect_in c.self.inside.columns.effects (n + c.args.effect)) c.start.ensures
-    ∙ sym (effect_found c.self.inside.columns c.args.self.now c.self.view_is c.self.invariant c.args.operator c.requires.operator c.args.effect c.requires.effect))
+    ∙ ap (λ (e : Effect). e.conditions) (ap (λ n. effect_in c.self.inside.columns.effects (n + c.args.effect)) c.before-2.ensures.effects ∙ sym (effect_found c.self.inside.columns c.args.self.now c.self.view_is c.args.operator c.requires.operator c.self.invariant c.args.effect c.requires.effect))

@@ -1,10 +1,26 @@
-use Rattle.std.proofs.Common.{sym, ap, ◌∙◌, arith}
+use Rattle.std.proofs.Common.{sym, ap, ◌∙◌, arith, rules}
+use Rattle.std.specs.Prelude.{slice_range}
 use Rattle.sas_core.specs.declared.parts.Operator.{Operator}
-use Rattle.sas_flat.proofs.FoundOperators.{found, as_many}
+use Rattle.sas_flat.specs.declared.operators.Head.{Head}
+use Rattle.sas_flat.proofs.FoundOperators.{as_many, found, end_is, ordered, within}
 use Rattle.sas_flat.proofs.operators.Operators.prevail.Goals as goal
 
-pub get-requires : goal.get-requires
-get-requires c = omega (arith, c.requires, c.self.invariant.prevail, as_many c.self.inside.columns c.args.self.now c.self.view_is)
+pub before-start-requires : goal.before-start-requires
+before-start-requires c = omega (arith, c.requires, as_many c.self.inside.columns c.args.self.now c.self.view_is)
+
+pub index-requires : goal.index-requires
+index-requires c = omega (arith, c.requires, c.self.inside.columns.heads.ok.0, as_many c.self.inside.columns c.args.self.now c.self.view_is)
+
+pub slice_bounds-result-count : goal.slice_bounds-result-count
+slice_bounds-result-count c = rw c.before-start.ensures.prevail (ordered c.self.inside.columns c.args.self.now c.self.view_is c.args.operator c.requires (λ (h : Head). h.prevail) c.index.result.now c.index.ensures _ c.self.invariant.prevail)
+
+pub slice_bounds-result-start : goal.slice_bounds-result-start
+slice_bounds-result-start c = omega (arith, c.as_slice.ensures.value, slice_bounds-result-count c, within c.self.inside.columns c.args.self.now c.self.view_is c.args.operator c.requires (λ (h : Head). h.prevail) c.index.result.now c.index.ensures _ c.self.invariant.prevail)
+
+pub slice_bounds-result-end : goal.slice_bounds-result-end
+slice_bounds-result-end c = search (rules, c.as_slice.ensures.value, within c.self.inside.columns c.args.self.now c.self.view_is c.args.operator c.requires (λ (h : Head). h.prevail) c.index.result.now c.index.ensures _ c.self.invariant.prevail)
 
 pub returns : goal.returns
-returns c = c.get.ensures ∙ sym (ap (λ (o : Operator). o.prevail) (found c.self.inside.columns c.args.self.now c.self.view_is c.args.operator c.requires))
+returns c =
+    rw (c.as_slice.ensures.value, c.before-start.ensures.prevail, ← end_is c.self.inside.columns c.args.self.now c.self.view_is c.args.operator c.requires (λ (h : Head). h.prevail) c.index.result.now c.index.ensures)
+    (sym (ap (λ (o : Operator). o.prevail) (found c.self.inside.columns c.args.self.now c.self.view_is c.args.operator c.requires)))
