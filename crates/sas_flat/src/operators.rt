@@ -15,7 +15,7 @@ use std::marker::Model;
 /// What is of fixed size of an operator: where its name, its prevail conditions and its effects end, each behind those of
 /// the operators before it, and its cost.
 #[derive(Clone, Copy, Debug)]
-pub struct Head {
+struct Head {
     name: usize,
     prevail: usize,
     effects: usize,
