@@ -10,8 +10,8 @@ use Rattle.sas_flat.specs.declared.operators.Head.{Head}
 use Rattle.sas_flat.specs.declared.operators.Columns.{Columns}
 use Rattle.sas_flat.specs.Effects.{effect_in}
 use Rattle.sas_lists.specs.Lists.{start_of, list_at, lists_of, AreEnds}
-use Rattle.sas_flat.specs.Operators.{operator, name_ends, prevail_ends, effect_ends, costs, operators_of, operators_in, operator_in, end_head, AreAligned}
-use Rattle.sas_lists.proofs.Tables.{length-table, table_none, table_more, get_or-table}
+use Rattle.sas_flat.specs.Operators.{operator, name_ends, prevail_ends, effect_ends, costs, operators_in, operator_in, end_head, AreAligned}
+use Rattle.sas_lists.proofs.Tables.{length-table, table_more, get_or-table}
 use Rattle.sas_lists.proofs.Blocks.{list_of, lists_more, ends_more, list_length, item_of_list}
 use Rattle.sas_flat.proofs.Rows.{last_item}
 
@@ -21,9 +21,6 @@ start_is end heads zero head some h at = absurd (omega arith)
 start_is end heads (suc k) head some h at =
     let place : suc k - 1 ≡ k = omega arith in
     ap end (at ∙ ap (λ i. get_or heads i head) place) ∙ sym (get_or-map end heads k head 0 (omega arith))
-
-pub no_operator : (ns : List ℕ) (ps : List Fact) (es : List Effect) (heads : List Head) → heads ≡ [] → operators_of ns ps es heads ≡ []
-no_operator ns ps es heads none = table_none (length heads) _ (ap length none)
 
 module _ (c : Columns) (os : List Operator) (is : operators_in c ≡ os) where
   pub as_many : length c.heads.items ≡ length os

@@ -24,16 +24,13 @@ effect_ends heads = map (λ (h : Head). h.effects) heads
 abbrev pub costs : List Head → List ℕ
 costs heads = map (λ (h : Head). h.cost) heads
 
--- the operators of these heads, whose items stand in these blocks
-abbrev pub operators_of : List ℕ → List Fact → List Effect → List Head → List Operator
-operators_of names prevail effects heads = table (length heads) (λ index. operator
-    (list_at names (name_ends heads) index) (list_at prevail (prevail_ends heads) index)
-    (list_at effects (effect_ends heads) index) (slice_index (costs heads) index))
-
+-- the operators that have a head, each with its items
 abbrev pub operators_in : Columns → List Operator
-operators_in c = operators_of c.names.items c.prevail.items c.effects c.heads.items
+operators_in c = table (length c.heads.items) (λ index. operator
+    (list_at c.names.items (name_ends c.heads.items) index) (list_at c.prevail.items (prevail_ends c.heads.items) index)
+    (list_at c.effects (effect_ends c.heads.items) index) (slice_index (costs c.heads.items) index))
 
--- the items of the last operator are the last items
+-- the heads say where the items of each operator end, and no item stands behind these
 pub record AreAligned (c : Columns) : Type 0 where
   pub names : AreEnds (name_ends c.heads.items) (length c.names.items)
   pub prevail : AreEnds (prevail_ends c.heads.items) (length c.prevail.items)

@@ -3,9 +3,9 @@ ghost use Rattle.std.specs.Prelude.{◌≡◌, ◌<◌, ◌≤◌, [], ◌∷◌
 ghost use Rattle.sas_grounded.specs.Grounded as grounded;
 ghost use Rattle.sas_flat.specs.Effects.{effect, plain_effects, effect_in};
 
-use sas_lists::Lists;
 use sas_core::Fact;
 use sas_grounded::Change;
+use sas_lists::Lists;
 use std::alloc::{AllocError, Global};
 use std::marker::Model;
 

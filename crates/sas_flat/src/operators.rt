@@ -15,7 +15,7 @@ use std::marker::Model;
 /// What is of fixed size of an operator: where its name, its prevail conditions and its effects end, each behind those of
 /// the operators before it, and its cost.
 #[derive(Clone, Copy, Debug)]
-pub struct Head {
+struct Head {
     name: usize,
     prevail: usize,
     effects: usize,
@@ -50,7 +50,7 @@ impl Model for Operators {
 }
 
 impl Columns {
-    /// The head before the operator's: it says where the operator's items start. Before the first one all is 0.
+    /// The head before the operator's, which says where the operator's items start; before the first one all is 0.
     #[inline(always)]
     fn before(&self, operator: usize) -> Head
         requires { operator ≤ length self.now.heads.items }
@@ -83,8 +83,8 @@ impl Columns {
         }
     }
 
-    /// The name, the prevail conditions and the head of one operator more, whose effects are here already, behind those of
-    /// the others. After an `Err` some of its items are here.
+    /// The name, the prevail conditions and the head of one operator more, whose effects stand behind those of the others
+    /// already. After an `Err` some of its items stand there too.
     #[inline(always)]
     fn push(&mut self, name: &[u8], prevail: &[Fact], cost: u32) -> Result<(), AllocError>
         ensures names { Kept self.old.names.items self.new.names.items }
@@ -102,7 +102,7 @@ impl Columns {
         Ok(())
     }
 
-    /// Leaves the items that stand before where the head ends.
+    /// Leaves the items up to where the head says that they end.
     fn truncate(&mut self, end: Head)
         requires { end.effects ≤ length self.old.effects }
         ensures names { self.new.names.items ≡ take end.name self.old.names.items }

@@ -3,9 +3,9 @@ ghost use Rattle.std.specs.Prelude.{◌≡◌};
 ghost use Rattle.std.specs.List.{AllByRecursion};
 ghost use Rattle.sas_core.specs.Names.{IsName};
 
-use sas_lists::Lists;
 use sas_core::CostKind;
 use sas_grounded::Stepwise;
+use sas_lists::Lists;
 use std::marker::Model;
 
 /// A plan whose names stand in one block of memory. In a contract it is its parts.

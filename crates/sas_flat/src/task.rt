@@ -3,12 +3,12 @@ ghost use Rattle.std.specs.Prelude.{◌≡◌};
 ghost use Rattle.sas_core.specs.WellRanged.{WellRanged};
 ghost use Rattle.sas_flat.specs.FlatTasks.{parts};
 
-use sas_lists::Lists;
 use crate::operators::Operators;
 use crate::rules::Rules;
 use crate::variables::Variables;
 use sas_core::{Fact, Items};
 use sas_grounded::{Change, Grounded};
+use sas_lists::Lists;
 use std::marker::Model;
 
 /// A task in a few blocks of memory: its parts are well ranged. In a contract it is its parts.

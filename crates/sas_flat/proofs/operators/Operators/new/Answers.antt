@@ -1,5 +1,6 @@
-use Rattle.sas_flat.proofs.FoundOperators.{no_operator}
+use Rattle.std.proofs.Common.{length, ap}
+use Rattle.sas_lists.proofs.Tables.{table_none}
 use Rattle.sas_flat.proofs.operators.Operators.new.Goals as goal
 
 pub returns : goal.returns
-returns c = no_operator _ _ _ _ c.new-4.ensures.items
+returns c = table_none _ _ (ap length c.new-4.ensures.items)

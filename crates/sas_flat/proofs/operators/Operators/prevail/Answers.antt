@@ -1,5 +1,4 @@
-use Rattle.std.proofs.Common.{sym, ap, ◌∙◌, arith, rules}
-use Rattle.std.specs.Prelude.{slice_range}
+use Rattle.std.proofs.Common.{sym, ap, arith}
 use Rattle.sas_core.specs.declared.parts.Operator.{Operator}
 use Rattle.sas_flat.specs.declared.operators.Head.{Head}
 use Rattle.sas_flat.proofs.FoundOperators.{as_many, found, end_is, ordered, within}
@@ -15,10 +14,10 @@ pub slice_bounds-result-count : goal.slice_bounds-result-count
 slice_bounds-result-count c = rw c.before-start.ensures.prevail (ordered c.self.inside.columns c.args.self.now c.self.view_is c.args.operator c.requires (λ (h : Head). h.prevail) c.index.result.now c.index.ensures _ c.self.invariant.prevail)
 
 pub slice_bounds-result-start : goal.slice_bounds-result-start
-slice_bounds-result-start c = omega (arith, c.as_slice.ensures.value, slice_bounds-result-count c, within c.self.inside.columns c.args.self.now c.self.view_is c.args.operator c.requires (λ (h : Head). h.prevail) c.index.result.now c.index.ensures _ c.self.invariant.prevail)
+slice_bounds-result-start c = omega (arith, slice_bounds-result-count c, within c.self.inside.columns c.args.self.now c.self.view_is c.args.operator c.requires (λ (h : Head). h.prevail) c.index.result.now c.index.ensures _ c.self.invariant.prevail)
 
 pub slice_bounds-result-end : goal.slice_bounds-result-end
-slice_bounds-result-end c = search (rules, c.as_slice.ensures.value, within c.self.inside.columns c.args.self.now c.self.view_is c.args.operator c.requires (λ (h : Head). h.prevail) c.index.result.now c.index.ensures _ c.self.invariant.prevail)
+slice_bounds-result-end c = omega (arith, within c.self.inside.columns c.args.self.now c.self.view_is c.args.operator c.requires (λ (h : Head). h.prevail) c.index.result.now c.index.ensures _ c.self.invariant.prevail)
 
 pub returns : goal.returns
 returns c =
