@@ -18,7 +18,8 @@ pub record LinesBefore (items : List TaskLine) (bytes rest : List ℕ) : Type 0 
   pub before : bytes ≡ text (spelled items) ++ rest
 
 -- this number and a line for each of these, each of which may stand, are before the rest
-pub record CountedBefore {A : Type 0} (says : A → TaskLine) (may_stand : A → Bool) (count : ℕ) (each : List A) (bytes rest : List ℕ) : Type 0 where
+pub record CountedBefore {A : Type 0} (says : A → TaskLine) (may_stand : A → Bool)
+    (count : ℕ) (each : List A) (bytes rest : List ℕ) : Type 0 where
   pub lines : LinesBefore (number count ∷ flat_map (line says) each) bytes rest
   pub stand : IsTrue (list_all may_stand each)
 

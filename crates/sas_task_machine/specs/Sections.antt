@@ -1,5 +1,5 @@
 -- Sections that are kept whole: a variable, a mutex group, an operator, a rule.
-use Rattle.std.specs.Prelude.{◌≡◌, ℕ, ◌<◌, List, [], ◌∷◌, ◌++◌, length, Result, IfOk, IfErr}
+use Rattle.std.specs.Prelude.{◌≡◌, ℕ, ◌<◌, List, [], ◌++◌, length, Result, IfOk, IfErr}
 use Rattle.sas_core.specs.declared.parts.Fact.{Fact}
 use Rattle.sas_core.specs.declared.parts.Variable.{Variable}
 use Rattle.sas_core.specs.declared.parts.Operator.{Operator}
@@ -11,7 +11,7 @@ use Rattle.sas_task_format.specs.TaskFormat.{TaskLine, variable_lines, group_lin
 use Rattle.sas_task_line.specs.Sections.{spelled, VariableAhead, GroupAhead, OperatorAhead, RuleAhead}
 use Rattle.sas_task_events.specs.declared.so_far.SoFar.{SoFar}
 use Rattle.sas_task_machine.specs.declared.keeper.VariableKept.{VariableKept}
-use Rattle.sas_task_events.specs.TaskEvents.{with_variable, with_operator, with_rule}
+use Rattle.sas_task_events.specs.TaskEvents.{with_variable, with_group, with_operator, with_rule}
 
 -- what has come behind all lines of a variable
 abbrev pub behind_variable : SoFar → Variable → SoFar
@@ -19,7 +19,7 @@ behind_variable s v = record s { parts = with_variable s.parts v; name = []; lay
 
 -- what has come behind all lines of a mutex group
 abbrev pub behind_group : SoFar → List Fact → SoFar
-behind_group s facts = record s { parts = record s.parts { groups = s.parts.groups ++ facts ∷ [] }; facts = [] }
+behind_group s facts = record s { parts = with_group s.parts facts; facts = [] }
 
 -- what has come behind all lines of an operator
 abbrev pub behind_operator : SoFar → Operator → SoFar
