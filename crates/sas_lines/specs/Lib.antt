@@ -3,4 +3,5 @@ pub mod Lines
 pub mod Spelling
 pub mod Progress
 pub mod Device
+pub mod Inputs
 pub mod Trial

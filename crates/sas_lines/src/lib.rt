@@ -2,6 +2,7 @@
 #![tactic(auto)]
 
 mod devices;
+mod inputs;
 mod lines;
 mod numbers;
 mod separators;
@@ -10,6 +11,7 @@ pub mod trial;
 mod writing;
 
 pub use devices::{Failed, Short, Watched, write_out};
+pub use inputs::Opened;
 pub use lines::{Fed, FirstLine, Lines, first_line};
 pub use numbers::Numbers;
 pub use spelling::{cost, number, signed, spelling_is_decimal};

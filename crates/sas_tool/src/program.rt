@@ -3,8 +3,8 @@ ghost use Rattle.std.specs.Prelude.{◌≡◌, false, IfOk};
 
 use crate::words::{Job, Source, WordsFault, command};
 use crate::{Status, ToolFault, run};
-use sas_lines::Watched;
-use std::io::{ErrorKind, Read, Write};
+use sas_lines::{Opened, Watched};
+use std::io::{ErrorKind, Write};
 use std::process::ExitCode;
 use std::rt::{Env, Files};
 use std::{env, fs, io};
@@ -98,38 +98,17 @@ fn stop<R: Eprint>(rt: &R, status: u8, line: &str) -> ExitCode {
     ExitCode::from(status)
 }
 
-/// An input of the program: a file, standard input, or nothing for a request that doesn't read it.
-#[derive(Drop)]
-enum Device<F, I> {
-    File(F),
-    Input(I),
-    Nothing,
-}
-
-impl<F: Read, I: Read> Read for Device<F, I> {
-    ghost use Rattle.sas_tool.specs.Devices.{left_of};
-
-    ghost remaining = { left_of F.remaining I.remaining };
-
-    fn read(&mut self, buf: &mut [u8]) -> io::Result<usize> {
-        match self {
-            Device::File(file) => file.read(buf),
-            Device::Input(input) => input.read(buf),
-            Device::Nothing => Ok(0),
-        }
-    }
-}
-
+/// Opens an input of the program. What the request doesn't read is nothing.
 fn open_source<R: Files + Input>(
     rt: &R,
     source: Option<Source>,
-) -> io::Result<Watched<Device<R::File, R::Reader>>>
+) -> io::Result<Watched<Opened<R::File, R::Reader>>>
     ensures { IfOk result (λ w. w.failed ≡ false) }
 {
-    let device = match source {
-        None => Device::Nothing,
-        Some(Source::Input) => Device::Input(rt.reader()),
-        Some(Source::File(name)) => Device::File(fs::open(rt, name.as_str())?),
+    let input = match source {
+        None => Opened::Nothing,
+        Some(Source::Input) => Opened::Standard(rt.reader()),
+        Some(Source::File(name)) => Opened::File(fs::open(rt, name.as_str())?),
     };
-    Ok(Watched::new(device))
+    Ok(Watched::new(input))
 }

@@ -1,0 +1,28 @@
+// What a program reads from.
+use std::io::{Read, Result};
+
+/// An input that was opened: a file, standard input, or nothing where there is none to read. Its reads are theirs, and of
+/// nothing there is nothing to read.
+#[derive(Drop)]
+pub enum Opened<F, I> {
+    /// A file.
+    File(F),
+    /// Standard input.
+    Standard(I),
+    /// No bytes.
+    Nothing,
+}
+
+impl<F: Read, I: Read> Read for Opened<F, I> {
+    ghost use Rattle.sas_lines.specs.Inputs.{left_of};
+
+    ghost remaining = { left_of F.remaining I.remaining };
+
+    fn read(&mut self, buf: &mut [u8]) -> Result<usize> {
+        match self {
+            Opened::File(file) => file.read(buf),
+            Opened::Standard(input) => input.read(buf),
+            Opened::Nothing => Ok(0),
+        }
+    }
+}
