@@ -1,5 +1,5 @@
 -- The operators of a task by their names.
-use Rattle.std.specs.Prelude.{ℕ, ◌<◌, ◌≤◌, List, Option, None, Some}
+use Rattle.std.specs.Prelude.{ℕ, ◌<◌, ◌≤◌, List, [], length, Option, None, Some, slice_index, slice_index_or}
 use Rattle.sas_core.specs.declared.parts.Parts.{Parts}
 use Rattle.sas_run.specs.Plans.{IsNamed}
 
@@ -13,3 +13,10 @@ pub record IsLowestNamed (p : Parts) (name : List ℕ) (from operator : ℕ) : T
 abbrev pub IsNextNamed : Parts → List ℕ → ℕ → Option ℕ → Type 0
 IsNextNamed p name from (Some operator) = IsLowestNamed p name from operator
 IsNextNamed p name from None = (operator : ℕ) → from ≤ operator → IsNamed p name operator → ⊥
+
+-- of each step, up to the first one whose name no operator has, the lowest operator of its name
+pub record AreFirsts (p : Parts) (steps : List (List ℕ)) (firsts : List ℕ) : Type 0 where
+  pub within : length firsts ≤ length steps
+  pub each : (step : ℕ) → step < length firsts
+      → IsNextNamed p (slice_index_or steps step []) 0 (Some (slice_index firsts step))
+  pub behind : length firsts < length steps → IsNextNamed p (slice_index_or steps (length firsts) []) 0 None

@@ -5,6 +5,7 @@ ghost use Rattle.sas_grounded.specs.Grounded.{operator_at};
 ghost use Rattle.sas_core.specs.Variables.{IsState};
 ghost use Rattle.sas_run.specs.Plans.{IsValid, GoThrough, cost_of_all};
 ghost use Rattle.sas_run.specs.NameTable.{IsLookedUp};
+ghost use Rattle.sas_run.specs.Names.{AreFirsts};
 ghost use Rattle.sas_run.specs.Verdicts.{IsFaultOf};
 ghost use Rattle.sas_run.specs.Running.{GoesOn, StopsAt, GoesThrough};
 
@@ -57,9 +58,10 @@ impl<'a, E: Settle<T> + Drop, T: Grounded> Runner<'a, E, T> {
         ensures fault { IfErr result (λ f. f ≢ PlanFault.Memory → IsFaultOf self.old (P.says plan.now) f) }
         ensures same { self.new ≡ self.old }
     {
+        let firsts = self.first_operators(alloc, plan)?;
         let mut operators = Vec::with_capacity(alloc, plan.steps())?;
         let mut state = self.initial(alloc)?;
-        if let Err(fault) = self.go_through(plan, &mut state, &mut operators) {
+        if let Err(fault) = self.go_through(plan, firsts.as_slice(), &mut state, &mut operators) {
             return Err(fault);
         }
         if let Some(index) = self.goal(&state) {
@@ -75,28 +77,54 @@ impl<'a, E: Settle<T> + Drop, T: Grounded> Runner<'a, E, T> {
         })
     }
 
-    /// Makes the plan's steps in turn, and adds their operators, for which there is room. A name that comes several
-    /// times in a row is looked up once.
+    /// For each step, up to the first one whose name no operator has, the lowest operator of its name. A name that comes
+    /// several times in a row is looked up once. All names are looked up before the first step, since each waits for
+    /// memory that is read in no order: those of several steps then wait at once.
+    fn first_operators<P: Stepwise>(&self, alloc: Global, plan: &P) -> Result<Vec<u32>, AllocError>
+        ensures { IfOk result (λ firsts. AreFirsts self.now (P.says plan.now).steps firsts.items) }
+    {
+        let mut firsts = Vec::with_capacity(alloc, plan.steps())?;
+        // No step has the empty name, so the first one's is looked up.
+        let mut looked_up = self.look_up(b"");
+        for step in 0..plan.steps() {
+            looked_up = self.look_up_after(looked_up, plan.step(step));
+            match looked_up.first {
+                Some(first) => firsts.push(first).unwrap(),
+                None => return Ok(firsts),
+            }
+        }
+        Ok(firsts)
+    }
+
+    /// Makes the plan's steps in turn, whose lowest operators these are, and adds their operators, for which there is room.
     fn go_through<P: Stepwise>(
         &mut self,
         plan: &P,
+        firsts: &[u32],
         state: &mut State,
         operators: &mut Vec<u32>,
     ) -> Result<(), PlanFault>
+        requires firsts { AreFirsts self.old (P.says plan.now).steps firsts.now }
         requires state { IsState self.old.variables state.old }
         requires room { length (P.says plan.now).steps ≤ vec_capacity operators.old }
         requires empty { operators.old.items ≡ [] }
         ensures goes { GoesThrough self.old state.old (P.says plan.now).steps operators.new.items state.new result }
         ensures same { self.new ≡ self.old }
     {
-        // No step has the empty name, so the first one's is looked up.
-        let mut looked_up = self.look_up(b"");
-        for before in 0..plan.steps() {
-            looked_up = self.look_up_after(looked_up, plan.step(before));
+        for before in 0..firsts.len() {
+            let looked_up = LookedUp {
+                name: plan.step(before),
+                first: Some(firsts[before]),
+            };
             match self.go_on(looked_up, before + 1, state) {
                 Ok(operator) => operators.push(operator).unwrap(),
                 Err(fault) => return Err(fault),
             }
+        }
+        if firsts.len() < plan.steps() {
+            return Err(PlanFault::NoOperator {
+                step: firsts.len() + 1,
+            });
         }
         Ok(())
     }

@@ -15,16 +15,16 @@ returns-in-Err-clause-goes g c =
     let n = c.loop-before.before in
     let inv = c.loop-before.invariant in
     let below : n < length steps = search rules in
-    let named : c.look_up_after-looked_up.result.name.now ≡ get_or steps n [] = c.look_up_after-looked_up.ensures.name ∙ c.step.ensures in
+    let named : c.step.result.now ≡ get_or steps n [] = c.step.ensures in
     let stops = rw inv.same at c.in-Err.ensures.err in
     let goes = rw inv.same at inv.goes in (
       take n steps,
       drop (n + 1) steps,
-      c.look_up_after-looked_up.result.name.now,
+      c.step.result.now,
       c.loop-before.state,
       around steps n [] below ∙ ap (λ (name : List ℕ). take n steps ++ name ∷ drop (n + 1) steps) (sym named),
       goes,
-      subst (λ m. StopsAt p c.loop-before.state c.look_up_after-looked_up.result.name.now (m + 1) c.in-Err.fault) (sym (length_of_take steps n below)) stops,
+      subst (λ m. StopsAt p c.loop-before.state c.step.result.now (m + 1) c.in-Err.fault) (sym (length_of_take steps n below)) stops,
     )
 
 pub loop-before-preserved : goal.loop-before-preserved
@@ -34,19 +34,40 @@ loop-before-preserved g c =
     let n = c.loop-before.before in
     let inv = c.loop-before.invariant in
     let below : n < length steps = search rules in
-    let named : c.look_up_after-looked_up.result.name.now ≡ get_or steps n [] = c.look_up_after-looked_up.ensures.name ∙ c.step.ensures in
+    let named : c.step.result.now ≡ get_or steps n [] = c.step.ensures in
     let items = rw c.unwrap.ensures at c.push.ensures.items in
-    let on : GoesOn p c.loop-before.state c.look_up_after-looked_up.result.name.now c.in-Ok.operator c.go_on.new.state = rw inv.same at c.in-Ok.ensures.ok in
+    let on : GoesOn p c.loop-before.state c.step.result.now c.in-Ok.operator c.go_on.new.state = rw inv.same at c.in-Ok.ensures.ok in
     let goes : GoThrough p c.args.state.now (take n steps) c.loop-before.operators.items c.loop-before.state = rw inv.same at inv.goes in
     let exist = rw inv.same at inv.exist in
     rw (c.in-Ok.ensures.same ∙ inv.same) record {
       same = refl;
-      looked_up = rw inv.same at c.look_up_after-looked_up.ensures.is;
       goes = rw items (subst (λ (names : List (List ℕ)). GoThrough p c.args.state.now names (c.loop-before.operators.items ++ c.in-Ok.operator ∷ []) c.go_on.new.state)
           (sym (take_more steps n [] below ∙ ap (λ (name : List ℕ). take n steps ++ name ∷ []) (sym named)))
-          (goes_one_more p c.args.state.now (take n steps) c.loop-before.operators.items c.loop-before.state c.look_up_after-looked_up.result.name.now c.in-Ok.operator c.go_on.new.state goes on));
+          (goes_one_more p c.args.state.now (take n steps) c.loop-before.operators.items c.loop-before.state c.step.result.now c.in-Ok.operator c.go_on.new.state goes on));
       state = on.step.state;
       exist = rw items (All-push (λ (o : ℕ). o < length p.operators) c.loop-before.operators.items c.in-Ok.operator exist on.chosen.of_name.exists);
       one_each = rw items (let len = length-append c.loop-before.operators.items (c.in-Ok.operator ∷ []) in let one = inv.one_each in omega arith);
       room = search rules;
     }
+
+-- Behind the steps that were looked up stands one whose name no operator has.
+pub returns-then-firsts-steps-clause-goes : goal.returns-then-firsts-steps-clause-goes
+returns-then-firsts-steps-clause-goes g c =
+    let p = c.args.self.now in
+    let steps = (g.P.Stepwise.says c.args.plan.now).steps in
+    let n = length c.args.firsts.now in
+    let inv = c.loop-before.invariant in
+    let below : n < length steps = search rules in
+    let at_end : c.loop-before.before ≡ n = search rules in
+    let goes = rw (inv.same, at_end) at inv.goes in (
+      take n steps,
+      drop (n + 1) steps,
+      get_or steps n [],
+      c.loop-before.state,
+      around steps n [] below,
+      goes,
+      (
+        ap (λ m. m + 1) (sym (length_of_take steps n below)),
+        λ operator named. c.requires.firsts.behind below operator (omega arith) named,
+      ),
+    )
