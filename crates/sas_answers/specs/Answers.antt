@@ -13,7 +13,7 @@ use Rattle.sas_run.specs.Plans.{IsValid}
 use Rattle.sas_run.specs.Verdicts.{IsFaultOf}
 use Rattle.sas_answers.specs.declared.Status.{Status}
 use Rattle.sas_answers.specs.declared.Status.TheVariants.{Yes, No}
-use Rattle.sas_answers.specs.declared.Told.{Told}
+use Rattle.sas_answers.specs.declared.told.Told.{Told}
 use Rattle.sas_answers.specs.GroupWords.{group_lines, groups_status}
 use Rattle.sas_answers.specs.LayerWords.{layer_words, layers_line}
 use Rattle.sas_answers.specs.PlanWords.{valid_line, fault_words, invalid_line}

@@ -1,10 +1,11 @@
 //! What is said of a task or a plan that is at hand, and how a run ends: by an answer in one word, or why there is none. It
-//! reads nothing and writes nothing.
+//! reads no file.
 #![tactic(auto)]
 
 mod groups;
 mod layers;
 mod plans;
+mod told;
 
 ghost use Rattle.std.specs.Prelude.{◌≡◌};
 
@@ -13,6 +14,7 @@ pub use layers::{layers_answer, refuse_layers};
 pub use plans::verdict_answer;
 use std::alloc::AllocError;
 use thiserror::Error;
+pub use told::Told;
 
 /// The answer in one word.
 #[derive(Clone, Copy, Debug, PartialEq, Eq)]
@@ -22,13 +24,6 @@ pub enum Status {
     Yes,
     /// A file is refused, or the plan isn't valid, or a group isn't shown to be exclusive, and that was written.
     No,
-}
-
-/// What is said: a text, and its status.
-#[derive(Drop)]
-pub struct Told {
-    pub text: Vec<u8>,
-    pub status: Status,
 }
 
 /// Why there is no answer, or not all of it was written.

@@ -10,7 +10,7 @@ ghost use Rattle.sas_requests.specs.Output.{IsLayeredText, reads_plan, reads_tas
 use crate::plans::plan_answer;
 use crate::{Request, Status, ToolFault};
 use sas_answers::{Told, groups_answer, layers_answer};
-use sas_lines::{Watched, push_line, push_number, write_out};
+use sas_lines::{Watched, push_line, push_number};
 use sas_summary::Summary;
 use sas_text::{Fault, Kind, read_flat_task, read_outline, read_plan_text, read_task_text};
 use std::alloc::{AllocError, Global};
@@ -71,28 +71,8 @@ pub fn write_answer<W: Write>(
     ensures writes { IsErrAnd result IsWrite ↔ IsTrue out.new.failed }
 {
     match answer {
-        Answer::Text(told) => write_text(told.text.as_slice(), told.status, out),
+        Answer::Text(told) => told.write(out),
         Answer::Summary(summary) => summary.write(alloc, out),
-    }
-}
-
-/// Writes a text that is at hand.
-fn write_text<W: Write>(
-    text: &[u8],
-    status: Status,
-    out: &mut Watched<W>,
-) -> Result<Status, ToolFault>
-    requires { out.old.failed ≡ false }
-    ensures ends { Ends (λ output. output ≡ Some (record { text = text.now; status = status }))
-        (Appends (W.contents out.old.device) (W.contents out.new.device)) result }
-    ensures write { IfErr result IsWrite }
-    ensures writes { IsErrAnd result IsWrite ↔ IsTrue out.new.failed }
-{
-    match write_out(out, text) {
-        Ok(()) => Ok(status),
-        Err(short) => Err(ToolFault::Write {
-            written: short.written,
-        }),
     }
 }
 
