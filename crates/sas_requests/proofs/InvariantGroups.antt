@@ -10,7 +10,7 @@ use Rattle.sas_core.specs.declared.parts.Parts.{Parts}
 use Rattle.sas_meaning.specs.declared.layered.LayerFault.{LayerFault}
 use Rattle.sas_meaning.specs.Layers.{IsLayered}
 use Rattle.sas_meaning.proofs.LayerChecksAreRules.{checks_are_rules}
-use Rattle.sas_lines.specs.Lines.{text, lines}
+use Rattle.sas_lines.specs.Lines.{lines}
 use Rattle.sas_lines.proofs.Splitting.{Plain, lines-text, without_return-none}
 use Rattle.sas_lines.proofs.Words.{same_first, NoSpace-decimal}
 use Rattle.sas_reader.specs.declared.fault.Fault.{Fault}
