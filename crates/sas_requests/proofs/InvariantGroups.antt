@@ -1,23 +1,19 @@
 -- A group that is told to be exclusive is an invariant.
-use Rattle.std.proofs.Common.{◌≡◌, ℕ, suc, ◌+◌, ◌<◌, ◌^◌, List, [], ◌∷◌, ◌++◌, length, get_or, drop, codes, append_assoc, refl, sym, ap, subst, ◌∙◌, arith, Option, Some, None, Result, Ok, Err, inl, inr}
+use Rattle.std.proofs.Common.{◌≡◌, ℕ, suc, ◌+◌, ◌<◌, ◌^◌, List, [], ◌∷◌, ◌++◌, length, get_or, drop, codes, append_assoc, refl, sym, ap, subst, ◌∙◌, arith, Option, Some, Result, Ok, inl, inr}
 use Rattle.std.specs.Fmt.{decimal}
-use Rattle.std.specs.List.{AllByRecursion, Contains, All}
+use Rattle.std.specs.List.{AllByRecursion, Contains}
 use Rattle.std.specs.Io.KnownBytes.{Appends}
 use Rattle.std.proofs.lemmas.Fmt.{decimal_injective}
 use Rattle.std.proofs.lemmas.List.{append_cancel_left}
 use Rattle.std.proofs.lemmas.List.Elements.{Contains-append_cases, All-contains, All-cons, All-nil}
 use Rattle.sas_core.specs.declared.parts.Parts.{Parts}
-use Rattle.sas_core.specs.Checks.{first_fault}
 use Rattle.sas_meaning.specs.declared.layered.LayerFault.{LayerFault}
 use Rattle.sas_meaning.specs.Layers.{IsLayered}
-use Rattle.sas_meaning.specs.LayerChecks.{layer_checks}
-use Rattle.sas_meaning.specs.Reachable.{Reachable}
 use Rattle.sas_meaning.proofs.LayerChecksAreRules.{checks_are_rules}
-use Rattle.sas_lines.specs.Lines.{text, lines}
+use Rattle.sas_lines.specs.Lines.{lines}
 use Rattle.sas_lines.proofs.Splitting.{Plain, lines-text, without_return-none}
 use Rattle.sas_lines.proofs.Words.{same_first, NoSpace-decimal}
 use Rattle.sas_reader.specs.declared.fault.Fault.{Fault}
-use Rattle.sas_reader.specs.Limit.{most_bytes}
 use Rattle.sas_reader.specs.Format.{Reads}
 use Rattle.sas_reader.specs.System.{IsPlain}
 use Rattle.sas_reader.proofs.Plain.{plain-decimal, plain_bytes, plain-append}
@@ -26,11 +22,11 @@ use Rattle.sas_task_format.proofs.TaskLaws.{task_laws_hold}
 use Rattle.sas_groups.specs.declared.verdict.Verdict.{Verdict}
 use Rattle.sas_groups.specs.declared.verdict.Verdict.TheVariants.{Exclusive, Derived, Initial, Broken}
 use Rattle.sas_groups.specs.Verdicts.{IsJointVerdict}
-use Rattle.sas_mutex.specs.Joint.{AreJointVerdicts, verdict_at}
 use Rattle.sas_mutex.proofs.JointLists.{listed_exclusive}
 use Rattle.sas_requests.specs.Headline.{IsInvariant, Invariants}
-use Rattle.sas_requests.specs.GroupWords.{verdict_words, group_line, group_lines_from, group_lines}
-use Rattle.sas_requests.specs.Output.{Output, IsAnswerOrRefusal, GroupsAnswer, LayeredGroupsAnswer, MutexAnswer, MutexOut}
+use Rattle.sas_answers.specs.GroupWords.{verdict_words, group_line, group_lines_from, group_lines}
+use Rattle.sas_answers.specs.Answers.{Output, GroupsAnswer, LayeredGroupsAnswer, MutexAnswer}
+use Rattle.sas_requests.specs.Output.{IsAnswerOrRefusal, MutexOut}
 use Rattle.sas_requests.proofs.Headlines.{text_read, not_long, sent_same}
 
 -- ---- the lines of verdicts

@@ -1,11 +1,5 @@
 mod Outputs
-mod CheckAnswers
 mod PlanAnswers
 mod Headlines
-mod Summaries
-mod MutexAnswers
 mod InvariantGroups
-mod Putting
 mod Endings
-mod Lengths
-mod SummaryLengths

@@ -14,17 +14,14 @@ use Rattle.sas_task_format.specs.TaskFormat.{TaskSlot, word_slot, name_slot, num
 use Rattle.sas_lines.specs.Device.{Device}
 use Rattle.sas_reader.specs.Devices.{Refuses, unread_at, ended_at, faulty_at, ReadsAll}
 use Rattle.sas_reader.proofs.Known.{known_answer, known_fault}
+use Rattle.sas_answers.specs.Answers.{Output}
+use Rattle.sas_answers.proofs.AnswerLaws.{OneAnswer, SomeAnswer}
 use Rattle.sas_requests.specs.declared.answers.Answer.{Answer}
-use Rattle.sas_requests.specs.declared.ToolFault.{ToolFault}
-use Rattle.sas_requests.specs.declared.ToolFault.TheVariants as tool_fault
+use Rattle.sas_answers.specs.declared.ToolFault.{ToolFault}
+use Rattle.sas_answers.specs.declared.ToolFault.TheVariants as tool_fault
 use Rattle.sas_requests.specs.Answering.{Answers, AnswersFile, output_of}
-use Rattle.sas_requests.specs.Ending.{IsDecided, IsWrite}
-use Rattle.sas_requests.specs.Output.{Output, word_of, refusal, IsAnswerOrRefusal, FileOut}
-
--- what is so of the value is so in other words
-pub so_if_ok : {A E : Type 0} {P Q : A → Type 0} (r : Result A E) → IfOk r P → ((a : A) → P a → Q a) → IfOk r Q
-so_if_ok (Ok a) h so = so a h
-so_if_ok (Err e) h so = tt
+use Rattle.sas_answers.specs.Ending.{IsDecided, IsWrite}
+use Rattle.sas_requests.specs.Output.{word_of, refusal, IsAnswerOrRefusal, FileOut}
 
 -- no word, no refusal
 no_word : (word : Option (List ℕ)) (said : List ℕ → Output) → None ≡ option_map said word → word ≡ None
@@ -75,14 +72,6 @@ task_worded signed_slot line k why none = numbers_worded signed_slot line k why 
 task_worded fact_slot line k why none = numbers_worded fact_slot line k why none
 task_worded effect_slot line k why none = numbers_worded effect_slot line k why none
 task_worded head_slot line k why none = numbers_worded head_slot line k why none
-
--- a value has one answer
-abbrev pub OneAnswer : {V : Type 0} → (V → Output → Type 0) → Type 0
-OneAnswer {V} IsAnswer = (value : V) (o p : Output) → IsAnswer value o → IsAnswer value p → o ≡ p
-
--- and it can't have none
-abbrev pub SomeAnswer : {V : Type 0} → (V → Output → Type 0) → Type 0
-SomeAnswer {V} IsAnswer = (value : V) → ((o : Output) → IsAnswer value o → ⊥) → ⊥
 
 module _ {V I S : Type 0} (F : Format V I S) (name : List ℕ) (IsAnswer : V → Output → Type 0) (bytes : List ℕ) where
   file_refused : (f : Fault) (o : Output) → refusal name f ≡ Some o → IsFaultOf F bytes f → FileOut F name IsAnswer bytes (Some o)

@@ -1,10 +1,9 @@
 -- What is said of a task and a plan: one thing, and always something.
-use Rattle.std.proofs.Common.{◌≡◌, ◌≢◌, ℕ, ◌<◌, ◌⊎◌, Bool, true, false, List, [], length, codes, refl, sym, ap, subst, ◌∙◌, inl, inr, Option, Some, None, Result, Ok, Err}
+use Rattle.std.proofs.Common.{◌≡◌, ◌≢◌, ℕ, ◌<◌, ◌⊎◌, Bool, true, false, List, [], length, codes, refl, sym, subst, ◌∙◌, inl, inr, Option, Some, None, Result, Ok, Err}
 use Rattle.std.specs.Prelude.{◌↔◌, ◌||◌, IsTrue, IfOk, IfErr}
 use Rattle.std.proofs.lemmas.Option.{none-some}
 use Rattle.sas_core.specs.declared.parts.Parts.{Parts}
 use Rattle.sas_core.specs.Checks.{first_fault}
-use Rattle.sas_core.specs.PlanParts.{PlanParts}
 use Rattle.sas_core.specs.WellRanged.{WellRanged}
 use Rattle.sas_meaning.specs.declared.layered.LayerFault.{LayerFault}
 use Rattle.sas_meaning.specs.declared.layered.LayerFault.TheVariants as layer_fault
@@ -21,52 +20,17 @@ use Rattle.sas_plan_file.specs.PlanFormat.{plan_format}
 use Rattle.sas_plan_file.proofs.PlanLaws.{plan_laws_hold}
 use Rattle.sas_task_format.specs.TaskFormat.{task_format}
 use Rattle.sas_task_format.proofs.TaskLaws.{task_laws_hold}
-use Rattle.sas_run.specs.declared.plan_check.PlanFault.{PlanFault}
-use Rattle.sas_run.specs.declared.plan_check.PlanFault.TheVariants.{Memory, NoOperator, NotApplicable, Conflict, GoalMissed, CostDiffers}
-use Rattle.sas_run.specs.Verdicts.{IsFaultOf}
-use Rattle.sas_run.proofs.PlanVerdicts.{some_verdict, valid_has_no_fault, fault_is_one}
 use Rattle.sas_requests.specs.declared.answers.Answer.{Answer}
-use Rattle.sas_requests.specs.declared.ToolFault.{ToolFault}
-use Rattle.sas_requests.specs.declared.ToolFault.TheVariants as tool_fault
+use Rattle.sas_answers.specs.declared.ToolFault.{ToolFault}
+use Rattle.sas_answers.specs.declared.ToolFault.TheVariants as tool_fault
 use Rattle.sas_requests.specs.Answering.{Answers, AnswersFile, AnswersFiles, output_of}
-use Rattle.sas_requests.specs.Output.{Output, IsAnswerOrRefusal, FileOut, layers_refusal, layers_verdict, valid_answer, invalid_answer, VerdictAnswer, VerdictOut, LayersOut, JudgedOut, PlanOut}
-use Rattle.sas_requests.proofs.Outputs.{OneAnswer, SomeAnswer, takes_nothing, one_file_output, some_file_output, no_file_output, plan_worded, task_worded}
-use Rattle.sas_requests.proofs.CheckAnswers.{some_check_answer}
+use Rattle.sas_answers.specs.Answers.{Output, layers_refusal, layers_verdict, VerdictAnswer}
+use Rattle.sas_requests.specs.Output.{IsAnswerOrRefusal, FileOut, VerdictOut, LayersOut, JudgedOut, PlanOut}
+use Rattle.sas_requests.proofs.Outputs.{takes_nothing, one_file_output, some_file_output, no_file_output, plan_worded, task_worded}
+use Rattle.sas_answers.proofs.CheckAnswers.{some_check_answer}
+use Rattle.sas_answers.proofs.VerdictAnswers.{one_verdict_answer, some_verdict_answer}
 
--- ---- a plan has one verdict
-
-pub one_verdict_answer : (p : Parts) → IsLayered p → OneAnswer (VerdictAnswer p)
-one_verdict_answer p layered plan o q a b = elim a [
-  | inl x ↦ elim b [
-    | inl y ↦ x.1 ∙ sym y.1
-    | inr y ↦ absurd (valid_has_no_fault p plan x.0.0 y.0 layered x.0.1 y.1)
-  ]
-  | inr x ↦ elim b [
-    | inl y ↦ absurd (valid_has_no_fault p plan y.0.0 x.0 layered y.0.1 x.1)
-    | inr y ↦
-        (let same : Some o ≡ Some q = sym x.2 ∙ ap (invalid_answer plan.cost) (fault_is_one p plan x.0 y.0 layered x.1 y.1) ∙ y.2 in
-        let it : o ≡ q = cc in
-        it)
-  ]
-]
-
-module _ (p : Parts) (plan : PlanParts) (none : (o : Output) → VerdictAnswer p plan o → ⊥) where
-  -- each fault is told
-  fault_told : (fault : PlanFault) → IsFaultOf p plan fault → ⊥
-  fault_told Memory f = f
-  fault_told (NoOperator step) f = none _ (inr (NoOperator step, f, refl))
-  fault_told (NotApplicable step) f = none _ (inr (NotApplicable step, f, refl))
-  fault_told (Conflict step operator) f = none _ (inr (Conflict step operator, f, refl))
-  fault_told (GoalMissed index) f = none _ (inr (GoalMissed index, f, refl))
-  fault_told (CostDiffers sum) f = none _ (inr (CostDiffers sum, f, refl))
-
-pub some_verdict_answer : (p : Parts) → WellRanged p → IsLayered p → SomeAnswer (VerdictAnswer p)
-some_verdict_answer p ranged layered plan none = elim (some_verdict p plan ranged layered) [
-  | inl valid ↦ none (valid_answer plan) (inl (valid, refl))
-  | inr fault ↦ fault_told p plan none fault.0 fault.1
-]
-
--- ---- so a task and a plan have one output
+-- ---- a task and a plan have one output
 
 one_layers_output : (p : Parts) (first : Option LayerFault) (c : List ℕ) (o q : Option Output) → (first ≡ None → IsLayered p) → LayersOut p first c o → LayersOut p first c q → o ≡ q
 one_layers_output p (Some fault) c o q layered a b = a ∙ sym b

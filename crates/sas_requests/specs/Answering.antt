@@ -3,18 +3,19 @@ use Rattle.std.specs.Prelude.{◌≡◌, ◌↔◌, ◌||◌, ℕ, List, Option,
 use Rattle.std.specs.Io.KnownBytes.{Consumes}
 use Rattle.sas_lines.specs.Device.{Device}
 use Rattle.sas_lines.specs.Lines.{text}
+use Rattle.sas_answers.specs.declared.Status.TheVariants.{Yes}
+use Rattle.sas_answers.specs.Answers.{Output, output_told}
 use Rattle.sas_requests.specs.declared.answers.Answer.{Answer}
 use Rattle.sas_requests.specs.declared.answers.Answer.TheVariants.{Text, Summary}
-use Rattle.sas_requests.specs.declared.Status.TheVariants.{Yes}
-use Rattle.sas_requests.specs.declared.ToolFault.{ToolFault}
-use Rattle.sas_requests.specs.declared.ToolFault.TheVariants as fault
-use Rattle.sas_requests.specs.Ending.{IsDecided, IsWrite}
-use Rattle.sas_requests.specs.Output.{Output, IsLayeredText}
-use Rattle.sas_requests.specs.Summary.{summary_lines}
+use Rattle.sas_answers.specs.declared.ToolFault.{ToolFault}
+use Rattle.sas_answers.specs.declared.ToolFault.TheVariants as fault
+use Rattle.sas_answers.specs.Ending.{IsDecided, IsWrite}
+use Rattle.sas_requests.specs.Output.{IsLayeredText}
+use Rattle.sas_summary.specs.Summary.{summary_lines}
 
--- a text with its status, or the summary of a task with this outline
+-- a text that is at hand, or the summary of a task with this outline
 abbrev pub output_of : Answer → Output
-output_of (Text text status) = record { text = text.items; status = status }
+output_of (Text told) = output_told told
 output_of (Summary outline) = record { text = text (summary_lines outline); status = Yes }
 
 -- an answer is the output, and past the limit there is none

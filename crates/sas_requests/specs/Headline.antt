@@ -18,10 +18,10 @@ use Rattle.sas_reader.specs.Format.{Reads}
 use Rattle.sas_plan_file.specs.PlanFormat.{plan_format}
 use Rattle.sas_task_format.specs.TaskFormat.{task_format}
 use Rattle.sas_run.specs.Plans.{IsValid, cost_of_all}
-use Rattle.sas_requests.specs.declared.Status.{Status}
-use Rattle.sas_requests.specs.declared.Status.TheVariants.{Yes}
-use Rattle.sas_requests.specs.GroupWords.{group_line}
-use Rattle.sas_requests.specs.PlanWords.{valid_line}
+use Rattle.sas_answers.specs.declared.Status.{Status}
+use Rattle.sas_answers.specs.declared.Status.TheVariants.{Yes}
+use Rattle.sas_answers.specs.GroupWords.{group_line}
+use Rattle.sas_answers.specs.PlanWords.{valid_line}
 
 -- The bytes b are a text of a layered task, and the bytes c of a plan that is valid for it; the line tells the number
 -- of the plan's steps, and what the operators that they mean cost together.

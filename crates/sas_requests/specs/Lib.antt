@@ -1,9 +1,10 @@
-pub mod Summary
-pub mod LayerWords
-pub mod PlanWords
-pub mod GroupWords
+-- What the public clauses cite.
+pub use Rattle.sas_answers.specs.LayerWords
+pub use Rattle.sas_answers.specs.PlanWords
+pub use Rattle.sas_answers.specs.GroupWords
+pub use Rattle.sas_answers.specs.Answers
+pub use Rattle.sas_answers.specs.Ending
+pub use Rattle.sas_summary.specs.Summary
 pub mod Output
 pub mod Headline
-pub mod Ending
 pub mod Answering
-pub mod Pieces

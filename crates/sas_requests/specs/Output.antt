@@ -3,7 +3,6 @@ use Rattle.std.specs.Prelude.{◌≡◌, ◌⊎◌, ℕ, ◌<◌, Bool, true, fa
 use Rattle.std.specs.Prelude.{codes, decimal, Option, Some, None, option_map, Result, Ok, Err}
 use Rattle.sas_core.specs.declared.parts.Parts.{Parts}
 use Rattle.sas_core.specs.Checks.{first_fault}
-use Rattle.sas_core.specs.PlanParts.{PlanParts}
 use Rattle.sas_meaning.specs.declared.layered.LayerFault.{LayerFault}
 use Rattle.sas_meaning.specs.Layers.{IsLayered}
 use Rattle.sas_meaning.specs.LayerChecks.{layer_checks}
@@ -17,24 +16,11 @@ use Rattle.sas_reader.specs.Limit.{most_bytes}
 use Rattle.sas_plan_file.specs.PlanFormat.{plan_format}
 use Rattle.sas_task_format.specs.TaskFormat.{task_format}
 use Rattle.sas_task_reader.specs.Outline.{outline_of}
-use Rattle.sas_groups.specs.declared.verdict.Verdict.{Verdict}
-use Rattle.sas_mutex.specs.Joint.{AreJointVerdicts}
-use Rattle.sas_run.specs.declared.plan_check.PlanFault.{PlanFault}
-use Rattle.sas_run.specs.Plans.{IsValid}
-use Rattle.sas_run.specs.Verdicts.{IsFaultOf}
+use Rattle.sas_answers.specs.declared.Status.TheVariants.{Yes, No}
+use Rattle.sas_answers.specs.Answers.{Output, layers_refusal, CheckAnswer, MutexAnswer, VerdictAnswer}
 use Rattle.sas_requests.specs.declared.Request.{Request}
 use Rattle.sas_requests.specs.declared.Request.TheVariants.{Show, Print, Steps, Check, Plan, Mutex}
-use Rattle.sas_requests.specs.declared.Status.{Status}
-use Rattle.sas_requests.specs.declared.Status.TheVariants.{Yes, No}
-use Rattle.sas_requests.specs.GroupWords.{group_lines, groups_status}
-use Rattle.sas_requests.specs.LayerWords.{layer_words, layers_line}
-use Rattle.sas_requests.specs.PlanWords.{valid_line, fault_words, invalid_line}
-use Rattle.sas_requests.specs.Summary.{summary_lines}
-
--- what is printed, and the status
-pub record Output : Type 0 where
-  pub text : List ℕ
-  pub status : Status
+use Rattle.sas_summary.specs.Summary.{summary_lines}
 
 -- the word for what is wrong with a file; the other kinds say that it was not read as a whole
 abbrev pub word_of : Kind → Option (List ℕ)
@@ -67,33 +53,6 @@ IsAnswerOrRefusal name IsAnswer (Err fault) output = output ≡ refusal name fau
 abbrev pub ShowAnswer : Parts → Output → Type 0
 ShowAnswer p output = output ≡ record { text = text (summary_lines (outline_of p)); status = Yes }
 
--- the refusal of a task for a fault of its layers; want of memory has none
-abbrev pub layers_refusal : LayerFault → Option Output
-layers_refusal fault = option_map (λ words. record { text = layers_line words; status = No }) (layer_words fault)
-
--- what is said of a task's layers, by their first fault if they have one
-abbrev pub layers_verdict : Option LayerFault → Option Output
-layers_verdict None = Some (record { text = codes "task layered\n"; status = Yes })
-layers_verdict (Some fault) = layers_refusal fault
-
--- a task is checked by a line: that it is layered, or the refusal for the first fault of its layers
-abbrev pub CheckAnswer : Parts → Output → Type 0
-CheckAnswer p output = layers_verdict (first_fault (layer_checks p)) ≡ Some output
-
--- the mutex groups of a task are answered by a line for each, with the joint verdict on it
-abbrev pub GroupsAnswer : Parts → Output → Type 0
-GroupsAnswer p output = (verdicts : List Verdict)
-    × AreJointVerdicts p verdicts
-    × (output ≡ record { text = text (group_lines verdicts); status = groups_status verdicts })
-
--- so those of a layered task; another is refused for the first fault of its layers
-abbrev pub LayeredGroupsAnswer : Parts → Option LayerFault → Output → Type 0
-LayeredGroupsAnswer p (Some fault) output = layers_refusal fault ≡ Some output
-LayeredGroupsAnswer p None output = GroupsAnswer p output
-
-abbrev pub MutexAnswer : Parts → Output → Type 0
-MutexAnswer p output = LayeredGroupsAnswer p (first_fault (layer_checks p)) output
-
 module _ {V I S : Type 0} (F : Format V I S) where
   -- a value is printed as its lines, each ended by LF
   abbrev pub PrintAnswer : V → Output → Type 0
@@ -120,23 +79,6 @@ CheckOut = FileOut task_format (codes "task") CheckAnswer
 
 abbrev pub MutexOut : List ℕ → Option Output → Type 0
 MutexOut = FileOut task_format (codes "task") MutexAnswer
-
--- ---- whether a plan solves a task
-
--- what is said of a valid plan: how many steps it has, and its cost
-abbrev pub valid_answer : PlanParts → Output
-valid_answer plan = record { text = valid_line (length plan.steps) plan.cost; status = Yes }
-
--- what is said of a plan that says this cost and has this fault; of want of memory nothing
-abbrev pub invalid_answer : ℕ → PlanFault → Option Output
-invalid_answer cost fault =
-    option_map (λ words. record { text = invalid_line words; status = No }) (fault_words cost fault)
-
--- a plan is answered by whether it is valid for the task: that it is, or else its fault
-abbrev pub VerdictAnswer : Parts → PlanParts → Output → Type 0
-VerdictAnswer p plan output =
-    (((operators : List ℕ) × IsValid p plan operators) × (output ≡ valid_answer plan))
-    ⊎ ((fault : PlanFault) × IsFaultOf p plan fault × (invalid_answer plan.cost fault ≡ Some output))
 
 -- the output about the plan's bytes for a layered task
 abbrev pub VerdictOut : Parts → List ℕ → Option Output → Type 0

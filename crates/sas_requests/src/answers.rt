@@ -3,16 +3,15 @@ ghost use Rattle.std.specs.Prelude.{◌≡◌, ◌↔◌, ◌⊎◌, ◌||◌, �
 ghost use Rattle.std.specs.Prelude.{IfOk, IfErr, IsErrAnd, IsErrOf, IsFalse, IsTrue};
 ghost use Rattle.std.specs.Io.KnownBytes.{Appends, Consumes};
 ghost use Rattle.sas_requests.specs.Answering.{Answers, AnswersFile, output_of};
-ghost use Rattle.sas_requests.specs.Ending.{Ends, IsDecided, IsWrite};
+ghost use Rattle.sas_answers.specs.Ending.{Ends, IsDecided, IsWrite};
 ghost use Rattle.sas_requests.specs.Output.{Out, ShowOut, PrintOut, StepsOut, CheckOut, MutexOut, AreInputs};
 ghost use Rattle.sas_requests.specs.Output.{IsLayeredText, reads_plan, reads_task, refusal, refusal_line, word_of};
 
-use crate::groups::groups_answer;
-use crate::layers::layers_answer;
 use crate::plans::plan_answer;
-use crate::summary::Summary;
 use crate::{Request, Status, ToolFault};
-use sas_lines::{Watched, push_line, push_number, write_out};
+use sas_answers::{Told, groups_answer, layers_answer};
+use sas_lines::{Watched, push_line, push_number};
+use sas_summary::Summary;
 use sas_text::{Fault, Kind, read_flat_task, read_outline, read_plan_text, read_task_text};
 use std::alloc::{AllocError, Global};
 use std::io::{Read, Write};
@@ -20,8 +19,8 @@ use std::io::{Read, Write};
 /// What is to be written, and its status.
 #[derive(Drop)]
 pub enum Answer {
-    /// This text, with this status.
-    Text { text: Vec<u8>, status: Status },
+    /// A text that is at hand, with its status.
+    Text(Told),
     /// The summary of a task, which is made only as it goes out. Its status is `Yes`.
     Summary(Summary),
 }
@@ -72,28 +71,8 @@ pub fn write_answer<W: Write>(
     ensures writes { IsErrAnd result IsWrite ↔ IsTrue out.new.failed }
 {
     match answer {
-        Answer::Text { text, status } => write_text(text.as_slice(), *status, out),
+        Answer::Text(told) => told.write(out),
         Answer::Summary(summary) => summary.write(alloc, out),
-    }
-}
-
-/// Writes a text that is at hand.
-fn write_text<W: Write>(
-    text: &[u8],
-    status: Status,
-    out: &mut Watched<W>,
-) -> Result<Status, ToolFault>
-    requires { out.old.failed ≡ false }
-    ensures ends { Ends (λ output. output ≡ Some (record { text = text.now; status = status }))
-        (Appends (W.contents out.old.device) (W.contents out.new.device)) result }
-    ensures write { IfErr result IsWrite }
-    ensures writes { IsErrAnd result IsWrite ↔ IsTrue out.new.failed }
-{
-    match write_out(out, text) {
-        Ok(()) => Ok(status),
-        Err(short) => Err(ToolFault::Write {
-            written: short.written,
-        }),
     }
 }
 
@@ -114,10 +93,10 @@ fn print<R: Read>(alloc: Global, reader: &mut Watched<R>) -> Result<Answer, Tool
     ensures { AnswersFile R.remaining PrintOut reader.old reader.new result }
 {
     match read_task_text(alloc, reader) {
-        Ok(text) => Ok(Answer::Text {
+        Ok(text) => Ok(Answer::Text(Told {
             text,
             status: Status::Yes,
-        }),
+        })),
         Err(fault) => refuse(alloc, "task", fault),
     }
 }
@@ -128,10 +107,10 @@ fn steps<R: Read>(alloc: Global, plan: &mut Watched<R>) -> Result<Answer, ToolFa
     ensures { AnswersFile R.remaining StepsOut plan.old plan.new result }
 {
     match read_plan_text(alloc, plan) {
-        Ok(text) => Ok(Answer::Text {
+        Ok(text) => Ok(Answer::Text(Told {
             text,
             status: Status::Yes,
-        }),
+        })),
         Err(fault) => refuse(alloc, "plan", fault),
     }
 }
@@ -145,7 +124,7 @@ fn check<R: Read>(alloc: Global, reader: &mut Watched<R>) -> Result<Answer, Tool
         Ok(task) => task,
         Err(fault) => return refuse(alloc, "task", fault),
     };
-    Ok(layers_answer(alloc, task)?)
+    Ok(Answer::Text(layers_answer(alloc, task)?))
 }
 
 /// Which mutex groups of a task are exclusive.
@@ -157,7 +136,7 @@ fn mutex<R: Read>(alloc: Global, reader: &mut Watched<R>) -> Result<Answer, Tool
         Ok(task) => task,
         Err(fault) => return refuse(alloc, "task", fault),
     };
-    Ok(groups_answer(alloc, task)?)
+    Ok(Answer::Text(groups_answer(alloc, task)?))
 }
 
 /// The word for what is wrong with a file, or why the run ends at this kind.
@@ -189,10 +168,10 @@ pub fn refuse(alloc: Global, name: &str, fault: Fault) -> Result<Answer, ToolFau
     ensures writes { IfErr result (λ e. IsWrite e → ⊥) }
 {
     match word(fault.kind) {
-        Ok(word) => Ok(Answer::Text {
+        Ok(word) => Ok(Answer::Text(Told {
             text: refusal_text(alloc, name, fault.line, word)?,
             status: Status::No,
-        }),
+        })),
         Err(end) => Err(end),
     }
 }

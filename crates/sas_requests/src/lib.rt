@@ -2,26 +2,22 @@
 #![tactic(auto)]
 
 mod answers;
-mod groups;
 mod laws;
-mod layers;
-mod pieces;
 mod plans;
-mod summary;
 
 ghost use Rattle.std.specs.Prelude.{◌≡◌, ◌⊎◌, ◌↔◌, ◌||◌, false, List, ℕ, Some};
 ghost use Rattle.std.specs.Prelude.{IfErr, IfOk, IsErrAnd, IsErrOf, IsFalse, IsTrue};
 ghost use Rattle.std.specs.Io.KnownBytes.{Appends, Consumes};
 ghost use Rattle.sas_requests.specs.Output.{Out, AreInputs, IsLayeredText, reads_plan, reads_task};
 ghost use Rattle.sas_requests.specs.Headline.{Headline, Invariants};
-ghost use Rattle.sas_requests.specs.Ending.{Ends, IsDecided, IsWrite};
+ghost use Rattle.sas_answers.specs.Ending.{Ends, IsDecided, IsWrite};
 
 use answers::{answer_to, write_answer};
 pub use laws::run_laws;
+pub use sas_answers::{Status, ToolFault};
 use sas_lines::Watched;
-use std::alloc::{AllocError, Global};
+use std::alloc::Global;
 use std::io::{Read, Write};
-use thiserror::Error;
 
 /// What is asked.
 #[derive(Clone, Copy, Debug, PartialEq, Eq)]
@@ -38,43 +34,6 @@ pub enum Request {
     Plan,
     /// Which mutex groups of a task are exclusive.
     Mutex,
-}
-
-/// The answer in one word.
-#[derive(Clone, Copy, Debug, PartialEq, Eq)]
-pub enum Status {
-    /// The file is a text of its format; the task is layered where that was asked, the plan valid, and all groups
-    /// exclusive. The answer was written.
-    Yes,
-    /// A file is refused, or the plan isn't valid, or a group isn't shown to be exclusive, and that was written.
-    No,
-}
-
-/// Why there is no answer, or not all of it was written.
-#[derive(Clone, Copy, Debug, PartialEq, Eq, Error)]
-pub enum ToolFault {
-    /// Memory was refused.
-    #[error("out of memory")]
-    Memory,
-    /// A read failed.
-    #[error("read failed")]
-    Read,
-    /// An input goes past the most bytes that are read.
-    #[error("input too long")]
-    TooLong,
-    /// A write failed, and the first `written` bytes of the answer had gone out.
-    #[error("write failed")]
-    Write { written: usize },
-}
-
-impl From<AllocError> for ToolFault {
-    ghost use Rattle.sas_requests.specs.declared.ToolFault.TheVariants.{Memory};
-
-    ghost from_gives = { λ _ e. e ≡ Memory };
-
-    fn from(_error: AllocError) -> ToolFault {
-        ToolFault::Memory
-    }
 }
 
 /// Answers the request about the inputs. `Show`, `Print`, `Check` and `Mutex` read the task alone, and `Steps` the

@@ -5,7 +5,7 @@ use Rattle.sas_requests.specs.Answering.{output_of}
 use Rattle.sas_requests.specs.declared.answers.Answer.TheVariants.{Summary}
 use Rattle.sas_requests.specs.Output.{ShowAnswer}
 use Rattle.sas_requests.proofs.Outputs.{answers_value, answers_refusal}
-use Rattle.sas_requests.proofs.SummaryLengths.{summary_fits}
+use Rattle.sas_summary.proofs.SummaryLengths.{summary_fits}
 use Rattle.sas_requests.proofs.answers.show.Goals as goal
 
 pub new-requires : goal.new-requires

@@ -1,6 +1,6 @@
 use Rattle.std.proofs.Common.{codes}
 use Rattle.sas_plan_file.specs.PlanFormat.{plan_format}
-use Rattle.sas_requests.specs.Output.{VerdictAnswer}
+use Rattle.sas_answers.specs.Answers.{VerdictAnswer}
 use Rattle.sas_requests.proofs.Outputs.{answers_refusal}
 use Rattle.sas_requests.proofs.plans.judge.Goals as goal
 

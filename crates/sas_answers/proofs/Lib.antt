@@ -1,0 +1,4 @@
+pub mod AnswerLaws
+pub mod CheckAnswers
+pub mod MutexAnswers
+pub mod VerdictAnswers

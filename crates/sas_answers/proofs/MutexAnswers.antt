@@ -1,0 +1,76 @@
+-- What is said of the mutex groups of a task: one thing, always something, and what it means.
+use Rattle.std.proofs.Common.{◌≡◌, ℕ, ◌+◌, ◌<◌, List, [], ◌∷◌, ◌++◌, length, take, get_or, refl, sym, ap, subst, ◌∙◌, arith, append-nil, Option, Some, None}
+use Rattle.std.proofs.lemmas.List.{take_more, length-take}
+use Rattle.std.proofs.lemmas.Grind.{flat_map-append}
+use Rattle.sas_core.specs.declared.parts.Parts.{Parts}
+use Rattle.sas_core.specs.Checks.{first_fault}
+use Rattle.sas_meaning.specs.declared.layered.LayerFault.{LayerFault}
+use Rattle.sas_meaning.specs.Layers.{IsLayered}
+use Rattle.sas_meaning.specs.LayerChecks.{layer_checks}
+use Rattle.sas_meaning.proofs.LayerChecksAreRules.{checks_are_rules}
+use Rattle.sas_lines.specs.Lines.{text}
+use Rattle.sas_groups.specs.declared.verdict.Verdict.{Verdict}
+use Rattle.sas_groups.specs.declared.verdict.Verdict.TheVariants.{Exclusive, Derived, Initial, Broken}
+use Rattle.sas_mutex.proofs.JointLists.{one_list, some_list}
+use Rattle.sas_answers.specs.declared.Status.TheVariants.{No}
+use Rattle.sas_answers.specs.GroupWords.{group_line, group_lines_from, group_lines, groups_status}
+use Rattle.sas_answers.specs.Answers.{Output, GroupsAnswer, LayeredGroupsAnswer, MutexAnswer}
+use Rattle.sas_answers.proofs.AnswerLaws.{OneAnswer, SomeAnswer}
+use Rattle.sas_answers.proofs.CheckAnswers.{some_check_answer}
+
+-- ---- the lines of more verdicts
+
+lines_more : (n : ℕ) (verdicts : List Verdict) (verdict : Verdict) → group_lines_from n (verdicts ++ verdict ∷ []) ≡ group_lines_from n verdicts ++ group_line (n + length verdicts) verdict ∷ []
+lines_more n [] verdict = ap (λ (k : ℕ). group_line k verdict ∷ []) (omega arith)
+lines_more n (v ∷ verdicts) verdict =
+    let index : (n + 1) + length verdicts ≡ n + length (v ∷ verdicts) = omega arith in
+    ap (λ (l : List (List ℕ)). group_line n v ∷ l) (lines_more (n + 1) verdicts verdict ∙ ap (λ (k : ℕ). group_lines_from (n + 1) verdicts ++ group_line k verdict ∷ []) index)
+
+lines_next : (verdicts : List Verdict) (place : ℕ) (otherwise : Verdict) → place < length verdicts
+    → group_lines (take (place + 1) verdicts) ≡ group_lines (take place verdicts) ++ group_line place (get_or verdicts place otherwise) ∷ []
+lines_next verdicts place otherwise h =
+    let taken : 0 + length (take place verdicts) ≡ place = simp length-take (omega arith) in
+    ap group_lines (take_more verdicts place otherwise h) ∙ lines_more 0 (take place verdicts) (get_or verdicts place otherwise) ∙ ap (λ (k : ℕ). group_lines (take place verdicts) ++ group_line k (get_or verdicts place otherwise) ∷ []) taken
+
+pub lines_behind : (before after : List ℕ) (verdicts : List Verdict) (place : ℕ) (otherwise : Verdict) → place < length verdicts
+    → before ≡ text (group_lines (take place verdicts)) → after ≡ before ++ (group_line place (get_or verdicts place otherwise) ++ 10 ∷ [])
+    → after ≡ text (group_lines (take (place + 1) verdicts))
+lines_behind before after verdicts place otherwise h e f =
+    f ∙ ap (λ (x : List ℕ). x ++ (group_line place (get_or verdicts place otherwise) ++ 10 ∷ [])) e
+    ∙ sym (ap text (lines_next verdicts place otherwise h) ∙ flat_map-append (λ (line : List ℕ). line ++ 10 ∷ []) (group_lines (take place verdicts)) (group_line place (get_or verdicts place otherwise) ∷ [])
+    ∙ ap (λ (x : List ℕ). text (group_lines (take place verdicts)) ++ x) (append-nil (group_line place (get_or verdicts place otherwise) ++ 10 ∷ [])))
+
+-- ---- the status of verdicts
+
+pub status_otherwise : (verdict : Verdict) (verdicts : List Verdict) → (verdict ≡ Exclusive → ⊥) → groups_status (verdict ∷ verdicts) ≡ No
+status_otherwise Exclusive verdicts other = absurd (other refl)
+status_otherwise Derived verdicts other = refl
+status_otherwise Initial verdicts other = refl
+status_otherwise (Broken operator) verdicts other = refl
+
+pub status_on : (verdict : Verdict) (verdicts : List Verdict) → verdict ≡ Exclusive → groups_status (verdict ∷ verdicts) ≡ groups_status verdicts
+status_on Exclusive verdicts is = refl
+status_on Derived verdicts is = absurd cc
+status_on Initial verdicts is = absurd cc
+status_on (Broken operator) verdicts is = absurd cc
+
+-- ---- one answer, and some
+
+one_of : (p : Parts) (first : Option LayerFault) (a b : Output) → LayeredGroupsAnswer p first a → LayeredGroupsAnswer p first b → a ≡ b
+one_of p (Some fault) a b is_a is_b = cc
+one_of p None a b is_a is_b = is_a.2 ∙ ap (λ (verdicts : List Verdict). record { text = text (group_lines verdicts); status = groups_status verdicts }) (one_list p is_a.0 is_b.0 is_a.1 is_b.1) ∙ sym is_b.2
+
+pub one_mutex_answer : OneAnswer MutexAnswer
+one_mutex_answer p a b = one_of p (first_fault (layer_checks p)) a b
+
+some_of : (p : Parts) (first : Option LayerFault) → first_fault (layer_checks p) ≡ first → ((o : Output) → LayeredGroupsAnswer p first o → ⊥) → ⊥
+some_of p (Some fault) is none = some_check_answer p (λ o told. none o (rw is at told))
+some_of p None is none = some_list p (λ verdicts are. none _ (verdicts, are, refl))
+
+pub some_mutex_answer : SomeAnswer MutexAnswer
+some_mutex_answer p = some_of p (first_fault (layer_checks p)) refl
+
+-- ---- how the answer comes about
+
+pub groups_answered : (p : Parts) (o : Output) → IsLayered p → GroupsAnswer p o → MutexAnswer p o
+groups_answered p o layered told = subst (λ (first : Option LayerFault). LayeredGroupsAnswer p first o) (sym ((checks_are_rules p).1 layered)) told

@@ -1,0 +1,43 @@
+-- What is said of a plan: one thing, and always something.
+use Rattle.std.proofs.Common.{◌≡◌, refl, sym, ap, ◌∙◌, inl, inr, Some}
+use Rattle.sas_core.specs.declared.parts.Parts.{Parts}
+use Rattle.sas_core.specs.PlanParts.{PlanParts}
+use Rattle.sas_core.specs.WellRanged.{WellRanged}
+use Rattle.sas_meaning.specs.Layers.{IsLayered}
+use Rattle.sas_run.specs.declared.plan_check.PlanFault.{PlanFault}
+use Rattle.sas_run.specs.declared.plan_check.PlanFault.TheVariants.{Memory, NoOperator, NotApplicable, Conflict, GoalMissed, CostDiffers}
+use Rattle.sas_run.specs.Verdicts.{IsFaultOf}
+use Rattle.sas_run.proofs.PlanVerdicts.{some_verdict, valid_has_no_fault, fault_is_one}
+use Rattle.sas_answers.specs.Answers.{Output, valid_answer, invalid_answer, VerdictAnswer}
+use Rattle.sas_answers.proofs.AnswerLaws.{OneAnswer, SomeAnswer}
+
+pub one_verdict_answer : (p : Parts) → IsLayered p → OneAnswer (VerdictAnswer p)
+one_verdict_answer p layered plan o q a b = elim a [
+  | inl x ↦ elim b [
+    | inl y ↦ x.1 ∙ sym y.1
+    | inr y ↦ absurd (valid_has_no_fault p plan x.0.0 y.0 layered x.0.1 y.1)
+  ]
+  | inr x ↦ elim b [
+    | inl y ↦ absurd (valid_has_no_fault p plan y.0.0 x.0 layered y.0.1 x.1)
+    | inr y ↦
+        (let same : Some o ≡ Some q = sym x.2 ∙ ap (invalid_answer plan.cost) (fault_is_one p plan x.0 y.0 layered x.1 y.1) ∙ y.2 in
+        let it : o ≡ q = cc in
+        it)
+  ]
+]
+
+module _ (p : Parts) (plan : PlanParts) (none : (o : Output) → VerdictAnswer p plan o → ⊥) where
+  -- each fault is told
+  fault_told : (fault : PlanFault) → IsFaultOf p plan fault → ⊥
+  fault_told Memory f = f
+  fault_told (NoOperator step) f = none _ (inr (NoOperator step, f, refl))
+  fault_told (NotApplicable step) f = none _ (inr (NotApplicable step, f, refl))
+  fault_told (Conflict step operator) f = none _ (inr (Conflict step operator, f, refl))
+  fault_told (GoalMissed index) f = none _ (inr (GoalMissed index, f, refl))
+  fault_told (CostDiffers sum) f = none _ (inr (CostDiffers sum, f, refl))
+
+pub some_verdict_answer : (p : Parts) → WellRanged p → IsLayered p → SomeAnswer (VerdictAnswer p)
+some_verdict_answer p ranged layered plan none = elim (some_verdict p plan ranged layered) [
+  | inl valid ↦ none (valid_answer plan) (inl (valid, refl))
+  | inr fault ↦ fault_told p plan none fault.0 fault.1
+]

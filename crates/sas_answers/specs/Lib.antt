@@ -1,0 +1,5 @@
+pub mod LayerWords
+pub mod PlanWords
+pub mod GroupWords
+pub mod Answers
+pub mod Ending

@@ -1,0 +1,91 @@
+// Which mutex groups of a task are exclusive, as an answer.
+ghost use Rattle.std.specs.Prelude.{◌≡◌, [], ◌∷◌, ◌++◌, IfOk, OnOk};
+ghost use Rattle.sas_lines.specs.Lines.{text};
+ghost use Rattle.sas_answers.specs.Answers.{GroupsAnswer, MutexAnswer, output_told};
+ghost use Rattle.sas_answers.specs.GroupWords as spec;
+ghost use Rattle.sas_answers.specs.GroupWords.{group_lines};
+
+use crate::layers::refuse_layers;
+use crate::{Status, Told};
+use sas_flat::FlatTask;
+use sas_lines::{push_line, push_number};
+use sas_meaning::Layered;
+use sas_mutex::{Verdict, check_groups};
+use std::alloc::{AllocError, Global};
+
+/// The answer about the mutex groups of a task.
+pub fn groups_answer(alloc: Global, task: FlatTask) -> Result<Told, AllocError>
+    ensures { IfOk result (λ a. MutexAnswer task (output_told a)) }
+{
+    match Layered::new(alloc, task) {
+        Ok(layered) => {
+            let answer = verdicts_answer(alloc, &layered);
+            drop(layered);
+            answer
+        }
+        Err((task, fault)) => {
+            drop(task);
+            refuse_layers(alloc, fault)
+        }
+    }
+}
+
+/// The answer about the mutex groups of a layered task.
+fn verdicts_answer(alloc: Global, layered: &Layered<FlatTask>) -> Result<Told, AllocError>
+    ensures { IfOk result (λ a. GroupsAnswer layered.now (output_told a)) }
+{
+    let verdicts = check_groups(alloc, layered)?;
+    Ok(Told {
+        text: groups_text(alloc, verdicts.as_slice())?,
+        status: groups_status(verdicts.as_slice()),
+    })
+}
+
+/// The lines of the verdicts, each ended by LF.
+fn groups_text(alloc: Global, verdicts: &[Verdict]) -> Result<Vec<u8>, AllocError>
+    ensures { IfOk result (λ t. t.items ≡ text (group_lines verdicts.now)) }
+{
+    let mut out = Vec::new(alloc);
+    for (place, verdict) in verdicts.iter().enumerate() {
+        push_group(&mut out, place, *verdict)?;
+    }
+    Ok(out)
+}
+
+/// Appends the line of the group at this place.
+fn push_group(out: &mut Vec<u8>, place: usize, verdict: Verdict) -> Result<(), AllocError>
+    ensures { OnOk result (out.new.items ≡ out.old.items ++ (spec.group_line place verdict ++ 10 ∷ [])) }
+{
+    out.extend_from_slice(b"group ")?;
+    push_number(out, place as u128)?;
+    out.push(b' ')?;
+    match verdict {
+        Verdict::Exclusive => push_line(out, b"exclusive"),
+        Verdict::Derived => push_line(out, b"derived"),
+        Verdict::Initial => push_line(out, b"not shown: initial state"),
+        Verdict::Broken { operator } => push_broken(out, operator),
+    }
+}
+
+/// Appends that the operator doesn't keep the group, and the line's end.
+fn push_broken(out: &mut Vec<u8>, operator: u32) -> Result<(), AllocError>
+    ensures { OnOk result
+        (out.new.items ≡ out.old.items ++ (spec.verdict_words (Verdict.Broken operator) ++ 10 ∷ [])) }
+{
+    out.extend_from_slice(b"not shown: operator ")?;
+    push_number(out, u128::from(operator))?;
+    out.push(b'\n')?;
+    Ok(())
+}
+
+/// Yes if all groups are exclusive.
+fn groups_status(verdicts: &[Verdict]) -> Status
+    ensures { result ≡ spec.groups_status verdicts.now }
+{
+    for verdict in verdicts {
+        if *verdict != Verdict::Exclusive {
+            return Status::No;
+        }
+    }
+    Status::Yes
+}

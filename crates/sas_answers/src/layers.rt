@@ -1,0 +1,77 @@
+// Whether a task is layered, as an answer.
+ghost use Rattle.std.specs.Prelude.{◌≡◌, Some, None, IfOk, option_map};
+ghost use Rattle.sas_answers.specs.Answers.{CheckAnswer, layers_refusal, layers_verdict, output_told};
+ghost use Rattle.sas_answers.specs.LayerWords.{layer_words, layers_line, part_words};
+
+use crate::{Status, Told};
+use sas_flat::FlatTask;
+use sas_lines::{push_line, push_number};
+use sas_meaning::{LayerFault, Layered};
+use std::alloc::{AllocError, Global};
+
+/// The answer about the layers of a task.
+pub fn layers_answer(alloc: Global, task: FlatTask) -> Result<Told, AllocError>
+    ensures { IfOk result (λ a. CheckAnswer task (output_told a)) }
+{
+    match Layered::new(alloc, task) {
+        Ok(layered) => {
+            drop(layered);
+            layered_answer(alloc)
+        }
+        Err((task, fault)) => {
+            drop(task);
+            refuse_layers(alloc, fault)
+        }
+    }
+}
+
+/// The answer about a task that is layered.
+fn layered_answer(alloc: Global) -> Result<Told, AllocError>
+    ensures { IfOk result (λ a. layers_verdict None ≡ Some (output_told a)) }
+{
+    Ok(Told {
+        text: Vec::from_slice(alloc, b"task layered\n")?,
+        status: Status::Yes,
+    })
+}
+
+/// The refusal of a task for a fault of its layers.
+pub fn refuse_layers(alloc: Global, fault: LayerFault) -> Result<Told, AllocError>
+    ensures { IfOk result (λ a. layers_refusal fault ≡ Some (output_told a)) }
+{
+    Ok(Told {
+        text: layers_text(alloc, fault)?,
+        status: Status::No,
+    })
+}
+
+/// The line that refuses a task for a fault of its layers.
+fn layers_text(alloc: Global, fault: LayerFault) -> Result<Vec<u8>, AllocError>
+    ensures { IfOk result (λ t. option_map layers_line (layer_words fault) ≡ Some t.items) }
+{
+    match fault {
+        LayerFault::EffectOnDerived { operator, .. } => {
+            part_text(alloc, "operator", operator, "effect on derived variable")
+        }
+        LayerFault::RuleOnBasic { rule } => {
+            part_text(alloc, "rule", rule, "not on a derived variable")
+        }
+        LayerFault::OldValue { rule } => part_text(alloc, "rule", rule, "old value"),
+        LayerFault::TwoValues { rule } => part_text(alloc, "rule", rule, "two values"),
+        LayerFault::LayerOrder { rule, .. } => part_text(alloc, "rule", rule, "layer order"),
+        LayerFault::Memory => Err(AllocError),
+    }
+}
+
+/// The line that refuses a task for what is wrong with this part of it.
+fn part_text(alloc: Global, part: &str, place: u32, what: &str) -> Result<Vec<u8>, AllocError>
+    ensures { IfOk result (λ t. t.items ≡ layers_line (part_words part.now place what.now)) }
+{
+    let mut text = Vec::from_slice(alloc, b"task refused: ")?;
+    text.extend_from_slice(part.as_bytes())?;
+    text.push(b' ')?;
+    push_number(&mut text, u128::from(place))?;
+    text.extend_from_slice(b": ")?;
+    push_line(&mut text, what.as_bytes())?;
+    Ok(text)
+}

@@ -1,0 +1,121 @@
+// Whether a plan solves a task, as an answer.
+ghost use Rattle.std.specs.Prelude.{◌≡◌, ◌≢◌, option_map, Some, IfOk, IfErr};
+ghost use Rattle.sas_run.specs.Plans.{IsValid};
+ghost use Rattle.sas_run.specs.Verdicts.{IsFaultOf};
+ghost use Rattle.sas_answers.specs.Answers.{VerdictAnswer, invalid_answer, output_told};
+ghost use Rattle.sas_answers.specs.PlanWords.{valid_line, fault_words, step_words};
+ghost use Rattle.sas_answers.specs.PlanWords.{goal_words, cost_words, invalid_line};
+
+use crate::{Status, Told};
+use sas_axioms::Worklist;
+use sas_flat::{FlatPlan, FlatTask};
+use sas_grounded::Stepwise;
+use sas_lines::{push_line, push_number};
+use sas_meaning::Layered;
+use sas_run::{PlanFault, Runner, Valid};
+use std::alloc::{AllocError, Global};
+
+/// The answer about whether the plan is valid.
+pub fn verdict_answer(
+    alloc: Global,
+    layered: &Layered<FlatTask>,
+    plan: &FlatPlan,
+) -> Result<Told, AllocError>
+    ensures { IfOk result (λ a. VerdictAnswer layered.now plan.now (output_told a)) }
+{
+    match check_plan(alloc, layered, plan) {
+        Ok(_) => Ok(Told {
+            text: valid_text(alloc, plan.steps(), plan.cost())?,
+            status: Status::Yes,
+        }),
+        Err(fault) => refuse_plan(alloc, plan.cost(), fault),
+    }
+}
+
+/// Whether the plan is valid, by an evaluator that counts.
+fn check_plan(
+    alloc: Global,
+    layered: &Layered<FlatTask>,
+    plan: &FlatPlan,
+) -> Result<Valid, PlanFault>
+    ensures valid { IfOk result (λ v. IsValid layered.now plan.now v.operators.items) }
+    ensures fault { IfErr result (λ f. f ≢ PlanFault.Memory → IsFaultOf layered.now plan.now f) }
+{
+    let Ok(worklist) = Worklist::new(alloc, layered) else {
+        return Err(PlanFault::Memory);
+    };
+    match Runner::new(alloc, layered, worklist) {
+        Ok(mut runner) => runner.check_plan(alloc, plan),
+        Err(_) => Err(PlanFault::Memory),
+    }
+}
+
+/// The answer about a plan that says this cost and has this fault.
+fn refuse_plan(alloc: Global, cost: u64, fault: PlanFault) -> Result<Told, AllocError>
+    ensures { IfOk result (λ a. invalid_answer cost fault ≡ Some (output_told a)) }
+{
+    Ok(Told {
+        text: fault_text(alloc, cost, fault)?,
+        status: Status::No,
+    })
+}
+
+/// The line of a valid plan.
+fn valid_text(alloc: Global, steps: usize, cost: u64) -> Result<Vec<u8>, AllocError>
+    ensures { IfOk result (λ t. t.items ≡ valid_line steps cost) }
+{
+    let mut text = Vec::from_slice(alloc, b"plan valid: ")?;
+    push_number(&mut text, steps as u128)?;
+    text.extend_from_slice(b" steps, cost ")?;
+    push_number(&mut text, u128::from(cost))?;
+    text.push(b'\n')?;
+    Ok(text)
+}
+
+/// The line that says why a plan that says this cost isn't valid.
+fn fault_text(alloc: Global, cost: u64, fault: PlanFault) -> Result<Vec<u8>, AllocError>
+    ensures { IfOk result (λ t. option_map invalid_line (fault_words cost fault) ≡ Some t.items) }
+{
+    match fault {
+        PlanFault::NoOperator { step } => step_text(alloc, step, "no operator of that name"),
+        PlanFault::NotApplicable { step } => step_text(alloc, step, "not applicable"),
+        PlanFault::Conflict { step, .. } => step_text(alloc, step, "conflicting effects"),
+        PlanFault::GoalMissed { index } => goal_text(alloc, index),
+        PlanFault::CostDiffers { sum } => cost_text(alloc, sum, cost),
+        PlanFault::Memory => Err(AllocError),
+    }
+}
+
+/// The line that says what is wrong with this step.
+fn step_text(alloc: Global, step: usize, what: &str) -> Result<Vec<u8>, AllocError>
+    ensures { IfOk result (λ t. t.items ≡ invalid_line (step_words step what.now)) }
+{
+    let mut text = Vec::from_slice(alloc, b"plan invalid: step ")?;
+    push_number(&mut text, step as u128)?;
+    text.extend_from_slice(b": ")?;
+    push_line(&mut text, what.as_bytes())?;
+    Ok(text)
+}
+
+/// The line that says which fact of the goal isn't reached.
+fn goal_text(alloc: Global, index: u32) -> Result<Vec<u8>, AllocError>
+    ensures { IfOk result (λ t. t.items ≡ invalid_line (goal_words index)) }
+{
+    let mut text = Vec::from_slice(alloc, b"plan invalid: goal fact ")?;
+    push_number(&mut text, u128::from(index))?;
+    text.extend_from_slice(b" not reached")?;
+    text.push(b'\n')?;
+    Ok(text)
+}
+
+/// The line that says what the operators cost, and what the plan says.
+fn cost_text(alloc: Global, sum: u128, cost: u64) -> Result<Vec<u8>, AllocError>
+    ensures { IfOk result (λ t. t.items ≡ invalid_line (cost_words sum cost)) }
+{
+    let mut text = Vec::from_slice(alloc, b"plan invalid: cost is ")?;
+    push_number(&mut text, sum)?;
+    text.extend_from_slice(b", not ")?;
+    push_number(&mut text, u128::from(cost))?;
+    text.push(b'\n')?;
+    Ok(text)
+}

@@ -1,0 +1,5 @@
+mod Putting
+mod Sent
+mod Summaries
+mod Lengths
+pub mod SummaryLengths

@@ -1,0 +1,218 @@
+// The summary of a task, written as it is made: it may be far longer than the task.
+ghost use Rattle.std.specs.Prelude.{◌≡◌, ◌<◌, ◌^◌, ◌⊎◌, ◌↔◌, [], ◌∷◌, ◌++◌, length, false};
+ghost use Rattle.std.specs.Prelude.{Some, IfErr, IfOk, IsErr, IsErrAnd, IsTrue, OnOk};
+ghost use Rattle.std.specs.Io.KnownBytes.{Appends};
+ghost use Rattle.sas_lines.specs.Lines.{text};
+ghost use Rattle.sas_answers.specs.Ending.{Ends, IsWrite};
+ghost use Rattle.sas_summary.specs.Pieces.{PutsOrBreaks};
+ghost use Rattle.sas_summary.specs.Summary as spec;
+ghost use Rattle.sas_summary.specs.Summary.{summary_lines};
+
+use crate::pieces::Pieces;
+use itoa::Buffer;
+use sas_answers::{Status, ToolFault};
+use sas_flat::Variables;
+use sas_lines::{Short, Watched, push_number};
+use sas_task_reader::Outline;
+use std::alloc::{AllocError, Global};
+use std::io::Write;
+use std::marker::Model;
+
+/// The summary of a task with this outline. A `usize` tells how long it is, so what went out of it can be counted.
+#[derive(Drop)]
+pub struct Summary {
+    outline: Outline,
+}
+
+impl Model for Summary {
+    ghost use Rattle.std.specs.Prelude.{◌<◌, ◌^◌, length};
+    ghost use Rattle.sas_lines.specs.Lines.{text};
+    ghost use Rattle.sas_task_reader.specs.declared.outline.Outline.{Outline};
+    ghost use Rattle.sas_summary.specs.Summary.{summary_lines};
+
+    ghost Value = { Outline };
+
+    ghost view = { λ s. s.outline };
+
+    ghost invariant = { λ s. length (text (summary_lines s.outline)) < 2 ^ 64 };
+}
+
+impl Summary {
+    /// The summary of a task with this outline.
+    pub fn new(outline: Outline) -> Summary
+        requires { length (text (summary_lines outline)) < 2 ^ 64 }
+        ensures { result ≡ outline }
+    {
+        Summary { outline }
+    }
+
+    /// Writes the lines of the summary, in pieces. At an `Err` without a write nothing was written; it then comes for
+    /// want of memory. Not to be called after a failure.
+    pub fn write<W: Write>(&self, alloc: Global, out: &mut Watched<W>) -> Result<Status, ToolFault>
+        requires { out.old.failed ≡ false }
+        ensures ends { Ends
+            (λ output. output ≡ Some (record { text = text (summary_lines self.now); status = Status.Yes }))
+            (Appends (W.contents out.old.device) (W.contents out.new.device)) result }
+        ensures nothing { IfErr result (λ e. IsWrite e ⊎ ((e ≡ ToolFault.Memory) × (out.new ≡ out.old))) }
+        ensures writes { IsErrAnd result IsWrite ↔ IsTrue out.new.failed }
+    {
+        // What takes memory comes first.
+        let mut pieces = Pieces::new(alloc)?;
+        let numbers = numbers_text(alloc, &self.outline)?;
+        match push_summary(&mut pieces, out, numbers.as_slice(), &self.outline) {
+            Ok(()) => Ok(Status::Yes),
+            Err(short) => Err(ToolFault::Write {
+                written: short.written,
+            }),
+        }
+    }
+}
+
+/// Writes these lines of numbers and the other lines of the summary. In the end nothing is held back.
+fn push_summary<W: Write>(
+    pieces: &mut Pieces,
+    out: &mut Watched<W>,
+    numbers: &[u8],
+    outline: &Outline,
+) -> Result<(), Short>
+    requires { out.old.failed ≡ false }
+    ensures puts { PutsOrBreaks (W.contents out.old.device) (W.contents out.new.device) pieces.old pieces.new
+        (numbers.now ++ text (spec.initial_lines outline.now.variables outline.now.init)
+        ++ text (spec.goal_lines outline.now.variables outline.now.goal)) result }
+    ensures empty { OnOk result (pieces.new.held ≡ []) }
+    ensures note { IsErr result ↔ IsTrue out.new.failed }
+{
+    pieces.push(out, numbers)?;
+    push_state(pieces, out, outline)?;
+    push_goal(pieces, out, outline)?;
+    pieces.flush(out)
+}
+
+/// The lines of the task's numbers, each ended by LF.
+fn numbers_text(alloc: Global, outline: &Outline) -> Result<Vec<u8>, AllocError>
+    ensures { IfOk result (λ t. t.items ≡ text (spec.number_lines outline.now)) }
+{
+    let mut text = Vec::new(alloc);
+    push_number_line(&mut text, b"metric", u128::from(outline.metric))?;
+    push_number_line(&mut text, b"variables", outline.variables.len() as u128)?;
+    push_number_line(
+        &mut text,
+        b"derived",
+        derived_count(&outline.variables) as u128,
+    )?;
+    push_number_line(&mut text, b"groups", u128::from(outline.groups))?;
+    push_number_line(&mut text, b"operators", u128::from(outline.operators))?;
+    push_number_line(&mut text, b"rules", u128::from(outline.rules))?;
+    Ok(text)
+}
+
+/// Appends the line of a word and a number.
+fn push_number_line(out: &mut Vec<u8>, word: &[u8], n: u128) -> Result<(), AllocError>
+    ensures { OnOk result (out.new.items ≡ out.old.items ++ (spec.number_line word.now n ++ 10 ∷ [])) }
+{
+    out.extend_from_slice(word)?;
+    out.push(b' ')?;
+    push_number(out, n)?;
+    out.push(b'\n')?;
+    Ok(())
+}
+
+/// How many of the variables are derived.
+fn derived_count(variables: &Variables) -> usize
+    ensures { result ≡ spec.derived_count variables.now }
+{
+    let mut count = 0;
+    for var in 0..variables.len() {
+        if variables.layer(var).is_some() {
+            count += 1;
+        }
+    }
+    count
+}
+
+/// Puts a line for each variable behind what has come: its value in the initial state.
+fn push_state<W: Write>(
+    pieces: &mut Pieces,
+    out: &mut Watched<W>,
+    outline: &Outline,
+) -> Result<(), Short>
+    requires { out.old.failed ≡ false }
+    ensures puts { PutsOrBreaks (W.contents out.old.device) (W.contents out.new.device) pieces.old pieces.new
+        (text (spec.initial_lines outline.now.variables outline.now.init)) result }
+    ensures note { IsErr result ↔ IsTrue out.new.failed }
+{
+    for (var, value) in outline.init.as_slice().iter().enumerate() {
+        push_fact(pieces, out, b"initial", outline, var, *value)?;
+    }
+    Ok(())
+}
+
+/// Puts a line for each fact of the goal behind what has come.
+fn push_goal<W: Write>(
+    pieces: &mut Pieces,
+    out: &mut Watched<W>,
+    outline: &Outline,
+) -> Result<(), Short>
+    requires { out.old.failed ≡ false }
+    ensures puts { PutsOrBreaks (W.contents out.old.device) (W.contents out.new.device) pieces.old pieces.new
+        (text (spec.goal_lines outline.now.variables outline.now.goal)) result }
+    ensures note { IsErr result ↔ IsTrue out.new.failed }
+{
+    for fact in outline.goal.as_slice() {
+        let var = fact.var as usize;
+        push_fact(pieces, out, b"goal", outline, var, fact.value)?;
+    }
+    Ok(())
+}
+
+/// Puts the line of a word and a fact, with the name of the fact's value, behind what has come. A fact that doesn't
+/// exist has no line.
+fn push_fact<W: Write>(
+    pieces: &mut Pieces,
+    out: &mut Watched<W>,
+    word: &[u8],
+    outline: &Outline,
+    var: usize,
+    value: u32,
+) -> Result<(), Short>
+    requires { out.old.failed ≡ false }
+    ensures puts { PutsOrBreaks (W.contents out.old.device) (W.contents out.new.device) pieces.old pieces.new
+        (text (spec.fact_lines word.now outline.now.variables var value)) result }
+    ensures note { IsErr result ↔ IsTrue out.new.failed }
+{
+    match outline.variables.value_name(var, value as usize) {
+        Some(name) => push_fact_line(pieces, out, word, var, value, name),
+        None => Ok(()),
+    }
+}
+
+/// Puts the line of a word, a variable, its value and the value's name behind what has come.
+fn push_fact_line<W: Write>(
+    pieces: &mut Pieces,
+    out: &mut Watched<W>,
+    word: &[u8],
+    var: usize,
+    value: u32,
+    name: &[u8],
+) -> Result<(), Short>
+    requires { out.old.failed ≡ false }
+    ensures puts { PutsOrBreaks (W.contents out.old.device) (W.contents out.new.device) pieces.old pieces.new
+        (spec.fact_line word.now var value name.now ++ 10 ∷ []) result }
+    ensures note { IsErr result ↔ IsTrue out.new.failed }
+{
+    let mut var_buffer = Buffer::new();
+    let mut value_buffer = Buffer::new();
+    let var_digits = var_buffer.format(var).as_bytes();
+    let value_digits = value_buffer.format(value).as_bytes();
+    let parts: [&[u8]; 8] = [
+        word,
+        b" ",
+        var_digits,
+        b" ",
+        value_digits,
+        b" ",
+        name,
+        b"\n",
+    ];
+    pieces.push_all(out, &parts)
+}
