@@ -1,5 +1,5 @@
 -- One more operator keeps the group.
-use Rattle.std.proofs.Common.{ℕ, [], sym, subst, inl, inr, arith}
+use Rattle.std.proofs.Common.{ℕ, [], sym, subst, inl, inr, arith, rules}
 use Rattle.std.proofs.lemmas.Bool.{cases_eq}
 use Rattle.std.proofs.lemmas.List.Elements.{All-from_get_or}
 use Rattle.sas_core.specs.declared.parts.Operator.{Operator}
@@ -23,3 +23,6 @@ returns-clause-none g c =
     let group = c.args.group.now in
     All-from_get_or (λ (o : Operator). Keeps (Alone group) o group) p.operators (record { name = []; prevail = []; effects = []; cost = 0 })
     (λ k lt. c.loop-operator.invariant k (omega arith))
+
+pub loop-operator-init : goal.loop-operator-init
+loop-operator-init g c = search rules

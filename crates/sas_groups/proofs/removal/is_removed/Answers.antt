@@ -1,4 +1,5 @@
 -- No effect removes the fact.
+use Rattle.std.proofs.lemmas.Grind.{common_steps}
 use Rattle.std.proofs.Common.{arith}
 use Rattle.sas_grounded.specs.Grounded.{operator_at}
 use Rattle.sas_groups.specs.Lists.{known}
@@ -10,3 +11,6 @@ returns-clause-no g c =
     let o = operator_at (g.T.Grounded.says c.args.task.now) c.args.operator in
     let all = known o c.args.first.now c.args.second.now in
     λ t. never_removed o all c.args.fact (λ k lt. c.loop-effect.invariant k (omega arith))
+
+pub returns-then-removes-clause-yes : goal.returns-then-removes-clause-yes
+returns-then-removes-clause-yes g c = grind (arith, common_steps)

@@ -1,4 +1,4 @@
-use Rattle.std.proofs.Common.{arith}
+use Rattle.std.proofs.Common.{arith, rules}
 use Rattle.sas_lines.proofs.Digits.{is_short, same_value}
 use Rattle.sas_lines.proofs.spelling.number.Goals as goal
 
@@ -9,3 +9,6 @@ pub returns-else-value-lt-NUMBER_LIMIT-clause-none : goal.returns-else-value-lt-
 returns-else-value-lt-NUMBER_LIMIT-clause-none c = λ n h e.
     let found = c.in_ok-value.ensures.found in
     omega (arith, same_value c.args.line.now c.in_ok-value.value n (omega (arith, found.0)) (omega arith) found.1 e)
+
+pub returns-then-value-lt-NUMBER_LIMIT-clause-found : goal.returns-then-value-lt-NUMBER_LIMIT-clause-found
+returns-then-value-lt-NUMBER_LIMIT-clause-found c = search rules

@@ -1,5 +1,6 @@
 -- What was noted before is noted again, and doesn't clash.
-use Rattle.std.proofs.Common.{List, [], false, ◌≡◌, subst, inl, inr}
+use Rattle.std.proofs.lemmas.Grind.{elements}
+use Rattle.std.proofs.Common.{List, [], false, ◌≡◌, subst, inl, inr, arith}
 use Rattle.std.proofs.lemmas.Bool.{cases_Bool}
 use Rattle.sas_core.specs.declared.parts.Fact.{Fact}
 use Rattle.sas_grounded.specs.Grounded.{operator_at}
@@ -27,3 +28,6 @@ returns-clause-noted g c =
       };
       from = subst (λ (conditions : List Fact). IsNotedFrom p (known o conditions []) c.note_known.new.marks) same c.note_known.ensures.from;
     }
+
+pub returns-then-is_empty-clause-no : goal.returns-then-is_empty-clause-no
+returns-then-is_empty-clause-no g c = grind (arith, elements)

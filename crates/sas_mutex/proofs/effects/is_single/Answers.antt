@@ -1,5 +1,5 @@
 -- One more effect sets no other fact of the group.
-use Rattle.std.proofs.Common.{below_more}
+use Rattle.std.proofs.Common.{below_more, rules}
 use Rattle.sas_mutex.proofs.effects.is_single.Goals as goal
 
 pub loop-other-preserved : goal.loop-other-preserved
@@ -7,3 +7,6 @@ loop-other-preserved g c = record {
   noted = c.not_both.ensures.noted;
   single = below_more _ _ c.loop-other.invariant.single (c.not_both.ensures.yes c.if-not-not_both.false);
 }
+
+pub loop-other-init : goal.loop-other-init
+loop-other-init g c = search rules

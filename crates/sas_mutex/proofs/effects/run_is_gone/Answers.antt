@@ -1,4 +1,5 @@
 -- A run that is settled is gone, or one fact more.
+use Rattle.std.proofs.Common.{rules}
 use Rattle.sas_grounded.specs.Grounded.{operator_at, effect_at}
 use Rattle.sas_groups.specs.Checks.{IsGone}
 use Rattle.sas_groups.proofs.Turns.{each_more}
@@ -19,3 +20,6 @@ loop-fact-preserved g c =
     let o = operator_at p c.args.operator in
     each_more (IsGone (IsKept p c.args.kept.now) o (effect_at o c.args.effect)) c.args.run.now c.loop-fact.fact-index _ c.loop-fact-test.true c.loop-fact.invariant
     (c.is_gone.ensures.yes c.if-not-is_gone.false)
+
+pub returns-then-not-is_gone-clause-yes : goal.returns-then-not-is_gone-clause-yes
+returns-then-not-is_gone-clause-yes g c = search rules

@@ -1,4 +1,5 @@
 -- Those that mention a fact of the next group are looked at again.
+use Rattle.std.proofs.lemmas.Grind.{common_steps}
 use Rattle.std.proofs.Common.{◌≡◌, ℕ, ◌+◌, ◌<◌, List, ◌∷◌, length, drop, sym, ◌∙◌, ap, subst, arith}
 use Rattle.std.specs.List.{All, Contains}
 use Rattle.std.proofs.lemmas.List.{drop_more}
@@ -51,3 +52,6 @@ loop-next-preserved g c =
           (λ o lt'. subst (λ (waiting : List ℕ). IsAtRest p before.kept waiting o) split (inv.rest o lt'))
           operator exist);
     }
+
+pub returns-clause-rest : goal.returns-clause-rest
+returns-clause-rest g c = grind (arith, common_steps)

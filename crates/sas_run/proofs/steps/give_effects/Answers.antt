@@ -42,3 +42,6 @@ returns-clause-given_to g c =
     let p = g.T.Grounded.says c.args.task.now in
     let o = operator_at p c.args.operator in
     given_on_effects p c.args.state.now o c.loop-effect.effect c.loop-effect.given c.loop-effect.invariant (omega arith) (effect_fits p c.requires.ranged c.args.operator c.requires.operator)
+
+pub returns-then-not-give-clause-some : goal.returns-then-not-give-clause-some
+returns-then-not-give-clause-some g c = search rules

@@ -1,4 +1,4 @@
-use Rattle.std.proofs.Common.{arith, sym, ◌≡◌, ◌∙◌}
+use Rattle.std.proofs.Common.{arith, sym, ◌≡◌, ◌∙◌, rules}
 use Rattle.std.specs.Prelude.{Some, None}
 use Rattle.sas_reader.proofs.Standing.{accepted_of}
 use Rattle.sas_reader.proofs.reader.Reader.finish.Goals as goal
@@ -13,3 +13,6 @@ returns-in-None g c =
       fault = tt;
       kept = λ f e. let x : None ≡ Some f = sym none.1 ∙ e in absurd cc;
     }
+
+pub returns-in-Some : goal.returns-in-Some
+returns-in-Some g c = search rules

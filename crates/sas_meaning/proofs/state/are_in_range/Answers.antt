@@ -1,0 +1,5 @@
+use Rattle.std.proofs.Common.{rules}
+use Rattle.sas_meaning.proofs.state.are_in_range.Goals as goal
+
+pub loop-var-preserved : goal.loop-var-preserved
+loop-var-preserved g c = search rules
