@@ -44,7 +44,7 @@ pub fn number_at(line: &[u8]) -> Result<u32, Kind>
     ensures { Says format.number_slot (λ i. any (number_in i)) format.number line.now result }
 {
     match number(line) {
-        Some(n) => Ok(n),
+        Some(found) => Ok(found),
         None => Err(Kind::Shape),
     }
 }
