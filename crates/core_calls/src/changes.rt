@@ -9,7 +9,7 @@ use std::mem;
 pub fn change_all(alloc: Global, parts: &mut Parts, changes: &[u8]) -> Result<(), AllocError> {
     for change in changes.split(|&byte| byte == b';') {
         let (place, what) = cut(change, b' ');
-        change_list(alloc, parts, text_of(place), what)?;
+        change_list(parts, text_of(place), what)?;
         let (index, what) = cut(what, b' ');
         let index = number_in(index).unwrap_or(0) as usize;
         change_item(alloc, parts, text_of(place), index, what)?;
@@ -18,20 +18,15 @@ pub fn change_all(alloc: Global, parts: &mut Parts, changes: &[u8]) -> Result<()
 }
 
 /// Changes a list of the task: `none` takes all out of it, and numbers are added.
-fn change_list(
-    alloc: Global,
-    parts: &mut Parts,
-    place: &str,
-    what: &[u8],
-) -> Result<(), AllocError> {
+fn change_list(parts: &mut Parts, place: &str, what: &[u8]) -> Result<(), AllocError> {
     match place {
         "metric" => parts.metric = what == b"1".as_slice(),
-        "variables" => parts.variables = Items::new(alloc),
-        "groups" => parts.groups = Items::new(alloc),
+        "variables" => parts.variables.clear(),
+        "groups" => parts.groups.clear(),
         "init" => change_numbers(&mut parts.init, what)?,
         "goal" => change_facts(&mut parts.goal, what)?,
-        "operators" => parts.operators = Items::new(alloc),
-        "rules" => parts.rules = Items::new(alloc),
+        "operators" => parts.operators.clear(),
+        "rules" => parts.rules.clear(),
         _ => {}
     }
     Ok(())
@@ -78,6 +73,11 @@ fn change_facts(facts: &mut Items<Fact>, what: &[u8]) -> Result<(), AllocError> 
     }
 }
 
+/// Puts the items in the place of the list.
+fn put_back<T: Drop>(list: &mut Items<T>, items: Vec<T>) {
+    drop(mem::replace(list, Items::from_vec(items)));
+}
+
 /// The list of the bytes.
 fn bytes_of(alloc: Global, bytes: &[u8]) -> Result<Items<u8>, AllocError> {
     Ok(Items::from_vec(Vec::from_slice(alloc, bytes)?))
@@ -91,18 +91,19 @@ fn change_variable(
     what: &[u8],
 ) -> Result<(), AllocError> {
     let mut variables = mem::replace(&mut parts.variables, Items::new(alloc)).into_vec();
-    if let Some(variable) = variables.get_mut(index) {
-        set_variable(alloc, variable, what)?;
-    }
-    parts.variables = Items::from_vec(variables);
-    Ok(())
+    let made = match variables.get_mut(index) {
+        Some(variable) => set_variable(alloc, variable, what),
+        None => Ok(()),
+    };
+    put_back(&mut parts.variables, variables);
+    made
 }
 
 /// Sets the field of a variable that the words name. `values none` takes all its values out, and `value NAME` adds one.
 fn set_variable(alloc: Global, variable: &mut Variable, what: &[u8]) -> Result<(), AllocError> {
     let (field, what) = cut(what, b' ');
     match text_of(field) {
-        "name" => variable.name = bytes_of(alloc, what)?,
+        "name" => drop(mem::replace(&mut variable.name, bytes_of(alloc, what)?)),
         "layer" => variable.layer = number_in(what),
         "values" => variable.values.clear(),
         "value" => variable.values.push(bytes_of(alloc, what)?)?,
@@ -119,11 +120,12 @@ fn change_group(
     what: &[u8],
 ) -> Result<(), AllocError> {
     let mut groups = mem::replace(&mut parts.groups, Items::new(alloc)).into_vec();
-    if let Some(group) = groups.get_mut(index) {
-        change_facts(group, what)?;
-    }
-    parts.groups = Items::from_vec(groups);
-    Ok(())
+    let made = match groups.get_mut(index) {
+        Some(group) => change_facts(group, what),
+        None => Ok(()),
+    };
+    put_back(&mut parts.groups, groups);
+    made
 }
 
 /// Changes an operator.
@@ -134,18 +136,19 @@ fn change_operator(
     what: &[u8],
 ) -> Result<(), AllocError> {
     let mut operators = mem::replace(&mut parts.operators, Items::new(alloc)).into_vec();
-    if let Some(operator) = operators.get_mut(index) {
-        set_operator(alloc, operator, what)?;
-    }
-    parts.operators = Items::from_vec(operators);
-    Ok(())
+    let made = match operators.get_mut(index) {
+        Some(operator) => set_operator(alloc, operator, what),
+        None => Ok(()),
+    };
+    put_back(&mut parts.operators, operators);
+    made
 }
 
 /// Sets the field of an operator that the words name.
 fn set_operator(alloc: Global, operator: &mut Operator, what: &[u8]) -> Result<(), AllocError> {
     let (field, what) = cut(what, b' ');
     match text_of(field) {
-        "name" => operator.name = bytes_of(alloc, what)?,
+        "name" => drop(mem::replace(&mut operator.name, bytes_of(alloc, what)?)),
         "prevail" => change_facts(&mut operator.prevail, what)?,
         "cost" => operator.cost = number_in(what).unwrap_or(0),
         _ => {}
@@ -161,11 +164,12 @@ fn change_effect(
     what: &[u8],
 ) -> Result<(), AllocError> {
     let mut operators = mem::replace(&mut parts.operators, Items::new(alloc)).into_vec();
-    if let Some(operator) = operators.get_mut(0) {
-        change_effect_of(alloc, operator, index, what)?;
-    }
-    parts.operators = Items::from_vec(operators);
-    Ok(())
+    let made = match operators.get_mut(0) {
+        Some(operator) => change_effect_of(alloc, operator, index, what),
+        None => Ok(()),
+    };
+    put_back(&mut parts.operators, operators);
+    made
 }
 
 /// Changes an effect of an operator.
@@ -176,11 +180,12 @@ fn change_effect_of(
     what: &[u8],
 ) -> Result<(), AllocError> {
     let mut effects = mem::replace(&mut operator.effects, Items::new(alloc)).into_vec();
-    if let Some(effect) = effects.get_mut(index) {
-        set_effect(effect, what)?;
-    }
-    operator.effects = Items::from_vec(effects);
-    Ok(())
+    let made = match effects.get_mut(index) {
+        Some(effect) => set_effect(effect, what),
+        None => Ok(()),
+    };
+    put_back(&mut operator.effects, effects);
+    made
 }
 
 /// Sets the field of an effect that the words name.
@@ -204,11 +209,12 @@ fn change_rule(
     what: &[u8],
 ) -> Result<(), AllocError> {
     let mut rules = mem::replace(&mut parts.rules, Items::new(alloc)).into_vec();
-    if let Some(rule) = rules.get_mut(index) {
-        set_rule(rule, what)?;
-    }
-    parts.rules = Items::from_vec(rules);
-    Ok(())
+    let made = match rules.get_mut(index) {
+        Some(rule) => set_rule(rule, what),
+        None => Ok(()),
+    };
+    put_back(&mut parts.rules, rules);
+    made
 }
 
 /// Sets the field of a rule that the words name.

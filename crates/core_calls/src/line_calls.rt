@@ -83,6 +83,13 @@ fn say_first_line<P: Print>(out: &P, bytes: &[u8]) {
 /// `Lines`, of pieces with `|` between them. It could show the same, and a line that stays after the next feed.
 fn say_lines<R: AllocGlobal + Print>(rt: &R, pieces: &[u8]) -> Result<(), AllocError> {
     let mut lines = Lines::new(rt.alloc());
+    let said = say_each(rt, pieces, &mut lines);
+    drop(lines);
+    said
+}
+
+/// The same, of lines that have begun.
+fn say_each<P: Print>(rt: &P, pieces: &[u8], lines: &mut Lines) -> Result<(), AllocError> {
     for piece in pieces.split(|&byte| byte == b'|') {
         let Fed { taken, complete } = lines.feed(piece)?;
         say_number(
@@ -106,8 +113,15 @@ fn feed_lines<R: AllocGlobal + Print>(
     pieces: &[u8],
 ) -> Result<(), AllocError> {
     spend(rt.alloc(), count)?;
-    let (first, second) = cut(pieces, b'|');
     let mut lines = Lines::new(rt.alloc());
+    feed_two(rt, pieces, &mut lines);
+    drop(lines);
+    Ok(())
+}
+
+/// The same, of lines of which none has begun.
+fn feed_two<P: Print>(rt: &P, pieces: &[u8], lines: &mut Lines) {
+    let (first, second) = cut(pieces, b'|');
     if lines.feed(first).is_err() {
         say_want(rt, lines.pending().is_empty());
     } else if lines.feed(second).is_err() {
@@ -119,7 +133,6 @@ fn feed_lines<R: AllocGlobal + Print>(
     } else {
         say_whole(rt, lines.line());
     }
-    Ok(())
 }
 
 /// `push_number`, behind a text that fills its memory: `TEXT|NUMBER`. It could show that a call always wants memory.

@@ -94,17 +94,35 @@ fn new_plan<R: AllocGlobal + Print>(rt: &R, count: usize, words: &[u8]) -> Resul
     let steps = names_of(rt.alloc(), names)?;
     let cost = u64::from(number_in(cost).unwrap_or(0));
     match plan_from(steps, cost, kind_of(text_of(kind))) {
-        Ok(plan) => say_encoded(rt, count, &plan),
+        Ok(plan) => {
+            let said = say_encoded(rt, count, &plan);
+            drop(plan);
+            said
+        }
         Err((back, fault)) => {
-            let same = are_same_names(&back, &names_of(rt.alloc(), names)?);
-            say_number(
-                rt,
-                if same { "bad name" } else { "WRONG" },
-                fault.step as u64,
-            );
-            Ok(())
+            let said = say_bad_name(rt, &back, names, fault);
+            drop(back);
+            said
         }
     }
+}
+
+/// Says which step has no name, if the steps that came back are those that were given.
+fn say_bad_name<R: AllocGlobal + Print>(
+    rt: &R,
+    back: &Items<Items<u8>>,
+    names: &[u8],
+    fault: BadName,
+) -> Result<(), AllocError> {
+    let given = names_of(rt.alloc(), names)?;
+    let same = are_same_names(back, &given);
+    drop(given);
+    say_number(
+        rt,
+        if same { "bad name" } else { "WRONG" },
+        fault.step as u64,
+    );
+    Ok(())
 }
 
 /// `encode_plan`.
@@ -124,10 +142,17 @@ fn say_same_plans<R: AllocGlobal + Print>(rt: &R, files: &[u8]) {
     let Some(plan) = plan_of(rt.alloc(), file) else {
         return say(rt, "WRONG: no plan");
     };
-    let Some(other) = plan_of(rt.alloc(), other) else {
+    say_same_as(rt, &plan, other);
+    drop(plan);
+}
+
+/// Whether the plan is equal to that of the file.
+fn say_same_as<R: AllocGlobal + Print>(rt: &R, plan: &Plan, file: &[u8]) {
+    let Some(other) = plan_of(rt.alloc(), file) else {
         return say(rt, "WRONG: no other plan");
     };
-    say_either(rt, is_same_plan(&plan, &other), "equal", "different");
+    say_either(rt, is_same_plan(plan, &other), "equal", "different");
+    drop(other);
 }
 
 /// Whether two plans are equal: exactly if they say the same.

@@ -71,7 +71,10 @@ fn changed(alloc: Global, parts: Parts, changes: &[u8]) -> Result<Option<Parts>,
     let mut parts = parts;
     match change_all(alloc, &mut parts, changes) {
         Ok(()) => Ok(Some(parts)),
-        Err(error) => Err(error),
+        Err(error) => {
+            drop(parts);
+            Err(error)
+        }
     }
 }
 
@@ -102,8 +105,19 @@ fn new_task<R: AllocGlobal + Print>(rt: &R, bytes: &[u8]) -> Result<(), AllocErr
         say(rt, "WRONG: no task");
         return Ok(());
     };
+    let made = make_task(rt, bytes, &same);
+    drop(same);
+    made
+}
+
+/// The same, of the parts that the bytes are, which are given once more.
+fn make_task<R: AllocGlobal + Print>(
+    rt: &R,
+    bytes: &[u8],
+    given: &Parts,
+) -> Result<(), AllocError> {
     if let Some(parts) = parts_of(rt.alloc(), bytes)? {
-        say_made(rt, task_from(parts), &same);
+        say_made(rt, task_from(parts), given);
     }
     Ok(())
 }
@@ -117,10 +131,13 @@ fn say_made<R: AllocGlobal + Print>(
     match made {
         Ok(task) => {
             say_kept(rt, task.parts(), given);
-            say_text(rt, encode_task(rt.alloc(), &made_again(task)));
+            let again = made_again(task);
+            say_text(rt, encode_task(rt.alloc(), &again));
+            drop(again);
         }
         Err((back, fault)) => {
             say_kept(rt, &back, given);
+            drop(back);
             let _ = println!(rt; "{fault:?}");
         }
     }
@@ -138,17 +155,19 @@ fn encode<R: AllocGlobal + Print>(rt: &R, count: usize, task: &Task) -> Result<(
 fn say_same<R: AllocGlobal + Print>(rt: &R, bytes: &[u8], task: &Task) -> Result<(), AllocError> {
     if let Some(parts) = parts_of(rt.alloc(), bytes)? {
         say_either(rt, are_same(&parts, task.parts()), "equal", "different");
-        say_same_tasks(rt, task, task_from(parts));
+        let made = task_from(parts);
+        say_same_tasks(rt, task, &made);
+        drop(made);
     }
     Ok(())
 }
 
 /// Says whether the task that was made of the other parts, if one was, is equal.
-fn say_same_tasks<P: Print>(out: &P, task: &Task, made: Result<Task, (Parts, PartsFault)>) {
+fn say_same_tasks<P: Print>(out: &P, task: &Task, made: &Result<Task, (Parts, PartsFault)>) {
     if let Ok(other) = made {
         say_either(
             out,
-            is_same_task(task, &other),
+            is_same_task(task, other),
             "equal tasks",
             "different tasks",
         );

@@ -44,10 +44,12 @@ fn check_plan(
     let Ok(worklist) = Worklist::new(alloc, layered) else {
         return Err(PlanFault::Memory);
     };
-    match Runner::new(alloc, layered, worklist) {
-        Ok(mut runner) => runner.check_plan(alloc, plan),
-        Err(_) => Err(PlanFault::Memory),
-    }
+    let Ok(mut runner) = Runner::new(alloc, layered, worklist) else {
+        return Err(PlanFault::Memory);
+    };
+    let verdict = runner.check_plan(alloc, plan);
+    drop(runner);
+    verdict
 }
 
 /// The answer about a plan that says this cost and has this fault.

@@ -44,15 +44,16 @@ impl Resting {
         requires layered { IsLayeredTask (T.says task.now) }
         ensures { IfOk result (λ r. IsResting (T.says task.now) r) }
     {
-        let index = index_of_all(alloc, task)?;
+        let looks_below = looks_of(alloc, task)?;
         let values = State::of_section(alloc, task)?;
         let counters = open_counters(alloc, task, &values)?;
+        let index = index_of_all(alloc, task)?;
         Ok(Resting {
             asked: asked_variables(alloc, task, &index)?,
             index,
             values,
             counters,
-            looks_below: looks_of(alloc, task)?,
+            looks_below,
         })
     }
 

@@ -57,10 +57,10 @@ impl Worklist {
             spans,
             next: 0,
             start: 0,
-            index: index_of_own_layers(alloc, task)?,
-            resting: Resting::new(alloc, task)?,
             counters: Items::from_vec(vec![in alloc; 0u32; task.rules() as usize]?),
             stack: Vec::with_capacity(alloc, task.variables() as usize)?,
+            index: index_of_own_layers(alloc, task)?,
+            resting: Resting::new(alloc, task)?,
         })
     }
 }

@@ -31,11 +31,12 @@ pub fn check_groups<T: Grounded>(
     let task = layered.task();
     let mut verdicts = first_verdicts(alloc, task)?;
     let mut family = candidates(alloc, verdicts.as_slice())?;
+    let mut marks = Marks::new(alloc, task)?;
     let index = Index::new(alloc, task)?;
     let mentions = mentions_of(alloc, task, &index)?;
-    let mut marks = Marks::new(alloc, task)?;
     find_greatest(task, &index, &mentions, &mut family, &mut marks);
     tell_breaking(task, &index, &mut family.kept, &mut verdicts, &mut marks);
+    drop((index, mentions, family, marks));
     Ok(verdicts.into_vec())
 }
 

@@ -27,8 +27,7 @@ use std::alloc::{AllocError, Global};
 use std::marker::Model;
 
 /// What has come, as `SoFar` has it: its parts, and what has come of a variable, group, operator or rule that has
-/// begun. What has begun is kept in memory that serves the next one too, so that a line takes none of its own. In a
-/// contract it is the `SoFar` of the same lines.
+/// begun. In a contract it is the `SoFar` of the same lines.
 #[derive(Drop)]
 pub struct FlatSoFar {
     alloc: Global,
@@ -39,6 +38,13 @@ pub struct FlatSoFar {
     goal: Items<Fact>,
     operators: Operators,
     rules: Rules,
+    begun: Begun,
+}
+
+/// What has come of a variable, group, operator or rule that has begun. It is kept in memory that serves the next one
+/// too, so that a line takes none of its own.
+#[derive(Drop)]
+struct Begun {
     name: Items<u8>,
     layer: Option<u32>,
     values: Lists<u8>,
@@ -58,11 +64,11 @@ impl Model for FlatSoFar {
     ghost view = { λ s. record {
       alloc = s.alloc;
       parts = parts s.metric s.variables s.groups s.init s.goal s.operators s.rules;
-      name = s.name;
-      layer = s.layer;
-      values = s.values;
-      facts = s.facts;
-      effects = s.effects;
+      name = s.begun.name;
+      layer = s.begun.layer;
+      values = s.begun.values;
+      facts = s.begun.facts;
+      effects = s.begun.effects;
     } };
 }
 
@@ -80,12 +86,14 @@ impl FlatSoFar {
             goal: Items::new(alloc),
             operators: Operators::new(alloc),
             rules: Rules::new(alloc),
-            name: Items::new(alloc),
-            layer: None,
-            values: Lists::new(alloc),
-            facts: Items::new(alloc),
-            effects: Effects::new(alloc),
-            gathered: Gathered::new(alloc),
+            begun: Begun {
+                name: Items::new(alloc),
+                layer: None,
+                values: Lists::new(alloc),
+                facts: Items::new(alloc),
+                effects: Effects::new(alloc),
+                gathered: Gathered::new(alloc),
+            },
         }
     }
 
@@ -102,8 +110,10 @@ impl FlatSoFar {
             goal,
             operators,
             rules,
+            begun,
             ..
         } = self;
+        drop(begun);
         FlatTask::of_parts(metric, variables, groups, init, goal, operators, rules)
     }
 
@@ -114,10 +124,15 @@ impl FlatSoFar {
         let FlatSoFar {
             metric,
             variables,
+            groups: group_lists,
             init,
             goal,
+            operators: operator_columns,
+            rules: rule_columns,
+            begun,
             ..
         } = self;
+        drop((group_lists, operator_columns, rule_columns, begun));
         Outline {
             metric,
             variables,
@@ -133,31 +148,34 @@ impl FlatSoFar {
     pub fn forget_name(&mut self)
         ensures { self.new ≡ record self.old { name = [] } }
     {
-        self.name.clear();
+        self.begun.name.clear();
     }
 
     fn name(&mut self, line: &[u8]) -> Result<(), AllocError>
         ensures { (said : Said) → OnOk result (self.new ≡ after self.old event.Name said line.now) }
     {
-        self.name.clear();
-        self.name.extend_from_slice(line)
+        self.begun.name.clear();
+        self.begun.name.extend_from_slice(line)
     }
 
     fn variable(&mut self) -> Result<(), AllocError>
         ensures { (said : Said) → OnOk result (self.new ≡ after self.old event.Variable said []) }
     {
-        self.variables
-            .push(self.name.as_slice(), self.layer, &self.values)?;
-        self.name.clear();
-        self.values.clear();
+        self.variables.push(
+            self.begun.name.as_slice(),
+            self.begun.layer,
+            &self.begun.values,
+        )?;
+        self.begun.name.clear();
+        self.begun.values.clear();
         Ok(())
     }
 
     fn group(&mut self) -> Result<(), AllocError>
         ensures { (said : Said) → OnOk result (self.new ≡ after self.old event.Group said []) }
     {
-        self.groups.push(self.facts.as_slice())?;
-        self.facts.clear();
+        self.groups.push(self.begun.facts.as_slice())?;
+        self.begun.facts.clear();
         Ok(())
     }
 
@@ -169,29 +187,31 @@ impl FlatSoFar {
             old: said.effect.old,
             new: said.effect.new,
         };
-        self.effects.push(said.effect.conditions.as_slice(), change)
+        self.begun
+            .effects
+            .push(said.effect.conditions.as_slice(), change)
     }
 
     fn operator(&mut self, said: &Said) -> Result<(), AllocError>
         ensures { OnOk result (self.new ≡ after self.old event.Operator said.now []) }
     {
         self.operators.push(
-            self.name.as_slice(),
-            self.facts.as_slice(),
-            &self.effects,
+            self.begun.name.as_slice(),
+            self.begun.facts.as_slice(),
+            &self.begun.effects,
             said.number,
         )?;
-        self.name.clear();
-        self.facts.clear();
-        self.effects.clear();
+        self.begun.name.clear();
+        self.begun.facts.clear();
+        self.begun.effects.clear();
         Ok(())
     }
 
     fn rule(&mut self, said: &Said) -> Result<(), AllocError>
         ensures { OnOk result (self.new ≡ after self.old event.Rule said.now []) }
     {
-        self.rules.push(self.facts.as_slice(), said.head)?;
-        self.facts.clear();
+        self.rules.push(self.begun.facts.as_slice(), said.head)?;
+        self.begun.facts.clear();
         Ok(())
     }
 
@@ -203,18 +223,18 @@ impl FlatSoFar {
             → (v : Variable) × VariableWithRange bytes.now v kept × (self.new ≡ behind_variable self.old v)) }
         ensures none { IfOk result (λ kept. kept.front.bytes ≡ 0 → self.new ≡ self.old) }
     {
-        let found = variable_found(bytes, &mut self.gathered)?;
+        let found = variable_found(bytes, &mut self.begun.gathered)?;
         let Some(found) = found else {
             return Ok(NO_VARIABLE);
         };
         self.variables
-            .push(found.name, found.layer, &self.gathered.values)?;
-        self.name.clear();
-        self.layer = found.layer;
-        self.values.clear();
+            .push(found.name, found.layer, &self.begun.gathered.values)?;
+        self.begun.name.clear();
+        self.begun.layer = found.layer;
+        self.begun.values.clear();
         Ok(VariableKept {
             front: found.front,
-            range: self.gathered.values.len() as u32,
+            range: self.begun.gathered.values.len() as u32,
         })
     }
 
@@ -225,12 +245,12 @@ impl FlatSoFar {
             × (self.new ≡ behind_group self.old facts)) }
         ensures none { IfOk result (λ front. front.bytes ≡ 0 → self.new ≡ self.old) }
     {
-        let found = group_found(ranges, bytes, &mut self.gathered)?;
+        let found = group_found(ranges, bytes, &mut self.begun.gathered)?;
         let Some(front) = found else {
             return Ok(Front::EMPTY);
         };
-        self.groups.push(self.gathered.facts.as_slice())?;
-        self.facts.clear();
+        self.groups.push(self.begun.gathered.facts.as_slice())?;
+        self.begun.facts.clear();
         Ok(front)
     }
 
@@ -240,19 +260,19 @@ impl FlatSoFar {
             → (o : Operator) × OperatorAhead ranges.now bytes.now o front × (self.new ≡ behind_operator self.old o)) }
         ensures none { IfOk result (λ front. front.bytes ≡ 0 → self.new ≡ self.old) }
     {
-        let found = operator_found(ranges, bytes, &mut self.gathered)?;
+        let found = operator_found(ranges, bytes, &mut self.begun.gathered)?;
         let Some(found) = found else {
             return Ok(Front::EMPTY);
         };
         self.operators.push_plain(
             found.name,
-            self.gathered.facts.as_slice(),
-            self.gathered.changes.as_slice(),
+            self.begun.gathered.facts.as_slice(),
+            self.begun.gathered.changes.as_slice(),
             found.cost,
         )?;
-        self.name.clear();
-        self.facts.clear();
-        self.effects.clear();
+        self.begun.name.clear();
+        self.begun.facts.clear();
+        self.begun.effects.clear();
         Ok(found.front)
     }
 
@@ -262,12 +282,13 @@ impl FlatSoFar {
             → (r : Rule) × RuleAhead ranges.now bytes.now r front × (self.new ≡ behind_rule self.old r)) }
         ensures none { IfOk result (λ front. front.bytes ≡ 0 → self.new ≡ self.old) }
     {
-        let found = rule_found(ranges, bytes, &mut self.gathered)?;
+        let found = rule_found(ranges, bytes, &mut self.begun.gathered)?;
         let Some(found) = found else {
             return Ok(Front::EMPTY);
         };
-        self.rules.push(self.gathered.facts.as_slice(), found.head)?;
-        self.facts.clear();
+        self.rules
+            .push(self.begun.gathered.facts.as_slice(), found.head)?;
+        self.begun.facts.clear();
         Ok(found.front)
     }
 
@@ -279,16 +300,16 @@ impl FlatSoFar {
             Event::Nothing => {}
             Event::Metric => self.metric = said.number == 1,
             Event::Name => return self.name(line),
-            Event::Layer => self.layer = said.layer,
-            Event::Values => self.values.clear(),
-            Event::Value => return self.values.push(line),
+            Event::Layer => self.begun.layer = said.layer,
+            Event::Values => self.begun.values.clear(),
+            Event::Value => return self.begun.values.push(line),
             Event::Variable => return self.variable(),
-            Event::Facts => self.facts.clear(),
-            Event::Fact => return self.facts.push(said.fact),
+            Event::Facts => self.begun.facts.clear(),
+            Event::Fact => return self.begun.facts.push(said.fact),
             Event::Group => return self.group(),
             Event::State => return self.init.push(said.number),
             Event::Goal => return self.goal.push(said.fact),
-            Event::Effects => self.effects.clear(),
+            Event::Effects => self.begun.effects.clear(),
             Event::Effect => return self.effect(said),
             Event::Operator => return self.operator(said),
             Event::Rule => return self.rule(said),

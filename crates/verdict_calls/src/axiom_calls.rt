@@ -46,7 +46,9 @@ fn say_layers<P: Print>(out: &P, made: Result<Layered<Task>, (Task, LayerFault)>
 /// Says that a task is layered, if it is the given one before and after it is taken out again.
 fn say_layered<P: Print>(out: &P, layered: Layered<Task>, given: &Task) {
     say_kept(out, layered.task(), given, "layered");
-    say_kept(out, &layered.into_task(), given, "kept");
+    let task = layered.into_task();
+    say_kept(out, &task, given, "kept");
+    drop(task);
 }
 
 /// Says why a task isn't layered, if it is the given one that came back.
@@ -113,25 +115,35 @@ pub fn new_state<R: AllocGlobal + Print>(
 ) -> Result<(), AllocError> {
     let (values, fact) = cut(words, b';');
     let values = numbers_of(rt.alloc(), values)?;
-    spend(rt.alloc(), count)?;
-    let state = State::of(rt.alloc(), task, values.as_slice());
-    say_state(rt, &state);
-    if let (Ok(state), Some(fact)) = (state, fact_of(fact)) {
-        say_fact(rt, state, fact);
+    let spent = spend(rt.alloc(), count);
+    if spent.is_ok() {
+        let made = State::of(rt.alloc(), task, values.as_slice());
+        say_state_and_fact(rt, made, fact);
     }
-    Ok(())
+    drop(values);
+    spent
+}
+
+/// Says a state, or why there is none, and of a state what it says of the fact.
+fn say_state_and_fact<P: Print>(out: &P, made: Result<State, StateFault>, fact: &[u8]) {
+    say_state(out, &made);
+    if let Ok(mut state) = made {
+        if let Some(fact) = fact_of(fact) {
+            say_fact(out, &mut state, fact);
+        }
+        drop(state);
+    }
 }
 
 /// Says whether the fact holds in the state, and, where there is its variable, its value and what setting the fact
 /// changes.
-fn say_fact<P: Print>(out: &P, state: State, fact: Fact) {
-    let mut state = state;
-    say_holds(out, &state, fact);
+fn say_fact<P: Print>(out: &P, state: &mut State, fact: Fact) {
+    say_holds(out, state, fact);
     if (fact.var as usize) < state.values().len() {
         say_number(out, "value", u64::from(state.value(fact.var)));
         state.set(fact);
         say_values(out, state.values());
-        say_holds(out, &state, fact);
+        say_holds(out, state, fact);
     }
 }
 

@@ -85,12 +85,24 @@ fn compare<R: AllocGlobal + Print>(
     layered: &Layered<Task>,
 ) -> Result<(), AllocError> {
     let pieces = pieces_of(rt.alloc(), states)?;
+    let said = compare_all(rt, pieces.as_slice(), layered);
+    drop(pieces);
+    said
+}
+
+/// The same, of states one by one.
+fn compare_all<R: AllocGlobal + Print>(
+    rt: &R,
+    states: &[&[u8]],
+    layered: &Layered<Task>,
+) -> Result<(), AllocError> {
     let mut worklist = Worklist::new(rt.alloc(), layered)?;
-    compare_each(rt, &mut worklist, layered, pieces.as_slice());
+    compare_each(rt, &mut worklist, layered, states);
+    drop(worklist);
     Ok(())
 }
 
-/// The same, with one of the evaluators, of states one by one.
+/// The same, with one of the evaluators.
 fn compare_each<R: AllocGlobal + Print>(
     rt: &R,
     worklist: &mut Worklist,
@@ -101,8 +113,9 @@ fn compare_each<R: AllocGlobal + Print>(
 {
     for words in states {
         let state = settled(rt.alloc(), &mut Rounds, layered, words);
-        let same = are_same(&state, &settled(rt.alloc(), worklist, layered, words));
-        say_either(rt, same, "equal", "WRONG: different");
+        let other = settled(rt.alloc(), worklist, layered, words);
+        say_either(rt, are_same(&state, &other), "equal", "WRONG: different");
+        drop((state, other));
     }
 }
 

@@ -48,7 +48,10 @@ fn say_checked<R: AllocGlobal + Print, E: Settle<Task> + Drop>(
     runner: &mut Runner<'_, E>,
 ) {
     match runner.check_plan(rt.alloc(), plan) {
-        Ok(valid) => say_valid(rt, values, &valid),
+        Ok(valid) => {
+            say_valid(rt, values, &valid);
+            drop(valid);
+        }
         Err(PlanFault::Memory) => say_want(rt, is_checked(rt.alloc(), runner, plan)),
         Err(fault) => say_fault(rt, values, fault),
     }

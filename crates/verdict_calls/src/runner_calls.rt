@@ -214,7 +214,11 @@ pub fn new_runner<R: AllocGlobal + Print>(
 ) -> Result<(), AllocError> {
     let worklist = worklist_behind(rt.alloc(), count, layered)?;
     match Runner::new(rt.alloc(), layered, worklist) {
-        Ok(mut runner) => say_initial(rt, 0, &mut runner),
+        Ok(mut runner) => {
+            let said = say_initial(rt, 0, &mut runner);
+            drop(runner);
+            said
+        }
         Err((worklist, _)) => {
             say_want(rt, settles(rt.alloc(), layered, worklist));
             Ok(())
@@ -231,8 +235,13 @@ fn worklist_behind(
     ensures { IfOk result (λ worklist. IsReadyFor layered.now worklist) }
 {
     let worklist = Worklist::new(alloc, layered)?;
-    spend(alloc, count)?;
-    Ok(worklist)
+    match spend(alloc, count) {
+        Ok(()) => Ok(worklist),
+        Err(error) => {
+            drop(worklist);
+            Err(error)
+        }
+    }
 }
 
 /// Whether the evaluator still settles the state of the state section as `Rounds` does.
