@@ -10,8 +10,7 @@ calls.json: for each program what its calls say, in groups of the same call.
 
     call         its name, and for some calls a word that says of which kind
     about        what is shown
-    refused      left out, or so many runs are enough to refuse each allocation of the call in turn, in memory.py
-    before       so many of these runs are left out: they would refuse allocations before the call
+    refused      left out, or how many allocations come before the call, of which memory.py refuses each in turn
     rows         [INPUT, ANSWER]: the bytes that the call is about, and what the program prints
 
 The calls over the files of tasks.json, lines.json, plans.json, verdicts.json and groups.json are made here, and those over

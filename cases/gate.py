@@ -17,7 +17,7 @@ TOP = os.path.dirname(os.path.dirname(os.path.abspath(__file__)))
 PROGRAMS = ("core_calls", "file_calls", "verdict_calls", "request_calls")
 CALLS = [f"crates/{name}/out/{name}" for name in PROGRAMS]
 PARTS = [
-    ["cases/memory.py"],
+    ["cases/memory.py", "sas", *CALLS],
     ["cases/calls.py", *CALLS],
     ["cases/run.py", "sas"],
 ]

@@ -1,97 +1,139 @@
 #!/usr/bin/env python3
 """Refuses each allocation of a call in turn, counting upwards until a run meets no refusal.
 
-    python3 cases/memory.py
+    python3 cases/memory.py SAS PROGRAM ..
 
-The calls are those of calls.json that say how many runs are `refused`, over the crate of their program. It makes a number of
-allocations, then the call. It runs with one allocation of the process refused, the same one each time, so each number makes
-that another one of the call: from one before it, over each of it, to one behind it. So the answers are `before`, then
-`wanting`, where the call wants memory and all stands that has to stand then, and then the answer of the call. A reader that
-wants memory answers that to each piece behind it, too.
+The programs are those of `calls.py`. The calls are those of calls.json that say how many allocations come before them:
+what they are given is made by so many, which are left alone. Then a program makes one allocation and tells if it is refused
+(`before`), and then the call. So a run that refuses that one answers `before`; the next ones refuse those of the call, one
+after another, and answer `wanting`, where the call wants memory and all stands that has to stand then; and the last one
+refuses nothing and gives the answer of the call. A reader that wants memory answers that to each piece behind it, too.
 
-Each `rt try` builds its program and then runs it for one case after another. So the runs are shared out: as many `rt try` work
-side by side as there are cores, more than one over a program that has many runs.
+SAS is the program itself: with each allocation of it refused in turn, it says `sas: out of memory`, writes nothing and ends
+with status 3, or does without and answers as ever, until a run meets no refusal.
 
-Each call that fails has a line, and the last line is 'N passed, M failed'. The exit status is 0 where none failed.
+The library that refuses is made of refuse.c, with $CC or cc. Each call that fails has a line, and the last line is
+'N passed, M failed'. The exit status is 0 where none failed.
 """
 import itertools
 import os
 import re
+import shlex
 import subprocess
+import sys
 import tempfile
 from concurrent.futures import ThreadPoolExecutor
 
 import report
-from texts import TOP, as_bytes, table
+from texts import CASES, TOP, as_bytes, table
 
-REFUSED = 100
+# no run of these makes more allocations
+MOST = 1000
 WANTING = re.compile(rb"(taken\n)*(wanting\n)+")
+OUT_OF_MEMORY = (3, b"", b"sas: out of memory\n")
+REQUESTS = (
+    ["show", "examples/fuses.sas"],
+    ["check", "examples/fuses.sas"],
+    ["print", "examples/fuses.sas"],
+    ["mutex", "examples/fuses.sas"],
+    ["plan", "examples/fuses.sas", "examples/fuses.plan"],
+    ["steps", "examples/fuses.plan"],
+)
 
 
-def refused_calls():
-    """Each call that is to be refused memory, with the runs that are enough."""
-    for program, groups in table("calls.json").items():
+def refusing(folder):
+    """The library that refuses an allocation, made in a folder."""
+    made = os.path.join(folder, "refuse.so")
+    command = shlex.split(os.environ.get("CC") or "cc")
+    source = os.path.join(CASES, "refuse.c")
+    subprocess.run([*command, "-O1", "-shared", "-fPIC", "-o", made, source], check=True)
+    return made
+
+
+def ended(library, command, given, number):
+    """How a command ends with this allocation refused: its status, what it wrote to each output, and whether it came to that."""
+    notes, note = os.pipe()
+    try:
+        ran = subprocess.run(
+            command,
+            input=given,
+            capture_output=True,
+            check=False,
+            cwd=TOP,
+            env={"LD_PRELOAD": library, "REFUSE": str(number), "REFUSED": str(note)},
+            pass_fds=[note],
+            timeout=60,
+        )
+        os.close(note)
+        note = None
+        return (ran.returncode, ran.stdout, ran.stderr), os.read(notes, 1) != b""
+    finally:
+        os.close(notes)
+        if note is not None:
+            os.close(note)
+
+
+def runs(library, command, given, first):
+    """How a command ends with each allocation refused, from this one on, up to the run that refuses none."""
+    for number in range(first, MOST):
+        end, was_refused = ended(library, command, given, number)
+        yield end, was_refused
+        if not was_refused:
+            return
+
+
+def refused_calls(programs):
+    """Each call that is to be refused memory, with the program that makes it and the first allocation that is refused."""
+    for name, groups in table("calls.json").items():
         for group in groups:
             for given, answer in group["rows"] if "refused" in group else ():
                 yield {
-                    "program": program,
+                    "command": [programs[name]],
                     "name": f"{group['call']} {as_bytes(given)[:40]!r}",
-                    "call": group["call"].encode(),
-                    "given": as_bytes(given),
+                    "given": b"%s 1\n%s" % (group["call"].encode(), as_bytes(given)),
                     "answer": as_bytes(answer),
-                    "runs": range(group.get("before", 0), group["refused"]),
+                    "first": 1 + group["refused"],
                 }
 
 
-def shares(calls):
-    """The runs of all calls, in shares of one program each: by their names, what the program is given where the allocation
-    refused is one before the call, the call's first, its second and so on."""
-    runs = {}
-    for number, call in enumerate(calls):
-        for run in call["runs"]:
-            given = b"%s %d\n%s" % (call["call"], REFUSED - 1 - run, call["given"])
-            runs.setdefault(call["program"], []).append((f"{number} {run}", given))
-    total = sum(map(len, runs.values()))
-    for program, its in runs.items():
-        count = max(1, os.cpu_count() * len(its) // total)
-        yield from ((program, its[first::count]) for first in range(count))
+def refused_requests(sas):
+    """Each request to the program itself."""
+    for words in REQUESTS:
+        yield {"command": [sas, *words], "name": " ".join(words), "given": b"", "first": 1}
 
 
-def answers(share):
-    """What a program says in each run of a share."""
-    program, runs = share
-    with tempfile.TemporaryDirectory() as folder:
-        for name, given in runs:
-            with open(os.path.join(folder, name), "wb") as file:
-                file.write(given)
-        command = ["rt", "try", "--steps", "1", "--fail-alloc", str(REFUSED), "--cases", folder]
-        ran = subprocess.run(
-            command, cwd=f"{TOP}/crates/{program}", stdin=subprocess.DEVNULL, capture_output=True, check=False
-        )
-    parts = re.split(rb"^== (\d+ \d+)\n", ran.stdout, flags=re.M)
-    return zip((name.decode() for name in parts[1::2]), parts[2::2])
-
-
-def outcome(said, answer):
-    """What came of a run, in a letter: before, wanting, the answer itself, or something else."""
+def letter(end, was_refused, answer):
+    """What came of a run of a call, in a letter: before, wanting, the answer itself, or something else."""
+    _, said, _ = end
+    if said == answer:
+        return "A" if was_refused else "a"
     if said == b"before\n":
         return "b"
-    if said == answer:
-        return "a"
-    return "w" if said and WANTING.fullmatch(said) else "?"
+    return "w" if WANTING.fullmatch(said) else "?"
 
 
-def main():
-    calls = list(refused_calls())
-    with ThreadPoolExecutor(os.cpu_count()) as pool:
-        said = dict(itertools.chain.from_iterable(pool.map(answers, shares(calls))))
-    wrong = []
-    for number, call in enumerate(calls):
-        came = "".join(outcome(said.get(f"{number} {run}"), call["answer"]) for run in call["runs"])
-        # where runs are left out, one has to show that these refuse nothing of the call
-        wanted = "b+w+a+" if call["runs"].start else "b*w+a+"
-        wrong.append([] if re.fullmatch(wanted, came) else [came])
-    report.end(calls, wrong)
+def wrong_with_call(library, call):
+    """What is wrong with a call."""
+    came = "".join(letter(*run, call["answer"]) for run in runs(library, call["command"], call["given"], call["first"]))
+    # the first one shows that none of the call was left alone
+    return [] if re.fullmatch("b+w+A*a", came) else [came]
 
 
-main()
+def wrong_with_request(library, call):
+    """What is wrong with a request to the program itself."""
+    *refused, (last, was_refused) = runs(library, call["command"], call["given"], call["first"])
+    answered = not was_refused and last[0] == 0 and last[1] and not last[2]
+    wrong = [f"allocation {number}: {end}" for number, (end, _) in enumerate(refused, 1) if end not in (OUT_OF_MEMORY, last)]
+    return wrong if answered and OUT_OF_MEMORY in [end for end, _ in refused] else [*wrong, f"nothing refused: {last}"]
+
+
+def main(sas, *paths):
+    programs = {os.path.basename(path): os.path.abspath(path) for path in paths}
+    calls, requests = list(refused_calls(programs)), list(refused_requests(os.path.abspath(sas)))
+    with tempfile.TemporaryDirectory() as folder, ThreadPoolExecutor(os.cpu_count()) as pool:
+        library = itertools.repeat(refusing(folder))
+        wrong = [*pool.map(wrong_with_call, library, calls), *pool.map(wrong_with_request, library, requests)]
+    report.end(calls + requests, wrong)
+
+
+main(*sys.argv[1:])
