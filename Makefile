@@ -4,7 +4,8 @@
 # make bench  measures ./sas over inputs of a fiftieth of the size, in a minute; docs/BENCHMARK.md says how to measure in full
 # make clean  removes what was built, and the inputs of `make bench`
 #
-# `rt`, the command of the toolchain, has to be on the PATH, and python3. JOBS is how many crates are proved at a time.
+# `rt`, the command of the toolchain, has to be on the PATH, and python3; `make test` wants a C compiler, $CC or cc, too. JOBS is
+# how many crates are proved at a time.
 
 JOBS ?= $(shell nproc)
 

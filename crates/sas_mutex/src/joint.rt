@@ -36,7 +36,10 @@ pub fn check_groups<T: Grounded>(
     let mentions = mentions_of(alloc, task, &index)?;
     find_greatest(task, &index, &mentions, &mut family, &mut marks);
     tell_breaking(task, &index, &mut family.kept, &mut verdicts, &mut marks);
-    drop((index, mentions, family, marks));
+    drop(mentions);
+    drop(index);
+    drop(marks);
+    drop(family);
     Ok(verdicts.into_vec())
 }
 

@@ -132,7 +132,10 @@ impl FlatSoFar {
             begun,
             ..
         } = self;
-        drop((group_lists, operator_columns, rule_columns, begun));
+        drop(begun);
+        drop(rule_columns);
+        drop(operator_columns);
+        drop(group_lists);
         Outline {
             metric,
             variables,
