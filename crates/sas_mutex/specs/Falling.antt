@@ -55,7 +55,8 @@ pub record HasRoom (p : Parts) (family : Family) : Type 0 where
 
 -- the family has the groups that may be exclusive
 abbrev pub AreCandidates : Parts → List Bool → Type 0
-AreCandidates p kept = (place : ℕ) → place < length p.groups → IsTrue (family_of kept place) ↔ MayBeExclusive p (group_at p place)
+AreCandidates p kept =
+    (place : ℕ) → place < length p.groups → IsTrue (family_of kept place) ↔ MayBeExclusive p (group_at p place)
 
 -- the groups that fell since
 abbrev pub newly : Family → Family → List ℕ

@@ -42,7 +42,8 @@ pub record IsRefused (groups : List ℕ) (kept : List Bool) (fact : Fact) (facts
   pub other : IsOther (fact_note facts place) fact
 
 -- the group is one of these, kept, and the fact is noted for it now, where no other was
-pub record Takes (groups : List ℕ) (kept : List Bool) (fact : Fact) (before after : List (Option Fact)) (place : ℕ) : Type 0 where
+pub record Takes (groups : List ℕ) (kept : List Bool) (fact : Fact) (before after : List (Option Fact)) (place : ℕ)
+    : Type 0 where
   pub among : Contains groups place
   pub kept_there : IsTrue (family_of kept place)
   pub free : IsFree (fact_note before place) fact
@@ -55,7 +56,8 @@ pub record TakenBySome (groups : List ℕ) (kept : List Bool) (fact : Fact) (bef
 
 -- all of these that are kept take it
 abbrev pub TakenByAll : List ℕ → List Bool → Fact → List (Option Fact) → List (Option Fact) → Type 0
-TakenByAll groups kept fact before after = (place : ℕ) → Contains groups place → IsTrue (family_of kept place) → Takes groups kept fact before after place
+TakenByAll groups kept fact before after =
+    (place : ℕ) → Contains groups place → IsTrue (family_of kept place) → Takes groups kept fact before after place
 
 -- another value is noted for the variable of the fact
 abbrev pub HasOtherValue : List (Option ℕ) → Fact → Type 0

@@ -191,12 +191,14 @@ fn look_at_each_plain<T: Grounded>(
     requires index { IsIndexOf (T.says task.now) index.now }
     requires operator { operator < length (T.says task.now).operators }
     requires room { HasRoom (T.says task.now) family.old }
-    requires noted { AreNoted (T.says task.now) family.old.kept (known (operator_at (T.says task.now) operator) [] []) marks.old }
+    requires noted { AreNoted (T.says task.now) family.old.kept
+        (known (operator_at (T.says task.now) operator) [] []) marks.old }
     ensures falls { Falls (T.says task.now) family.old family.new }
     ensures rest { ArePlainAtRest (T.says task.now) family.new.kept (newly family.old family.new) operator
         (length (operator_at (T.says task.now) operator).effects) }
     ensures room { HasRoom (T.says task.now) family.new }
-    ensures noted { AreNoted (T.says task.now) family.new.kept (known (operator_at (T.says task.now) operator) [] []) marks.new }
+    ensures noted { AreNoted (T.says task.now) family.new.kept
+        (known (operator_at (T.says task.now) operator) [] []) marks.new }
 {
     let effects = task.effects(operator);
     for effect in 0..effects {
@@ -314,7 +316,8 @@ fn look_at_group<T: Grounded>(
     requires operator { operator < length (T.says task.now).operators }
     requires effect { effect < length (operator_at (T.says task.now) operator).effects }
     requires group { group < length (T.says task.now).groups }
-    requires has { Contains (group_at (T.says task.now) group) (sets (effect_at (operator_at (T.says task.now) operator) effect)) }
+    requires has { Contains (group_at (T.says task.now) group)
+        (sets (effect_at (operator_at (T.says task.now) operator) effect)) }
     requires room { HasRoom (T.says task.now) family.old }
     requires noted { IsNotedFor (T.says task.now) family.old.kept operator effect marks.old }
     ensures falls { Falls (T.says task.now) family.old family.new }
