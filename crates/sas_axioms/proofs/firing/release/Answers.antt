@@ -78,7 +78,7 @@ loop-entry-preserved g c =
 
 pub returns-clause-at_work : goal.returns-clause-at_work
 returns-clause-at_work g c = subst (λ (left : List ℕ). IsAtWork (g.T.Grounded.says c.args.task.now) c.args.layer c.loop-entry.state c.loop-entry.stack.items c.loop-entry.counters left)
-    (at_drop_all (released c.args.value) c.args.waiting.now c.loop-entry.entry-index c.loop-entry-test.false) c.loop-entry.invariant.at_work
+    (at_drop_all (released c.args.value) c.args.waiting.now c.loop-entry.entry-index (omega arith)) c.loop-entry.invariant.at_work
 
 pub returns-clause-room : goal.returns-clause-room
 returns-clause-room g c = c.loop-entry.invariant.room
