@@ -2,6 +2,7 @@
 use Rattle.std.proofs.Common.{◌≡◌, ℕ, ◌<◌, ◌==◌, ◌++◌, ◌∷◌, [], Option, None, Some, Bool, true, false, not, length, refl, sym, ap, ◌∙◌, inl, inr, arith}
 use Rattle.std.specs.Option.{is_some}
 use Rattle.std.proofs.lemmas.Bool.Decides.{eqb_tells}
+use Rattle.std.proofs.lemmas.Result.{IfOk-from_err}
 use Rattle.sas_meaning.specs.Layers.{IsBasic}
 use Rattle.sas_axioms.proofs.Asked.{asked_none, asked_more, asked_skip, asked_all, asked_waits}
 use Rattle.sas_axioms.proofs.conditions.asked_variables.Goals as goal
@@ -43,3 +44,6 @@ loop-var-preserved g c =
 
 pub returns : goal.returns
 returns g c = asked_all (g.T.Grounded.says c.args.task.now) c.loop-var.var c.loop-var.variables.items c.requires.layered.ranged (omega arith) c.loop-var.invariant
+
+pub returns-in_err-push : goal.returns-in_err-push
+returns-in_err-push g c = IfOk-from_err c.from_residual.result _ c.from_residual.ensures.0

@@ -1,8 +1,8 @@
 -- One more entry is released.
-use Rattle.std.proofs.Common.{◌≡◌, ℕ, ◌+◌, List, ◌∷◌, get_or, drop, subst, ap, refl, ◌∙◌, inl, inr, arith}
+use Rattle.std.proofs.Common.{◌≡◌, ℕ, ◌+◌, ◌<◌, List, ◌∷◌, length, get_or, drop, subst, ap, refl, ◌∙◌, inl, inr, arith}
 use Rattle.std.proofs.lemmas.Bool.{eq-eqb}
 use Rattle.std.proofs.lemmas.Bool.Decides.{eqb_tells}
-use Rattle.std.proofs.lemmas.List.{drop_more}
+use Rattle.std.proofs.lemmas.List.{drop_more, at_drop_all}
 use Rattle.sas_axioms.specs.declared.waiting.Waiting.{Waiting}
 use Rattle.sas_axioms.specs.Waiting.{released}
 use Rattle.sas_axioms.specs.Worklist.{IsAtWork}
@@ -18,6 +18,37 @@ released_one value w ws e = rw (eq-eqb w.value value e) refl
 released_none : (value : ℕ) (w : Waiting) (ws : List Waiting) → (w.value ≡ value → ⊥) → released value (w ∷ ws) ≡ released value ws
 released_none value w ws ne = elim (eqb_tells w.value value) [ inl e ↦ absurd (ne e.1) | inr e ↦ rw e.0 refl ]
 
+-- the next entry is released, or has another value
+released_next : (value : ℕ) (ws : List Waiting) (i : ℕ) → i < length ws → (get_or ws i no_entry).value ≡ value
+    → released value (drop i ws) ≡ (get_or ws i no_entry).rule ∷ released value (drop (i + 1) ws)
+released_next value ws i lt e = ap (released value) (drop_more ws i no_entry lt) ∙ released_one value (get_or ws i no_entry) (drop (i + 1) ws) e
+
+passed_next : (value : ℕ) (ws : List Waiting) (i : ℕ) → i < length ws → ((get_or ws i no_entry).value ≡ value → ⊥)
+    → released value (drop i ws) ≡ released value (drop (i + 1) ws)
+passed_next value ws i lt ne = ap (released value) (drop_more ws i no_entry lt) ∙ released_none value (get_or ws i no_entry) (drop (i + 1) ws) ne
+
+pub loop-entry-init : goal.loop-entry-init
+loop-entry-init g c = record { at_work = c.requires.at_work; room = c.requires.room; off = λ v off. refl; work = omega arith }
+
+pub count_down-requires-clause-layered : goal.count_down-requires-clause-layered
+count_down-requires-clause-layered g c = c.requires.layered
+
+pub count_down-requires-clause-rule : goal.count_down-requires-clause-rule
+count_down-requires-clause-rule g c = c.requires.waiting c.loop-entry.entry-index no_entry c.loop-entry-test.true
+
+pub count_down-requires-clause-room : goal.count_down-requires-clause-room
+count_down-requires-clause-room g c = c.loop-entry.invariant.room
+
+pub count_down-requires-clause-waits : goal.count_down-requires-clause-waits
+count_down-requires-clause-waits g c =
+    let value = c.args.value in
+    let ws = c.args.waiting.now in
+    let i = c.loop-entry.entry-index in (
+      released value (drop (i + 1) ws),
+      subst (λ (left : List ℕ). IsAtWork (g.T.Grounded.says c.args.task.now) c.args.layer c.loop-entry.state c.loop-entry.stack.items c.loop-entry.counters left)
+          (released_next value ws i c.loop-entry-test.true c.if-entry-value.true) c.loop-entry.invariant.at_work,
+    )
+
 pub loop-entry-preserved : goal.loop-entry-preserved
 loop-entry-preserved g c =
     let p = g.T.Grounded.says c.args.task.now in
@@ -29,19 +60,31 @@ loop-entry-preserved g c =
     let stack = c.loop-entry.stack.items in
     let counters = c.loop-entry.counters in
     let inv = c.loop-entry.invariant in
-    let more : released value (drop i ws) ≡ released value (get_or ws i no_entry ∷ drop (i + 1) ws) = ap (released value) (drop_more ws i no_entry c.loop-entry-test.true) in
     elim c.if-entry-value.branch [
       | then-entry-value w ↦ rw (w.counters-is, w.stack-is, w.state-is) record {
         at_work = w.count_down.ensures.at_work (released value (drop (i + 1) ws))
-            (subst (λ (left : List ℕ). IsAtWork p layer s stack counters left) (more ∙ released_one value (get_or ws i no_entry) (drop (i + 1) ws) w.if-entry-value.true) inv.at_work);
+            (subst (λ (left : List ℕ). IsAtWork p layer s stack counters left) (released_next value ws i c.loop-entry-test.true w.if-entry-value.true) inv.at_work);
         room = w.count_down.ensures.room;
         off = λ v off. inv.off v off ∙ w.count_down.ensures.off v off;
         work = let a = inv.work in let b = w.count_down.ensures.work in omega arith;
       }
       | else-entry-value w ↦ rw (w.counters-is, w.stack-is, w.state-is) record {
-        at_work = subst (λ (left : List ℕ). IsAtWork p layer s stack counters left) (more ∙ released_none value (get_or ws i no_entry) (drop (i + 1) ws) w.if-entry-value.false) inv.at_work;
+        at_work = subst (λ (left : List ℕ). IsAtWork p layer s stack counters left) (passed_next value ws i c.loop-entry-test.true w.if-entry-value.false) inv.at_work;
         room = inv.room;
         off = inv.off;
         work = inv.work;
       }
     ]
+
+pub returns-clause-at_work : goal.returns-clause-at_work
+returns-clause-at_work g c = subst (λ (left : List ℕ). IsAtWork (g.T.Grounded.says c.args.task.now) c.args.layer c.loop-entry.state c.loop-entry.stack.items c.loop-entry.counters left)
+    (at_drop_all (released c.args.value) c.args.waiting.now c.loop-entry.entry-index (omega arith)) c.loop-entry.invariant.at_work
+
+pub returns-clause-room : goal.returns-clause-room
+returns-clause-room g c = c.loop-entry.invariant.room
+
+pub returns-clause-off : goal.returns-clause-off
+returns-clause-off g c = c.loop-entry.invariant.off
+
+pub returns-clause-work : goal.returns-clause-work
+returns-clause-work g c = c.loop-entry.invariant.work

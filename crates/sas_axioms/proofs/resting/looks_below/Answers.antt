@@ -27,3 +27,26 @@ loop-condition-preserved g c j d lt its on =
             | in_default w ↦ absurd (w.in_default.not-Some its is)
           ])
     ]
+
+pub loop-condition-init : goal.loop-condition-init
+loop-condition-init g c j d lt its on = absurd (omega arith)
+
+pub returns-then-its-layer-clause-yes : goal.returns-then-its-layer-clause-yes
+returns-then-its-layer-clause-yes g c is stays =
+    let p = g.T.Grounded.says c.args.task.now in
+    let conditions = (rule_at p c.args.rule).conditions in
+    let i = c.loop-condition.condition-index in
+    let no_fact : Fact = record { var = 0; value = 0 } in
+    let same : c.rule_conditions-condition-items.result.now ≡ conditions = c.rule_conditions-condition-items.ensures in
+    let within : i < length conditions = let lt = c.loop-condition-test.true in omega (arith, ap length same) in
+    let told : c.layer.result ≡ layer_of p.variables (get_or conditions i no_fact).var = c.layer.ensures ∙ ap (λ (cs : List Fact). layer_of p.variables (get_or cs i no_fact).var) same in
+    c.if-its-layer.true (stays i no_fact within c.in-Some.its (sym told ∙ c.in-Some.is))
+
+pub returns-then-its-layer-clause-no : goal.returns-then-its-layer-clause-no
+returns-then-its-layer-clause-no g c is = absurd cc
+
+pub returns-clause-yes : goal.returns-clause-yes
+returns-clause-yes g c is = absurd cc
+
+pub returns-clause-no : goal.returns-clause-no
+returns-clause-no g c is j d lt = c.loop-condition.invariant j d (let past = c.loop-condition-test.false in omega (arith, ap length c.rule_conditions-condition-items.ensures))

@@ -1,24 +1,12 @@
 -- One more variable has its default.
-use Rattle.std.proofs.Common.{◌≡◌, ◌≢◌, ℕ, ◌<◌, true, false, refl, length, get_or, set, None, sym, subst, ap, ◌∙◌, inl, inr, arith}
+use Rattle.std.proofs.Common.{◌≡◌, refl, get_or, set, sym, subst, ap, ◌∙◌, inl, inr, arith}
+use Rattle.std.specs.Option.{is_some}
 use Rattle.std.proofs.lemmas.Bool.{cases_eq}
 use Rattle.std.proofs.lemmas.List.{get_or_default, get_or-set_same, get_or-set_other}
-use Rattle.sas_core.specs.declared.parts.Parts.{Parts}
-use Rattle.sas_core.specs.Variables.{IsDerived, layer_of}
-use Rattle.sas_meaning.specs.Layers.{IsBasic, default_of}
-use Rattle.sas_meaning.proofs.Layers.{layer_cases, on_layer_within}
+use Rattle.sas_meaning.specs.Layers.{default_of}
 use Rattle.sas_meaning.proofs.Forced.{state_set}
+use Rattle.sas_axioms.proofs.Derived.{not_basic, derived_within}
 use Rattle.sas_axioms.proofs.worklist.set_defaults.Goals as goal
-
-not_basic : (p : Parts) (v w : ℕ) → IsDerived p.variables v → IsBasic p w → w ≢ v
-not_basic p v w derived basic e =
-    let none : layer_of p.variables v ≡ None = subst (λ x. layer_of p.variables x ≡ None) e basic in
-    let f : false ≡ true = rw none at derived in absurd cc
-
-derived_within : (p : Parts) (v : ℕ) → IsDerived p.variables v → v < length p.variables
-derived_within p v derived = elim (layer_cases p v) [
-  | inl basic ↦ absurd (not_basic p v v derived basic refl)
-  | inr on ↦ on_layer_within p on.0 v on.1
-]
 
 pub loop-var-preserved : goal.loop-var-preserved
 loop-var-preserved g c =
@@ -43,3 +31,27 @@ loop-var-preserved g c =
         ]
       ];
     }
+
+pub loop-var-init : goal.loop-var-init
+loop-var-init g c = record { state = c.requires.state; basic = λ w b. refl; default = λ j d lt. absurd (omega arith) }
+
+pub returns-clause-state : goal.returns-clause-state
+returns-clause-state g c = c.loop-var.invariant.state
+
+pub returns-clause-basic : goal.returns-clause-basic
+returns-clause-basic g c = c.loop-var.invariant.basic
+
+pub initial_value-requires : goal.initial_value-requires
+initial_value-requires g c = derived_within (g.T.Grounded.says c.args.task.now) (get_or c.args.derived.now c.loop-var.var-index 0) (c.requires.derived.only c.loop-var.var-index 0 c.loop-var-test.true)
+
+pub set-requires : goal.set-requires
+set-requires g c =
+    let within = derived_within (g.T.Grounded.says c.args.task.now) (get_or c.args.derived.now c.loop-var.var-index 0) (c.requires.derived.only c.loop-var.var-index 0 c.loop-var-test.true) in
+    let one = c.loop-var.invariant.state.one_each in
+    omega (arith, within, one)
+
+pub returns-clause-default : goal.returns-clause-default
+returns-clause-default g c = λ layer v on.
+    let there = c.requires.derived.each v (ap is_some on) in
+    subst (λ x. get_or c.loop-var.state x 0 ≡ default_of (g.T.Grounded.says c.args.task.now) x) there.2
+    (c.loop-var.invariant.default there.0 v (let lt = there.1 in omega arith))

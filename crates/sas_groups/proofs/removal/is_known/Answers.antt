@@ -1,18 +1,36 @@
 -- One more fact came.
-use Rattle.std.proofs.Common.{◌≡◌, refl, rules, subst}
+use Rattle.std.proofs.Common.{◌≡◌, ◌==◌, ◌&&◌, true, false, refl, sym, ap, ◌∙◌, inl, inr, subst}
 use Rattle.std.specs.List.{Contains}
-use Rattle.std.proofs.lemmas.List.Elements.{All-contains}
+use Rattle.std.proofs.lemmas.Bool.{eq-eqb}
+use Rattle.std.proofs.lemmas.Bool.Decides.{eqb_tells}
+use Rattle.std.proofs.lemmas.List.Elements.{All-nil, All-contains}
 use Rattle.sas_core.specs.declared.parts.Fact.{Fact}
 use Rattle.sas_grounded.specs.Grounded.{operator_at}
 use Rattle.sas_groups.specs.Lists.{known, known_left}
 use Rattle.sas_groups.proofs.Turns.{turn_has, turn_left, turns_end, turn_more}
 use Rattle.sas_groups.proofs.removal.is_known.Goals as goal
 
+same_fact : (a b : Fact) → (a.var == b.var) && (a.value == b.value) ≡ true → a ≡ b
+same_fact a b e = elim (eqb_tells a.var b.var) [
+  | inl v ↦ elim (eqb_tells a.value b.value) [
+    | inl w ↦ (let x = v.1 in let y = w.1 in
+        let same : record { var = a.var; value = a.value } ≡ (let f : Fact = record { var = b.var; value = b.value } in f) = cc in same)
+    | inr w ↦ (let f : false ≡ true = rw (v.0, w.0) at e in absurd cc)
+  ]
+  | inr v ↦ (let f : false ≡ true = rw v.0 at e in absurd cc)
+]
+
+other_fact : (a b : Fact) → (a.var == b.var) && (a.value == b.value) ≡ false → a ≡ b → ⊥
+other_fact a b e same =
+    let v = eq-eqb a.var b.var (ap (λ (f : Fact). f.var) same) in
+    let w = eq-eqb a.value b.value (ap (λ (f : Fact). f.value) same) in
+    let f : true ≡ false = rw (v, w) at e in absurd cc
+
 pub returns-then-eq-clause-yes : goal.returns-then-eq-clause-yes
 returns-then-eq-clause-yes g c =
     let says = g.T.Grounded.says in
     let all = known (operator_at (says c.args.task.now) c.args.operator) c.args.first.now c.args.second.now in
-    let same : c.in-Some.g ≡ c.args.fact = search rules in
+    let same : c.in-Some.g ≡ c.args.fact = same_fact c.in-Some.g c.args.fact (sym c.eq.ensures ∙ c.if-eq.true) in
     λ t. subst (Contains all) same
     (turn_has all c.loop-g.yielded (known_left says c.loop-g.g-iterator) c.loop-g.invariant.left c.in-Some.g _ c.in-Some.ensures.steps)
 
@@ -20,7 +38,7 @@ pub loop-g-preserved : goal.loop-g-preserved
 loop-g-preserved g c =
     let says = g.T.Grounded.says in
     let all = known (operator_at (says c.args.task.now) c.args.operator) c.args.first.now c.args.second.now in
-    let differ : c.in-Some.g ≡ c.args.fact → ⊥ = search rules in
+    let differ : c.in-Some.g ≡ c.args.fact → ⊥ = other_fact c.in-Some.g c.args.fact (sym c.eq.ensures ∙ c.if-eq.false) in
     record {
       left = turn_left all c.loop-g.yielded (known_left says c.loop-g.g-iterator) c.loop-g.invariant.left c.in-Some.g _ c.in-Some.ensures.steps;
       none = turn_more (λ (x : Fact). x ≡ c.args.fact → ⊥) c.loop-g.yielded c.in-Some.g c.loop-g.invariant.none differ;
@@ -33,3 +51,17 @@ returns-clause-no g c =
     let P = λ (x : Fact). x ≡ c.args.fact → ⊥ in
     let none = turns_end all c.loop-g.yielded (known_left says c.loop-g.g-iterator) c.loop-g.invariant.left P c.in-None.ensures.steps.0 c.loop-g.invariant.none in
     λ t w. All-contains P all c.args.fact none w refl
+
+pub loop-g-init : goal.loop-g-init
+loop-g-init g c =
+    let says = g.T.Grounded.says in
+    record {
+      left = rw c.into_iter-g-iterator.ensures.into_iter_gives (sym c.new-g-items.ensures);
+      none = All-nil (λ (x : Fact). x ≡ c.args.fact → ⊥);
+    }
+
+pub returns-then-eq-clause-no : goal.returns-then-eq-clause-no
+returns-then-eq-clause-no g c is = absurd cc
+
+pub returns-clause-yes : goal.returns-clause-yes
+returns-clause-yes g c is = absurd cc

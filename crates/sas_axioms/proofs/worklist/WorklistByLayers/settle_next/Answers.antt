@@ -1,5 +1,5 @@
 -- The next layer on which a rule can fire.
-use Rattle.std.proofs.Common.{rules, ◌≡◌, ◌+◌, ◌≤◌, ◌<◌, length, get_or, drop, sym, subst, ◌∙◌, arith}
+use Rattle.std.proofs.Common.{rules, ◌≡◌, ◌+◌, ◌≤◌, ◌<◌, length, get_or, drop, refl, sym, subst, ◌∙◌, arith}
 use Rattle.sas_meaning.proofs.Settling.{basic_off}
 use Rattle.sas_axioms.specs.declared.layer_rules.LayerSpan.{LayerSpan}
 use Rattle.sas_axioms.specs.ByLayers.{SettlesLayer}
@@ -77,3 +77,45 @@ returns-clause-settles g c =
       idle = idle_between c.args.layered.now all c.args._from c.args.self.now.start c.requires.stands.ready.firing c.requires.stands.stands layer c.in-Some.span.now.end (span g some);
       settles = rw c.task.ensures.task at c.settle_layer.ensures.settles;
     }
+
+pub returns-in_default-clause-stands : goal.returns-in_default-clause-stands
+returns-in_default-clause-stands g c = tt
+
+pub returns-in_default-clause-settles : goal.returns-in_default-clause-settles
+returns-in_default-clause-settles g c = tt
+
+pub returns-in_default-clause-ready : goal.returns-in_default-clause-ready
+returns-in_default-clause-ready g c = c.requires.stands.ready
+
+pub returns-in_default-clause-same : goal.returns-in_default-clause-same
+returns-in_default-clause-same g c = refl
+
+pub settle_layer-requires-clause-layered : goal.settle_layer-requires-clause-layered
+settle_layer-requires-clause-layered g c = rw c.task.ensures.task record { ranged = c.task.ensures.well_ranged; layered = c.task.ensures.layered }
+
+pub settle_layer-requires-clause-index : goal.settle_layer-requires-clause-index
+settle_layer-requires-clause-index g c = rw c.task.ensures.task c.requires.stands.ready.index
+
+pub settle_layer-requires-clause-resting : goal.settle_layer-requires-clause-resting
+settle_layer-requires-clause-resting g c = rw c.task.ensures.task c.requires.stands.ready.resting
+
+pub settle_layer-requires-clause-follows : goal.settle_layer-requires-clause-follows
+settle_layer-requires-clause-follows g c = rw c.task.ensures.task c.requires.stands.follows
+
+pub settle_layer-requires-clause-room : goal.settle_layer-requires-clause-room
+settle_layer-requires-clause-room g c = rw c.task.ensures.task c.requires.stands.ready.has_room
+
+pub settle_layer-requires-clause-empty : goal.settle_layer-requires-clause-empty
+settle_layer-requires-clause-empty g c = c.requires.stands.ready.empty
+
+pub settle_layer-requires-clause-state : goal.settle_layer-requires-clause-state
+settle_layer-requires-clause-state g c = rw c.task.ensures.task c.requires.state
+
+pub returns-clause-ready : goal.returns-clause-ready
+returns-clause-ready g c = tt
+
+pub returns-clause-same : goal.returns-clause-same
+returns-clause-same g c = tt
+
+pub returns-clause-idle : goal.returns-clause-idle
+returns-clause-idle g c = tt
