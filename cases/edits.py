@@ -48,7 +48,7 @@ GONE = re.compile(r"has no field|is not in scope|has no `|was not admitted")
 
 @dataclass(frozen=True)
 class Function:
-    """A function as its text stands: its file and lines, and the end of its name, as a check prints it and `--only` takes it."""
+    """A function as its text stands: its file and lines, and its name as a check prints it and `--only` takes it."""
 
     path: str
     lines: range
@@ -60,18 +60,33 @@ class Function:
         if "fn" in parts:
             at = parts.index("fn")
             parts = parts[:at] + parts[at + 1 : at + 2]
-        return "::".join(["", *parts]).endswith("::" + self.name)
+        return "::".join(parts) == self.name
+
+
+def module_of(path):
+    """The path of the module that a source file is."""
+    parts = path.removeprefix("src/").removesuffix(".rt").split("/")
+    return [it for it in parts if it not in ("lib", "mod")]
+
+
+def home_of(kind, path, folder):
+    """The file that declares the type of an `impl` that stands in a file: a check names the methods after its module. It is
+    the file itself where no file of the crate declares the type."""
+    declares = re.compile(rf"^(?:pub(?:\([^)]*\))? )?(?:struct|enum|trait) {kind}\b", re.M)
+    files = [path, *sorted(os.path.relpath(it, folder) for it in glob.glob(f"{folder}/src/**/*.rt", recursive=True))]
+    return next((it for it in files if declares.search(text_of(f"{folder}/{it}"))), path)
 
 
 def owner_of(block):
-    """How a check names an `impl`, in whatever module it stands: the type's words, and the trait's behind them, without parameters."""
+    """The type of an `impl`, and how a check names the block: the type's words, and the trait's behind them, without parameters."""
     given, said = BLOCK.match(block).groups()
     parameters = re.findall(r"'?\w+", re.sub(r":[^,]*", "", given or ""))
     trait, _, kind = said.partition(" where ")[0].rpartition(" for ")
     words = lambda text: [it for it in re.findall(r"'?\w+", text) if it not in parameters and it[0] != "'"]
     if not trait:
-        return "+".join(words(kind))
-    return "".join(it[0].upper() + it[1:] for it in [*words(kind), *words(trait.split("::")[-1])])
+        return words(kind)[0], "+".join(words(kind))
+    both = [*words(kind), *words(trait.split("::")[-1])]
+    return both[0], "".join(it[0].upper() + it[1:] for it in both)
 
 
 @dataclass
@@ -85,7 +100,7 @@ class Edit:
     tries: int = 0
 
 
-def function_at(crate, path, lines, at):
+def function_at(folder, path, lines, at):
     """The function of a crate's source file that has this line, as the file is formatted, or None."""
     heads = [(line, FUNCTION.match(lines[line])) for line in range(at + 1)]
     first, head = next(((line, head) for line, head in reversed(heads) if head), (0, None))
@@ -93,10 +108,11 @@ def function_at(crate, path, lines, at):
     if at > last:
         return None
     block = next((it for it in range(first, -1, -1) if BLOCK.match(lines[it])), None) if head[1] else None
-    if block is None:
-        module = [it for it in path.removeprefix("src/").removesuffix(".rt").split("/") if it not in ("lib", "mod")]
-        return Function(path, range(first + 1, last + 2), "::".join([crate, *module, head[2]]))
-    return Function(path, range(first + 1, last + 2), f"{owner_of(' '.join(lines[block:first]))}::{head[2]}")
+    name = [*module_of(path), head[2]]
+    if block is not None:
+        kind, owner = owner_of(" ".join(lines[block:first]))
+        name = [*module_of(home_of(kind, path, folder)), owner, head[2]]
+    return Function(path, range(first + 1, last + 2), "::".join([os.path.basename(folder), *name]))
 
 
 def read_edit(file, folder):
@@ -118,7 +134,7 @@ def read_edit(file, folder):
         was, now = text_of(f"{folder}/{path}").split("\n"), text.split("\n")
         changes = [(path, at, line) for at, line in enumerate(now) if line != was[at]]
         edit.changes += changes
-        functions |= {function_at(os.path.basename(folder), path, was, at) for _, at, _ in changes if path.startswith("src/")}
+        functions |= {function_at(folder, path, was, at) for _, at, _ in changes if path.startswith("src/")}
     edit.wrong = "" if edit.changes else "it changes nothing"
     edit.function = functions.pop() if len(functions) == 1 else None
     return edit
@@ -166,7 +182,7 @@ class Check:
         inside = tuple(f"proofs/{'/'.join(it.split('::')[1:])}/" for it in names)
         is_there = lambda it: it[1].startswith(inside) or it[1] == function.path and int(it[2]) in function.lines
         told = [it[3] for it in self.told if names and is_there(it)]
-        return self.first([*told, *(self.said[it][3] or "not proved" for it in names if not told)])
+        return self.first(told or [self.said[it][3] or "not proved" for it in names])
 
     def first(self, reasons):
         """The first of some reasons that isn't that an answer names what isn't there."""
@@ -234,7 +250,7 @@ class Crate:
 
 def alone(check):
     """What a check with one edit comes to."""
-    why = check.first([*(it[3] for it in check.told), *(check.said[it][3] or "not proved" for it in check.failing())])
+    why = check.first([it[3] for it in check.told] or [check.said[it][3] or "not proved" for it in check.failing()])
     if check.is_refused and why:
         return True, why
     if check.ran.returncode == 0:
