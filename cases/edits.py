@@ -15,6 +15,8 @@ touches, the check says nothing, and each of its edits is tried alone.
 
 What is proved of the crate as it stands is proved once, in a folder that the checks of the crate share (`--incremental`).
 
+The edits in same/CRATE say the same in other words: they are tried with the others, and must not be refused.
+
 Each edit has a line; the last line is 'N passed, M failed', and the exit status is 0 where none failed.
 """
 import glob
@@ -30,10 +32,11 @@ import time
 from concurrent.futures import ThreadPoolExecutor
 from dataclasses import dataclass, field
 
-from texts import TOP
+from texts import CASES, TOP
 
 # How often an edit is tried together with others.
 TOGETHER = 2
+STILL_PROVED = "the crate is still proved with it"
 FUNCTION = re.compile(r"( *)(?:pub(?:\([^)]*\))? )?(?:const )?fn (\w+)")
 # the block that a function stands in: the parameters, and what follows
 BLOCK = re.compile(r"(?:pub(?:\([^)]*\))? )?(?:impl|trait)\b(<(?:[^<>]|<[^<>]*>)*>)? *([^{]*)")
@@ -94,6 +97,7 @@ class Edit:
     """An edit: its name, the lines that it changes, as (path, number from 0, new line), and the function that it changes, if it is one."""
 
     name: str
+    is_same: bool = False
     changes: list = field(default_factory=list)
     function: Function | None = None
     wrong: str = ""
@@ -117,7 +121,8 @@ def function_at(folder, path, lines, at):
 
 def read_edit(file, folder):
     """An edit of the crate in a folder: lines 'file: PATH', each with pairs of lines 'old: TEXT' and 'new: TEXT' behind it."""
-    edit, path, old, texts = Edit(os.path.relpath(file, f"{folder}/..").replace("/must-fail", "")), "", None, {}
+    edit, path, old, texts = Edit(f"{os.path.basename(folder)}/{os.path.basename(file)}"), "", None, {}
+    edit.is_same = not file.startswith(folder)
     for word, _, told in (line.partition(": ") for line in text_of(file).split("\n")):
         if word == "file":
             path = told.strip()
@@ -254,7 +259,7 @@ def alone(check):
     if check.is_refused and why:
         return True, why
     if check.ran.returncode == 0:
-        return False, "NOT REFUSED: the crate is still proved"
+        return False, STILL_PROVED
     return False, "NOT TRIED, or refused only as an answer names what it took away: " + check.ran.stdout.strip()[-900:]
 
 
@@ -279,12 +284,17 @@ def libraries_of(top):
     return {name: used.split() for name, used in lines}
 
 
+def edits_of(name):
+    """The files of a crate's edits, those first that say the same."""
+    return [*sorted(glob.glob(f"{CASES}/same/{name}/*.edit")), *sorted(glob.glob(f"{TOP}/crates/{name}/must-fail/*.edit"))]
+
+
 class Trials:
     """The trials of the crates' edits, which begin as the libraries that each stands on are built."""
 
     def __init__(self, top, names=()):
         self.top, self.libraries = top, libraries_of(top)
-        self.edits = {it: glob.glob(f"{TOP}/crates/{it}/must-fail/*.edit") for it in names or self.libraries}
+        self.edits = {it: edits_of(it) for it in names or self.libraries}
         self.waiting, self.built = [it for it, edits in self.edits.items() if edits], set()
         self.pool, self.printing, self.results = ThreadPoolExecutor(os.cpu_count()), threading.Lock(), []
 
@@ -296,17 +306,17 @@ class Trials:
             self.results.append(self.pool.submit(self.of_crate, it))
 
     def of_crate(self, name):
-        """Tries the edits of a crate, says what each comes to, and counts those that are refused and those that aren't."""
+        """Tries the edits of a crate, says what each comes to, and counts those that come to what they must and the others."""
         began = time.monotonic()
         with tempfile.TemporaryDirectory(prefix="sas-edits-") as shared:
             crate = Crate(name, self.top, self.libraries, shared)
-            tried = crate.try_all([read_edit(it, crate.folder) for it in sorted(self.edits[name])])
+            tried = crate.try_all([read_edit(it, crate.folder) for it in self.edits[name]])
+        passed = [why == STILL_PROVED if edit.is_same else is_refused for edit, is_refused, why in tried]
         with self.printing:
             print(f"{name}: {len(tried)} edits in {crate.checks} checks, {time.monotonic() - began:.0f} s")
-            for edit, is_refused, why in tried:
-                print(f"{'refused' if is_refused else 'FAILED'} {edit.name}: {why[:160] if is_refused else why}")
-        refused = sum(is_refused for _, is_refused, _ in tried)
-        return refused, len(tried) - refused
+            for (edit, is_refused, why), is_well in zip(tried, passed):
+                print(f"{'' if is_well else 'FAILED '}{'refused' if is_refused else 'not refused'} {edit.name}: {why[:160] if is_well else why}")
+        return sum(passed), len(passed) - sum(passed)
 
     def end(self):
         """Waits for the trials that have begun, and counts; the edits of a crate whose libraries aren't built count as failed."""

@@ -56,7 +56,7 @@ def proofs_and_edits(copy):
 
     proofs = counts(["rt", "ci"], copy, hear)
     tried = trials.end()
-    print(f"edits: {tried[0]} refused, {tried[1]} not, {time.monotonic() - began:.0f} s with the proofs", flush=True)
+    print(f"edits: {tried[0]} passed, {tried[1]} failed, {time.monotonic() - began:.0f} s with the proofs", flush=True)
     return [proofs, tried]
 
 
