@@ -1,7 +1,7 @@
 -- Groups fall out of a family, one after another, until the greatest family is left.
-use Rattle.std.proofs.Common.{◌≡◌, ℕ, ◌+◌, ◌<◌, ◌≤◌, ◌⊎◌, Bool, true, false, List, [], ◌∷◌, ◌++◌, length, get_or, set, drop, refl, sym, ◌∙◌, ap, subst, inl, inr, arith}
+use Rattle.std.proofs.Common.{◌≡◌, ◌≢◌, ℕ, ◌+◌, ◌<◌, ◌≤◌, Bool, true, false, List, [], ◌∷◌, ◌++◌, length, get_or, set, drop, refl, sym, ◌∙◌, ap, subst, inl, inr, arith}
 use Rattle.std.proofs.lemmas.Bool.{cases_eq, cases_Bool, both_ways}
-use Rattle.std.proofs.lemmas.List.{append-nil, append_assoc, drop_all, drop_at, drop-append-le, length-append, length-set, get_or-set_same, get_or-set_other}
+use Rattle.std.proofs.lemmas.List.{append-nil, append_assoc, drop_all, drop_at, drop-append-le, length-append, length-drop, length-set, get_or-drop, get_or-set_same, get_or-set_other, get_or_append_left, get_or_default}
 use Rattle.std.proofs.lemmas.List.Elements.{All-nil, All-cons, All-append, All-contains, All-contains_itself, All-weaker, All-from_get_or, Contains-append_cases, Contains-append_left, Contains-append_right, Contains-push}
 use Rattle.std.specs.List.{All, Contains}
 use Rattle.sas_core.specs.declared.parts.Operator.{Operator}
@@ -12,7 +12,7 @@ use Rattle.sas_groups.specs.Families.{IsIn, IsGroupOf, IsKeptJointly, IsGreatest
 use Rattle.sas_groups.proofs.GreatestFamily.{group_of_larger, keeps_more}
 use Rattle.sas_mutex.specs.declared.family.Family.{Family}
 use Rattle.sas_mutex.specs.Effects.{family_of, IsKept, EffectKeeps}
-use Rattle.sas_mutex.specs.Falling.{MentionsNone, IsEffectAtRest, IsAtRest, RestsAt, AreCandidates, newly, Falls}
+use Rattle.sas_mutex.specs.Falling.{MentionsNone, IsEffectAtRest, IsAtRest, RestsAt, AreCandidates, newly, Falls, looked_at, WasLookedAt, AreLookedAt}
 use Rattle.sas_mutex.specs.Index.{under, MentionsGroup, AreMentions}
 use Rattle.sas_mutex.proofs.Keeping.{keeps_from_effects, effect_of_keeps, effect_keeps_still}
 
@@ -60,6 +60,10 @@ module _ (p : Parts) where
     where
       both : newly a c ≡ newly a b ++ newly b c
       both = newly_then a b c first second
+
+  pub fallen_grow : (before after : Family) → Falls p before after → length before.fallen.items ≤ length after.fallen.items
+  fallen_grow before after falls =
+      let longer = ap length falls.behind ∙ length-append before.fallen.items (newly before after) in omega (arith, longer)
 
   -- one group falls, which no family that is kept jointly within the present one has
   pub one_fell : (before after : Family) (place : ℕ) → after.kept ≡ set before.kept place false → after.fallen.items ≡ before.fallen.items ++ place ∷ []
@@ -137,54 +141,70 @@ module _ (p : Parts) where
       subst (λ (waiting : List ℕ). IsEffectAtRest p c.kept waiting operator effect) (sym (newly_then a b c first second))
       (effect_later b c (newly a b) operator effect exists within second rest)
 
-  pub operator_now : (a b c : Family) (operator : ℕ) → Falls p a b → Falls p b c
-      → IsAtRest p c.kept (newly b c) operator → IsAtRest p c.kept (newly a c) operator
-  operator_now a b c operator first second rest effect within = effect_now a b c operator effect first second (rest effect within)
+  -- ---- when operators were looked at
 
-  pub operator_since : (a b c : Family) (operator : ℕ) → operator < length p.operators
-      → Falls p a b → Falls p b c → IsAtRest p b.kept (newly a b) operator → IsAtRest p c.kept (newly a c) operator
-  operator_since a b c operator exists first second rest effect within = effect_since a b c operator effect exists within first second (rest effect within)
+  -- an operator that isn't looked at stays as it was while others fall
+  pub looked_still : (b c : Family) (looked looked' : List ℕ) (operator : ℕ) → operator < length p.operators → Falls p b c
+      → looked_at looked' operator ≡ looked_at looked operator → WasLookedAt p b looked operator → WasLookedAt p c looked' operator
+  looked_still b c looked looked' operator exists falls same was = record {
+    within = let longer = fallen_grow b c falls in let lt = was.within in omega arith;
+    rest = subst (λ n. IsAtRest p c.kept (drop n c.fallen.items) operator) (sym same)
+        (subst (λ (waiting : List ℕ). IsAtRest p c.kept waiting operator) (sym behind)
+        (operator_later b c (drop (looked_at looked operator) b.fallen.items) operator exists falls was.rest));
+  }
+    where
+      behind : drop (looked_at looked operator) c.fallen.items ≡ drop (looked_at looked operator) b.fallen.items ++ newly b c
+      behind = ap (λ (xs : List ℕ). drop (looked_at looked operator) xs) falls.behind
+          ∙ drop-append-le (looked_at looked operator) b.fallen.items (newly b c) was.within
 
-  -- ---- the queue of those that wait
+  -- and one that is looked at is at rest, but for what fell then
+  pub looked_now : (b c : Family) (looked : List ℕ) (operator : ℕ) → Falls p b c → looked_at looked operator ≡ length b.fallen.items
+      → IsAtRest p c.kept (newly b c) operator → WasLookedAt p c looked operator
+  looked_now b c looked operator falls now rest = record {
+    within = let longer = fallen_grow b c falls in omega arith;
+    rest = subst (λ n. IsAtRest p c.kept (drop n c.fallen.items) operator) (sym now) rest;
+  }
 
-  -- whether a number is among some
-  is_among : (xs : List ℕ) (n : ℕ) → Contains xs n ⊎ (Contains xs n → ⊥)
-  is_among [] n = inr (λ w. absurd (omega (arith, w.1)))
-  is_among (x ∷ xs) n = elim (cases_eq x n) [
-    | inl is ↦ inl (0, omega arith, is)
-    | inr ne ↦ elim (is_among xs n) [
-      | inl w ↦ inl (Contains-append_right (x ∷ []) xs n w)
-      | inr none ↦ inr (λ w. elim (Contains-append_cases (x ∷ []) xs n w) [
-        | inl v ↦ absurd (ne (All-contains (λ y. x ≡ y) (x ∷ []) n (All-cons (λ y. x ≡ y) x [] refl (All-nil (λ y. x ≡ y))) v))
-        | inr v ↦ none v
-      ])
+  -- one operator more
+  module _ (b c : Family) (looked : List ℕ) (operator : ℕ) (falls : Falls p b c) (below : operator < length looked)
+      (rest : IsAtRest p c.kept (newly b c) operator) where
+    abbrev noted : List ℕ
+    noted = set looked operator (length b.fallen.items)
+
+    pub noted_here : looked_at noted operator ≡ length b.fallen.items
+    noted_here = get_or-set_same looked operator (length b.fallen.items) 0 below
+
+    pub noted_elsewhere : (other : ℕ) → other ≢ operator → looked_at noted other ≡ looked_at looked other
+    noted_elsewhere other ne = get_or-set_other looked operator other (length b.fallen.items) 0 ne
+
+    pub looked_more : (other : ℕ) → other < length p.operators → (other ≢ operator → WasLookedAt p b looked other) → WasLookedAt p c noted other
+    looked_more other exists was = elim (cases_eq other operator) [
+      | inl e ↦ subst (λ o. WasLookedAt p c noted o) (sym e) (looked_now b c noted operator falls noted_here rest)
+      | inr ne ↦ looked_still b c looked noted other exists falls (noted_elsewhere other ne) (was ne)
     ]
-  ]
 
-  -- the first that waits has been gone through: the operators that mention a fact of it are at rest, and the others were
-  pub gone_through : (before after : Family) (first : ℕ) (waiting operators : List ℕ) → Falls p before after
-      → ((operator : ℕ) → MentionsGroup p operator first → Contains operators operator)
-      → All (IsAtRest p after.kept (newly before after)) operators
-      → ((operator : ℕ) → operator < length p.operators → IsAtRest p before.kept (first ∷ waiting) operator)
-      → (operator : ℕ) → operator < length p.operators → IsAtRest p after.kept (waiting ++ newly before after) operator
-  gone_through before after first waiting operators falls mentioning looked rest operator exists effect within none = elim (is_among operators operator) [
-    | inl w ↦ All-contains (IsAtRest p after.kept (newly before after)) operators operator looked w effect within
-        (none_right operator waiting (newly before after) none)
-    | inr not ↦ effect_later before after (first ∷ waiting) operator effect exists within falls (rest operator exists effect within)
-        (λ place w mentions. elim (Contains-append_cases (first ∷ waiting) (newly before after) place w) [
-          | inl v ↦ elim (Contains-append_cases (first ∷ []) waiting place v) [
-            | inl u ↦ not (mentioning operator (subst (MentionsGroup p operator) (All-contains (λ y. y ≡ first) (first ∷ []) place (All-cons (λ y. y ≡ first) first [] refl (All-nil (λ y. y ≡ first))) u) mentions))
-            | inr u ↦ none place (Contains-append_left waiting (newly before after) place u) mentions
-          ]
-          | inr v ↦ none place (Contains-append_right waiting (newly before after) place v) mentions
-        ])
-  ]
+    -- it is noted of none that it was looked at earlier than before
+    pub noted_later : AreLookedAt p b looked → operator < length p.operators → (other : ℕ) → looked_at looked other ≤ looked_at noted other
+    noted_later were exists other = elim (cases_eq other operator) [
+      | inl e ↦ subst (λ o. looked_at looked o ≤ looked_at noted o) (sym e) (let here = noted_here in let lt = (were.each operator exists).within in omega arith)
+      | inr ne ↦ (let there = noted_elsewhere other ne in omega arith)
+    ]
 
-  -- what waits then: the queue behind the first
-  pub queue_then : (before after : Family) (next : ℕ) → Falls p before after → next < length before.fallen.items
-      → drop (next + 1) after.fallen.items ≡ drop (next + 1) before.fallen.items ++ newly before after
-  queue_then before after next falls lt = ap (λ (xs : List ℕ). drop (next + 1) xs) falls.behind
-      ∙ drop-append-le (next + 1) before.fallen.items (newly before after) (omega arith)
+  -- what fell first stays first
+  pub fell_before : (b c : Family) (place : ℕ) → Falls p b c → place < length b.fallen.items → get_or c.fallen.items place 0 ≡ get_or b.fallen.items place 0
+  fell_before b c place falls lt = ap (λ (xs : List ℕ). get_or xs place 0) falls.behind ∙ get_or_append_left b.fallen.items (newly b c) 0 place lt
+
+  -- where each operator that mentions a fact of a group was looked at since the group fell, all are at rest
+  pub rest_in_the_end : (family : Family) (looked : List ℕ) → AreLookedAt p family looked
+      → ((operator place : ℕ) → place < length family.fallen.items → MentionsGroup p operator (get_or family.fallen.items place 0) → place < looked_at looked operator)
+      → (operator : ℕ) → operator < length p.operators → IsAtRest p family.kept [] operator
+  rest_in_the_end family looked were since operator exists effect within _ = (were.each operator exists).rest effect within
+      (λ place waits mentions.
+      let n = looked_at looked operator in
+      let lt : n + waits.0 < length family.fallen.items = let len = length-drop n family.fallen.items in let k = waits.1 in omega arith in
+      let at : get_or family.fallen.items (n + waits.0) 0 ≡ place = sym (get_or-drop n family.fallen.items waits.0 0)
+      ∙ (get_or_default (drop n family.fallen.items) waits.0 0 place waits.1 ∙ waits.2) in
+      absurd (let later = since operator (n + waits.0) lt (subst (MentionsGroup p operator) (sym at) mentions) in omega arith))
 
   -- ---- where nothing waits, the family is the greatest
 
@@ -222,10 +242,6 @@ module _ (p : Parts) where
       → All (λ (place : ℕ). place < length p.groups) after.fallen.items
   fallen_exist before after falls exist = subst (All (λ (place : ℕ). place < length p.groups)) (sym falls.behind)
       (All-append (λ (place : ℕ). place < length p.groups) before.fallen.items (newly before after) exist falls.exist)
-
-  pub fallen_grow : (before after : Family) → Falls p before after → length before.fallen.items ≤ length after.fallen.items
-  fallen_grow before after falls =
-      let longer = ap length falls.behind ∙ length-append before.fallen.items (newly before after) in omega (arith, longer)
 
   -- of an empty queue all that fell is new
   pub newly_all : (before after : Family) → before.fallen.items ≡ [] → newly before after ≡ after.fallen.items

@@ -15,7 +15,8 @@ use Rattle.sas_mutex.specs.declared.index.Index.{Index}
 use Rattle.sas_mutex.specs.declared.marks.Marks.{Marks}
 use Rattle.sas_mutex.specs.Effects.{IsKept}
 use Rattle.sas_mutex.specs.Index.{IsIndexOf}
-use Rattle.sas_mutex.specs.Noting.{value_note, AreKnown, IsUnknown, IsSettled}
+use Rattle.sas_mutex.specs.Marks.{value_note}
+use Rattle.sas_mutex.specs.Noting.{AreKnown, IsUnknown, IsSettled}
 use Rattle.sas_mutex.specs.Runs.{AreOnOne, AreRuns}
 use Rattle.sas_mutex.proofs.TaskFacts.{variable_below}
 use Rattle.sas_mutex.proofs.NotesOfFacts.{a_note, value_note_tells}

@@ -1,9 +1,10 @@
 -- What stands in lists that are made of others.
-use Rattle.std.proofs.Common.{◌≡◌, ◌<◌, List, [], ◌∷◌, ◌++◌, length, get_or, map, Option, None, Some, refl, sym, ◌∙◌, ap, subst, inl, inr, arith}
+use Rattle.std.proofs.Common.{◌≡◌, ◌⊎◌, ℕ, ◌<◌, List, [], ◌∷◌, ◌++◌, length, get_or, map, Option, None, Some, refl, sym, ◌∙◌, ap, subst, inl, inr, arith}
 use Rattle.std.specs.List.{Contains, cons_option, filter_map, flat_map}
 use Rattle.std.specs.Option.{option_to_list}
 use Rattle.std.proofs.lemmas.List.{get_or-map, length-map}
-use Rattle.std.proofs.lemmas.List.Elements.{Contains-get_or, Contains-append_left, Contains-append_right, Contains-append_cases}
+use Rattle.std.proofs.lemmas.List.Elements.{All-nil, All-cons, All-contains, Contains-get_or, Contains-append_left, Contains-append_right, Contains-append_cases}
+use Rattle.std.proofs.lemmas.Bool.{cases_eq}
 
 -- nothing stands in the empty list
 pub in_none : {X : Type 0} (x : X) → Contains [] x → ⊥
@@ -45,3 +46,17 @@ given_is {X} {Y} h (x ∷ xs) = joined (h x) (given_is h xs)
     joined : {front back : List Y} (o : Option Y) → front ≡ back → cons_option o front ≡ option_to_list o ++ back
     joined None e = e
     joined (Some y) e = ap (λ (ys : List Y). y ∷ ys) e
+
+-- whether a number is among some
+pub is_among : (xs : List ℕ) (n : ℕ) → Contains xs n ⊎ (Contains xs n → ⊥)
+is_among [] n = inr (λ w. absurd (omega (arith, w.1)))
+is_among (x ∷ xs) n = elim (cases_eq x n) [
+  | inl is ↦ inl (0, omega arith, is)
+  | inr ne ↦ elim (is_among xs n) [
+    | inl w ↦ inl (Contains-append_right (x ∷ []) xs n w)
+    | inr none ↦ inr (λ w. elim (Contains-append_cases (x ∷ []) xs n w) [
+      | inl v ↦ absurd (ne (All-contains (λ y. x ≡ y) (x ∷ []) n (All-cons (λ y. x ≡ y) x [] refl (All-nil (λ y. x ≡ y))) v))
+      | inr v ↦ none v
+    ])
+  ]
+]

@@ -8,13 +8,16 @@ use Rattle.sas_core.specs.declared.parts.Fact.{Fact}
 use Rattle.sas_core.specs.declared.parts.Parts.{Parts}
 use Rattle.sas_grounded.specs.Grounded.{group_at}
 use Rattle.sas_core.specs.Variables.{FactExists}
-use Rattle.sas_groups.specs.Clashes.{Contradict}
+use Rattle.sas_groups.specs.Clashes.{Contradict, Clash}
 use Rattle.sas_mutex.specs.declared.index.Index.{Index}
 use Rattle.sas_mutex.specs.declared.marks.Marks.{Marks}
+use Rattle.sas_mutex.specs.declared.marks.Noted.{Noted}
+use Rattle.sas_mutex.specs.declared.marks.Noted.TheVariants.{Nothing, One, Several}
 use Rattle.sas_mutex.specs.Effects.{family_of, IsKept}
 use Rattle.sas_mutex.specs.Index.{IsIndexOf, HasFact, groups_of}
-use Rattle.sas_mutex.specs.Marks.{IsWide, IsClean, IsNotedFrom, IsValueNote, IsFactNote}
-use Rattle.sas_mutex.specs.Noting.{value_note, fact_note, IsFree, IsRefused, Takes, TakenBySome, HasOtherValue, ChangesAt, IsThere, IsNew, Forgets, IsForgotten, AreKnown}
+use Rattle.sas_mutex.specs.Marks.{value_note, group_note, IsWide, IsClean, IsNotedFrom, IsValueNote, IsOfGroup, IsGroupNote}
+use Rattle.sas_mutex.specs.Noting.{IsNotedToo, IsRefused, Takes, TakenBySome, HasOtherValue, ChangesAt, IsThere, IsNew, Forgets, IsForgotten, AreKnown}
+use Rattle.sas_mutex.proofs.Lists.{is_among}
 use Rattle.sas_mutex.proofs.TaskFacts.{variable_below}
 
 none_or_some : {A : Type 0} (x : A) (noted : Option A) → noted ≡ None → noted ≡ Some x → ⊥
@@ -23,47 +26,84 @@ none_or_some x noted none some = let e : None ≡ Some x = sym none ∙ some in 
 same_inside : {A : Type 0} (x y : A) → Some x ≡ Some y → x ≡ y
 same_inside x y is = cc
 
+-- two facts are one, or they aren't
+pub one_or_two : (f g : Fact) → (f ≡ g) ⊎ (f ≢ g)
+one_or_two f g = elim (cases_eq f.var g.var) [
+  | inr ne ↦ inr (λ e. ne (ap (λ (x : Fact). x.var) e))
+  | inl var ↦ elim (cases_eq f.value g.value) [
+    | inr ne ↦ inr (λ e. ne (ap (λ (x : Fact). x.value) e))
+    | inl value ↦ inl (same f.var f.value g.var g.value var value)
+  ]
+]
+  where
+    same : (v a w b : ℕ) → v ≡ w → a ≡ b → (let x : Fact = record { var = v; value = a } in x) ≡ record { var = w; value = b }
+    same v a w b var value = rw (var, value) refl
+
 -- a note is nothing, or something
 pub a_note : {A : Type 0} (noted : Option A) → (noted ≡ None) ⊎ ((x : A) × (noted ≡ Some x))
 a_note None = inl refl
 a_note (Some x) = inr (x, refl)
 
+nothing_or_not : (noted : Noted) → (noted ≡ Nothing) ⊎ (noted ≢ Nothing)
+nothing_or_not Nothing = inl refl
+nothing_or_not (One f) = inr (λ e. absurd cc)
+nothing_or_not Several = inr (λ e. absurd cc)
+
+-- a fact that is noted twice is noted once
+one_again : (fact : Fact) (after : Noted) → IsNotedToo (One fact) fact after → after ≡ One fact
+one_again fact after too = elim too [
+  | inl w ↦ w.1
+  | inr w ↦ absurd (w.0 refl)
+]
+
+pub noted_again : (before now : Noted) (fact : Fact) (after : Noted) → IsNotedToo before fact now → IsNotedToo now fact after → IsNotedToo before fact after
+noted_again Nothing now fact after first second = one_again fact after (subst (λ noted. IsNotedToo noted fact after) first second)
+noted_again (One other) now fact after first second = elim first [
+  | inl w ↦ inl (w.0, one_again fact after (subst (λ noted. IsNotedToo noted fact after) w.1 second))
+  | inr w ↦ inr (w.0, subst (λ noted. IsNotedToo noted fact after) w.1 second)
+]
+noted_again Several now fact after first second = subst (λ noted. IsNotedToo noted fact after) first second
+
 -- the groups that take a fact, one more of them
-module _ (groups : List ℕ) (kept : List Bool) (fact : Fact) (before now : List (Option Fact)) (some : TakenBySome groups kept fact before now)
-    (place : ℕ) (within : place < length now) where
-  at_place : fact_note (set now place (Some fact)) place ≡ Some fact
-  at_place = get_or-set_same now place (Some fact) None within
+module _ (groups : List ℕ) (kept : List Bool) (fact : Fact) (before now : List Noted) (some : TakenBySome groups kept fact before now)
+    (place : ℕ) (after : Noted) (too : IsNotedToo (group_note now place) fact after) where
+  pub since_before : IsNotedToo (group_note before place) fact after
+  since_before = elim (some.each place) [
+    | inl same ↦ subst (λ noted. IsNotedToo noted fact after) same too
+    | inr takes ↦ noted_again (group_note before place) (group_note now place) fact after takes.now too
+  ]
 
-  pub takes_still : (q : ℕ) → Takes groups kept fact before now q → Takes groups kept fact before (set now place (Some fact)) q
-  takes_still q takes = record {
-    among = takes.among;
-    kept_there = takes.kept_there;
-    free = takes.free;
-    now = elim (cases_eq q place) [
-      | inl e ↦ ap (fact_note (set now place (Some fact))) e ∙ at_place
-      | inr ne ↦ get_or-set_other now place q (Some fact) None ne ∙ takes.now
-    ];
-  }
+  module _ (within : place < length now) (among : Contains groups place) (alone : IsTrue (family_of kept place) → after ≢ Several) where
+    at_place : group_note (set now place after) place ≡ after
+    at_place = get_or-set_same now place after Nothing within
 
-  module _ (among : Contains groups place) (kept_there : IsTrue (family_of kept place)) (free : IsFree (fact_note now place) fact) where
-    pub takes_here : Takes groups kept fact before (set now place (Some fact)) place
+    elsewhere : (q : ℕ) → q ≢ place → group_note (set now place after) q ≡ group_note now q
+    elsewhere q ne = get_or-set_other now place q after Nothing ne
+
+    pub takes_here : Takes groups kept fact before (set now place after) place
     takes_here = record {
       among = among;
-      kept_there = kept_there;
-      free = elim (some.each place) [
-        | inl same ↦ subst (λ noted. IsFree noted fact) same free
-        | inr takes ↦ takes.free
-      ];
-      now = at_place;
+      now = subst (λ noted. IsNotedToo (group_note before place) fact noted) (sym at_place) since_before;
+      alone = λ in_family several. alone in_family (sym at_place ∙ several);
     }
 
-    pub taken_more : TakenBySome groups kept fact before (set now place (Some fact))
+    pub takes_still : (q : ℕ) → Takes groups kept fact before now q → Takes groups kept fact before (set now place after) q
+    takes_still q takes = elim (cases_eq q place) [
+      | inl e ↦ subst (λ x. Takes groups kept fact before (set now place after) x) (sym e) takes_here
+      | inr ne ↦ record {
+        among = takes.among;
+        now = subst (λ noted. IsNotedToo (group_note before q) fact noted) (sym (elsewhere q ne)) takes.now;
+        alone = λ in_family several. takes.alone in_family (sym (elsewhere q ne) ∙ several);
+      }
+    ]
+
+    pub taken_more : TakenBySome groups kept fact before (set now place after)
     taken_more = record {
-      as_many = length-set now place (Some fact) ∙ some.as_many;
+      as_many = length-set now place after ∙ some.as_many;
       each = λ q. elim (cases_eq q place) [
-        | inl e ↦ inr (subst (λ x. Takes groups kept fact before (set now place (Some fact)) x) (sym e) takes_here)
+        | inl e ↦ inr (subst (λ x. Takes groups kept fact before (set now place after) x) (sym e) takes_here)
         | inr ne ↦ elim (some.each q) [
-          | inl same ↦ inl (get_or-set_other now place q (Some fact) None ne ∙ same)
+          | inl same ↦ inl (elsewhere q ne ∙ same)
           | inr takes ↦ inr (takes_still q takes)
         ]
       ];
@@ -78,23 +118,122 @@ pub no_value_note_tells : (facts : List Fact) (var : ℕ) (noted : Option ℕ) �
     → (f : Fact) → Contains facts f → f.var ≢ var
 no_value_note_tells facts var noted is at = (let none = subst (λ n. IsValueNote facts var n) at is in none.none)
 
-pub fact_note_tells : (p : Parts) (facts : List Fact) (place : ℕ) (f : Fact) (noted : Option Fact) → IsFactNote p facts place noted → noted ≡ Some f
-    → Contains facts f × HasFact p place f
-fact_note_tells p facts place f noted is at = (let some = subst (λ n. IsFactNote p facts place n) at is in some.some)
+pub one_note_tells : (p : Parts) (facts : List Fact) (place : ℕ) (f : Fact) (noted : Noted) → IsGroupNote p facts place noted → noted ≡ One f
+    → IsOfGroup p facts place f × ((other : Fact) → IsOfGroup p facts place other → other ≡ f)
+one_note_tells p facts place f noted is at = subst (IsGroupNote p facts place) at is
 
-pub no_fact_note_tells : (p : Parts) (facts : List Fact) (place : ℕ) (noted : Option Fact) → IsFactNote p facts place noted → noted ≡ None
-    → (f : Fact) → Contains facts f → HasFact p place f → ⊥
-no_fact_note_tells p facts place noted is at = (let none = subst (λ n. IsFactNote p facts place n) at is in none.none)
+pub no_note_tells : (p : Parts) (facts : List Fact) (place : ℕ) (noted : Noted) → IsGroupNote p facts place noted → noted ≡ Nothing
+    → (f : Fact) → IsOfGroup p facts place f → ⊥
+no_note_tells p facts place noted is at = subst (IsGroupNote p facts place) at is
+
+pub some_note_tells : (p : Parts) (facts : List Fact) (place : ℕ) (noted : Noted) → IsGroupNote p facts place noted → noted ≢ Nothing
+    → (f : Fact) × IsOfGroup p facts place f
+some_note_tells p facts place Nothing is some = absurd (some refl)
+some_note_tells p facts place (One f) is some = (f, is.0)
+some_note_tells p facts place Several is some = (is.0, is.2)
+
+-- where not several facts are noted, two that are known are one
+pub at_most_one : (p : Parts) (facts : List Fact) (place : ℕ) (noted : Noted) → IsGroupNote p facts place noted → noted ≢ Several
+    → (f g : Fact) → IsOfGroup p facts place f → IsOfGroup p facts place g → f ≡ g
+at_most_one p facts place Nothing is few f g of_f of_g = absurd (is f of_f)
+at_most_one p facts place (One one) is few f g of_f of_g = is.1 f of_f ∙ sym (is.1 g of_g)
+at_most_one p facts place Several is few f g of_f of_g = absurd (few refl)
+
+-- where several are, they clash if the group counts
+pub several_clash : (p : Parts) (Counts : List Fact → Type 0) (facts : List Fact) (place : ℕ) → Counts (group_at p place)
+    → IsGroupNote p facts place Several → Clash Counts facts
+several_clash p Counts facts place counts (f, g, of_f, of_g, differ) = (
+  f,
+  g,
+  of_f.among,
+  of_g.among,
+  inr (record {
+    differ = differ;
+    group = group_at p place;
+    counts = counts;
+    first = of_f.has.among;
+    second = of_g.has.among;
+  }),
+)
+
+-- where not one fact of a group that counts is noted, none is, unless the facts clash
+pub none_if_not_one : (p : Parts) (facts : List Fact) (place : ℕ) (Counts : List Fact → Type 0) → Counts (group_at p place)
+    → (Clash Counts facts → ⊥) → (noted : Noted) → IsGroupNote p facts place noted → ((f : Fact) → noted ≢ One f)
+    → (f : Fact) → IsOfGroup p facts place f → ⊥
+none_if_not_one p facts place Counts counts apart Nothing is not_one f of = is f of
+none_if_not_one p facts place Counts counts apart (One one) is not_one f of = not_one one refl
+none_if_not_one p facts place Counts counts apart Several is not_one f of = apart (several_clash p Counts facts place counts is)
 
 value_note_of : (facts : List Fact) (var : ℕ) (noted : Option ℕ) → ((value : ℕ) → noted ≡ Some value → Contains facts (record { var = var; value = value }))
     → (noted ≡ None → (f : Fact) → Contains facts f → f.var ≢ var) → IsValueNote facts var noted
 value_note_of facts var None some none = record { some = tt; none = none refl }
 value_note_of facts var (Some value) some none = record { some = some value refl; none = tt }
 
-fact_note_of : (p : Parts) (facts : List Fact) (place : ℕ) (noted : Option Fact) → ((f : Fact) → noted ≡ Some f → Contains facts f × HasFact p place f)
-    → (noted ≡ None → (f : Fact) → Contains facts f → HasFact p place f → ⊥) → IsFactNote p facts place noted
-fact_note_of p facts place None some none = record { some = tt; none = none refl }
-fact_note_of p facts place (Some f) some none = record { some = some f refl; none = tt }
+-- what is noted for a group, as one fact more is known
+module _ (p : Parts) (before : List Fact) (fact : Fact) (place : ℕ) where
+  abbrev all_facts : List Fact
+  all_facts = before ++ fact ∷ []
+
+  of_more : (f : Fact) → IsOfGroup p before place f → IsOfGroup p all_facts place f
+  of_more f of = record { among = Contains-append_left before (fact ∷ []) f of.among; has = of.has }
+
+  of_either : (f : Fact) → IsOfGroup p all_facts place f → IsOfGroup p before place f ⊎ ((fact ≡ f) × HasFact p place fact)
+  of_either f of = elim (Contains-push_cases before fact f of.among) [
+    | inl in_before ↦ inl (record { among = in_before; has = of.has })
+    | inr e ↦ inr (e, subst (λ (x : Fact). HasFact p place x) (sym e) of.has)
+  ]
+
+  -- it stays where no fact of the group is new
+  note_stays : (noted : Noted) → ((f : Fact) → IsOfGroup p all_facts place f → IsOfGroup p before place f)
+      → IsGroupNote p before place noted → IsGroupNote p all_facts place noted
+  note_stays Nothing back is = λ f of. is f (back f of)
+  note_stays (One one) back is = (of_more one is.0, λ other of. is.1 other (back other of))
+  note_stays Several back is = (is.0, is.1, of_more is.0 is.2, of_more is.1 is.3, is.4)
+
+  -- it changes where the fact is of the group
+  note_changes : (noted after : Noted) → HasFact p place fact → IsNotedToo noted fact after
+      → IsGroupNote p before place noted → IsGroupNote p all_facts place after
+  note_changes Nothing after has too is = subst (IsGroupNote p all_facts place) (sym too) (
+    record { among = Contains-push before fact; has = has },
+    λ other of. elim (of_either other of) [
+      | inl was ↦ absurd (is other was)
+      | inr new ↦ sym new.0
+    ],
+  )
+  note_changes (One one) after has too is = elim too [
+    | inl w ↦ subst (IsGroupNote p all_facts place) (sym w.1) (
+      record { among = Contains-push before fact; has = has },
+      λ other of. elim (of_either other of) [
+        | inl was ↦ is.1 other was ∙ w.0
+        | inr new ↦ sym new.0
+      ],
+    )
+    | inr w ↦ subst (IsGroupNote p all_facts place) (sym w.1)
+        (one, fact, of_more one is.0, record { among = Contains-push before fact; has = has }, w.0)
+  ]
+  note_changes Several after has too is = subst (IsGroupNote p all_facts place) (sym too) (is.0, is.1, of_more is.0 is.2, of_more is.1 is.3, is.4)
+
+  -- a group that is refused has another fact, and one that isn't has no other
+  other_known : (noted : Noted) → IsNotedToo noted fact Several → IsGroupNote p before place noted
+      → (g : Fact) × IsOfGroup p before place g × (fact ≢ g)
+  other_known Nothing too is = absurd cc
+  other_known (One one) too is = elim too [
+    | inl w ↦ (let never : Several ≡ One fact = w.1 in absurd cc)
+    | inr w ↦ (one, is.0, λ e. w.0 (sym e))
+  ]
+  other_known Several too is = elim (one_or_two fact is.0) [
+    | inl e ↦ (is.1, is.3, λ e'. is.4 (sym e ∙ e'))
+    | inr ne ↦ (is.0, is.2, ne)
+  ]
+
+  no_other : (noted after : Noted) → IsGroupNote p before place noted → IsNotedToo noted fact after → after ≢ Several
+      → (f : Fact) → IsOfGroup p before place f → f ≡ fact
+  no_other Nothing after is too few f of = absurd (is f of)
+  no_other (One one) after is too few f of = elim too [
+    | inl w ↦ is.1 f of ∙ w.0
+    | inr w ↦ absurd (few w.1)
+  ]
+  no_other Several after is too few f of = absurd (few too)
 
 -- facts contradict each other, whichever is named first
 pub contradict_turned : (Counts : List Fact → Type 0) (f g : Fact) → Contradict Counts f g → Contradict Counts g f
@@ -123,10 +262,8 @@ module _ (p : Parts) (index : Index) (kept : List Bool) (before : List Fact) (ol
       values = λ var lt. value_note_of (before ++ fact ∷ []) var (value_note old.values var)
           (λ value at. Contains-append_left before (fact ∷ []) (record { var = var; value = value }) (value_note_tells before var value (value_note old.values var) (known.noted.values var lt) at))
           (λ none f in_all. no_value_note_tells before var (value_note old.values var) (known.noted.values var lt) none f (was_in f in_all));
-      facts = λ place lt in_family. fact_note_of p (before ++ fact ∷ []) place (fact_note old.facts place)
-          (λ f at. (let (in_before, has) = fact_note_tells p before place f (fact_note old.facts place) (known.noted.facts place lt in_family) at in
-          (Contains-append_left before (fact ∷ []) f in_before, has)))
-          (λ none f in_all. no_fact_note_tells p before place (fact_note old.facts place) (known.noted.facts place lt in_family) none f (was_in f in_all));
+      groups = λ place lt. note_stays p before fact place (group_note old.groups place)
+          (λ f of. record { among = was_in f of.among; has = of.has }) (known.noted.groups place lt);
     };
     apart = λ clash. known.apart (clash.0, clash.1, was_in clash.0 clash.2, was_in clash.1 clash.3, clash.4);
   }
@@ -141,7 +278,7 @@ module _ (p : Parts) (index : Index) (kept : List Bool) (before : List Fact) (ol
       ]
 
   -- a fact that is refused contradicts one of those before
-  pub refused : HasOtherValue old.values fact ⊎ IsRefused (groups_of index fact) kept fact old.facts
+  pub refused : HasOtherValue old.values fact ⊎ IsRefused (groups_of index fact) kept fact old.groups
       → (g : Fact) × Contains before g × Contradict (IsKept p kept) fact g
   refused (inl (value, at, differs)) = (
     record { var = fact.var; value = value },
@@ -150,16 +287,15 @@ module _ (p : Parts) (index : Index) (kept : List Bool) (before : List Fact) (ol
   )
   refused (inr is) =
       let has : HasFact p is.place fact = (indexed.groups fact exists is.place).0 is.among in
-      let (other, at, differs) = is.other in
-      let (in_before, has_other) = fact_note_tells p before is.place other (fact_note old.facts is.place) (known.noted.facts is.place has.exists is.kept_there) at in (
+      let (other, of, differ) = other_known p before fact is.place (group_note old.groups is.place) is.other (known.noted.groups is.place has.exists) in (
         other,
-        in_before,
+        of.among,
         inr (record {
-          differ = λ e. differs (sym e);
+          differ = differ;
           group = group_at p is.place;
           counts = (is.place, record { exists = has.exists; chosen = is.kept_there }, refl);
           first = has.among;
-          second = has_other.among;
+          second = of.has.among;
         }),
       )
 
@@ -176,13 +312,11 @@ module _ (p : Parts) (index : Index) (kept : List Bool) (before : List Fact) (ol
     agrees f in_before (inr one) =
         let (place, in_family, same) = one.counts in
         let has : HasFact p place fact = record { exists = in_family.exists; among = subst (λ (g : List Fact). Contains g fact) same one.second } in
-        let has_f : HasFact p place f = record { exists = in_family.exists; among = subst (λ (g : List Fact). Contains g f) same one.first } in
-        let takes : Takes (groups_of index fact) kept fact old.facts new.facts place = is.all place ((indexed.groups fact exists place).1 has) in_family.chosen in
-        elim (a_note (fact_note old.facts place)) [
-          | inl none ↦ no_fact_note_tells p before place (fact_note old.facts place) (known.noted.facts place has.exists in_family.chosen) none f in_before has_f
-          | inr w ↦ (let (h_in, h_has) = fact_note_tells p before place w.0 (fact_note old.facts place) (known.noted.facts place has.exists in_family.chosen) w.1 in
-              not_before (subst (λ (x : Fact). Contains before x) (takes.free w.0 w.1) h_in))
-        ]
+        let of_f : IsOfGroup p before place f =
+        record { among = in_before; has = record { exists = in_family.exists; among = subst (λ (g : List Fact). Contains g f) same one.first } } in
+        let takes : Takes (groups_of index fact) kept fact old.groups new.groups place = is.all place ((indexed.groups fact exists place).1 has) in
+        not_before (subst (λ (x : Fact). Contains before x) (no_other p before fact place (group_note old.groups place) (group_note new.groups place)
+        (known.noted.groups place has.exists) takes.now (takes.alone in_family.chosen) f of_f) in_before)
 
     value_here : value_note new.values fact.var ≡ Some fact.value
     value_here = ap (λ vs. value_note vs fact.var) is.values
@@ -206,27 +340,24 @@ module _ (p : Parts) (index : Index) (kept : List Bool) (before : List Fact) (ol
           ])
     ]
 
-    facts_noted : (place : ℕ) → place < length p.groups → IsTrue (family_of kept place) → IsFactNote p (before ++ fact ∷ []) place (fact_note new.facts place)
-    facts_noted place lt in_family = fact_note_of p (before ++ fact ∷ []) place (fact_note new.facts place)
-        (λ f at. elim (is.some.each place) [
-          | inl same ↦ (let (in_before, has) = fact_note_tells p before place f (fact_note old.facts place) (known.noted.facts place lt in_family) (sym same ∙ at) in
-              (Contains-append_left before (fact ∷ []) f in_before, has))
-          | inr takes ↦ subst (λ (x : Fact). Contains (before ++ fact ∷ []) x × HasFact p place x) (same_inside fact f (sym takes.now ∙ at))
-              (Contains-push before fact, (indexed.groups fact exists place).0 takes.among)
-        ])
-        (λ none f in_all has. elim (Contains-push_cases before fact f in_all) [
-          | inl in_before ↦ elim (is.some.each place) [
-            | inl same ↦ no_fact_note_tells p before place (fact_note old.facts place) (known.noted.facts place lt in_family) (sym same ∙ none) f in_before has
-            | inr takes ↦ none_or_some fact (fact_note new.facts place) none takes.now
-          ]
-          | inr e ↦ none_or_some fact (fact_note new.facts place) none
-              (is.all place ((indexed.groups fact exists place).1 (subst (λ (x : Fact). HasFact p place x) (sym e) has)) in_family).now
-        ])
+    groups_noted : (place : ℕ) → place < length p.groups → IsGroupNote p (before ++ fact ∷ []) place (group_note new.groups place)
+    groups_noted place lt = elim (is_among (groups_of index fact) place) [
+      | inl among ↦ note_changes p before fact place (group_note old.groups place) (group_note new.groups place)
+          ((indexed.groups fact exists place).0 among) (is.all place among).now (known.noted.groups place lt)
+      | inr out ↦ elim (is.some.each place) [
+        | inl same ↦ subst (IsGroupNote p (before ++ fact ∷ []) place) (sym same) (note_stays p before fact place (group_note old.groups place)
+            (λ f of. elim (of_either p before fact place f of) [
+              | inl was ↦ was
+              | inr new ↦ absurd (out ((indexed.groups fact exists place).1 new.1))
+            ]) (known.noted.groups place lt))
+        | inr takes ↦ absurd (out takes.among)
+      ]
+    ]
 
     -- facts of which one more is new
     pub known_more : AreKnown p kept (before ++ fact ∷ []) new
     known_more = record {
-      noted = record { values = values_noted; facts = facts_noted };
+      noted = record { values = values_noted; groups = groups_noted };
       apart = λ clash. elim (Contains-push_cases before fact clash.0 clash.2) [
         | inl f_in ↦ elim (Contains-push_cases before fact clash.1 clash.3) [
           | inl g_in ↦ known.apart (clash.0, clash.1, f_in, g_in, clash.4)
@@ -249,13 +380,13 @@ module _ (p : Parts) (index : Index) (all : List Fact) (old new : Marks) (indexe
   -- a change at a fact of these leaves notes of these
   pub noted_still : Contains all fact → ChangesAt (groups_of index fact) fact old new → IsNotedFrom p all new
   noted_still in_all changes = record {
-    wide = record { variables = changes.as_many_values ∙ from.wide.variables; groups = changes.as_many_facts ∙ from.wide.groups };
+    wide = record { variables = changes.as_many_values ∙ from.wide.variables; groups = changes.as_many_groups ∙ from.wide.groups };
     values = λ var lt some. elim (changes.values var) [
       | inl same ↦ from.values var lt (λ none. some (same ∙ none))
       | inr on ↦ (fact, in_all, sym on)
     ];
-    facts = λ place lt some. elim (changes.facts place) [
-      | inl same ↦ from.facts place lt (λ none. some (same ∙ none))
+    groups = λ place lt some. elim (changes.by_group place) [
+      | inl same ↦ from.groups place lt (λ none. some (same ∙ none))
       | inr among ↦ (fact, in_all, (indexed.groups fact exists place).0 among)
     ];
   }
@@ -278,14 +409,14 @@ module _ (p : Parts) (index : Index) (all : List Fact) (old new : Marks) (indexe
     noted_less = record {
       wide = record {
         variables = ap length forgets.values ∙ (length-set old.values fact.var None ∙ from.wide.variables);
-        groups = forgets.facts.as_many ∙ from.wide.groups;
+        groups = forgets.by_group.as_many ∙ from.wide.groups;
       };
       values = λ var lt some. elim (value_or_none var) [
         | inl same ↦ from.values var lt (λ none. some (same ∙ none))
         | inr none ↦ absurd (some none)
       ];
-      facts = λ place lt some. elim (forgets.facts.each place) [
-        | inl same ↦ from.facts place lt (λ none. some (same ∙ none))
+      groups = λ place lt some. elim (forgets.by_group.each place) [
+        | inl same ↦ from.groups place lt (λ none. some (same ∙ none))
         | inr none ↦ absurd (some none)
       ];
     }
@@ -293,13 +424,13 @@ module _ (p : Parts) (index : Index) (all : List Fact) (old new : Marks) (indexe
     pub forgotten_now : IsForgotten p new fact
     forgotten_now = record {
       value = forgotten_value;
-      groups = λ place has. All-contains (λ (q : ℕ). fact_note new.facts q ≡ None) (groups_of index fact) place forgets.facts.none ((indexed.groups fact exists place).1 has);
+      groups = λ place has. All-contains (λ (q : ℕ). group_note new.groups q ≡ Nothing) (groups_of index fact) place forgets.by_group.none ((indexed.groups fact exists place).1 has);
     }
 
     pub forgotten_still : (f : Fact) → IsForgotten p old f → IsForgotten p new f
     forgotten_still f was = record {
       value = elim (value_or_none f.var) [ inl same ↦ same ∙ was.value | inr none ↦ none ];
-      groups = λ place has. elim (forgets.facts.each place) [ inl same ↦ same ∙ was.groups place has | inr none ↦ none ];
+      groups = λ place has. elim (forgets.by_group.each place) [ inl same ↦ same ∙ was.groups place has | inr none ↦ none ];
     }
 
 -- where all that notes are from is forgotten, nothing is noted
@@ -311,9 +442,9 @@ clean_in_the_end p all marks from forgotten = record {
     | inr w ↦ (let (f, in_all, on) = from.values var lt (λ none. none_or_some w.0 (value_note marks.values var) none w.1) in
         subst (λ v. value_note marks.values v ≡ None) on (All-contains (IsForgotten p marks) all f forgotten in_all).value)
   ];
-  facts = λ place lt. elim (a_note (fact_note marks.facts place)) [
-    | inl none ↦ none
-    | inr w ↦ (let (f, in_all, has) = from.facts place lt (λ none. none_or_some w.0 (fact_note marks.facts place) none w.1) in
+  groups = λ place lt. elim (nothing_or_not (group_note marks.groups place)) [
+    | inl nothing ↦ nothing
+    | inr some ↦ (let (f, in_all, has) = from.groups place lt some in
         (All-contains (IsForgotten p marks) all f forgotten in_all).groups place has)
   ];
 }

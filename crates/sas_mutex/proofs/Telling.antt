@@ -11,18 +11,24 @@ use Rattle.sas_core.specs.declared.parts.Parts.{Parts}
 use Rattle.sas_grounded.specs.Grounded.{operator_at, effect_at, group_at}
 use Rattle.sas_groups.specs.declared.verdict.Verdict.{Verdict}
 use Rattle.sas_groups.specs.declared.verdict.Verdict.TheVariants.{Exclusive, Derived, Initial, Broken}
-use Rattle.sas_groups.specs.Clashes.{Keeps, sets}
+use Rattle.sas_groups.specs.Clashes.{Clash, Keeps, sets}
 use Rattle.sas_groups.specs.Groups.{MayBeExclusive}
 use Rattle.sas_groups.specs.Families.{IsIn, IsGroupOfOr, IsGreatest}
 use Rattle.sas_groups.specs.Verdicts.{IsFirstVerdict, IsJointVerdict}
-use Rattle.sas_groups.proofs.GreatestFamily.{outside_is_broken}
+use Rattle.sas_groups.proofs.GreatestFamily.{outside_is_broken, clash_more}
 use Rattle.sas_mutex.specs.declared.family.Family.{Family}
+use Rattle.sas_mutex.specs.declared.marks.Marks.{Marks}
+use Rattle.sas_mutex.specs.declared.marks.Noted.TheVariants.{Several}
 use Rattle.sas_mutex.specs.Effects.{family_of, IsKept, EffectKeeps}
 use Rattle.sas_mutex.specs.Falling.{HasRoom, AreCandidates}
 use Rattle.sas_mutex.specs.Index.{HasFact}
-use Rattle.sas_mutex.specs.Joint.{verdict_at, AreJointVerdicts, AreFirstVerdicts, KeepsWithItself, KeptSoFar, IsVerdictSoFar, AreVerdictsSoFar}
+use Rattle.sas_mutex.specs.Joint.{verdict_at, AreJointVerdicts, AreFirstVerdicts, IsUntold, KeepsWithItself, KeptSoFar, IsVerdictSoFar, AreVerdictsSoFar}
+use Rattle.sas_mutex.specs.Marks.{group_note, IsGroupNote}
+use Rattle.sas_mutex.specs.Noting.{IsNotedFor, known_at}
 use Rattle.sas_mutex.proofs.Counting.{count_within}
 use Rattle.sas_mutex.proofs.Keeping.{effect_keeps_more, keeps_from_effects, effect_of_keeps}
+use Rattle.sas_mutex.proofs.NotesOfFacts.{at_most_one, several_clash}
+use Rattle.sas_mutex.proofs.ToldByNotes.{clash_keeps}
 
 -- ---- the first verdicts
 
@@ -103,6 +109,13 @@ module _ (p : Parts) (kept : List Bool) (place : ℕ) (exists : place < length p
     | inr is ↦ (place, is_in_then, is)
   ]
 
+  -- so the family has more groups then
+  pub is_more : (n : ℕ) → IsIn p (family_of kept) n → IsIn p (family_of (set kept place true)) n
+  is_more n among = elim (cases_eq n place) [
+    | inl e ↦ subst (λ i. IsIn p (family_of (set kept place true)) i) (sym e) is_in_then
+    | inr ne ↦ record { exists = among.exists; chosen = get_or-set_other kept place n true false ne ∙ among.chosen }
+  ]
+
   pub keeps_then : (operator effect : ℕ) → KeepsWithItself p kept operator effect place
       → EffectKeeps (IsKept p (set kept place true)) (operator_at p operator) (group_at p place) (effect_at (operator_at p operator) effect)
   keeps_then operator effect = effect_keeps_more (IsGroupOfOr p (family_of kept) (group_at p place)) (IsKept p (set kept place true))
@@ -113,6 +126,43 @@ module _ (p : Parts) (kept : List Bool) (place : ℕ) (exists : place < length p
       → KeepsWithItself p kept operator effect place
   keeps_itself operator effect = effect_keeps_more (IsKept p (set kept place true)) (IsGroupOfOr p (family_of kept) (group_at p place))
       (operator_at p operator) (group_at p place) (effect_at (operator_at p operator) effect) with_place
+
+  -- an effect that never fires keeps it
+  never_fires : (operator effect : ℕ) → Clash (IsGroupOfOr p (family_of kept) (group_at p place)) (known_at p operator effect)
+      → KeepsWithItself p kept operator effect place
+  never_fires operator effect = clash_keeps (IsGroupOfOr p (family_of kept) (group_at p place)) (operator_at p operator) (group_at p place)
+      (effect_at (operator_at p operator) effect)
+
+  pub clash_never_fires : (operator effect : ℕ) → Clash (IsKept p kept) (known_at p operator effect) → KeepsWithItself p kept operator effect place
+  clash_never_fires operator effect clash = never_fires operator effect
+      (clash_more (IsKept p kept) (IsGroupOfOr p (family_of kept) (group_at p place)) (known_at p operator effect) (λ g counts. inl counts) clash)
+
+  module _ (operator effect : ℕ) (marks : Marks) (noted : IsNotedFor p kept operator effect marks) where
+    note : IsGroupNote p (known_at p operator effect) place (group_note marks.groups place)
+    note = noted.are.noted.groups place exists
+
+    pub several_never_fire : group_note marks.groups place ≡ Several → KeepsWithItself p kept operator effect place
+    several_never_fire several = never_fires operator effect (several_clash p (IsGroupOfOr p (family_of kept) (group_at p place)) (known_at p operator effect) place
+        (inr refl) (subst (IsGroupNote p (known_at p operator effect) place) several note))
+
+    -- where not several facts of it are known, nothing clashes for it
+    pub noted_with : group_note marks.groups place ≢ Several → IsNotedFor p (set kept place true) operator effect marks
+    noted_with few = record {
+      are = record {
+        noted = noted.are.noted;
+        apart = λ (f, g, in_f, in_g, why). elim why [
+          | inl w ↦ noted.are.apart (f, g, in_f, in_g, inl w)
+          | inr one ↦ elim (with_place one.group one.counts) [
+            | inl counts ↦ noted.are.apart
+                (f, g, in_f, in_g, inr (record { differ = one.differ; group = one.group; counts = counts; first = one.first; second = one.second }))
+            | inr is ↦ one.differ (at_most_one p (known_at p operator effect) place (group_note marks.groups place) note few f g
+                (record { among = in_f; has = record { exists = exists; among = subst (λ (facts : List Fact). Contains facts f) is one.first } })
+                (record { among = in_g; has = record { exists = exists; among = subst (λ (facts : List Fact). Contains facts g) is one.second } }))
+          ]
+        ];
+      };
+      from = noted.from;
+    }
 
 -- taken out again, the family is as it was
 pub put_back : (kept : List Bool) (place : ℕ) → family_of kept place ≡ false → set (set kept place true) place false ≡ kept
@@ -203,6 +253,16 @@ module _ (p : Parts) (kept : List Bool) where
     one_each = so_far.one_each;
     are = λ place lt. one_effect_told operator effect place (verdict_at verdicts place) (λ has. told place (record { exists = lt; among = has })) (so_far.are place lt);
   }
+
+  -- of a group that is in the family, or of which something is told, nothing is left to tell
+  pub told_already : (operator effect place : ℕ) (verdicts : List Verdict) → place < length p.groups → (IsUntold kept verdicts place → ⊥)
+      → IsVerdictSoFar p kept operator effect place (verdict_at verdicts place) → IsVerdictSoFar p kept operator (effect + 1) place (verdict_at verdicts place)
+  told_already operator effect place verdicts exists told is = elim (cases_Bool (family_of kept place)) [
+    | inl here ↦ so_far_by operator effect operator (effect + 1) place (verdict_at verdicts place)
+        (λ out. absurd (out (record { exists = exists; chosen = here }))) is
+    | inr gone ↦ told_for_good operator effect operator (effect + 1) place (verdict_at verdicts place)
+        (λ nothing. told (record { fell = gone; nothing = nothing })) is
+  ]
 
   -- one verdict is told
   pub one_told : (operator effect place : ℕ) (verdicts : List Verdict) (verdict : Verdict) → place < length p.groups

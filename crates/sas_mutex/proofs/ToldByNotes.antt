@@ -20,22 +20,10 @@ use Rattle.sas_groups.specs.Checks.{IsGone}
 use Rattle.sas_groups.proofs.GreatestFamily.{clash_more, group_of_larger}
 use Rattle.sas_mutex.specs.Effects.{family_of, IsKept, EffectKeeps}
 use Rattle.sas_mutex.specs.Index.{IsIndexOf, HasFact, groups_of}
-use Rattle.sas_mutex.specs.Noting.{value_note, fact_note, IsAgainst, IsMet, Removes, SomeRemoves, AreKnown, AreGone, IsNotedFor, known_at}
+use Rattle.sas_mutex.specs.Marks.{value_note, group_note}
+use Rattle.sas_mutex.specs.Noting.{IsAgainst, IsMet, Removes, SomeRemoves, AreKnown, AreGone, IsNotedFor, known_at}
 use Rattle.sas_mutex.proofs.TaskFacts.{variable_below}
-use Rattle.sas_mutex.proofs.NotesOfFacts.{a_note, value_note_tells, no_value_note_tells, fact_note_tells, no_fact_note_tells, contradict_turned, not_itself}
-
--- two facts are one, or they aren't
-pub one_or_two : (f g : Fact) → (f ≡ g) ⊎ (f ≢ g)
-one_or_two f g = elim (cases_eq f.var g.var) [
-  | inr ne ↦ inr (λ e. ne (ap (λ (x : Fact). x.var) e))
-  | inl var ↦ elim (cases_eq f.value g.value) [
-    | inr ne ↦ inr (λ e. ne (ap (λ (x : Fact). x.value) e))
-    | inl value ↦ inl (same f.var f.value g.var g.value var value)
-  ]
-]
-  where
-    same : (v a w b : ℕ) → v ≡ w → a ≡ b → (let x : Fact = record { var = v; value = a } in x) ≡ record { var = w; value = b }
-    same v a w b var value = rw (var, value) refl
+use Rattle.sas_mutex.proofs.NotesOfFacts.{a_note, one_or_two, value_note_tells, no_value_note_tells, no_note_tells, some_note_tells, contradict_turned, not_itself}
 
 module _ (p : Parts) (index : Index) (kept : List Bool) (marks : Marks) (o : Operator) (conditions : List Fact) (indexed : IsIndexOf p index)
     (are : AreKnown p kept (known o conditions []) marks) (fact : Fact) (exists : FactExists p.variables fact) where
@@ -72,24 +60,20 @@ module _ (p : Parts) (index : Index) (kept : List Bool) (marks : Marks) (o : Ope
   )
   against_clashes (inr bar) =
       let has : HasFact p bar.group.place fact = (indexed.groups fact exists bar.group.place).0 bar.group.among in
-      elim (a_note (fact_note marks.facts bar.group.place)) [
-        | inl none ↦ absurd (bar.group.noted none)
-        | inr w ↦ (let (in_before, has_other) = fact_note_tells p before bar.group.place w.0 (fact_note marks.facts bar.group.place)
-            (are.noted.facts bar.group.place has.exists bar.group.kept_there) w.1 in (
-              fact,
-              w.0,
-              itself,
-              also w.0 in_before,
-              inr (record {
-                differ = λ e. no_value_note_tells before fact.var (value_note marks.values fact.var) (are.noted.values fact.var on_variable) bar.none w.0 in_before
-                    (ap (λ (x : Fact). x.var) (sym e));
-                group = group_at p bar.group.place;
-                counts = (bar.group.place, record { exists = has.exists; chosen = bar.group.kept_there }, refl);
-                first = has.among;
-                second = has_other.among;
-              }),
-            ))
-      ]
+      let (other, of) = some_note_tells p before bar.group.place (group_note marks.groups bar.group.place) (are.noted.groups bar.group.place has.exists) bar.group.some in (
+        fact,
+        other,
+        itself,
+        also other of.among,
+        inr (record {
+          differ = λ e. no_value_note_tells before fact.var (value_note marks.values fact.var) (are.noted.values fact.var on_variable) bar.none other of.among
+              (ap (λ (x : Fact). x.var) (sym e));
+          group = group_at p bar.group.place;
+          counts = (bar.group.place, record { exists = has.exists; chosen = bar.group.kept_there }, refl);
+          first = has.among;
+          second = of.has.among;
+        }),
+      )
 
   -- a fact that is noted doesn't clash with what is known, which doesn't clash by itself
   there_no_clash : Contains before fact → Clash (IsKept p kept) with → ⊥
@@ -116,8 +100,8 @@ module _ (p : Parts) (index : Index) (kept : List Bool) (marks : Marks) (o : Ope
           place = place;
           among = (indexed.groups fact exists place).1 (record { exists = in_family.exists; among = among });
           kept_there = in_family.chosen;
-          noted = λ no_note. no_fact_note_tells p before place (fact_note marks.facts place) (are.noted.facts place in_family.exists in_family.chosen) no_note
-              f in_before (record { exists = in_family.exists; among = among_f });
+          some = λ nothing. no_note_tells p before place (group_note marks.groups place) (are.noted.groups place in_family.exists) nothing
+              f (record { among = in_before; has = record { exists = in_family.exists; among = among_f } });
         };
       })
 
@@ -189,31 +173,28 @@ module _ (p : Parts) (index : Index) (kept : List Bool) (marks : Marks) (o : Ope
         )
 
 -- what clashes clashes with more facts
-pub clash_stays : (p : Parts) (kept : List Bool) (o : Operator) (conditions second : List Fact) → Clash (IsKept p kept) (known o conditions [])
-    → Clash (IsKept p kept) (known o conditions second)
-clash_stays p kept o conditions second clash = (clash.0, clash.1, also_there clash.0 clash.2, also_there clash.1 clash.3, clash.4)
+pub clash_stays : (Counts : List Fact → Type 0) (o : Operator) (conditions second : List Fact) → Clash Counts (known o conditions [])
+    → Clash Counts (known o conditions second)
+clash_stays Counts o conditions second clash = (clash.0, clash.1, also_there clash.0 clash.2, also_there clash.1 clash.3, clash.4)
   where
     also_there : (x : Fact) → Contains (known o conditions []) x → Contains (known o conditions second) x
     also_there x here = subst (λ (xs : List Fact). Contains (xs ++ second) x) (append-nil (preconditions o ++ conditions))
         (Contains-append_left (known o conditions []) second x here)
 
 -- what clashes never is, so that an effect that fires only there keeps each group
-pub clash_keeps : (p : Parts) (kept : List Bool) (o : Operator) (group : List Fact) (e : Effect) → Clash (IsKept p kept) (known o e.conditions [])
-    → EffectKeeps (IsKept p kept) o group e
-clash_keeps p kept o group e clash = record {
-  single = λ other below has on_other. clash_stays p kept o e.conditions (effect_at o other).conditions clash;
-  others = λ f in_group on_other. inl (clash_stays p kept o e.conditions (f ∷ []) clash);
+pub clash_keeps : (Counts : List Fact → Type 0) (o : Operator) (group : List Fact) (e : Effect) → Clash Counts (known o e.conditions [])
+    → EffectKeeps Counts o group e
+clash_keeps Counts o group e clash = record {
+  single = λ other below has on_other. clash_stays Counts o e.conditions (effect_at o other).conditions clash;
+  others = λ f in_group on_other. inl (clash_stays Counts o e.conditions (f ∷ []) clash);
 }
 
--- what is noted for the groups of a family is noted for those of a smaller one
+-- what doesn't clash under a family doesn't under a smaller one
 pub noted_fewer : (p : Parts) (kept fewer : List Bool) (operator effect : ℕ) (marks : Marks) → ((place : ℕ) → IsIn p (family_of fewer) place → IsIn p (family_of kept) place)
     → IsNotedFor p kept operator effect marks → IsNotedFor p fewer operator effect marks
 noted_fewer p kept fewer operator effect marks less noted = record {
   are = record {
-    noted = record {
-      values = noted.are.noted.values;
-      facts = λ place lt chosen. noted.are.noted.facts place lt (less place (record { exists = lt; chosen = chosen })).chosen;
-    };
+    noted = noted.are.noted;
     apart = λ clash. noted.are.apart (clash_more (IsKept p fewer) (IsKept p kept) (known_at p operator effect)
         (group_of_larger p (family_of fewer) (family_of kept) less) clash);
   };

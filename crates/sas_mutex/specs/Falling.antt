@@ -1,5 +1,5 @@
 -- How groups fall out of the family of those that may be kept jointly.
-use Rattle.std.specs.Prelude.{◌≡◌, ℕ, ◌+◌, ◌<◌, ◌≤◌, ◌↔◌, Bool, if◌then◌else◌, IsTrue, List, [], ◌∷◌, ◌++◌, length, drop, All, Contains, vec_capacity}
+use Rattle.std.specs.Prelude.{◌≡◌, ℕ, ◌+◌, ◌<◌, ◌≤◌, ◌↔◌, Bool, if◌then◌else◌, IsTrue, List, [], ◌∷◌, ◌++◌, length, drop, slice_index_or, All, Contains, vec_capacity}
 use Rattle.sas_core.specs.declared.parts.Parts.{Parts}
 use Rattle.sas_grounded.specs.Grounded.{operator_at, effect_at, group_at}
 use Rattle.sas_groups.specs.Clashes.{sets}
@@ -73,3 +73,17 @@ pub record Falls (p : Parts) (before after : Family) : Type 0 where
   pub none_lost : (other : ℕ → Bool) → IsKeptJointly p other
       → ((place : ℕ) → IsIn p other place → IsIn p (family_of before.kept) place)
       → (place : ℕ) → IsIn p other place → IsIn p (family_of after.kept) place
+
+-- how many groups had fallen when the operator was looked at last
+abbrev pub looked_at : List ℕ → ℕ → ℕ
+looked_at looked operator = slice_index_or looked operator 0
+
+-- since then the operator is at rest, but for what fell meanwhile
+pub record WasLookedAt (p : Parts) (family : Family) (looked : List ℕ) (operator : ℕ) : Type 0 where
+  pub within : looked_at looked operator ≤ length family.fallen.items
+  pub rest : IsAtRest p family.kept (drop (looked_at looked operator) family.fallen.items) operator
+
+-- and so is each operator
+pub record AreLookedAt (p : Parts) (family : Family) (looked : List ℕ) : Type 0 where
+  pub one_each : length looked ≡ length p.operators
+  pub each : (operator : ℕ) → operator < length p.operators → WasLookedAt p family looked operator

@@ -1,5 +1,5 @@
 -- The verdicts on all groups of a task, and how they are found.
-use Rattle.std.specs.Prelude.{Bool, ◌≡◌, ℕ, ◌<◌, List, length, slice_index_or, Contains}
+use Rattle.std.specs.Prelude.{Bool, ◌≡◌, ℕ, ◌<◌, List, length, slice_index_or, Contains, IsFalse}
 use Rattle.sas_core.specs.declared.parts.Parts.{Parts}
 use Rattle.sas_grounded.specs.Grounded.{operator_at, effect_at, group_at}
 use Rattle.sas_groups.specs.declared.verdict.Verdict.{Verdict}
@@ -23,6 +23,11 @@ pub record AreJointVerdicts (p : Parts) (verdicts : List Verdict) : Type 0 where
 pub record AreFirstVerdicts (p : Parts) (verdicts : List Verdict) : Type 0 where
   pub one_each : length verdicts ≡ length p.groups
   pub are : (place : ℕ) → place < length p.groups → IsFirstVerdict p (group_at p place) (verdict_at verdicts place)
+
+-- the group at this place isn't in the family, and nothing is told of it so far
+pub record IsUntold (kept : List Bool) (verdicts : List Verdict) (place : ℕ) : Type 0 where
+  pub fell : IsFalse (family_of kept place)
+  pub nothing : verdict_at verdicts place ≡ Exclusive
 
 -- an effect keeps the group at this place, under the family and the group itself
 abbrev pub KeepsWithItself : Parts → List Bool → ℕ → ℕ → ℕ → Type 0

@@ -10,54 +10,44 @@ use Rattle.sas_groups.specs.Clashes.{Clash}
 use Rattle.sas_groups.specs.Lists.{known}
 use Rattle.sas_mutex.specs.declared.index.Index.{Index}
 use Rattle.sas_mutex.specs.declared.marks.Marks.{Marks}
+use Rattle.sas_mutex.specs.declared.marks.Noted.{Noted}
+use Rattle.sas_mutex.specs.declared.marks.Noted.TheVariants.{Nothing, One, Several}
 use Rattle.sas_groups.specs.Checks.{NotBoth, IsGone}
 use Rattle.sas_mutex.specs.Effects.{family_of, IsKept}
 use Rattle.sas_mutex.specs.Index.{IsIndexOf, HasFact}
-use Rattle.sas_mutex.specs.Marks.{IsWide, IsNotedFrom, IsNoted}
-
--- the value noted for a variable, and the fact noted for a group
-abbrev pub value_note : List (Option ℕ) → ℕ → Option ℕ
-value_note values var = slice_index_or values var None
-
-abbrev pub fact_note : List (Option Fact) → ℕ → Option Fact
-fact_note facts place = slice_index_or facts place None
+use Rattle.sas_mutex.specs.Marks.{value_note, group_note, IsWide, IsNotedFrom, IsNoted}
 
 -- places below a number
 abbrev pub AreBelow : ℕ → List ℕ → Type 0
 AreBelow n places = All (λ (place : ℕ). place < n) places
 
--- what is noted for a group is another fact than this
-abbrev pub IsOther : Option Fact → Fact → Type 0
-IsOther note fact = (other : Fact) × (note ≡ Some other) × (other ≢ fact)
-
--- what is noted for a group is this fact or nothing
-abbrev pub IsFree : Option Fact → Fact → Type 0
-IsFree note fact = (other : Fact) → note ≡ Some other → other ≡ fact
+-- what is noted for a group, once this fact of it is noted too
+abbrev pub IsNotedToo : Noted → Fact → Noted → Type 0
+IsNotedToo Nothing fact after = after ≡ One fact
+IsNotedToo (One other) fact after = ((other ≡ fact) × (after ≡ One fact)) ⊎ ((other ≢ fact) × (after ≡ Several))
+IsNotedToo Several fact after = after ≡ Several
 
 -- for one of these groups that is kept another fact is noted
-pub record IsRefused (groups : List ℕ) (kept : List Bool) (fact : Fact) (facts : List (Option Fact)) : Type 0 where
+pub record IsRefused (groups : List ℕ) (kept : List Bool) (fact : Fact) (noted : List Noted) : Type 0 where
   pub place : ℕ
   pub among : Contains groups place
   pub kept_there : IsTrue (family_of kept place)
-  pub other : IsOther (fact_note facts place) fact
+  pub other : IsNotedToo (group_note noted place) fact Several
 
--- the group is one of these, kept, and the fact is noted for it now, where no other was
-pub record Takes (groups : List ℕ) (kept : List Bool) (fact : Fact) (before after : List (Option Fact)) (place : ℕ)
-    : Type 0 where
+-- the fact is noted now for one of these groups; no other was, if it is kept
+pub record Takes (groups : List ℕ) (kept : List Bool) (fact : Fact) (before after : List Noted) (place : ℕ) : Type 0 where
   pub among : Contains groups place
-  pub kept_there : IsTrue (family_of kept place)
-  pub free : IsFree (fact_note before place) fact
-  pub now : fact_note after place ≡ Some fact
+  pub now : IsNotedToo (group_note before place) fact (group_note after place)
+  pub alone : IsTrue (family_of kept place) → group_note after place ≢ Several
 
--- some of these groups take the fact, and the others keep what is noted for them
-pub record TakenBySome (groups : List ℕ) (kept : List Bool) (fact : Fact) (before after : List (Option Fact)) : Type 0 where
+-- some of these groups take the fact; what is noted for the others stays
+pub record TakenBySome (groups : List ℕ) (kept : List Bool) (fact : Fact) (before after : List Noted) : Type 0 where
   pub as_many : length after ≡ length before
-  pub each : (place : ℕ) → (fact_note after place ≡ fact_note before place) ⊎ Takes groups kept fact before after place
+  pub each : (place : ℕ) → (group_note after place ≡ group_note before place) ⊎ Takes groups kept fact before after place
 
--- all of these that are kept take it
-abbrev pub TakenByAll : List ℕ → List Bool → Fact → List (Option Fact) → List (Option Fact) → Type 0
-TakenByAll groups kept fact before after =
-    (place : ℕ) → Contains groups place → IsTrue (family_of kept place) → Takes groups kept fact before after place
+-- all of these take it
+abbrev pub TakenByAll : List ℕ → List Bool → Fact → List Noted → List Noted → Type 0
+TakenByAll groups kept fact before after = (place : ℕ) → Contains groups place → Takes groups kept fact before after place
 
 -- another value is noted for the variable of the fact
 abbrev pub HasOtherValue : List (Option ℕ) → Fact → Type 0
@@ -66,9 +56,9 @@ HasOtherValue values fact = (value : ℕ) × (value_note values fact.var ≡ Som
 -- what changes is the note for the fact's variable, and those for these groups
 pub record ChangesAt (groups : List ℕ) (fact : Fact) (before after : Marks) : Type 0 where
   pub as_many_values : length after.values ≡ length before.values
-  pub as_many_facts : length after.facts ≡ length before.facts
+  pub as_many_groups : length after.groups ≡ length before.groups
   pub values : (var : ℕ) → (value_note after.values var ≡ value_note before.values var) ⊎ (var ≡ fact.var)
-  pub facts : (place : ℕ) → (fact_note after.facts place ≡ fact_note before.facts place) ⊎ Contains groups place
+  pub by_group : (place : ℕ) → (group_note after.groups place ≡ group_note before.groups place) ⊎ Contains groups place
 
 -- the fact was noted before
 pub record IsThere (fact : Fact) (before after : Marks) : Type 0 where
@@ -79,36 +69,36 @@ pub record IsThere (fact : Fact) (before after : Marks) : Type 0 where
 pub record IsNew (groups : List ℕ) (kept : List Bool) (fact : Fact) (before after : Marks) : Type 0 where
   pub none : value_note before.values fact.var ≡ None
   pub values : after.values ≡ slice_set before.values fact.var (Some fact.value)
-  pub some : TakenBySome groups kept fact before.facts after.facts
-  pub all : TakenByAll groups kept fact before.facts after.facts
+  pub some : TakenBySome groups kept fact before.groups after.groups
+  pub all : TakenByAll groups kept fact before.groups after.groups
 
 -- nothing is noted for these groups, and for the others what was, or nothing
-pub record ForgetsGroups (groups : List ℕ) (before after : List (Option Fact)) : Type 0 where
+pub record ForgetsGroups (groups : List ℕ) (before after : List Noted) : Type 0 where
   pub as_many : length after ≡ length before
-  pub none : All (λ (place : ℕ). fact_note after place ≡ None) groups
-  pub each : (place : ℕ) → (fact_note after place ≡ fact_note before place) ⊎ (fact_note after place ≡ None)
+  pub none : All (λ (place : ℕ). group_note after place ≡ Nothing) groups
+  pub each : (place : ℕ) → (group_note after place ≡ group_note before place) ⊎ (group_note after place ≡ Nothing)
 
 -- nothing is noted of the fact
 pub record Forgets (groups : List ℕ) (fact : Fact) (before after : Marks) : Type 0 where
   pub values : after.values ≡ slice_set before.values fact.var None
-  pub facts : ForgetsGroups groups before.facts after.facts
+  pub by_group : ForgetsGroups groups before.groups after.groups
 
 -- for no variable and no group of the fact is anything noted
 pub record IsForgotten (p : Parts) (marks : Marks) (fact : Fact) : Type 0 where
   pub value : value_note marks.values fact.var ≡ None
-  pub groups : (place : ℕ) → HasFact p place fact → fact_note marks.facts place ≡ None
+  pub groups : (place : ℕ) → HasFact p place fact → group_note marks.groups place ≡ Nothing
 
 -- a fact is noted for one of these groups that is kept
-pub record HasNotedGroup (groups : List ℕ) (kept : List Bool) (facts : List (Option Fact)) : Type 0 where
+pub record HasNotedGroup (groups : List ℕ) (kept : List Bool) (noted : List Noted) : Type 0 where
   pub place : ℕ
   pub among : Contains groups place
   pub kept_there : IsTrue (family_of kept place)
-  pub noted : fact_note facts place ≢ None
+  pub some : group_note noted place ≢ Nothing
 
 -- no fact is noted on the variable, and one is noted for a group that is kept
 pub record IsBarred (groups : List ℕ) (kept : List Bool) (fact : Fact) (marks : Marks) : Type 0 where
   pub none : value_note marks.values fact.var ≡ None
-  pub group : HasNotedGroup groups kept marks.facts
+  pub group : HasNotedGroup groups kept marks.groups
 
 -- the notes speak against the fact
 abbrev pub IsAgainst : List ℕ → List Bool → Fact → Marks → Type 0
@@ -137,7 +127,7 @@ pub record AreOf (p : Parts) (index : Index) (kept : List Bool) (marks : Marks) 
 
 -- the facts are noted and don't clash
 pub record AreKnown (p : Parts) (kept : List Bool) (facts : List Fact) (marks : Marks) : Type 0 where
-  pub noted : IsNoted p kept facts marks
+  pub noted : IsNoted p facts marks
   pub apart : Clash (IsKept p kept) facts → ⊥
 
 -- what is known where the effect at this place of this operator fires

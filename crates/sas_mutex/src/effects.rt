@@ -9,46 +9,15 @@ ghost use Rattle.sas_groups.specs.Lists.{known};
 ghost use Rattle.sas_groups.specs.Checks.{NotBoth, IsGone};
 ghost use Rattle.sas_mutex.specs.Effects.{family_of, IsKept, EffectKeeps};
 ghost use Rattle.sas_mutex.specs.Index.{IsIndexOf, groups_of};
-ghost use Rattle.sas_mutex.specs.Marks.{IsWide, IsClean};
+ghost use Rattle.sas_mutex.specs.Marks.{IsWide};
 ghost use Rattle.sas_mutex.specs.Noting.{AreBelow, HasNotedGroup, IsAgainst, IsMet, SomeRemoves, Removes};
 ghost use Rattle.sas_mutex.specs.Noting.{AreOf, AreKnown, IsNotedFor, IsSingle, AreGone, IsUnknown, IsSettled};
 ghost use Rattle.sas_mutex.specs.Runs.{AreOnOne};
 
 use crate::index::Index;
-use crate::marks::{Marks, forget_known, note_known};
+use crate::marks::{Marks, Noted, forget_known, note_known};
 use sas_core::{Fact, Items};
 use sas_grounded::{Change, Grounded};
-
-/// Whether the effect keeps the group, which is in the family, where the groups of the family count.
-pub fn effect_keeps<T: Grounded>(
-    task: &T,
-    index: &Index,
-    kept: &[bool],
-    operator: u32,
-    effect: u32,
-    group: u32,
-    marks: &mut Marks,
-) -> bool
-    requires index { IsIndexOf (T.says task.now) index.now }
-    requires operator { operator < length (T.says task.now).operators }
-    requires effect { effect < length (operator_at (T.says task.now) operator).effects }
-    requires group { IsIn (T.says task.now) (family_of kept.now) group }
-    requires one_each { length kept.now ≡ length (T.says task.now).groups }
-    requires clean { IsClean (T.says task.now) marks.old }
-    ensures clean { IsClean (T.says task.now) marks.new }
-    ensures yes { IsTrue result → EffectKeeps (IsKept (T.says task.now) kept.now) (operator_at (T.says task.now) operator)
-        (group_at (T.says task.now) group) (effect_at (operator_at (T.says task.now) operator) effect) }
-    ensures no { IsFalse result → EffectKeeps (IsKept (T.says task.now) kept.now) (operator_at (T.says task.now) operator)
-        (group_at (T.says task.now) group) (effect_at (operator_at (T.says task.now) operator) effect) → ⊥ }
-{
-    // The contract of this call tells that what the task says is well ranged.
-    let _ = task.variables();
-    let conditions = task.effect_conditions(operator, effect);
-    let keeps = note_known(task, index, kept, operator, conditions, &[], marks)
-        || keeps_by_notes(task, index, kept, operator, effect, group, marks);
-    forget_known(task, index, operator, conditions, &[], marks);
-    keeps
-}
 
 /// Whether the effect keeps the group, which is in the family. What is known where it fires is noted, and doesn't clash.
 pub fn keeps_by_notes<T: Grounded>(
@@ -245,7 +214,7 @@ fn none_stays<T: Grounded>(
         (group_at (T.says task.now) group) (effect_at (operator_at (T.says task.now) operator) effect) → ⊥ }
 {
     // Where a fact of the group is known, it contradicts all the others.
-    if let Some(fact) = marks.facts.as_slice()[group as usize] {
+    if let Some(fact) = marks.groups.as_slice()[group as usize].only() {
         return is_gone(task, index, kept, operator, effect, fact, marks);
     }
     let mut left = task.group(group);
@@ -349,25 +318,25 @@ fn contradicts(index: &Index, kept: &[bool], fact: Fact, marks: &Marks) -> bool
     requires low { All (λ (first : ℕ). first ≤ 2 ^ 62) index.now.firsts.items }
     requires value { fact.var < length marks.now.values }
     requires kept { AreBelow (length kept.now) (groups_of index.now fact) }
-    requires facts { AreBelow (length marks.now.facts) (groups_of index.now fact) }
+    requires groups { AreBelow (length marks.now.groups) (groups_of index.now fact) }
     ensures yes { IsTrue result → IsAgainst (groups_of index.now fact) kept.now fact marks.now }
     ensures no { IsFalse result → IsAgainst (groups_of index.now fact) kept.now fact marks.now → ⊥ }
 {
     match marks.values.as_slice()[fact.var as usize] {
         Some(value) => value != fact.value,
-        None => has_noted(index.groups_of(fact), kept, &marks.facts),
+        None => has_noted(index.groups_of(fact), kept, &marks.groups),
     }
 }
 
 /// Whether a fact is noted for one of these groups that is kept.
-fn has_noted(groups: &[u32], kept: &[bool], facts: &Items<Option<Fact>>) -> bool
+fn has_noted(groups: &[u32], kept: &[bool], noted: &Items<Noted>) -> bool
     requires kept { AreBelow (length kept.now) groups.now }
-    requires facts { AreBelow (length facts.now) groups.now }
-    ensures yes { IsTrue result → HasNotedGroup groups.now kept.now facts.now }
-    ensures no { IsFalse result → HasNotedGroup groups.now kept.now facts.now → ⊥ }
+    requires noted { AreBelow (length noted.now) groups.now }
+    ensures yes { IsTrue result → HasNotedGroup groups.now kept.now noted.now }
+    ensures no { IsFalse result → HasNotedGroup groups.now kept.now noted.now → ⊥ }
 {
     for group in groups {
-        if kept[*group as usize] && facts.as_slice()[*group as usize].is_some() {
+        if kept[*group as usize] && !noted.as_slice()[*group as usize].is_nothing() {
             return true;
         }
     }

@@ -9,7 +9,8 @@ ghost use Rattle.sas_mutex.specs.Effects.{family_of};
 ghost use Rattle.sas_mutex.specs.Index.{IsIndexOf, AreMentions};
 ghost use Rattle.sas_mutex.specs.Marks.{IsClean};
 ghost use Rattle.sas_mutex.specs.Noting.{AreNoted, IsNotedFor};
-ghost use Rattle.sas_mutex.specs.Falling.{count, HasRoom, AreCandidates, newly, Falls, IsAtRest, IsEffectAtRest, IsPlain, ArePlainAtRest, RestsAt};
+ghost use Rattle.sas_mutex.specs.Falling.{count, HasRoom, AreCandidates, newly, Falls, looked_at, AreLookedAt};
+ghost use Rattle.sas_mutex.specs.Falling.{IsAtRest, IsEffectAtRest, IsPlain, ArePlainAtRest, RestsAt};
 
 use crate::effects::keeps_by_notes;
 use crate::index::{Index, under};
@@ -28,16 +29,19 @@ pub struct Family {
 }
 
 /// Takes from the family, which has the groups that may be exclusive, each that some operator doesn't keep, until every
-/// operator keeps each that is left. After a group fell only those operators are looked at again that mention a fact of it.
+/// operator keeps each that is left. After groups fell only those operators are looked at again that mention a fact of one.
+/// What was noted of the operators, one item for each, counts for nothing.
 pub fn find_greatest<T: Grounded>(
     task: &T,
     index: &Index,
     mentions: &Lists<u32>,
+    looked: &mut Items<u32>,
     family: &mut Family,
     marks: &mut Marks,
 )
     requires index { IsIndexOf (T.says task.now) index.now }
     requires mentions { AreMentions (T.says task.now) mentions.now }
+    requires one_each { length looked.old ≡ length (T.says task.now).operators }
     requires candidates { AreCandidates (T.says task.now) family.old.kept }
     requires none { family.old.fallen.items ≡ [] }
     requires room { HasRoom (T.says task.now) family.old }
@@ -46,40 +50,46 @@ pub fn find_greatest<T: Grounded>(
     ensures one_each { length family.new.kept ≡ length (T.says task.now).groups }
     ensures clean { IsClean (T.says task.now) marks.new }
 {
-    look_at_all(task, index, family, marks);
-    look_again(task, index, mentions, family, marks);
+    look_at_all(task, index, looked, family, marks);
+    look_again(task, index, mentions, looked, family, marks);
 }
 
 /// Looks at each operator once.
-fn look_at_all<T: Grounded>(task: &T, index: &Index, family: &mut Family, marks: &mut Marks)
+fn look_at_all<T: Grounded>(
+    task: &T,
+    index: &Index,
+    looked: &mut Items<u32>,
+    family: &mut Family,
+    marks: &mut Marks,
+)
     requires index { IsIndexOf (T.says task.now) index.now }
+    requires one_each { length looked.old ≡ length (T.says task.now).operators }
     requires room { HasRoom (T.says task.now) family.old }
     requires clean { IsClean (T.says task.now) marks.old }
     ensures falls { Falls (T.says task.now) family.old family.new }
-    ensures rest { (operator : ℕ) → operator < length (T.says task.now).operators
-        → IsAtRest (T.says task.now) family.new.kept (newly family.old family.new) operator }
+    ensures looked { AreLookedAt (T.says task.now) family.new looked.new }
     ensures room { HasRoom (T.says task.now) family.new }
     ensures clean { IsClean (T.says task.now) marks.new }
 {
     for operator in 0..task.operators() {
-        look_at(task, index, operator, family, marks);
+        look_once(task, index, operator, looked, family, marks);
     }
 }
 
-/// Looks again at the operators that mention a fact of a group that fell, until no more falls.
+/// Goes through the groups that fell, and looks again at the operators that mention a fact of one, until no more falls.
 fn look_again<T: Grounded>(
     task: &T,
     index: &Index,
     mentions: &Lists<u32>,
+    looked: &mut Items<u32>,
     family: &mut Family,
     marks: &mut Marks,
 )
     requires index { IsIndexOf (T.says task.now) index.now }
     requires mentions { AreMentions (T.says task.now) mentions.now }
-    requires room { HasRoom (T.says task.now) family.old }
+    requires looked { AreLookedAt (T.says task.now) family.old looked.old }
     requires exist { All (λ (place : ℕ). place < length (T.says task.now).groups) family.old.fallen.items }
-    requires rest { (operator : ℕ) → operator < length (T.says task.now).operators
-        → IsAtRest (T.says task.now) family.old.kept family.old.fallen.items operator }
+    requires room { HasRoom (T.says task.now) family.old }
     requires clean { IsClean (T.says task.now) marks.old }
     ensures falls { Falls (T.says task.now) family.old family.new }
     ensures rest { (operator : ℕ) → operator < length (T.says task.now).operators
@@ -89,31 +99,67 @@ fn look_again<T: Grounded>(
     let mut next = 0;
     while next < family.fallen.len() {
         let group = family.fallen[next];
+        let operators = under(mentions, group as usize);
+        look_at_each(task, index, operators, next, looked, family, marks);
         next += 1;
-        look_at_each(task, index, under(mentions, group as usize), family, marks);
     }
 }
 
-/// Looks at these operators.
+/// Looks at those of the operators that weren't looked at since the group at this place of the fallen ones fell.
 fn look_at_each<T: Grounded>(
     task: &T,
     index: &Index,
     operators: &[u32],
+    place: usize,
+    looked: &mut Items<u32>,
     family: &mut Family,
     marks: &mut Marks,
 )
     requires index { IsIndexOf (T.says task.now) index.now }
     requires exist { All (λ (operator : ℕ). operator < length (T.says task.now).operators) operators.now }
+    requires place { place < length family.old.fallen.items }
+    requires looked { AreLookedAt (T.says task.now) family.old looked.old }
     requires room { HasRoom (T.says task.now) family.old }
     requires clean { IsClean (T.says task.now) marks.old }
     ensures falls { Falls (T.says task.now) family.old family.new }
-    ensures rest { All (IsAtRest (T.says task.now) family.new.kept (newly family.old family.new)) operators.now }
+    ensures looked { AreLookedAt (T.says task.now) family.new looked.new }
+    ensures later { (operator : ℕ) → looked_at looked.old operator ≤ looked_at looked.new operator }
+    ensures past { All (λ (operator : ℕ). place < looked_at looked.new operator) operators.now }
     ensures room { HasRoom (T.says task.now) family.new }
     ensures clean { IsClean (T.says task.now) marks.new }
 {
     for operator in operators {
-        look_at(task, index, *operator, family, marks);
+        if looked.as_slice()[*operator as usize] as usize <= place {
+            look_once(task, index, *operator, looked, family, marks);
+        }
     }
+}
+
+/// Looks at the operator, and notes how many groups had fallen before.
+fn look_once<T: Grounded>(
+    task: &T,
+    index: &Index,
+    operator: u32,
+    looked: &mut Items<u32>,
+    family: &mut Family,
+    marks: &mut Marks,
+)
+    requires index { IsIndexOf (T.says task.now) index.now }
+    requires operator { operator < length (T.says task.now).operators }
+    requires one_each { length looked.old ≡ length (T.says task.now).operators }
+    requires room { HasRoom (T.says task.now) family.old }
+    requires clean { IsClean (T.says task.now) marks.old }
+    ensures falls { Falls (T.says task.now) family.old family.new }
+    ensures rest { IsAtRest (T.says task.now) family.new.kept (newly family.old family.new) operator }
+    ensures looked { looked.new ≡ slice_set looked.old operator (length family.old.fallen.items) }
+    ensures room { HasRoom (T.says task.now) family.new }
+    ensures clean { IsClean (T.says task.now) marks.new }
+{
+    // The contract of this call tells that what the task says is well ranged, so it hasn't more groups than a `u32` tells.
+    let _ = task.variables();
+    let fallen = family.fallen.len() as u32;
+    look_at(task, index, operator, family, marks);
+    looked.set(operator as usize, fallen);
 }
 
 /// Takes from the family the groups that the operator doesn't keep.

@@ -1,5 +1,5 @@
 // The joint verdict on each group.
-ghost use Rattle.std.specs.Prelude.{◌≡◌, ◌≢◌, ℕ, ◌+◌, ◌<◌, ◌≤◌, ◌↔◌, [], length, IfOk, IsTrue, IsFalse, vec_capacity};
+ghost use Rattle.std.specs.Prelude.{◌≡◌, ◌≢◌, ℕ, ◌+◌, ◌<◌, ◌≤◌, ◌↔◌, [], length, All, IfOk, IsTrue, IsFalse, vec_capacity};
 ghost use Rattle.sas_grounded.specs.Grounded.{operator_at, effect_at};
 ghost use Rattle.sas_groups.specs.Clashes.{sets};
 ghost use Rattle.sas_groups.specs.Families.{IsGreatest};
@@ -7,12 +7,14 @@ ghost use Rattle.sas_groups.specs.declared.verdict.Verdict.TheVariants.{Exclusiv
 ghost use Rattle.sas_mutex.specs.Effects.{family_of};
 ghost use Rattle.sas_mutex.specs.Index.{IsIndexOf, HasFact};
 ghost use Rattle.sas_mutex.specs.Marks.{IsClean};
-ghost use Rattle.sas_mutex.specs.Joint.{verdict_at, AreJointVerdicts, AreFirstVerdicts, KeepsWithItself, IsVerdictSoFar, AreVerdictsSoFar};
+ghost use Rattle.sas_mutex.specs.Noting.{AreBelow, AreOf, IsNotedFor};
+ghost use Rattle.sas_mutex.specs.Joint.{verdict_at, AreJointVerdicts, AreFirstVerdicts};
+ghost use Rattle.sas_mutex.specs.Joint.{IsUntold, KeepsWithItself, IsVerdictSoFar, AreVerdictsSoFar};
 
-use crate::effects::effect_keeps;
+use crate::effects::keeps_by_notes;
 use crate::family::{Family, find_greatest};
 use crate::index::Index;
-use crate::marks::Marks;
+use crate::marks::{Marks, forget_known, note_known};
 use crate::mentions::mentions_of;
 use sas_core::{Fact, Items};
 use sas_grounded::Grounded;
@@ -34,8 +36,17 @@ pub fn check_groups<T: Grounded>(
     let mut marks = Marks::new(alloc, task)?;
     let index = Index::new(alloc, task)?;
     let mentions = mentions_of(alloc, task, &index)?;
-    find_greatest(task, &index, &mentions, &mut family, &mut marks);
+    let mut looked = Items::from_vec(vec![in alloc; 0; task.operators() as usize]?);
+    find_greatest(
+        task,
+        &index,
+        &mentions,
+        &mut looked,
+        &mut family,
+        &mut marks,
+    );
     tell_breaking(task, &index, &mut family.kept, &mut verdicts, &mut marks);
+    drop(looked);
     drop(mentions);
     drop(index);
     drop(marks);
@@ -128,7 +139,8 @@ fn tell_broken_by<T: Grounded>(
     }
 }
 
-/// Tells of each group that fell, and of which nothing is told so far, whether the effect keeps it.
+/// Tells of each group that fell, and of which nothing is told so far, whether the effect keeps it. What is known where it
+/// fires is noted once for all of them; if that clashes, it never fires.
 fn tell_broken_by_effect<T: Grounded>(
     task: &T,
     index: &Index,
@@ -157,12 +169,80 @@ fn tell_broken_by_effect<T: Grounded>(
         value: change.new,
     };
     let groups = index.groups_of(set);
+    if !some_untold(groups, kept.as_slice(), verdicts.as_slice()) {
+        return;
+    }
+    let conditions = task.effect_conditions(operator, effect);
+    if !note_known(
+        task,
+        index,
+        kept.as_slice(),
+        operator,
+        conditions,
+        &[],
+        marks,
+    ) {
+        tell_groups(task, index, operator, effect, groups, kept, verdicts, marks);
+    }
+    forget_known(task, index, operator, conditions, &[], marks);
+}
+
+/// Whether one of these groups fell, and nothing is told of it so far.
+fn some_untold(groups: &[u32], kept: &[bool], verdicts: &[Verdict]) -> bool
+    requires kept { AreBelow (length kept.now) groups.now }
+    requires verdicts { AreBelow (length verdicts.now) groups.now }
+    ensures { IsFalse result → All (λ (place : ℕ). IsUntold kept.now verdicts.now place → ⊥) groups.now }
+{
+    for group in groups {
+        if is_untold(*group, kept, verdicts) {
+            return true;
+        }
+    }
+    false
+}
+
+/// Whether the group fell, and nothing is told of it so far.
+fn is_untold(group: u32, kept: &[bool], verdicts: &[Verdict]) -> bool
+    requires kept { group < length kept.now }
+    requires verdicts { group < length verdicts.now }
+    ensures yes { IsTrue result → IsUntold kept.now verdicts.now group }
+    ensures no { IsFalse result → IsUntold kept.now verdicts.now group → ⊥ }
+{
+    is_exclusive(verdicts[group as usize]) && !kept[group as usize]
+}
+
+/// Tells of each of these groups, which have the fact that the effect sets, if it fell and nothing is told of it so far,
+/// whether the effect keeps it, by what is noted.
+fn tell_groups<T: Grounded>(
+    task: &T,
+    index: &Index,
+    operator: u32,
+    effect: u32,
+    groups: &[u32],
+    kept: &mut Items<bool>,
+    verdicts: &mut Items<Verdict>,
+    marks: &mut Marks,
+)
+    requires fit { AreOf (T.says task.now) index.now kept.old marks.old }
+    requires operator { operator < length (T.says task.now).operators }
+    requires effect { effect < length (operator_at (T.says task.now) operator).effects }
+    requires have { All (λ (place : ℕ). HasFact (T.says task.now) place
+        (sets (effect_at (operator_at (T.says task.now) operator) effect))) groups.now }
+    requires greatest { IsGreatest (T.says task.now) (family_of kept.old) }
+    requires so_far { AreVerdictsSoFar (T.says task.now) kept.old operator effect verdicts.old }
+    requires noted { IsNotedFor (T.says task.now) kept.old operator effect marks.old }
+    ensures so_far { AreVerdictsSoFar (T.says task.now) kept.old operator effect verdicts.new }
+    ensures told { All (λ (place : ℕ). IsVerdictSoFar (T.says task.now) kept.old operator (effect + 1) place
+        (verdict_at verdicts.new place)) groups.now }
+    ensures kept { kept.new ≡ kept.old }
+    ensures noted { IsNotedFor (T.says task.now) kept.old operator effect marks.new }
+{
     for group in groups {
         tell_group(task, index, operator, effect, *group, kept, verdicts, marks);
     }
 }
 
-/// If the group fell and nothing is told of it so far, tells whether the effect keeps it.
+/// If the group fell and nothing is told of it so far, tells whether the effect keeps it, by what is noted.
 fn tell_group<T: Grounded>(
     task: &T,
     index: &Index,
@@ -173,30 +253,28 @@ fn tell_group<T: Grounded>(
     verdicts: &mut Items<Verdict>,
     marks: &mut Marks,
 )
-    requires index { IsIndexOf (T.says task.now) index.now }
+    requires fit { AreOf (T.says task.now) index.now kept.old marks.old }
     requires operator { operator < length (T.says task.now).operators }
     requires effect { effect < length (operator_at (T.says task.now) operator).effects }
     requires has { HasFact (T.says task.now) group (sets (effect_at (operator_at (T.says task.now) operator) effect)) }
     requires greatest { IsGreatest (T.says task.now) (family_of kept.old) }
-    requires one_each { length kept.old ≡ length (T.says task.now).groups }
     requires so_far { AreVerdictsSoFar (T.says task.now) kept.old operator effect verdicts.old }
-    requires clean { IsClean (T.says task.now) marks.old }
+    requires noted { IsNotedFor (T.says task.now) kept.old operator effect marks.old }
     ensures so_far { AreVerdictsSoFar (T.says task.now) kept.old operator effect verdicts.new }
     ensures told { IsVerdictSoFar (T.says task.now) kept.old operator (effect + 1) group (verdict_at verdicts.new group) }
     ensures others { (place : ℕ) → place ≢ group → verdict_at verdicts.new place ≡ verdict_at verdicts.old place }
     ensures kept { kept.new ≡ kept.old }
-    ensures clean { IsClean (T.says task.now) marks.new }
+    ensures noted { IsNotedFor (T.says task.now) kept.old operator effect marks.new }
 {
-    if is_exclusive(verdicts.as_slice()[group as usize])
-        && !kept.as_slice()[group as usize]
+    if is_untold(group, kept.as_slice(), verdicts.as_slice())
         && !keeps_with_itself(task, index, operator, effect, group, kept, marks)
     {
         verdicts.set(group as usize, Verdict::Broken { operator });
     }
 }
 
-/// Whether the effect keeps the group, which isn't in the family, under the family and the group itself. The family is in the
-/// end as it was.
+/// Whether the effect keeps the group, which isn't in the family, under the family and the group itself, by what is noted.
+/// The family is in the end as it was.
 fn keeps_with_itself<T: Grounded>(
     task: &T,
     index: &Index,
@@ -206,20 +284,23 @@ fn keeps_with_itself<T: Grounded>(
     kept: &mut Items<bool>,
     marks: &mut Marks,
 ) -> bool
-    requires index { IsIndexOf (T.says task.now) index.now }
+    requires fit { AreOf (T.says task.now) index.now kept.old marks.old }
     requires operator { operator < length (T.says task.now).operators }
     requires effect { effect < length (operator_at (T.says task.now) operator).effects }
     requires group { group < length (T.says task.now).groups }
-    requires one_each { length kept.old ≡ length (T.says task.now).groups }
     requires outside { IsFalse (family_of kept.old group) }
-    requires clean { IsClean (T.says task.now) marks.old }
+    requires noted { IsNotedFor (T.says task.now) kept.old operator effect marks.old }
     ensures yes { IsTrue result → KeepsWithItself (T.says task.now) kept.old operator effect group }
     ensures no { IsFalse result → KeepsWithItself (T.says task.now) kept.old operator effect group → ⊥ }
     ensures kept { kept.new ≡ kept.old }
-    ensures clean { IsClean (T.says task.now) marks.new }
+    ensures noted { IsNotedFor (T.says task.now) kept.old operator effect marks.new }
 {
+    // Two facts of the group are known where the effect fires, so as the group counts it never does.
+    if marks.groups.as_slice()[group as usize].is_several() {
+        return true;
+    }
     kept.set(group as usize, true);
-    let keeps = effect_keeps(task, index, kept.as_slice(), operator, effect, group, marks);
+    let keeps = keeps_by_notes(task, index, kept.as_slice(), operator, effect, group, marks);
     kept.set(group as usize, false);
     keeps
 }

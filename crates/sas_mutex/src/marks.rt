@@ -1,14 +1,15 @@
 // Facts noted by variable and by group, so that each further one is compared with all in a fixed time.
-ghost use Rattle.std.specs.Prelude.{◌≡◌, ◌<◌, ◌≤◌, ◌^◌, ◌⊎◌, ℕ, length, IsTrue, IsFalse, IfOk, All};
+ghost use Rattle.std.specs.Prelude.{◌≡◌, ◌≢◌, ◌<◌, ◌≤◌, ◌^◌, ◌⊎◌, ◌↔◌, ℕ, length, Some, None, IsTrue, IsFalse, IfOk, All};
 ghost use Rattle.sas_grounded.specs.Grounded.{operator_at};
 ghost use Rattle.sas_core.specs.Variables.{FactExists};
 ghost use Rattle.sas_groups.specs.Clashes.{Clash};
 ghost use Rattle.sas_groups.specs.Lists.{known};
 ghost use Rattle.sas_mutex.specs.Effects.{IsKept};
 ghost use Rattle.sas_core.specs.WellRanged.{WellRanged};
+ghost use Rattle.sas_mutex.specs.declared.marks.Noted.TheVariants.{Nothing, One, Several};
 ghost use Rattle.sas_mutex.specs.Index.{IsIndexOf, groups_of};
 ghost use Rattle.sas_mutex.specs.Marks.{IsClean, IsNotedFrom, IsNoted};
-ghost use Rattle.sas_mutex.specs.Noting.{AreBelow, IsOther, IsFree, IsRefused, TakenBySome, TakenByAll, HasOtherValue};
+ghost use Rattle.sas_mutex.specs.Noting.{AreBelow, IsNotedToo, IsRefused, TakenBySome, TakenByAll, HasOtherValue};
 ghost use Rattle.sas_mutex.specs.Noting.{ChangesAt, IsThere, IsNew, ForgetsGroups, Forgets};
 
 use crate::index::Index;
@@ -17,13 +18,68 @@ use sas_grounded::Grounded;
 use sas_groups::Known;
 use std::alloc::{AllocError, Global};
 
-/// Some facts, noted by variable and by group.
+/// Which facts of a group are noted.
+#[derive(Clone, Copy)]
+pub enum Noted {
+    /// None of them.
+    Nothing,
+    /// This one, and no other.
+    One(Fact),
+    /// Two at least. Where the group counts, they contradict each other.
+    Several,
+}
+
+impl Noted {
+    /// What is noted once this fact of the group is noted too.
+    fn with(self, fact: Fact) -> Noted
+        ensures { IsNotedToo self fact result }
+    {
+        match self {
+            Noted::Nothing => Noted::One(fact),
+            Noted::One(other) if other == fact => self,
+            _ => Noted::Several,
+        }
+    }
+
+    /// The fact that is noted, if it is the only one.
+    pub fn only(self) -> Option<Fact>
+        ensures some { (fact : Fact) → result ≡ Some fact → self ≡ One fact }
+        ensures none { result ≡ None → (fact : Fact) → self ≢ One fact }
+    {
+        match self {
+            Noted::One(fact) => Some(fact),
+            _ => None,
+        }
+    }
+
+    /// Whether none is noted.
+    pub fn is_nothing(self) -> bool
+        ensures { IsTrue result ↔ (self ≡ Nothing) }
+    {
+        match self {
+            Noted::Nothing => true,
+            _ => false,
+        }
+    }
+
+    /// Whether several are noted.
+    pub fn is_several(self) -> bool
+        ensures { IsTrue result ↔ (self ≡ Several) }
+    {
+        match self {
+            Noted::Several => true,
+            _ => false,
+        }
+    }
+}
+
+/// Some facts, noted by variable and by group. What is noted for a group doesn't depend on whether it counts.
 #[derive(Drop)]
 pub struct Marks {
     /// For each variable, the value of a fact on it.
     pub values: Items<Option<u32>>,
-    /// For each group, a fact that it has.
-    pub facts: Items<Option<Fact>>,
+    /// For each group, which facts of it are noted.
+    pub groups: Items<Noted>,
 }
 
 impl Marks {
@@ -33,7 +89,7 @@ impl Marks {
     {
         Ok(Marks {
             values: Items::from_vec(vec![in alloc; None; task.variables() as usize]?),
-            facts: Items::from_vec(vec![in alloc; None; task.groups() as usize]?),
+            groups: Items::from_vec(vec![in alloc; Noted::Nothing; task.groups() as usize]?),
         })
     }
 }
@@ -60,7 +116,7 @@ pub fn note_known<T: Grounded>(
         (known (operator_at (T.says task.now) operator) first.now second.now) }
     ensures no { IsFalse result → Clash (IsKept (T.says task.now) kept.now)
         (known (operator_at (T.says task.now) operator) first.now second.now) → ⊥ }
-    ensures noted { IsFalse result → IsNoted (T.says task.now) kept.now
+    ensures noted { IsFalse result → IsNoted (T.says task.now)
         (known (operator_at (T.says task.now) operator) first.now second.now) marks.new }
     ensures from { IsNotedFrom (T.says task.now)
         (known (operator_at (T.says task.now) operator) first.now second.now) marks.new }
@@ -78,55 +134,38 @@ fn note(index: &Index, kept: &[bool], fact: Fact, marks: &mut Marks) -> bool
     requires low { All (λ (first : ℕ). first ≤ 2 ^ 62) index.now.firsts.items }
     requires value { fact.var < length marks.old.values }
     requires kept { AreBelow (length kept.now) (groups_of index.now fact) }
-    requires facts { AreBelow (length marks.old.facts) (groups_of index.now fact) }
+    requires groups { AreBelow (length marks.old.groups) (groups_of index.now fact) }
     ensures yes { IsTrue result → IsThere fact marks.old marks.new
         ⊎ IsNew (groups_of index.now fact) kept.now fact marks.old marks.new }
     ensures no { IsFalse result → HasOtherValue marks.old.values fact
-        ⊎ IsRefused (groups_of index.now fact) kept.now fact marks.old.facts }
+        ⊎ IsRefused (groups_of index.now fact) kept.now fact marks.old.groups }
     ensures changes { ChangesAt (groups_of index.now fact) fact marks.old marks.new }
 {
     match marks.values.as_slice()[fact.var as usize] {
         Some(value) => value == fact.value,
         None => {
             marks.values.set(fact.var as usize, Some(fact.value));
-            note_in_groups(index.groups_of(fact), kept, fact, &mut marks.facts)
+            note_in_groups(index.groups_of(fact), kept, fact, &mut marks.groups)
         }
     }
 }
 
-/// Notes the fact for the groups that are kept. Says whether no other fact is noted for one of them.
-fn note_in_groups(
-    groups: &[u32],
-    kept: &[bool],
-    fact: Fact,
-    facts: &mut Items<Option<Fact>>,
-) -> bool
+/// Notes the fact for these groups, which have it. Says whether no other fact is noted for one of them that is kept.
+fn note_in_groups(groups: &[u32], kept: &[bool], fact: Fact, noted: &mut Items<Noted>) -> bool
     requires kept { AreBelow (length kept.now) groups.now }
-    requires facts { AreBelow (length facts.old) groups.now }
-    ensures yes { IsTrue result → TakenByAll groups.now kept.now fact facts.old facts.new }
-    ensures no { IsFalse result → IsRefused groups.now kept.now fact facts.old }
-    ensures some { TakenBySome groups.now kept.now fact facts.old facts.new }
+    requires noted { AreBelow (length noted.old) groups.now }
+    ensures yes { IsTrue result → TakenByAll groups.now kept.now fact noted.old noted.new }
+    ensures no { IsFalse result → IsRefused groups.now kept.now fact noted.old }
+    ensures some { TakenBySome groups.now kept.now fact noted.old noted.new }
 {
     for group in groups {
-        if kept[*group as usize] {
-            if is_other(facts.as_slice()[*group as usize], fact) {
-                return false;
-            }
-            facts.set(*group as usize, Some(fact));
+        let now = noted.as_slice()[*group as usize].with(fact);
+        if now.is_several() && kept[*group as usize] {
+            return false;
         }
+        noted.set(*group as usize, now);
     }
     true
-}
-
-/// Whether what is noted for a group is another fact than this.
-fn is_other(noted: Option<Fact>, fact: Fact) -> bool
-    ensures yes { IsTrue result → IsOther noted fact }
-    ensures no { IsFalse result → IsFree noted fact }
-{
-    match noted {
-        Some(noted) => noted != fact,
-        None => false,
-    }
 }
 
 /// Takes back what is noted of these facts.
@@ -156,19 +195,19 @@ pub fn forget_known<T: Grounded>(
 fn forget(index: &Index, fact: Fact, marks: &mut Marks)
     requires low { All (λ (first : ℕ). first ≤ 2 ^ 62) index.now.firsts.items }
     requires value { fact.var < length marks.old.values }
-    requires facts { AreBelow (length marks.old.facts) (groups_of index.now fact) }
+    requires groups { AreBelow (length marks.old.groups) (groups_of index.now fact) }
     ensures { Forgets (groups_of index.now fact) fact marks.old marks.new }
 {
     marks.values.set(fact.var as usize, None);
-    forget_groups(index.groups_of(fact), &mut marks.facts);
+    forget_groups(index.groups_of(fact), &mut marks.groups);
 }
 
 /// Takes back what is noted for these groups.
-fn forget_groups(groups: &[u32], facts: &mut Items<Option<Fact>>)
-    requires { AreBelow (length facts.old) groups.now }
-    ensures { ForgetsGroups groups.now facts.old facts.new }
+fn forget_groups(groups: &[u32], noted: &mut Items<Noted>)
+    requires { AreBelow (length noted.old) groups.now }
+    ensures { ForgetsGroups groups.now noted.old noted.new }
 {
     for group in groups {
-        facts.set(*group as usize, None);
+        noted.set(*group as usize, Noted::Nothing);
     }
 }

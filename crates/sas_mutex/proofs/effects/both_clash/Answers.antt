@@ -23,7 +23,7 @@ returns-clause-noted g c =
     ] in
     record {
       are = record {
-        noted = subst (λ (conditions : List Fact). IsNoted p kept (known o conditions []) c.note_known.new.marks) same (c.note_known.ensures.noted no_clash);
+        noted = subst (λ (conditions : List Fact). IsNoted p (known o conditions []) c.note_known.new.marks) same (c.note_known.ensures.noted no_clash);
         apart = apart;
       };
       from = subst (λ (conditions : List Fact). IsNotedFrom p (known o conditions []) c.note_known.new.marks) same c.note_known.ensures.from;

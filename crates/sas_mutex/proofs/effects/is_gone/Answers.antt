@@ -10,9 +10,9 @@ pub contradicts-requires-clause-kept : goal.contradicts-requires-clause-kept
 contradicts-requires-clause-kept g c =
     groups_below (g.T.Grounded.says c.args.task.now) c.args.index.now c.args.fact (length c.args.kept.now) c.requires.fit.indexed c.requires.fact c.requires.fit.one_each
 
-pub contradicts-requires-clause-facts : goal.contradicts-requires-clause-facts
-contradicts-requires-clause-facts g c =
-    groups_below (g.T.Grounded.says c.args.task.now) c.args.index.now c.args.fact (length c.args.marks.now.facts) c.requires.fit.indexed c.requires.fact c.requires.fit.wide.groups
+pub contradicts-requires-clause-groups : goal.contradicts-requires-clause-groups
+contradicts-requires-clause-groups g c =
+    groups_below (g.T.Grounded.says c.args.task.now) c.args.index.now c.args.fact (length c.args.marks.now.groups) c.requires.fit.indexed c.requires.fact c.requires.fit.wide.groups
 
 pub returns-then-contradicts-clause-yes : goal.returns-then-contradicts-clause-yes
 returns-then-contradicts-clause-yes g c =

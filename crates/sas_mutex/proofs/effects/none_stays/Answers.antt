@@ -1,5 +1,5 @@
 -- One more run is gone, or the fact that is known.
-use Rattle.std.proofs.Common.{◌≡◌, ◌<◌, ℕ, List, [], length, get_or, drop, None, Some, sym, ap, subst, ◌∙◌, arith}
+use Rattle.std.proofs.Common.{◌≡◌, ◌<◌, ℕ, List, [], length, get_or, drop, None, Some, sym, ap, subst, ◌∙◌, arith, refl}
 use Rattle.std.proofs.lemmas.List.{get_or_default, drop_all}
 use Rattle.std.proofs.lemmas.List.Elements.{All-contains}
 use Rattle.sas_core.specs.declared.parts.Fact.{Fact}
@@ -8,11 +8,13 @@ use Rattle.sas_core.specs.Variables.{FactExists}
 use Rattle.sas_groups.specs.Checks.{IsGone}
 use Rattle.sas_groups.specs.Lists.{known}
 use Rattle.sas_mutex.specs.Effects.{IsKept}
-use Rattle.sas_mutex.specs.Noting.{fact_note, IsUnknown}
+use Rattle.sas_mutex.specs.declared.marks.Noted.TheVariants.{One}
+use Rattle.sas_mutex.specs.Marks.{group_note}
+use Rattle.sas_mutex.specs.Noting.{IsUnknown}
 use Rattle.sas_mutex.specs.Runs.{AreRuns}
 use Rattle.sas_mutex.proofs.Entering.{group_fact_exists}
 use Rattle.sas_mutex.proofs.GoneRuns.{SuchBefore, such_none, such_all, next_within, next_on_one, next_too, such_more}
-use Rattle.sas_mutex.proofs.NotesOfFacts.{fact_note_tells, no_fact_note_tells}
+use Rattle.sas_mutex.proofs.NotesOfFacts.{one_note_tells, none_if_not_one}
 use Rattle.sas_mutex.proofs.ToldByNotes.{known_one_is_all}
 use Rattle.sas_mutex.proofs.effects.none_stays.Goals as goal
 
@@ -22,11 +24,12 @@ returns-in-Some-clause-yes g c =
     let o = operator_at p c.args.operator in
     let e = effect_at o c.args.effect in
     let place = c.args.group in
-    let facts = c.args.marks.now.facts in
-    let at : fact_note facts place ≡ Some c.in-Some.fact = ap (λ list. fact_note list place) (sym c.as_slice.ensures) ∙ c.in-Some.is in
-    let (here, has) = fact_note_tells p (known o e.conditions []) place c.in-Some.fact (fact_note facts place)
-    (c.requires.known.noted.facts place c.requires.group.exists c.requires.group.chosen) at in
-    λ t. known_one_is_all p c.args.kept.now o place e c.in-Some.fact c.requires.group here has.among (c.is_gone.ensures.yes t)
+    let notes = c.args.marks.now.groups in
+    let at : group_note notes place ≡ One c.in-Some.fact =
+    ap (λ list. group_note list place) (sym c.as_slice.ensures) ∙ c.only.ensures.some c.in-Some.fact c.in-Some.is in
+    let of = (one_note_tells p (known o e.conditions []) place c.in-Some.fact (group_note notes place)
+    (c.requires.known.noted.groups place c.requires.group.exists) at).0 in
+    λ t. known_one_is_all p c.args.kept.now o place e c.in-Some.fact c.requires.group of.among of.has.among (c.is_gone.ensures.yes t)
 
 pub loop-length-init : goal.loop-length-init
 loop-length-init g c =
@@ -70,11 +73,13 @@ run_is_gone-requires-clause-unknown g c =
     let o = operator_at p c.args.operator in
     let e = effect_at o c.args.effect in
     let place = c.args.group in
-    let none : fact_note c.args.marks.now.facts place ≡ None = ap (λ list. fact_note list place) (sym c.as_slice.ensures) ∙ c.in_default.is in
+    let notes = c.args.marks.now.groups in
+    let not_one = λ (f : Fact) (one : group_note notes place ≡ One f). c.only.ensures.none c.in_default.is f (ap (λ list. group_note list place) c.as_slice.ensures ∙ one) in
     next_too (IsGone (IsKept p c.args.kept.now) o e) (group_at p place) c.loop-length.left.now c.as_slice-length-items.result.now
     c.loop-length.length-index c.loop-length-test.true c.loop-length.invariant (IsUnknown o e) c.split_at.result.0.now c.split_at.ensures.front
-    (λ f among in_known. no_fact_note_tells p (known o e.conditions []) place (fact_note c.args.marks.now.facts place)
-    (c.requires.known.noted.facts place c.requires.group.exists c.requires.group.chosen) none f in_known (record { exists = c.requires.group.exists; among = among }))
+    (λ f among in_known. none_if_not_one p (known o e.conditions []) place (IsKept p c.args.kept.now) (place, c.requires.group, refl)
+    c.requires.known.apart (group_note notes place) (c.requires.known.noted.groups place c.requires.group.exists) not_one
+    f (record { among = in_known; has = record { exists = c.requires.group.exists; among = among } }))
 
 pub returns-then-not-run_is_gone-clause-no : goal.returns-then-not-run_is_gone-clause-no
 returns-then-not-run_is_gone-clause-no g c =

@@ -1,14 +1,13 @@
 -- First all operators are looked at, then those that mention a fact of a group that fell.
-use Rattle.std.proofs.Common.{ℕ, List, subst}
-use Rattle.sas_mutex.specs.Falling.{IsAtRest}
+use Rattle.std.proofs.Common.{ℕ, ◌<◌, List, length, subst}
+use Rattle.std.specs.List.{All}
 use Rattle.sas_mutex.proofs.FallingGroups.{greatest_in_the_end, falls_then, newly_all}
 use Rattle.sas_mutex.proofs.family.find_greatest.Goals as goal
 
-pub look_again-requires-clause-rest : goal.look_again-requires-clause-rest
-look_again-requires-clause-rest g c =
+pub look_again-requires-clause-exist : goal.look_again-requires-clause-exist
+look_again-requires-clause-exist g c =
     let p = g.T.Grounded.says c.args.task.now in
-    λ operator exists. subst (λ (waiting : List ℕ). IsAtRest p c.look_at_all.new.family.kept waiting operator)
-    (newly_all p c.args.family.now c.look_at_all.new.family c.requires.none) (c.look_at_all.ensures.rest operator exists)
+    subst (All (λ (place : ℕ). place < length p.groups)) (newly_all p c.args.family.now c.look_at_all.new.family c.requires.none) c.look_at_all.ensures.falls.exist
 
 pub returns-clause-greatest : goal.returns-clause-greatest
 returns-clause-greatest g c =

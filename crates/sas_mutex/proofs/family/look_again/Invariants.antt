@@ -1,7 +1,8 @@
--- Those that fell and haven't been gone through wait.
-use Rattle.std.proofs.Common.{ℕ, ◌-◌, ◌<◌, ◌≤◌, length, drop}
+-- The operators that mention a fact of a group which was gone through were looked at since it fell.
+use Rattle.std.proofs.Common.{ℕ, ◌-◌, ◌<◌, ◌≤◌, length, get_or}
 use Rattle.std.specs.List.{All}
-use Rattle.sas_mutex.specs.Falling.{HasRoom, Falls, IsAtRest}
+use Rattle.sas_mutex.specs.Falling.{HasRoom, Falls, looked_at, AreLookedAt}
+use Rattle.sas_mutex.specs.Index.{MentionsGroup}
 use Rattle.sas_mutex.specs.Marks.{IsClean}
 use Rattle.sas_mutex.proofs.family.look_again.Given as goal
 
@@ -12,8 +13,9 @@ invariant-loop-next g l = record {
   room : HasRoom (g.T.Grounded.says l.task) l.family;
   exist : All (λ (place : ℕ). place < length (g.T.Grounded.says l.task).groups) l.family.fallen.items;
   clean : IsClean (g.T.Grounded.says l.task) l.marks;
-  rest : (operator : ℕ) → operator < length (g.T.Grounded.says l.task).operators
-      → IsAtRest (g.T.Grounded.says l.task) l.family.kept (drop l.next l.family.fallen.items) operator;
+  looked : AreLookedAt (g.T.Grounded.says l.task) l.family l.looked;
+  since : (operator place : ℕ) → place < l.next → MentionsGroup (g.T.Grounded.says l.task) operator (get_or l.family.fallen.items place 0)
+      → place < looked_at l.looked operator;
 }
 
 abbrev pub decreases-loop-next : goal.decreases-loop-next

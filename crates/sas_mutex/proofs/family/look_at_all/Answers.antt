@@ -1,6 +1,8 @@
--- One more operator is at rest.
-use Rattle.std.proofs.Common.{below_more, arith}
-use Rattle.sas_mutex.proofs.FallingGroups.{falls_then, operator_since, operator_now}
+-- One more operator was looked at.
+use Rattle.std.proofs.Common.{ℕ, List, length, ap, ◌∙◌, subst, arith}
+use Rattle.std.proofs.lemmas.List.{length-set}
+use Rattle.sas_mutex.specs.Falling.{WasLookedAt}
+use Rattle.sas_mutex.proofs.FallingGroups.{falls_then, looked_more}
 use Rattle.sas_mutex.proofs.family.look_at_all.Goals as goal
 
 pub loop-operator-preserved : goal.loop-operator-preserved
@@ -8,14 +10,15 @@ loop-operator-preserved g c =
     let p = g.T.Grounded.says c.args.task.now in
     let start = c.args.family.now in
     let before = c.loop-operator.family in
-    let after = c.look_at.new.family in
+    let after = c.look_once.new.family in
+    let looked = c.loop-operator.looked in
+    let operator = c.loop-operator.operator in
     let inv = c.loop-operator.invariant in
-    let turn = c.look_at.ensures in
-    record {
+    let turn = c.look_once.ensures in
+    rw turn.looked record {
       falls = falls_then p start before after inv.falls turn.falls;
       room = turn.room;
       clean = turn.clean;
-      rest = below_more _ _
-          (λ k lt. operator_since p start before after k (omega arith) inv.falls turn.falls (inv.rest k lt))
-          (operator_now p start before after c.loop-operator.operator inv.falls turn.falls turn.rest);
+      one_each = length-set looked operator (length before.fallen.items) ∙ inv.one_each;
+      each = λ k lt. looked_more p before after looked operator turn.falls (omega (arith, inv.one_each)) turn.rest k (omega arith) (λ ne. inv.each k (omega arith));
     }

@@ -1,6 +1,6 @@
--- The operators so far are at rest.
-use Rattle.std.proofs.Common.{ℕ, ◌<◌}
-use Rattle.sas_mutex.specs.Falling.{HasRoom, Falls, newly, IsAtRest}
+-- The operators so far were looked at.
+use Rattle.std.proofs.Common.{◌≡◌, ℕ, ◌<◌, length}
+use Rattle.sas_mutex.specs.Falling.{HasRoom, Falls, WasLookedAt}
 use Rattle.sas_mutex.specs.Marks.{IsClean}
 use Rattle.sas_mutex.proofs.family.look_at_all.Given as goal
 
@@ -9,5 +9,6 @@ invariant-loop-operator g l = record {
   falls : Falls (g.T.Grounded.says l.task) l.fn.family l.family;
   room : HasRoom (g.T.Grounded.says l.task) l.family;
   clean : IsClean (g.T.Grounded.says l.task) l.marks;
-  rest : (k : ℕ) → k < l.operator → IsAtRest (g.T.Grounded.says l.task) l.family.kept (newly l.fn.family l.family) k;
+  one_each : length l.looked ≡ length (g.T.Grounded.says l.task).operators;
+  each : (k : ℕ) → k < l.operator → WasLookedAt (g.T.Grounded.says l.task) l.family l.looked k;
 }

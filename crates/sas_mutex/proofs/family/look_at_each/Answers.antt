@@ -1,30 +1,53 @@
--- One more operator is at rest, and so in the end all of them.
-use Rattle.std.proofs.Common.{ℕ, ◌<◌, length, below_more, arith}
+-- One more operator was looked at since, now or before.
+use Rattle.std.proofs.Common.{ℕ, ◌<◌, ◌≤◌, List, length, get_or, set, ap, ◌∙◌, sym, subst, below_more, inl, inr, arith}
+use Rattle.std.proofs.lemmas.Bool.{cases_eq}
+use Rattle.std.proofs.lemmas.List.{length-set}
 use Rattle.std.proofs.lemmas.List.Elements.{All-get_or, All-from_get_or}
-use Rattle.sas_mutex.specs.Falling.{newly, IsAtRest}
-use Rattle.sas_mutex.proofs.FallingGroups.{falls_then, operator_since, operator_now}
+use Rattle.sas_mutex.specs.Falling.{looked_at}
+use Rattle.sas_mutex.proofs.FallingGroups.{falls_then, fallen_grow, looked_more, noted_here, noted_later}
 use Rattle.sas_mutex.proofs.family.look_at_each.Goals as goal
+use Rattle.sas_mutex.proofs.family.look_at_each.Goals.{then-as_slice-operator, else-as_slice-operator}
 
 pub loop-operator-preserved : goal.loop-operator-preserved
 loop-operator-preserved g c =
     let p = g.T.Grounded.says c.args.task.now in
     let start = c.args.family.now in
     let before = c.loop-operator.family in
-    let after = c.look_at.new.family in
+    let looked = c.loop-operator.looked in
+    let operator = get_or c.args.operators.now c.loop-operator.operator-index 0 in
     let inv = c.loop-operator.invariant in
-    let turn = c.look_at.ensures in
-    record {
-      falls = falls_then p start before after inv.falls turn.falls;
-      room = turn.room;
-      clean = turn.clean;
-      rest = below_more _ _
-          (λ k lt. operator_since p start before after _
-          (All-get_or (λ (operator : ℕ). operator < length p.operators) c.args.operators.now k 0 (omega arith) c.requires.exist) inv.falls turn.falls (inv.rest k lt))
-          (operator_now p start before after _ inv.falls turn.falls turn.rest);
-    }
+    elim c.if-as_slice-operator.branch [
+      | then-as_slice-operator w ↦
+          (let after = w.look_once.new.family in
+          let turn = w.look_once.ensures in
+          let exists = All-get_or (λ (o : ℕ). o < length p.operators) c.args.operators.now c.loop-operator.operator-index 0 c.loop-operator-test.true c.requires.exist in
+          let below : operator < length looked = (let each = inv.looked.one_each in omega arith) in
+          let later = noted_later p before after looked operator turn.falls below turn.rest inv.looked exists in
+          rw (w.family-is, w.marks-is, w.looked-is, turn.looked) record {
+            falls = falls_then p start before after inv.falls turn.falls;
+            room = turn.room;
+            clean = turn.clean;
+            looked = record {
+              one_each = length-set looked operator (length before.fallen.items) ∙ inv.looked.one_each;
+              each = λ other lt. looked_more p before after looked operator turn.falls below turn.rest other lt (λ ne. inv.looked.each other lt);
+            };
+            later = λ other. (let first = inv.later other in let then = later other in omega arith);
+            past = below_more _ _
+                (λ k lt. (let was = inv.past k lt in let still = later (get_or c.args.operators.now k 0) in omega arith))
+                (let here = noted_here p before after looked operator turn.falls below turn.rest in
+                let grown = fallen_grow p start before inv.falls in omega arith);
+          })
+      | else-as_slice-operator w ↦ rw (w.family-is, w.marks-is, w.looked-is) record {
+        falls = inv.falls;
+        room = inv.room;
+        clean = inv.clean;
+        looked = inv.looked;
+        later = inv.later;
+        past = below_more _ _ inv.past (let at = w.if-as_slice-operator.false in let same = ap (λ (xs : List ℕ). get_or xs operator 0) c.as_slice.ensures in omega arith);
+      }
+    ]
 
-pub returns-clause-rest : goal.returns-clause-rest
-returns-clause-rest g c =
-    let p = g.T.Grounded.says c.args.task.now in
-    All-from_get_or (IsAtRest p c.loop-operator.family.kept (newly c.args.family.now c.loop-operator.family)) c.args.operators.now 0
-    (λ k lt. c.loop-operator.invariant.rest k (omega arith))
+pub returns-clause-past : goal.returns-clause-past
+returns-clause-past g c =
+    All-from_get_or (λ (operator : ℕ). c.args.place < looked_at c.loop-operator.looked operator) c.args.operators.now 0
+    (λ k lt. c.loop-operator.invariant.past k (omega arith))

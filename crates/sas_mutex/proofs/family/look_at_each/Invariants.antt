@@ -1,6 +1,6 @@
--- The operators so far are at rest.
-use Rattle.std.proofs.Common.{ℕ, ◌<◌, get_or}
-use Rattle.sas_mutex.specs.Falling.{HasRoom, Falls, newly, IsAtRest}
+-- The operators so far were looked at since.
+use Rattle.std.proofs.Common.{ℕ, ◌<◌, ◌≤◌, get_or}
+use Rattle.sas_mutex.specs.Falling.{HasRoom, Falls, looked_at, AreLookedAt}
 use Rattle.sas_mutex.specs.Marks.{IsClean}
 use Rattle.sas_mutex.proofs.family.look_at_each.Given as goal
 
@@ -9,5 +9,7 @@ invariant-loop-operator g l = record {
   falls : Falls (g.T.Grounded.says l.task) l.fn.family l.family;
   room : HasRoom (g.T.Grounded.says l.task) l.family;
   clean : IsClean (g.T.Grounded.says l.task) l.marks;
-  rest : (k : ℕ) → k < l.operator-index → IsAtRest (g.T.Grounded.says l.task) l.family.kept (newly l.fn.family l.family) (get_or l.operators k 0);
+  looked : AreLookedAt (g.T.Grounded.says l.task) l.family l.looked;
+  later : (operator : ℕ) → looked_at l.fn.looked operator ≤ looked_at l.looked operator;
+  past : (k : ℕ) → k < l.operator-index → l.place < looked_at l.looked (get_or l.operators k 0);
 }

@@ -29,7 +29,7 @@ returns-clause-rest g c =
     let AtRest : Family → Type 0 = λ family. IsEffectAtRest p family.kept (newly start family) c.args.operator c.args.effect in
     elim c.if-not-note_known.branch [
       | then-not-note_known w ↦ subst AtRest (sym w.family-is) w.look_at_groups.ensures.rest
-      | else-not-note_known w ↦ subst AtRest (sym w.family-is) (λ none place in_family has. clash_keeps p start.kept o (group_at p place) e
+      | else-not-note_known w ↦ subst AtRest (sym w.family-is) (λ none place in_family has. clash_keeps (IsKept p start.kept) o (group_at p place) e
           (subst (λ (kept : List Bool). Clash (IsKept p kept) (known o e.conditions [])) c.as_slice.ensures
           (subst (λ (conditions : List Fact). Clash (IsKept p c.as_slice.result.now) (known o conditions [])) c.effect_conditions-known.ensures
           (c.note_known.ensures.yes w.if-not-note_known.false))))

@@ -25,7 +25,7 @@ returns-clause-rest g c =
     let start = c.args.family.now in
     elim c.if-not-note_known.branch [
       | then-not-note_known w ↦ rw (w.family-is) w.look_at_each_plain.ensures.rest
-      | else-not-note_known w ↦ rw (w.family-is) (λ effect lt plain none place in_family has. clash_keeps p start.kept o (group_at p place) (effect_at o effect)
+      | else-not-note_known w ↦ rw (w.family-is) (λ effect lt plain none place in_family has. clash_keeps (IsKept p start.kept) o (group_at p place) (effect_at o effect)
           (subst (λ (conditions : List Fact). Clash (IsKept p start.kept) (known o conditions [])) (sym plain)
           (subst (λ (kept : List Bool). Clash (IsKept p kept) (known o [] [])) c.as_slice.ensures
           (c.note_known.ensures.yes w.if-not-note_known.false))))

@@ -1,6 +1,12 @@
--- There is room for all groups that may fall.
-use Rattle.std.proofs.Common.{◌∙◌, length, ap, arith}
+-- The family begins with all groups that may be exclusive, and there is room for all that may fall.
+use Rattle.std.proofs.Common.{◌≡◌, ◌<◌, ℕ, ◌∙◌, List, length, ap, subst, arith}
+use Rattle.std.specs.Prelude.{◌↔◌, IsTrue}
+use Rattle.sas_groups.specs.declared.verdict.Verdict.{Verdict}
+use Rattle.sas_groups.specs.declared.verdict.Verdict.TheVariants.{Exclusive}
+use Rattle.sas_mutex.specs.Effects.{family_of}
+use Rattle.sas_mutex.specs.Joint.{verdict_at}
 use Rattle.sas_mutex.proofs.Counting.{count_within}
+use Rattle.sas_mutex.proofs.Telling.{candidates_from}
 use Rattle.sas_mutex.proofs.joint.check_groups.Goals as goal
 
 pub find_greatest-requires-clause-room : goal.find_greatest-requires-clause-room
@@ -14,3 +20,11 @@ find_greatest-requires-clause-room g c =
       room = omega (arith, same, fewer, none, family.ensures.room, family.ensures.one_each);
       few = omega (arith, same, fewer, none);
     }
+
+pub find_greatest-requires-clause-candidates : goal.find_greatest-requires-clause-candidates
+find_greatest-requires-clause-candidates g c =
+    let family = c.in_ok-family in
+    let kept = family.family.kept in
+    candidates_from _ c.in_ok-verdicts.verdicts kept c.in_ok-verdicts.ensures
+    (subst (λ (xs : List Verdict). (place : ℕ) → place < length xs → IsTrue (family_of kept place) ↔ (verdict_at xs place ≡ Exclusive))
+    c.as_slice.ensures family.ensures.exclusive)

@@ -1,28 +1,27 @@
 -- The group is broken here, or stands as before.
-use Rattle.std.proofs.Common.{◌≡◌, ◌+◌, Bool, false, List, get_or, sym, ap, ◌∙◌, subst, arith}
+use Rattle.std.proofs.Common.{◌≡◌, ◌+◌, Bool, List, get_or, sym, ap, ◌∙◌, subst, arith}
 use Rattle.std.proofs.lemmas.Bool.{both_ways}
 use Rattle.std.proofs.lemmas.List.{get_or-set_same}
 use Rattle.sas_groups.specs.declared.verdict.Verdict.{Verdict}
 use Rattle.sas_groups.specs.declared.verdict.Verdict.TheVariants.{Exclusive, Broken}
 use Rattle.sas_groups.specs.Verdicts.{IsJointVerdict}
 use Rattle.sas_mutex.specs.Effects.{family_of}
-use Rattle.sas_mutex.specs.Joint.{verdict_at, IsVerdictSoFar, AreVerdictsSoFar}
-use Rattle.sas_mutex.proofs.Telling.{broken_here, one_told, so_far_by, one_effect_more, told_for_good}
+use Rattle.sas_mutex.specs.Joint.{verdict_at, IsUntold, IsVerdictSoFar, AreVerdictsSoFar}
+use Rattle.sas_mutex.proofs.Telling.{broken_here, one_told, so_far_by, one_effect_more, told_already}
 use Rattle.sas_mutex.proofs.joint.tell_group.Goals as goal
 use Rattle.sas_mutex.proofs.joint.tell_group.Given.{Over}
-use Rattle.sas_mutex.proofs.joint.tell_group.Goals.{After-set, else-is_exclusive-via-then-is_exclusive+then-not-as_slice-group+else-not-keeps_with_itself, else-is_exclusive-via-then-is_exclusive+else-not-as_slice-group, else-is_exclusive-via-else-is_exclusive}
+use Rattle.sas_mutex.proofs.joint.tell_group.Goals.{After-set, else-is_untold-via-then-is_untold+else-not-keeps_with_itself, else-is_untold-via-else-is_untold}
 
 broken : (g : Over) (c : After-set g) → IsJointVerdict (g.T.Grounded.says c.args.task.now) c.args.group (Broken c.args.operator)
 broken g c =
     let p = g.T.Grounded.says c.args.task.now in
     let kept = c.args.kept.now in
     let place = c.args.group in
-    let gone : family_of kept place ≡ false = ap (λ (xs : List Bool). get_or xs place false) (sym c.as_slice-then-is_exclusive.ensures) ∙ c.if-not-as_slice-group.true in
-    let exclusive : verdict_at c.args.verdicts.now place ≡ Exclusive =
-    ap (λ (xs : List Verdict). get_or xs place Exclusive) (sym c.as_slice.ensures) ∙ c.is_exclusive.ensures.0 c.if-is_exclusive.true in
+    let untold : IsUntold kept c.args.verdicts.now place = subst (λ (xs : List Bool). IsUntold xs c.args.verdicts.now place) c.as_slice.ensures
+    (subst (λ (xs : List Verdict). IsUntold c.as_slice.result.now xs place) c.as_slice-2.ensures (c.is_untold.ensures.yes c.if-is_untold.true)) in
     broken_here p kept c.args.operator c.args.effect place c.requires.operator c.requires.effect c.requires.has.among c.requires.greatest
-    (λ w. both_ways (family_of kept place) gone w.chosen)
-    (subst (IsVerdictSoFar p kept c.args.operator c.args.effect place) exclusive (c.requires.so_far.are place c.requires.has.exists))
+    (λ w. both_ways (family_of kept place) untold.fell w.chosen)
+    (subst (IsVerdictSoFar p kept c.args.operator c.args.effect place) untold.nothing (c.requires.so_far.are place c.requires.has.exists))
     (c.keeps_with_itself.ensures.no c.if-not-keeps_with_itself.true)
 
 pub returns-then-not-keeps_with_itself-clause-so_far :
@@ -44,26 +43,19 @@ returns-then-not-keeps_with_itself-clause-told g c =
     ∙ get_or-set_same c.args.verdicts.now c.args.group (Broken c.args.operator) Exclusive (omega arith)))
     (broken g (goal.at.returns-then-not-keeps_with_itself-clause-told g c).After-set)
 
-pub returns-else-is_exclusive-clause-told : goal.returns-else-is_exclusive-clause-told
-returns-else-is_exclusive-clause-told g c =
+pub returns-else-is_untold-clause-told : goal.returns-else-is_untold-clause-told
+returns-else-is_untold-clause-told g c =
     let p = g.T.Grounded.says c.args.task.now in
     let kept = c.args.kept.now in
     let operator = c.args.operator in
     let effect = c.args.effect in
     let place = c.args.group in
-    let verdict = verdict_at c.args.verdicts.now place in
     let was = c.requires.so_far.are place c.requires.has.exists in
-    elim c.else-is_exclusive.branch [
-      | else-is_exclusive-via-then-is_exclusive+then-not-as_slice-group+else-not-keeps_with_itself w ↦
-          so_far_by p kept operator effect operator (effect + 1) place verdict
+    elim c.else-is_untold.branch [
+      | else-is_untold-via-then-is_untold+else-not-keeps_with_itself w ↦
+          so_far_by p kept operator effect operator (effect + 1) place (verdict_at c.args.verdicts.now place)
           (λ out. one_effect_more p kept operator effect place (λ has. w.keeps_with_itself.ensures.yes w.if-not-keeps_with_itself.false)) was
-      | else-is_exclusive-via-then-is_exclusive+else-not-as_slice-group w ↦
-          so_far_by p kept operator effect operator (effect + 1) place verdict
-          (λ out. absurd (out (record {
-            exists = c.requires.has.exists;
-            chosen = ap (λ (xs : List Bool). get_or xs place false) (sym w.as_slice-then-is_exclusive.ensures) ∙ w.if-not-as_slice-group.false;
-          }))) was
-      | else-is_exclusive-via-else-is_exclusive w ↦ told_for_good p kept operator effect operator (effect + 1) place verdict
-          (λ is. both_ways c.is_exclusive.result w.if-is_exclusive.false
-          (c.is_exclusive.ensures.1 (ap (λ (xs : List Verdict). get_or xs place Exclusive) c.as_slice.ensures ∙ is))) was
+      | else-is_untold-via-else-is_untold w ↦ told_already p kept operator effect place c.args.verdicts.now c.requires.has.exists
+          (λ untold. c.is_untold.ensures.no w.if-is_untold.false (subst (λ (xs : List Bool). IsUntold xs c.as_slice-2.result.now place) (sym c.as_slice.ensures)
+          (subst (λ (xs : List Verdict). IsUntold kept xs place) (sym c.as_slice-2.ensures) untold))) was
     ]

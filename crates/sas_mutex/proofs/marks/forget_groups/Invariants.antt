@@ -1,11 +1,12 @@
 -- Nothing is noted for the groups so far.
-use Rattle.std.proofs.Common.{◌≡◌, ◌⊎◌, ℕ, ◌<◌, get_or, length, None}
-use Rattle.sas_mutex.specs.Noting.{fact_note}
+use Rattle.std.proofs.Common.{◌≡◌, ◌⊎◌, ℕ, ◌<◌, get_or, length}
+use Rattle.sas_mutex.specs.declared.marks.Noted.TheVariants.{Nothing}
+use Rattle.sas_mutex.specs.Marks.{group_note}
 use Rattle.sas_mutex.proofs.marks.forget_groups.Given as goal
 
 abbrev pub invariant-loop-group : goal.invariant-loop-group
 invariant-loop-group l = record {
-  as_many : length l.facts ≡ length l.fn.facts;
-  none : (k d : ℕ) → k < l.group-index → fact_note l.facts (get_or l.groups k d) ≡ None;
-  each : (place : ℕ) → (fact_note l.facts place ≡ fact_note l.fn.facts place) ⊎ (fact_note l.facts place ≡ None);
+  as_many : length l.noted ≡ length l.fn.noted;
+  none : (k d : ℕ) → k < l.group-index → group_note l.noted (get_or l.groups k d) ≡ Nothing;
+  each : (place : ℕ) → (group_note l.noted place ≡ group_note l.fn.noted place) ⊎ (group_note l.noted place ≡ Nothing);
 }

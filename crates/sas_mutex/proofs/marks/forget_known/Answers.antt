@@ -21,13 +21,13 @@ forget-requires-clause-value g c =
     let wide = c.loop-fact.invariant.from.wide.variables in
     omega arith
 
-pub forget-requires-clause-facts : goal.forget-requires-clause-facts
-forget-requires-clause-facts g c =
+pub forget-requires-clause-groups : goal.forget-requires-clause-groups
+forget-requires-clause-groups g c =
     let says = g.T.Grounded.says in
     let p = says c.args.task.now in
     let all = known (operator_at p c.args.operator) c.args.first.now c.args.second.now in
     let within = turn_has all c.loop-fact.yielded (known_left says c.loop-fact.fact-iterator) c.loop-fact.invariant.left c.in-Some.fact _ c.in-Some.ensures.steps in
-    groups_below p c.args.index.now c.in-Some.fact (length c.loop-fact.marks.facts) c.requires.index (All-contains (FactExists p.variables) all c.in-Some.fact
+    groups_below p c.args.index.now c.in-Some.fact (length c.loop-fact.marks.groups) c.requires.index (All-contains (FactExists p.variables) all c.in-Some.fact
     (known_exist p c.requires.ranged c.args.operator c.requires.operator c.args.first.now c.args.second.now c.requires.first c.requires.second) within)
     c.loop-fact.invariant.from.wide.groups
 

@@ -1,12 +1,35 @@
--- One more group took the fact, or isn't kept.
-use Rattle.std.proofs.Common.{◌≡◌, ℕ, ◌<◌, length, get_or, set, Some, IsTrue, subst, ◌∙◌, arith}
+-- One more group took the fact.
+use Rattle.std.proofs.Common.{◌≡◌, ◌≢◌, ℕ, ◌<◌, List, length, get_or, IsTrue, sym, ap, subst, ◌∙◌, arith}
+use Rattle.std.proofs.lemmas.Bool.{both_ways}
 use Rattle.std.proofs.lemmas.List.Elements.{Contains-get_or}
 use Rattle.sas_groups.proofs.Turns.{each_more}
+use Rattle.sas_mutex.specs.declared.marks.Noted.{Noted}
+use Rattle.sas_mutex.specs.declared.marks.Noted.TheVariants.{Several}
 use Rattle.sas_mutex.specs.Effects.{family_of}
-use Rattle.sas_mutex.specs.Noting.{fact_note, IsFree, Takes}
-use Rattle.sas_mutex.proofs.NotesOfFacts.{takes_still, takes_here, taken_more}
+use Rattle.sas_mutex.specs.Marks.{group_note}
+use Rattle.sas_mutex.specs.Noting.{IsNotedToo, Takes}
+use Rattle.sas_mutex.proofs.NotesOfFacts.{since_before, takes_still, takes_here, taken_more}
 use Rattle.sas_mutex.proofs.marks.note_in_groups.Goals as goal
-use Rattle.sas_mutex.proofs.marks.note_in_groups.Goals.{then-kept-group+else-is_other, else-kept-group}
+use Rattle.sas_mutex.proofs.marks.note_in_groups.Goals.{else-is_several-via-then-is_several+else-kept-group, else-is_several-via-else-is_several}
+
+pub returns-then-kept-group-clause-no : goal.returns-then-kept-group-clause-no
+returns-then-kept-group-clause-no c =
+    let groups = c.args.groups.now in
+    let kept = c.args.kept.now in
+    let fact = c.args.fact in
+    let n = c.loop-group.group-index in
+    let place = get_or groups n 0 in
+    let now = c.loop-group.noted in
+    let too : IsNotedToo (group_note now place) fact c.with-now.result =
+    subst (λ (xs : List Noted). IsNotedToo (group_note xs place) fact c.with-now.result) c.as_slice.ensures c.with-now.ensures in
+    let several = c.is_several.ensures.0 c.if-is_several.true in
+    λ _. record {
+      place = place;
+      among = Contains-get_or groups n 0 c.loop-group-test.true;
+      kept_there = c.if-kept-group.true;
+      other = since_before groups kept fact c.args.noted.now now c.loop-group.invariant.some place Several
+          (subst (λ (after : Noted). IsNotedToo (group_note now place) fact after) several too);
+    }
 
 pub loop-group-preserved : goal.loop-group-preserved
 loop-group-preserved c =
@@ -15,27 +38,19 @@ loop-group-preserved c =
     let fact = c.args.fact in
     let n = c.loop-group.group-index in
     let place = get_or groups n 0 in
-    let now = c.loop-group.facts in
+    let now = c.loop-group.noted in
+    let after = c.with-now.result in
     let inv = c.loop-group.invariant in
     let among = Contains-get_or groups n 0 c.loop-group-test.true in
-    let below : place < length now = let e = inv.some.as_many in let h = c.requires.facts n 0 c.loop-group-test.true in omega arith in
-    elim c.if-kept-group.branch [
-      | then-kept-group+else-is_other w ↦
-          (let in_family : IsTrue (family_of kept place) = w.if-kept-group.true in
-          let free : IsFree (fact_note now place) fact =
-          subst (λ facts. IsFree (fact_note facts place) fact) w.as_slice.ensures (w.is_other.ensures.no w.if-is_other.false) in
-          let is : c.if-kept-group.facts ≡ set now place (Some fact) = w.facts-is ∙ w.set.ensures in
-          rw is record {
-            some = taken_more groups kept fact c.args.facts.now now inv.some place below among in_family free;
-            all = each_more (λ (q : ℕ). IsTrue (family_of kept q) → Takes groups kept fact c.args.facts.now (set now place (Some fact)) q) groups n 0 c.loop-group-test.true
-                (λ k d lt yes. takes_still groups kept fact c.args.facts.now now inv.some place below (get_or groups k d) (inv.all k d lt yes))
-                (λ yes. takes_here groups kept fact c.args.facts.now now inv.some place below among in_family free);
-          })
-      | else-kept-group w ↦
-          (let not_kept : IsTrue (family_of kept place) → ⊥ = λ yes. (let no = w.if-kept-group.false in cc) in
-          rw w.facts-is record {
-            some = inv.some;
-            all = each_more (λ (q : ℕ). IsTrue (family_of kept q) → Takes groups kept fact c.args.facts.now now q) groups n 0 c.loop-group-test.true
-                inv.all (λ yes. absurd (not_kept yes));
-          })
-    ]
+    let below : place < length now = let e = inv.some.as_many in let h = c.requires.noted n 0 c.loop-group-test.true in omega arith in
+    let too : IsNotedToo (group_note now place) fact after = subst (λ (xs : List Noted). IsNotedToo (group_note xs place) fact after) c.as_slice.ensures c.with-now.ensures in
+    let alone : IsTrue (family_of kept place) → after ≢ Several = λ in_family several. elim c.else-is_several.branch [
+      | else-is_several-via-then-is_several+else-kept-group w ↦ both_ways (family_of kept place) w.if-kept-group.false in_family
+      | else-is_several-via-else-is_several w ↦ both_ways c.is_several.result w.if-is_several.false (c.is_several.ensures.1 several)
+    ] in
+    rw c.set.ensures record {
+      some = taken_more groups kept fact c.args.noted.now now inv.some place after too below among alone;
+      all = each_more (Takes groups kept fact c.args.noted.now _) groups n 0 c.loop-group-test.true
+          (λ k d lt. takes_still groups kept fact c.args.noted.now now inv.some place after too below among alone (get_or groups k d) (inv.all k d lt))
+          (takes_here groups kept fact c.args.noted.now now inv.some place after too below among alone);
+    }

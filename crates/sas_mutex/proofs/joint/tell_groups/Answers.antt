@@ -1,0 +1,37 @@
+-- One more group is told of.
+use Rattle.std.proofs.Common.{ℕ, ◌+◌, Bool, List, get_or, sym, ◌∙◌, subst, below_more, inl, inr, arith}
+use Rattle.std.proofs.lemmas.Bool.{cases_eq}
+use Rattle.std.proofs.lemmas.List.Elements.{All-from_get_or}
+use Rattle.sas_mutex.specs.Joint.{verdict_at, IsVerdictSoFar, AreVerdictsSoFar}
+use Rattle.sas_mutex.specs.Noting.{IsNotedFor}
+use Rattle.sas_mutex.proofs.joint.tell_groups.Goals as goal
+
+pub loop-group-preserved : goal.loop-group-preserved
+loop-group-preserved g c =
+    let p = g.T.Grounded.says c.args.task.now in
+    let kept = c.args.kept.now in
+    let operator = c.args.operator in
+    let effect = c.args.effect in
+    let groups = c.args.groups.now in
+    let place = get_or groups c.loop-group.group-index 0 in
+    let after = c.tell_group.new.verdicts in
+    let inv = c.loop-group.invariant in
+    let turn = c.tell_group.ensures in
+    let told = subst (λ (xs : List Bool). IsVerdictSoFar p xs operator (effect + 1) place (verdict_at after place)) inv.kept turn.told in
+    record {
+      so_far = subst (λ (xs : List Bool). AreVerdictsSoFar p xs operator effect after) inv.kept turn.so_far;
+      told = below_more _ _
+          (λ k lt. elim (cases_eq (get_or groups k 0) place) [
+            | inl e ↦ subst (λ (n : ℕ). IsVerdictSoFar p kept operator (effect + 1) n (verdict_at after n)) (sym e) told
+            | inr ne ↦ subst (IsVerdictSoFar p kept operator (effect + 1) (get_or groups k 0)) (sym (turn.others (get_or groups k 0) ne)) (inv.told k lt)
+          ])
+          told;
+      kept = turn.kept ∙ inv.kept;
+      noted = subst (λ (xs : List Bool). IsNotedFor p xs operator effect c.tell_group.new.marks) inv.kept turn.noted;
+    }
+
+pub returns-clause-told : goal.returns-clause-told
+returns-clause-told g c =
+    let p = g.T.Grounded.says c.args.task.now in
+    All-from_get_or (λ (place : ℕ). IsVerdictSoFar p c.args.kept.now c.args.operator (c.args.effect + 1) place (verdict_at c.loop-group.verdicts place)) c.args.groups.now 0
+    (λ k lt. c.loop-group.invariant.told k (omega arith))
