@@ -1,5 +1,5 @@
 -- What the notes of facts that don't clash tell of one fact more.
-use Rattle.std.proofs.Common.{◌≡◌, ◌≢◌, ◌⊎◌, ℕ, ◌<◌, Bool, [], length, get_or, List, ◌∷◌, ◌++◌, None, Some, subst, refl, sym, ap, ◌∙◌, inl, inr, append-nil}
+use Rattle.std.proofs.Common.{◌≡◌, ◌⊎◌, ℕ, ◌<◌, Bool, [], length, get_or, List, ◌∷◌, ◌++◌, None, Some, subst, refl, sym, ap, ◌∙◌, inl, inr, append-nil}
 use Rattle.std.specs.List.{All, Contains}
 use Rattle.std.proofs.lemmas.Bool.{cases_eq}
 use Rattle.std.proofs.lemmas.List.{get_or_default}

@@ -4,7 +4,7 @@ use Rattle.sas_core.specs.declared.parts.Fact.{Fact}
 use Rattle.sas_core.specs.declared.parts.Effect.{Effect}
 use Rattle.sas_core.specs.declared.parts.Operator.{Operator}
 use Rattle.sas_core.specs.declared.parts.Parts.{Parts}
-use Rattle.sas_grounded.specs.Grounded.{effect_at}
+use Rattle.sas_grounded.specs.Grounded.{operator_at, effect_at, group_at}
 use Rattle.sas_groups.specs.Families.{IsGroupOf}
 use Rattle.sas_groups.specs.Checks.{NotBoth, IsGone}
 
@@ -20,3 +20,8 @@ IsKept p kept = IsGroupOf p (family_of kept)
 pub record EffectKeeps (Counts : List Fact → Type 0) (o : Operator) (group : List Fact) (e : Effect) : Type 0 where
   pub single : (other : ℕ) → other < length o.effects → NotBoth Counts o group e (effect_at o other)
   pub others : (f : Fact) → Contains group f → IsGone Counts o e f
+
+-- the effect at this place of this operator keeps the group at this place, where the groups of the family count
+abbrev pub KeepsAt : Parts → List Bool → ℕ → ℕ → ℕ → Type 0
+KeepsAt p kept operator effect place =
+    EffectKeeps (IsKept p kept) (operator_at p operator) (group_at p place) (effect_at (operator_at p operator) effect)

@@ -6,14 +6,13 @@ use Rattle.sas_groups.specs.Clashes.{sets}
 use Rattle.sas_groups.specs.Families.{IsIn, IsKeptJointly}
 use Rattle.sas_groups.specs.Groups.{MayBeExclusive}
 use Rattle.sas_mutex.specs.declared.family.Family.{Family}
-use Rattle.sas_mutex.specs.Effects.{family_of, IsKept, EffectKeeps}
+use Rattle.sas_mutex.specs.Effects.{family_of, KeepsAt}
 use Rattle.sas_mutex.specs.Index.{MentionsGroup}
 
 -- the effect at this place of this operator keeps each group of the family that has the fact which it sets
 abbrev pub EffectKeepsAll : Parts → List Bool → ℕ → ℕ → Type 0
 EffectKeepsAll p kept operator effect = (place : ℕ) → IsIn p (family_of kept) place
-    → Contains (group_at p place) (sets (effect_at (operator_at p operator) effect))
-    → EffectKeeps (IsKept p kept) (operator_at p operator) (group_at p place) (effect_at (operator_at p operator) effect)
+    → Contains (group_at p place) (sets (effect_at (operator_at p operator) effect)) → KeepsAt p kept operator effect place
 
 -- the operator mentions no fact of the groups at these places
 abbrev pub MentionsNone : Parts → ℕ → List ℕ → Type 0
@@ -21,8 +20,7 @@ MentionsNone p operator places = (place : ℕ) → Contains places place → Men
 
 -- the effect keeps the group at this place, if it is in the family, unless its operator mentions a fact of a group that waits
 pub record RestsAt (p : Parts) (kept : List Bool) (waiting : List ℕ) (operator effect place : ℕ) : Type 0 where
-  pub keeps : MentionsNone p operator waiting → IsIn p (family_of kept) place
-      → EffectKeeps (IsKept p kept) (operator_at p operator) (group_at p place) (effect_at (operator_at p operator) effect)
+  pub keeps : MentionsNone p operator waiting → IsIn p (family_of kept) place → KeepsAt p kept operator effect place
 
 -- an effect is at rest: unless its operator mentions a fact of a group that waits, it keeps the groups of the family
 abbrev pub IsEffectAtRest : Parts → List Bool → List ℕ → ℕ → ℕ → Type 0

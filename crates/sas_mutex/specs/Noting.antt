@@ -1,10 +1,11 @@
 -- What one fact changes of what is noted, and what the notes tell of one fact.
-use Rattle.std.specs.Prelude.{◌≡◌, ◌≢◌, ◌⊎◌, ℕ, ◌<◌, Bool, IsTrue, List, [], length, slice_index_or, slice_set, All, Contains, Option, None, Some}
+use Rattle.std.specs.Prelude.{◌≡◌, ◌≢◌, ◌⊎◌, ℕ, ◌<◌, Bool, IsTrue, Option, None, Some}
+use Rattle.std.specs.Prelude.{List, [], length, slice_index_or, slice_set, All, Contains}
 use Rattle.sas_core.specs.declared.parts.Fact.{Fact}
 use Rattle.sas_core.specs.declared.parts.Effect.{Effect}
 use Rattle.sas_core.specs.declared.parts.Operator.{Operator}
 use Rattle.sas_core.specs.declared.parts.Parts.{Parts}
-use Rattle.sas_grounded.specs.Grounded.{operator_at, effect_at}
+use Rattle.sas_grounded.specs.Grounded.{operator_at, effect_at, group_at}
 use Rattle.sas_core.specs.WellRanged.{WellRanged}
 use Rattle.sas_groups.specs.Clashes.{Clash}
 use Rattle.sas_groups.specs.Lists.{known}
@@ -43,11 +44,13 @@ pub record Takes (groups : List ℕ) (kept : List Bool) (fact : Fact) (before af
 -- some of these groups take the fact; what is noted for the others stays
 pub record TakenBySome (groups : List ℕ) (kept : List Bool) (fact : Fact) (before after : List Noted) : Type 0 where
   pub as_many : length after ≡ length before
-  pub each : (place : ℕ) → (group_note after place ≡ group_note before place) ⊎ Takes groups kept fact before after place
+  pub each : (place : ℕ)
+      → (group_note after place ≡ group_note before place) ⊎ Takes groups kept fact before after place
 
 -- all of these take it
 abbrev pub TakenByAll : List ℕ → List Bool → Fact → List Noted → List Noted → Type 0
-TakenByAll groups kept fact before after = (place : ℕ) → Contains groups place → Takes groups kept fact before after place
+TakenByAll groups kept fact before after =
+    (place : ℕ) → Contains groups place → Takes groups kept fact before after place
 
 -- another value is noted for the variable of the fact
 abbrev pub HasOtherValue : List (Option ℕ) → Fact → Type 0
@@ -159,3 +162,32 @@ IsUnknown o e fact = Contains (known o e.conditions []) fact → ⊥
 abbrev pub IsSettled : Effect → List Fact → Marks → Type 0
 IsSettled e facts marks = (first : Fact) (d : Fact) → 0 < length facts → slice_index_or facts 0 d ≡ first
     → (e.var ≡ first.var) ⊎ (value_note marks.values first.var ≢ None)
+
+-- ---- the same of an operator, an effect and a group of a task, where the groups of the family count
+
+-- what is known where the effect fires is noted, and doesn't clash
+abbrev pub AreKnownAt : Parts → List Bool → ℕ → ℕ → Marks → Type 0
+AreKnownAt p kept operator effect marks = AreKnown p kept (known_at p operator effect) marks
+
+-- what is known where both effects fire clashes
+abbrev pub BothClashAt : Parts → List Bool → ℕ → ℕ → ℕ → Type 0
+BothClashAt p kept operator effect other = Clash (IsKept p kept) (known (operator_at p operator)
+    (effect_at (operator_at p operator) effect).conditions (effect_at (operator_at p operator) other).conditions)
+
+abbrev pub NotBothAt : Parts → List Bool → ℕ → ℕ → ℕ → ℕ → Type 0
+NotBothAt p kept operator effect other place = NotBoth (IsKept p kept) (operator_at p operator) (group_at p place)
+    (effect_at (operator_at p operator) effect) (effect_at (operator_at p operator) other)
+
+abbrev pub IsSingleAt : Parts → List Bool → ℕ → ℕ → ℕ → Type 0
+IsSingleAt p kept operator effect place =
+    IsSingle (IsKept p kept) (operator_at p operator) (group_at p place) (effect_at (operator_at p operator) effect)
+
+abbrev pub IsGoneAt : Parts → List Bool → ℕ → ℕ → Fact → Type 0
+IsGoneAt p kept operator effect = IsGone (IsKept p kept) (operator_at p operator) (effect_at (operator_at p operator) effect)
+
+abbrev pub AreGoneAt : Parts → List Bool → ℕ → ℕ → ℕ → Type 0
+AreGoneAt p kept operator effect place =
+    AreGone (IsKept p kept) (operator_at p operator) (group_at p place) (effect_at (operator_at p operator) effect)
+
+abbrev pub IsUnknownAt : Parts → ℕ → ℕ → Fact → Type 0
+IsUnknownAt p operator effect = IsUnknown (operator_at p operator) (effect_at (operator_at p operator) effect)

@@ -1,17 +1,15 @@
 // Which effects keep a group.
-ghost use Rattle.std.specs.Prelude.{◌≡◌, ◌<◌, ◌≤◌, ◌^◌, ℕ, Bool, List, [], length, IsTrue, IsFalse, All};
-ghost use Rattle.sas_grounded.specs.Grounded.{operator_at, effect_at, group_at};
+ghost use Rattle.std.specs.Prelude.{◌≡◌, ◌<◌, ◌≤◌, ◌^◌, ℕ, Bool, List, length, IsTrue, IsFalse, All};
+ghost use Rattle.sas_grounded.specs.Grounded.{operator_at, effect_at};
 ghost use Rattle.sas_core.specs.Variables.{FactExists};
 ghost use Rattle.sas_core.specs.WellRanged.{WellRanged};
-ghost use Rattle.sas_groups.specs.Clashes.{Clash};
 ghost use Rattle.sas_groups.specs.Families.{IsIn};
-ghost use Rattle.sas_groups.specs.Lists.{known};
-ghost use Rattle.sas_groups.specs.Checks.{NotBoth, IsGone};
-ghost use Rattle.sas_mutex.specs.Effects.{family_of, IsKept, EffectKeeps};
+ghost use Rattle.sas_mutex.specs.Effects.{family_of, KeepsAt};
 ghost use Rattle.sas_mutex.specs.Index.{IsIndexOf, groups_of};
 ghost use Rattle.sas_mutex.specs.Marks.{IsWide};
 ghost use Rattle.sas_mutex.specs.Noting.{AreBelow, HasNotedGroup, IsAgainst, IsMet, SomeRemoves, Removes};
-ghost use Rattle.sas_mutex.specs.Noting.{AreOf, AreKnown, IsNotedFor, IsSingle, AreGone, IsUnknown, IsSettled};
+ghost use Rattle.sas_mutex.specs.Noting.{AreOf, AreKnownAt, IsNotedFor, BothClashAt, NotBothAt, IsSingleAt};
+ghost use Rattle.sas_mutex.specs.Noting.{IsGoneAt, AreGoneAt, IsUnknownAt, IsSettled};
 ghost use Rattle.sas_mutex.specs.Runs.{AreOnOne};
 
 use crate::index::Index;
@@ -35,10 +33,8 @@ pub fn keeps_by_notes<T: Grounded>(
     requires group { IsIn (T.says task.now) (family_of kept.now) group }
     requires noted { IsNotedFor (T.says task.now) kept.now operator effect marks.old }
     ensures noted { IsNotedFor (T.says task.now) kept.now operator effect marks.new }
-    ensures yes { IsTrue result → EffectKeeps (IsKept (T.says task.now) kept.now) (operator_at (T.says task.now) operator)
-        (group_at (T.says task.now) group) (effect_at (operator_at (T.says task.now) operator) effect) }
-    ensures no { IsFalse result → EffectKeeps (IsKept (T.says task.now) kept.now) (operator_at (T.says task.now) operator)
-        (group_at (T.says task.now) group) (effect_at (operator_at (T.says task.now) operator) effect) → ⊥ }
+    ensures yes { IsTrue result → KeepsAt (T.says task.now) kept.now operator effect group }
+    ensures no { IsFalse result → KeepsAt (T.says task.now) kept.now operator effect group → ⊥ }
 {
     is_single(task, index, kept, operator, effect, group, marks)
         && removes_others(task, index, kept, operator, effect, group, marks)
@@ -60,10 +56,8 @@ fn is_single<T: Grounded>(
     requires group { IsIn (T.says task.now) (family_of kept.now) group }
     requires noted { IsNotedFor (T.says task.now) kept.now operator effect marks.old }
     ensures noted { IsNotedFor (T.says task.now) kept.now operator effect marks.new }
-    ensures yes { IsTrue result → IsSingle (IsKept (T.says task.now) kept.now) (operator_at (T.says task.now) operator)
-        (group_at (T.says task.now) group) (effect_at (operator_at (T.says task.now) operator) effect) }
-    ensures no { IsFalse result → IsSingle (IsKept (T.says task.now) kept.now) (operator_at (T.says task.now) operator)
-        (group_at (T.says task.now) group) (effect_at (operator_at (T.says task.now) operator) effect) → ⊥ }
+    ensures yes { IsTrue result → IsSingleAt (T.says task.now) kept.now operator effect group }
+    ensures no { IsFalse result → IsSingleAt (T.says task.now) kept.now operator effect group → ⊥ }
 {
     for other in 0..task.effects(operator) {
         if !not_both(task, index, kept, operator, effect, other, group, marks) {
@@ -91,12 +85,8 @@ fn not_both<T: Grounded>(
     requires group { IsIn (T.says task.now) (family_of kept.now) group }
     requires noted { IsNotedFor (T.says task.now) kept.now operator effect marks.old }
     ensures noted { IsNotedFor (T.says task.now) kept.now operator effect marks.new }
-    ensures yes { IsTrue result → NotBoth (IsKept (T.says task.now) kept.now) (operator_at (T.says task.now) operator)
-        (group_at (T.says task.now) group) (effect_at (operator_at (T.says task.now) operator) effect)
-        (effect_at (operator_at (T.says task.now) operator) other) }
-    ensures no { IsFalse result → NotBoth (IsKept (T.says task.now) kept.now) (operator_at (T.says task.now) operator)
-        (group_at (T.says task.now) group) (effect_at (operator_at (T.says task.now) operator) effect)
-        (effect_at (operator_at (T.says task.now) operator) other) → ⊥ }
+    ensures yes { IsTrue result → NotBothAt (T.says task.now) kept.now operator effect other group }
+    ensures no { IsFalse result → NotBothAt (T.says task.now) kept.now operator effect other group → ⊥ }
 {
     let change = task.effect_change(operator, other);
     if task.effect_change(operator, effect).var == change.var {
@@ -124,12 +114,8 @@ fn both_clash<T: Grounded>(
     requires other { other < length (operator_at (T.says task.now) operator).effects }
     requires noted { IsNotedFor (T.says task.now) kept.now operator effect marks.old }
     ensures noted { IsNotedFor (T.says task.now) kept.now operator effect marks.new }
-    ensures yes { IsTrue result → Clash (IsKept (T.says task.now) kept.now) (known (operator_at (T.says task.now) operator)
-        (effect_at (operator_at (T.says task.now) operator) effect).conditions
-        (effect_at (operator_at (T.says task.now) operator) other).conditions) }
-    ensures no { IsFalse result → Clash (IsKept (T.says task.now) kept.now) (known (operator_at (T.says task.now) operator)
-        (effect_at (operator_at (T.says task.now) operator) effect).conditions
-        (effect_at (operator_at (T.says task.now) operator) other).conditions) → ⊥ }
+    ensures yes { IsTrue result → BothClashAt (T.says task.now) kept.now operator effect other }
+    ensures no { IsFalse result → BothClashAt (T.says task.now) kept.now operator effect other → ⊥ }
 {
     let first = task.effect_conditions(operator, effect);
     let second = task.effect_conditions(operator, other);
@@ -157,12 +143,9 @@ fn removes_others<T: Grounded>(
     requires operator { operator < length (T.says task.now).operators }
     requires effect { effect < length (operator_at (T.says task.now) operator).effects }
     requires group { IsIn (T.says task.now) (family_of kept.now) group }
-    requires known { AreKnown (T.says task.now) kept.now (known (operator_at (T.says task.now) operator)
-        (effect_at (operator_at (T.says task.now) operator) effect).conditions []) marks.now }
-    ensures yes { IsTrue result → AreGone (IsKept (T.says task.now) kept.now) (operator_at (T.says task.now) operator)
-        (group_at (T.says task.now) group) (effect_at (operator_at (T.says task.now) operator) effect) }
-    ensures no { IsFalse result → AreGone (IsKept (T.says task.now) kept.now) (operator_at (T.says task.now) operator)
-        (group_at (T.says task.now) group) (effect_at (operator_at (T.says task.now) operator) effect) → ⊥ }
+    requires known { AreKnownAt (T.says task.now) kept.now operator effect marks.now }
+    ensures yes { IsTrue result → AreGoneAt (T.says task.now) kept.now operator effect group }
+    ensures no { IsFalse result → AreGoneAt (T.says task.now) kept.now operator effect group → ⊥ }
 {
     asks_one_of(task, index, operator, effect, group)
         || none_stays(task, index, kept, operator, effect, group, marks)
@@ -176,8 +159,7 @@ fn asks_one_of<T: Grounded>(task: &T, index: &Index, operator: u32, effect: u32,
     requires operator { operator < length (T.says task.now).operators }
     requires effect { effect < length (operator_at (T.says task.now) operator).effects }
     ensures { IsTrue result → (kept : List Bool) → IsIn (T.says task.now) (family_of kept) group
-        → AreGone (IsKept (T.says task.now) kept) (operator_at (T.says task.now) operator)
-        (group_at (T.says task.now) group) (effect_at (operator_at (T.says task.now) operator) effect) }
+        → AreGoneAt (T.says task.now) kept operator effect group }
 {
     let change = task.effect_change(operator, effect);
     match change.old {
@@ -206,12 +188,9 @@ fn none_stays<T: Grounded>(
     requires operator { operator < length (T.says task.now).operators }
     requires effect { effect < length (operator_at (T.says task.now) operator).effects }
     requires group { IsIn (T.says task.now) (family_of kept.now) group }
-    requires known { AreKnown (T.says task.now) kept.now (known (operator_at (T.says task.now) operator)
-        (effect_at (operator_at (T.says task.now) operator) effect).conditions []) marks.now }
-    ensures yes { IsTrue result → AreGone (IsKept (T.says task.now) kept.now) (operator_at (T.says task.now) operator)
-        (group_at (T.says task.now) group) (effect_at (operator_at (T.says task.now) operator) effect) }
-    ensures no { IsFalse result → AreGone (IsKept (T.says task.now) kept.now) (operator_at (T.says task.now) operator)
-        (group_at (T.says task.now) group) (effect_at (operator_at (T.says task.now) operator) effect) → ⊥ }
+    requires known { AreKnownAt (T.says task.now) kept.now operator effect marks.now }
+    ensures yes { IsTrue result → AreGoneAt (T.says task.now) kept.now operator effect group }
+    ensures no { IsFalse result → AreGoneAt (T.says task.now) kept.now operator effect group → ⊥ }
 {
     // Where a fact of the group is known, it contradicts all the others.
     if let Some(fact) = marks.groups.as_slice()[group as usize].only() {
@@ -244,14 +223,10 @@ fn run_is_gone<T: Grounded>(
     requires effect { effect < length (operator_at (T.says task.now) operator).effects }
     requires exist { All (FactExists (T.says task.now).variables) run.now }
     requires one { AreOnOne run.now }
-    requires unknown { All (IsUnknown (operator_at (T.says task.now) operator)
-        (effect_at (operator_at (T.says task.now) operator) effect)) run.now }
-    requires known { AreKnown (T.says task.now) kept.now (known (operator_at (T.says task.now) operator)
-        (effect_at (operator_at (T.says task.now) operator) effect).conditions []) marks.now }
-    ensures yes { IsTrue result → All (IsGone (IsKept (T.says task.now) kept.now) (operator_at (T.says task.now) operator)
-        (effect_at (operator_at (T.says task.now) operator) effect)) run.now }
-    ensures no { IsFalse result → All (IsGone (IsKept (T.says task.now) kept.now) (operator_at (T.says task.now) operator)
-        (effect_at (operator_at (T.says task.now) operator) effect)) run.now → ⊥ }
+    requires unknown { All (IsUnknownAt (T.says task.now) operator effect) run.now }
+    requires known { AreKnownAt (T.says task.now) kept.now operator effect marks.now }
+    ensures yes { IsTrue result → All (IsGoneAt (T.says task.now) kept.now operator effect) run.now }
+    ensures no { IsFalse result → All (IsGoneAt (T.says task.now) kept.now operator effect) run.now → ⊥ }
 {
     if is_settled(task, operator, effect, run, marks) {
         return true;
@@ -300,12 +275,9 @@ fn is_gone<T: Grounded>(
     requires operator { operator < length (T.says task.now).operators }
     requires effect { effect < length (operator_at (T.says task.now) operator).effects }
     requires fact { FactExists (T.says task.now).variables fact }
-    requires known { AreKnown (T.says task.now) kept.now (known (operator_at (T.says task.now) operator)
-        (effect_at (operator_at (T.says task.now) operator) effect).conditions []) marks.now }
-    ensures yes { IsTrue result → IsGone (IsKept (T.says task.now) kept.now) (operator_at (T.says task.now) operator)
-        (effect_at (operator_at (T.says task.now) operator) effect) fact }
-    ensures no { IsFalse result → IsGone (IsKept (T.says task.now) kept.now) (operator_at (T.says task.now) operator)
-        (effect_at (operator_at (T.says task.now) operator) effect) fact → ⊥ }
+    requires known { AreKnownAt (T.says task.now) kept.now operator effect marks.now }
+    ensures yes { IsTrue result → IsGoneAt (T.says task.now) kept.now operator effect fact }
+    ensures no { IsFalse result → IsGoneAt (T.says task.now) kept.now operator effect fact → ⊥ }
 {
     if task.effect_change(operator, effect).var == fact.var {
         return true;

@@ -1,5 +1,5 @@
 -- One more run is gone, or the fact that is known.
-use Rattle.std.proofs.Common.{◌≡◌, ◌<◌, ℕ, List, [], length, get_or, drop, None, Some, sym, ap, subst, ◌∙◌, arith, refl}
+use Rattle.std.proofs.Common.{◌≡◌, ◌<◌, ℕ, List, [], length, get_or, drop, sym, ap, subst, ◌∙◌, arith, refl}
 use Rattle.std.proofs.lemmas.List.{get_or_default, drop_all}
 use Rattle.std.proofs.lemmas.List.Elements.{All-contains}
 use Rattle.sas_core.specs.declared.parts.Fact.{Fact}

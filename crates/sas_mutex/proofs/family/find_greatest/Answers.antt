@@ -1,5 +1,5 @@
 -- First all operators are looked at, then those that mention a fact of a group that fell.
-use Rattle.std.proofs.Common.{ℕ, ◌<◌, List, length, subst}
+use Rattle.std.proofs.Common.{ℕ, ◌<◌, length, subst}
 use Rattle.std.specs.List.{All}
 use Rattle.sas_mutex.proofs.FallingGroups.{greatest_in_the_end, falls_then, newly_all}
 use Rattle.sas_mutex.proofs.family.find_greatest.Goals as goal

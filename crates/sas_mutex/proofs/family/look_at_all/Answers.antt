@@ -1,7 +1,6 @@
 -- One more operator was looked at.
-use Rattle.std.proofs.Common.{ℕ, List, length, ap, ◌∙◌, subst, arith}
+use Rattle.std.proofs.Common.{length, ◌∙◌, arith}
 use Rattle.std.proofs.lemmas.List.{length-set}
-use Rattle.sas_mutex.specs.Falling.{WasLookedAt}
 use Rattle.sas_mutex.proofs.FallingGroups.{falls_then, looked_more}
 use Rattle.sas_mutex.proofs.family.look_at_all.Goals as goal
 

@@ -1,5 +1,5 @@
 -- Told is each group that has the fact which the effect sets: by the notes, or since the effect never fires, or before.
-use Rattle.std.proofs.Common.{◌≡◌, ℕ, ◌+◌, ◌<◌, Bool, List, [], length, get_or, ap, subst, sym, ◌∙◌, arith}
+use Rattle.std.proofs.Common.{ℕ, ◌+◌, ◌<◌, Bool, List, [], length, get_or, ap, subst, sym, ◌∙◌, arith}
 use Rattle.std.specs.List.{Contains}
 use Rattle.std.specs.Prelude.{◌↔◌}
 use Rattle.std.proofs.lemmas.List.Elements.{Contains-get_or, All-contains}
@@ -10,7 +10,7 @@ use Rattle.sas_groups.specs.Clashes.{sets, Clash}
 use Rattle.sas_groups.specs.Lists.{known}
 use Rattle.sas_mutex.specs.Effects.{IsKept}
 use Rattle.sas_mutex.specs.Index.{HasFact}
-use Rattle.sas_mutex.specs.Joint.{verdict_at, IsUntold, IsVerdictSoFar, AreVerdictsSoFar}
+use Rattle.sas_mutex.specs.Joint.{verdict_at, IsUntold, IsVerdictSoFar}
 use Rattle.sas_mutex.proofs.SetFacts.{groups_setting}
 use Rattle.sas_mutex.proofs.Telling.{next_effect, one_effect_more, so_far_by, told_already, clash_never_fires}
 use Rattle.sas_mutex.proofs.joint.tell_broken_by_effect.Goals as goal

@@ -1,5 +1,5 @@
 -- The group is broken here, or stands as before.
-use Rattle.std.proofs.Common.{◌≡◌, ◌+◌, Bool, List, get_or, sym, ap, ◌∙◌, subst, arith}
+use Rattle.std.proofs.Common.{◌+◌, Bool, List, get_or, sym, ap, ◌∙◌, subst, arith}
 use Rattle.std.proofs.lemmas.Bool.{both_ways}
 use Rattle.std.proofs.lemmas.List.{get_or-set_same}
 use Rattle.sas_groups.specs.declared.verdict.Verdict.{Verdict}
