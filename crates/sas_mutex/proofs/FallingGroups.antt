@@ -13,7 +13,7 @@ use Rattle.sas_groups.proofs.GreatestFamily.{group_of_larger, keeps_more}
 use Rattle.sas_mutex.specs.declared.family.Family.{Family}
 use Rattle.sas_mutex.specs.Effects.{family_of, IsKept, EffectKeeps}
 use Rattle.sas_mutex.specs.Falling.{MentionsNone, IsEffectAtRest, IsAtRest, RestsAt, AreCandidates, newly, Falls, looked_at, WasLookedAt, AreLookedAt}
-use Rattle.sas_mutex.specs.Index.{under, MentionsGroup, AreMentions}
+use Rattle.sas_group_index.specs.Index.{under, MentionsGroup, AreMentions}
 use Rattle.sas_mutex.proofs.Keeping.{keeps_from_effects, effect_of_keeps, effect_keeps_still}
 
 module _ (p : Parts) where

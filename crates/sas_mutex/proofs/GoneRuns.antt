@@ -11,13 +11,13 @@ use Rattle.sas_core.specs.declared.parts.Parts.{Parts}
 use Rattle.sas_core.specs.Variables.{FactExists}
 use Rattle.sas_groups.specs.Checks.{IsGone}
 use Rattle.sas_groups.specs.Lists.{known}
-use Rattle.sas_mutex.specs.declared.index.Index.{Index}
+use Rattle.sas_group_index.specs.declared.index.Index.{Index}
 use Rattle.sas_mutex.specs.declared.marks.Marks.{Marks}
 use Rattle.sas_mutex.specs.Effects.{IsKept}
-use Rattle.sas_mutex.specs.Index.{IsIndexOf}
+use Rattle.sas_group_index.specs.Index.{IsIndexOf}
 use Rattle.sas_mutex.specs.Marks.{value_note}
 use Rattle.sas_mutex.specs.Noting.{AreKnown, IsUnknown, IsSettled}
-use Rattle.sas_mutex.specs.Runs.{AreOnOne, AreRuns}
+use Rattle.sas_group_index.specs.Runs.{AreOnOne, AreRuns}
 use Rattle.sas_mutex.proofs.TaskFacts.{variable_below}
 use Rattle.sas_mutex.proofs.NotesOfFacts.{a_note, value_note_tells}
 use Rattle.sas_mutex.proofs.ToldByNotes.{against_clashes}

@@ -17,7 +17,7 @@ use Rattle.sas_groups.proofs.GreatestFamily.{clash_more}
 use Rattle.sas_groups.specs.Checks.{NotBoth}
 use Rattle.sas_mutex.specs.Effects.{family_of, IsKept, EffectKeeps}
 use Rattle.sas_mutex.specs.Falling.{MentionsNone}
-use Rattle.sas_mutex.specs.Index.{Mentions}
+use Rattle.sas_group_index.specs.Index.{Mentions}
 
 -- what clashes where some groups count clashes where others do
 module _ (Counts Others : List Fact → Type 0) (o : Operator) (group : List Fact) (e : Effect) where

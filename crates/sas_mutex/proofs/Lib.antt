@@ -1,7 +1,3 @@
-pub mod Numbering
-pub mod Lists
-pub mod Entering
-pub mod Mentioning
 pub mod TaskFacts
 pub mod NotesOfFacts
 pub mod ToldByNotes
@@ -12,5 +8,4 @@ pub mod Counting
 pub mod SetFacts
 pub mod Telling
 pub mod OldValues
-pub mod RunLengths
 pub mod GoneRuns

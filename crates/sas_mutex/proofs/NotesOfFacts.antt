@@ -9,15 +9,15 @@ use Rattle.sas_core.specs.declared.parts.Parts.{Parts}
 use Rattle.sas_grounded.specs.Grounded.{group_at}
 use Rattle.sas_core.specs.Variables.{FactExists}
 use Rattle.sas_groups.specs.Clashes.{Contradict, Clash}
-use Rattle.sas_mutex.specs.declared.index.Index.{Index}
+use Rattle.sas_group_index.specs.declared.index.Index.{Index}
 use Rattle.sas_mutex.specs.declared.marks.Marks.{Marks}
 use Rattle.sas_mutex.specs.declared.marks.Noted.{Noted}
 use Rattle.sas_mutex.specs.declared.marks.Noted.TheVariants.{Nothing, One, Several}
 use Rattle.sas_mutex.specs.Effects.{family_of, IsKept}
-use Rattle.sas_mutex.specs.Index.{IsIndexOf, HasFact, groups_of}
+use Rattle.sas_group_index.specs.Index.{IsIndexOf, HasFact, groups_of}
 use Rattle.sas_mutex.specs.Marks.{value_note, group_note, IsWide, IsClean, IsNotedFrom, IsValueNote, IsOfGroup, IsGroupNote}
 use Rattle.sas_mutex.specs.Noting.{IsNotedToo, IsRefused, Takes, TakenBySome, HasOtherValue, ChangesAt, IsThere, IsNew, Forgets, IsForgotten, AreKnown}
-use Rattle.sas_mutex.proofs.Lists.{is_among}
+use Rattle.sas_group_index.proofs.Lists.{is_among}
 use Rattle.sas_mutex.proofs.TaskFacts.{variable_below}
 
 none_or_some : {A : Type 0} (x : A) (noted : Option A) → noted ≡ None → noted ≡ Some x → ⊥

@@ -13,8 +13,8 @@ use Rattle.sas_core.proofs.Places.{holds_at}
 use Rattle.sas_meaning.specs.Steps.{old_fact, preconditions}
 use Rattle.sas_meaning.proofs.Forced.{fact_within}
 use Rattle.sas_groups.specs.Lists.{known}
-use Rattle.sas_mutex.specs.declared.index.Index.{Index}
-use Rattle.sas_mutex.specs.Index.{IsIndexOf, groups_of}
+use Rattle.sas_group_index.specs.declared.index.Index.{Index}
+use Rattle.sas_group_index.specs.Index.{IsIndexOf, groups_of}
 use Rattle.sas_mutex.specs.Noting.{AreBelow}
 
 module _ (p : Parts) (ranged : WellRanged p) where

@@ -21,7 +21,7 @@ use Rattle.sas_mutex.specs.declared.marks.Marks.{Marks}
 use Rattle.sas_mutex.specs.declared.marks.Noted.TheVariants.{Several}
 use Rattle.sas_mutex.specs.Effects.{family_of, IsKept, EffectKeeps}
 use Rattle.sas_mutex.specs.Falling.{HasRoom, AreCandidates}
-use Rattle.sas_mutex.specs.Index.{HasFact}
+use Rattle.sas_group_index.specs.Index.{HasFact}
 use Rattle.sas_mutex.specs.Joint.{verdict_at, AreJointVerdicts, AreFirstVerdicts, IsUntold, KeepsWithItself, KeptSoFar, IsVerdictSoFar, AreVerdictsSoFar}
 use Rattle.sas_mutex.specs.Marks.{group_note, IsGroupNote}
 use Rattle.sas_mutex.specs.Noting.{IsNotedFor, known_at}

@@ -14,12 +14,12 @@ use Rattle.sas_meaning.specs.Steps.{preconditions}
 use Rattle.sas_groups.specs.Clashes.{Contradict, Clash, IsRemoved}
 use Rattle.sas_groups.specs.Families.{IsIn}
 use Rattle.sas_groups.specs.Lists.{known}
-use Rattle.sas_mutex.specs.declared.index.Index.{Index}
+use Rattle.sas_group_index.specs.declared.index.Index.{Index}
 use Rattle.sas_mutex.specs.declared.marks.Marks.{Marks}
 use Rattle.sas_groups.specs.Checks.{IsGone}
 use Rattle.sas_groups.proofs.GreatestFamily.{clash_more, group_of_larger}
 use Rattle.sas_mutex.specs.Effects.{family_of, IsKept, EffectKeeps}
-use Rattle.sas_mutex.specs.Index.{IsIndexOf, HasFact, groups_of}
+use Rattle.sas_group_index.specs.Index.{IsIndexOf, HasFact, groups_of}
 use Rattle.sas_mutex.specs.Marks.{value_note, group_note}
 use Rattle.sas_mutex.specs.Noting.{IsAgainst, IsMet, Removes, SomeRemoves, AreKnown, AreGone, IsNotedFor, known_at}
 use Rattle.sas_mutex.proofs.TaskFacts.{variable_below}

@@ -7,7 +7,7 @@ use Rattle.sas_groups.specs.Families.{IsIn, IsKeptJointly}
 use Rattle.sas_groups.specs.Groups.{MayBeExclusive}
 use Rattle.sas_mutex.specs.declared.family.Family.{Family}
 use Rattle.sas_mutex.specs.Effects.{family_of, KeepsAt}
-use Rattle.sas_mutex.specs.Index.{MentionsGroup}
+use Rattle.sas_group_index.specs.Index.{MentionsGroup}
 
 -- the effect at this place of this operator keeps each group of the family that has the fact which it sets
 abbrev pub EffectKeepsAll : Parts → List Bool → ℕ → ℕ → Type 0

@@ -5,8 +5,6 @@ pub use Rattle.sas_groups.specs.Families
 pub use Rattle.sas_groups.specs.Verdicts
 pub use Rattle.sas_groups.specs.Laws
 pub mod Joint
-pub mod Index
-pub mod Runs
 pub mod Marks
 pub mod Effects
 pub mod Noting

@@ -5,7 +5,7 @@ use Rattle.sas_core.specs.declared.parts.Parts.{Parts}
 use Rattle.sas_mutex.specs.declared.marks.Marks.{Marks}
 use Rattle.sas_mutex.specs.declared.marks.Noted.{Noted}
 use Rattle.sas_mutex.specs.declared.marks.Noted.TheVariants.{Nothing, One, Several}
-use Rattle.sas_mutex.specs.Index.{HasFact}
+use Rattle.sas_group_index.specs.Index.{HasFact}
 
 -- the value noted for a variable, and what is noted for a group
 abbrev pub value_note : List (Option ℕ) → ℕ → Option ℕ

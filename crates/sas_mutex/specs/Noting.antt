@@ -9,13 +9,13 @@ use Rattle.sas_grounded.specs.Grounded.{operator_at, effect_at, group_at}
 use Rattle.sas_core.specs.WellRanged.{WellRanged}
 use Rattle.sas_groups.specs.Clashes.{Clash}
 use Rattle.sas_groups.specs.Lists.{known}
-use Rattle.sas_mutex.specs.declared.index.Index.{Index}
+use Rattle.sas_group_index.specs.declared.index.Index.{Index}
 use Rattle.sas_mutex.specs.declared.marks.Marks.{Marks}
 use Rattle.sas_mutex.specs.declared.marks.Noted.{Noted}
 use Rattle.sas_mutex.specs.declared.marks.Noted.TheVariants.{Nothing, One, Several}
 use Rattle.sas_groups.specs.Checks.{NotBoth, IsGone}
 use Rattle.sas_mutex.specs.Effects.{family_of, IsKept}
-use Rattle.sas_mutex.specs.Index.{IsIndexOf, HasFact}
+use Rattle.sas_group_index.specs.Index.{IsIndexOf, HasFact}
 use Rattle.sas_mutex.specs.Marks.{value_note, group_note, IsWide, IsNotedFrom, IsNoted}
 
 -- places below a number

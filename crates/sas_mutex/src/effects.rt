@@ -5,14 +5,14 @@ ghost use Rattle.sas_core.specs.Variables.{FactExists};
 ghost use Rattle.sas_core.specs.WellRanged.{WellRanged};
 ghost use Rattle.sas_groups.specs.Families.{IsIn};
 ghost use Rattle.sas_mutex.specs.Effects.{family_of, KeepsAt};
-ghost use Rattle.sas_mutex.specs.Index.{IsIndexOf, groups_of};
+ghost use Rattle.sas_group_index.specs.Index.{IsIndexOf, groups_of};
 ghost use Rattle.sas_mutex.specs.Marks.{IsWide};
 ghost use Rattle.sas_mutex.specs.Noting.{AreBelow, HasNotedGroup, IsAgainst, IsMet, SomeRemoves, Removes};
 ghost use Rattle.sas_mutex.specs.Noting.{AreOf, AreKnownAt, IsNotedFor, BothClashAt, NotBothAt, IsSingleAt};
 ghost use Rattle.sas_mutex.specs.Noting.{IsGoneAt, AreGoneAt, IsUnknownAt, IsSettled};
-ghost use Rattle.sas_mutex.specs.Runs.{AreOnOne};
+ghost use Rattle.sas_group_index.specs.Runs.{AreOnOne};
 
-use crate::index::Index;
+use sas_group_index::Index;
 use crate::marks::{Marks, Noted, forget_known, note_known};
 use sas_core::{Fact, Items};
 use sas_grounded::{Change, Grounded};

@@ -6,14 +6,14 @@ ghost use Rattle.sas_groups.specs.Clashes.{sets};
 ghost use Rattle.sas_groups.specs.Families.{IsGreatest};
 ghost use Rattle.sas_groups.specs.Lists.{known};
 ghost use Rattle.sas_mutex.specs.Effects.{family_of};
-ghost use Rattle.sas_mutex.specs.Index.{IsIndexOf, AreMentions};
+ghost use Rattle.sas_group_index.specs.Index.{IsIndexOf, AreMentions};
 ghost use Rattle.sas_mutex.specs.Marks.{IsClean};
 ghost use Rattle.sas_mutex.specs.Noting.{AreNoted, IsNotedFor};
 ghost use Rattle.sas_mutex.specs.Falling.{count, HasRoom, AreCandidates, newly, Falls, looked_at, AreLookedAt};
 ghost use Rattle.sas_mutex.specs.Falling.{IsAtRest, IsEffectAtRest, IsPlain, ArePlainAtRest, RestsAt};
 
 use crate::effects::keeps_by_notes;
-use crate::index::{Index, under};
+use sas_group_index::{Index, under};
 use crate::marks::{Marks, forget_known, note_known};
 use sas_core::{Fact, Items};
 use sas_grounded::Grounded;

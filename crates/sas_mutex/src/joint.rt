@@ -5,7 +5,7 @@ ghost use Rattle.sas_groups.specs.Clashes.{sets};
 ghost use Rattle.sas_groups.specs.Families.{IsGreatest};
 ghost use Rattle.sas_groups.specs.declared.verdict.Verdict.TheVariants.{Exclusive};
 ghost use Rattle.sas_mutex.specs.Effects.{family_of};
-ghost use Rattle.sas_mutex.specs.Index.{IsIndexOf, HasFact};
+ghost use Rattle.sas_group_index.specs.Index.{IsIndexOf, HasFact};
 ghost use Rattle.sas_mutex.specs.Marks.{IsClean};
 ghost use Rattle.sas_mutex.specs.Noting.{AreBelow, AreOf, IsNotedFor};
 ghost use Rattle.sas_mutex.specs.Joint.{verdict_at, AreJointVerdicts, AreFirstVerdicts};
@@ -13,9 +13,9 @@ ghost use Rattle.sas_mutex.specs.Joint.{IsUntold, KeepsWithItself, IsVerdictSoFa
 
 use crate::effects::keeps_by_notes;
 use crate::family::{Family, find_greatest};
-use crate::index::Index;
+use sas_group_index::Index;
 use crate::marks::{Marks, forget_known, note_known};
-use crate::mentions::mentions_of;
+use sas_group_index::mentions_of;
 use sas_core::{Fact, Items};
 use sas_grounded::Grounded;
 use sas_groups::{Verdict, before_operators};

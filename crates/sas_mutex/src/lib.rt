@@ -4,11 +4,8 @@
 
 mod effects;
 mod family;
-mod index;
 mod joint;
 mod marks;
-mod mentions;
-mod runs;
 
 pub use joint::check_groups;
 pub use sas_groups::{Facts, Verdict, check_group, group_laws};

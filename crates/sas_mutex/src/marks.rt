@@ -7,12 +7,12 @@ ghost use Rattle.sas_groups.specs.Lists.{known};
 ghost use Rattle.sas_mutex.specs.Effects.{IsKept};
 ghost use Rattle.sas_core.specs.WellRanged.{WellRanged};
 ghost use Rattle.sas_mutex.specs.declared.marks.Noted.TheVariants.{Nothing, One, Several};
-ghost use Rattle.sas_mutex.specs.Index.{IsIndexOf, groups_of};
+ghost use Rattle.sas_group_index.specs.Index.{IsIndexOf, groups_of};
 ghost use Rattle.sas_mutex.specs.Marks.{IsClean, IsNotedFrom, IsNoted};
 ghost use Rattle.sas_mutex.specs.Noting.{AreBelow, IsNotedToo, IsRefused, TakenBySome, TakenByAll, HasOtherValue};
 ghost use Rattle.sas_mutex.specs.Noting.{ChangesAt, IsThere, IsNew, ForgetsGroups, Forgets};
 
-use crate::index::Index;
+use sas_group_index::Index;
 use sas_core::{Fact, Items};
 use sas_grounded::Grounded;
 use sas_groups::Known;

@@ -5,7 +5,7 @@ use Rattle.std.proofs.lemmas.Bool.{cases_eq}
 use Rattle.std.proofs.lemmas.List.{get_or_default}
 use Rattle.std.proofs.lemmas.List.Elements.{All-get_or, All-contains}
 use Rattle.sas_mutex.specs.Falling.{looked_at}
-use Rattle.sas_mutex.specs.Index.{MentionsGroup}
+use Rattle.sas_group_index.specs.Index.{MentionsGroup}
 use Rattle.sas_mutex.proofs.FallingGroups.{falls_then, fallen_exist, fallen_grow, fell_before, mentioning_exist, rest_in_the_end}
 use Rattle.sas_mutex.proofs.family.look_again.Goals as goal
 use Rattle.sas_mutex.proofs.family.look_again.Given.{Over}

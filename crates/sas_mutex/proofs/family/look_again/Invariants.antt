@@ -2,7 +2,7 @@
 use Rattle.std.proofs.Common.{ℕ, ◌-◌, ◌<◌, ◌≤◌, length, get_or}
 use Rattle.std.specs.List.{All}
 use Rattle.sas_mutex.specs.Falling.{HasRoom, Falls, looked_at, AreLookedAt}
-use Rattle.sas_mutex.specs.Index.{MentionsGroup}
+use Rattle.sas_group_index.specs.Index.{MentionsGroup}
 use Rattle.sas_mutex.specs.Marks.{IsClean}
 use Rattle.sas_mutex.proofs.family.look_again.Given as goal
 

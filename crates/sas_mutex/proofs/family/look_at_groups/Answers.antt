@@ -6,7 +6,7 @@ use Rattle.std.proofs.lemmas.List.Elements.{Contains-get_or}
 use Rattle.sas_grounded.specs.Grounded.{operator_at, effect_at}
 use Rattle.sas_groups.specs.Clashes.{sets}
 use Rattle.sas_mutex.specs.Falling.{newly, RestsAt}
-use Rattle.sas_mutex.specs.Index.{HasFact}
+use Rattle.sas_group_index.specs.Index.{HasFact}
 use Rattle.sas_mutex.proofs.FallingGroups.{falls_then, rests_later, rests_now}
 use Rattle.sas_mutex.proofs.SetFacts.{groups_setting, at_item}
 use Rattle.sas_mutex.proofs.family.look_at_groups.Goals as goal

@@ -9,7 +9,7 @@ use Rattle.sas_groups.specs.declared.verdict.Verdict.{Verdict}
 use Rattle.sas_groups.specs.Clashes.{sets, Clash}
 use Rattle.sas_groups.specs.Lists.{known}
 use Rattle.sas_mutex.specs.Effects.{IsKept}
-use Rattle.sas_mutex.specs.Index.{HasFact}
+use Rattle.sas_group_index.specs.Index.{HasFact}
 use Rattle.sas_mutex.specs.Joint.{verdict_at, IsUntold, IsVerdictSoFar}
 use Rattle.sas_mutex.proofs.SetFacts.{groups_setting}
 use Rattle.sas_mutex.proofs.Telling.{next_effect, one_effect_more, so_far_by, told_already, clash_never_fires}

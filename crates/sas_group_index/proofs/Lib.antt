@@ -1,0 +1,5 @@
+pub mod Numbering
+pub mod Lists
+pub mod Entering
+pub mod Mentioning
+pub mod RunLengths

@@ -1,0 +1,133 @@
+// Which groups have which facts.
+ghost use Rattle.std.specs.Prelude.{◌≡◌, ◌<◌, ◌≤◌, ◌^◌, ◌↔◌, ◌++◌, ℕ, [], length, IsTrue, IfOk, OnOk, All, Contains};
+ghost use Rattle.std.specs.List.Sorted.{IsNonDecreasing};
+ghost use Rattle.sas_grounded.specs.Grounded.{group_at};
+ghost use Rattle.sas_core.specs.WellRanged.{WellRanged};
+ghost use Rattle.sas_group_index.specs.Index as spec;
+ghost use Rattle.sas_group_index.specs.Index.{under, IsIndexOf, AreFirstNumbers, AreGroupsByFact, facts_below, entries_of_group};
+
+use crate::runs::runs_of_groups;
+use sas_core::{Fact, Items};
+use sas_grounded::Grounded;
+use sas_lists::{Entry, Lists};
+use std::alloc::{AllocError, Global};
+
+/// Which groups have which fact. Facts are numbered, variable after variable, so that a look at one takes a fixed time.
+#[derive(Drop)]
+pub struct Index {
+    /// The number of each variable's first fact.
+    pub firsts: Vec<usize>,
+    /// The groups under the number of each fact of theirs.
+    pub groups: Lists<u32>,
+    /// For each group, how many of its facts stand in a row on one variable.
+    pub runs: Items<Items<u32>>,
+}
+
+impl Index {
+    /// The index of the groups of the task.
+    pub fn new<T: Grounded>(alloc: Global, task: &T) -> Result<Index, AllocError>
+        ensures { IfOk result (λ index. IsIndexOf (T.says task.now) index) }
+    {
+        let mut firsts = Vec::with_capacity(alloc, task.variables() as usize)?;
+        let facts = number_facts(task, &mut firsts)?;
+        let groups = groups_by_fact(alloc, task, firsts.as_slice(), facts)?;
+        let runs = runs_of_groups(alloc, task)?;
+        Ok(Index {
+            firsts,
+            groups,
+            runs,
+        })
+    }
+
+    /// The groups that have the fact.
+    pub fn groups_of(&self, fact: Fact) -> &[u32]
+        requires { All (λ (first : ℕ). first ≤ 2 ^ 62) self.now.firsts.items }
+        ensures { result.now ≡ spec.groups_of self.now fact }
+    {
+        // A variable that isn't there has no first number. Its facts are looked up as if that were 0.
+        let first = match self.firsts.as_slice().get(fact.var as usize) {
+            Some(first) => *first,
+            None => 0,
+        };
+        under(&self.groups, first + fact.value as usize)
+    }
+
+    /// Whether the group has the fact.
+    pub fn has(&self, group: u32, fact: Fact) -> bool
+        requires low { All (λ (first : ℕ). first ≤ 2 ^ 62) self.now.firsts.items }
+        requires ascending { IsNonDecreasing (spec.groups_of self.now fact) }
+        ensures { IsTrue result ↔ Contains (spec.groups_of self.now fact) group }
+    {
+        self.groups_of(fact).binary_search(&group).is_ok()
+    }
+}
+
+/// Adds the number of each variable's first fact to the empty list. Says how many facts there are.
+fn number_facts<T: Grounded>(task: &T, firsts: &mut Vec<usize>) -> Result<usize, AllocError>
+    requires empty { firsts.old.items ≡ [] }
+    ensures firsts { OnOk result (AreFirstNumbers (T.says task.now) firsts.new.items) }
+    ensures low { OnOk result (All (λ (first : ℕ). first ≤ 2 ^ 62) firsts.new.items) }
+    ensures all { IfOk result (λ facts. facts ≡ facts_below (T.says task.now) (length (T.says task.now).variables)) }
+{
+    let mut facts = 0;
+    for var in 0..task.variables() {
+        firsts.push(facts)?;
+        facts += task.range(var) as usize;
+    }
+    Ok(facts)
+}
+
+/// The groups of the task, each under the numbers of its facts, of which there are so many.
+fn groups_by_fact<T: Grounded>(
+    alloc: Global,
+    task: &T,
+    firsts: &[usize],
+    facts: usize,
+) -> Result<Lists<u32>, AllocError>
+    requires firsts { AreFirstNumbers (T.says task.now) firsts.now }
+    requires low { All (λ (first : ℕ). first ≤ 2 ^ 62) firsts.now }
+    requires all { facts ≡ facts_below (T.says task.now) (length (T.says task.now).variables) }
+    ensures { IfOk result (λ groups. AreGroupsByFact (T.says task.now) groups) }
+{
+    // The contract of this call tells that what the task says is well ranged.
+    let _ = task.variables();
+    let mut entries = Vec::new(alloc);
+    for group in 0..task.groups() {
+        enter_group(task, firsts, group, &mut entries)?;
+    }
+    Lists::by_key(alloc, entries.as_slice(), facts)
+}
+
+/// Adds an entry for each fact of the group, under the fact's number.
+fn enter_group<T: Grounded>(
+    task: &T,
+    firsts: &[usize],
+    group: u32,
+    entries: &mut Vec<Entry<u32>>,
+) -> Result<(), AllocError>
+    requires ranged { WellRanged (T.says task.now) }
+    requires group { group < length (T.says task.now).groups }
+    requires firsts { AreFirstNumbers (T.says task.now) firsts.now }
+    requires low { All (λ (first : ℕ). first ≤ 2 ^ 62) firsts.now }
+    ensures { let p = T.says task.now in
+        OnOk result (entries.new.items ≡ entries.old.items ++ entries_of_group p group (group_at p group)) }
+{
+    for fact in task.group(group) {
+        entries.push(Entry {
+            key: firsts[fact.var as usize] + fact.value as usize,
+            item: group,
+        })?;
+    }
+    Ok(())
+}
+
+/// The list under the key; behind the last one there is none.
+pub fn under(lists: &Lists<u32>, key: usize) -> &[u32]
+    ensures { result.now ≡ under lists.now key }
+{
+    if key < lists.len() {
+        lists.get(key)
+    } else {
+        &[]
+    }
+}

@@ -1,0 +1,50 @@
+// Facts of a group that stand in a row on one variable.
+ghost use Rattle.std.specs.Prelude.{◌≡◌, ℕ, ◌<◌, ◌≤◌, ◌^◌, length, take, All, IfOk, slice_index_or};
+ghost use Rattle.sas_core.specs.declared.parts.Fact.{Fact};
+ghost use Rattle.sas_group_index.specs.Runs.{AreRuns, AreRunsOf};
+
+use sas_core::{Fact, Items};
+use sas_grounded::Grounded;
+use std::alloc::{AllocError, Global};
+
+/// For each group of the task, how many of its facts stand in a row on one variable, run after run.
+pub fn runs_of_groups<T: Grounded>(alloc: Global, task: &T) -> Result<Items<Items<u32>>, AllocError>
+    ensures { IfOk result (λ runs. AreRunsOf (T.says task.now) runs) }
+{
+    // The contract of this call tells that what the task says is well ranged.
+    let _ = task.variables();
+    let mut runs = Items::from_vec(Vec::with_capacity(alloc, task.groups() as usize)?);
+    for group in 0..task.groups() {
+        runs.push(runs_in(alloc, task.group(group))?)?;
+    }
+    Ok(runs)
+}
+
+/// How many of the facts stand in a row on one variable, run after run.
+fn runs_in(alloc: Global, facts: &[Fact]) -> Result<Items<u32>, AllocError>
+    requires { length facts.now < 2 ^ 31 }
+    ensures { IfOk result (λ runs. AreRuns facts.now runs) }
+{
+    let mut runs = Items::new(alloc);
+    let mut left = facts;
+    while let Some(first) = left.first() {
+        let (run, rest) = left.split_at(run_length(left, first.var));
+        runs.push(run.len() as u32)?;
+        left = rest;
+    }
+    Ok(runs)
+}
+
+/// How many facts at the front are on the variable.
+fn run_length(facts: &[Fact], var: u32) -> usize
+    ensures within { result ≤ length facts.now }
+    ensures on_it { All (λ (f : Fact). f.var ≡ var) (take result facts.now) }
+    ensures some { (d : Fact) → 0 < length facts.now → (slice_index_or facts.now 0 d).var ≡ var → 0 < result }
+{
+    for (place, fact) in facts.iter().enumerate() {
+        if fact.var != var {
+            return place;
+        }
+    }
+    facts.len()
+}
