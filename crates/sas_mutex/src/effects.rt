@@ -12,10 +12,10 @@ ghost use Rattle.sas_mutex.specs.Noting.{AreOf, AreKnownAt, IsNotedFor, BothClas
 ghost use Rattle.sas_mutex.specs.Noting.{IsGoneAt, AreGoneAt, IsUnknownAt, IsSettled};
 ghost use Rattle.sas_group_index.specs.Runs.{AreOnOne};
 
-use sas_group_index::Index;
 use crate::marks::{Marks, Noted, forget_known, note_known};
 use sas_core::{Fact, Items};
 use sas_grounded::{Change, Grounded};
+use sas_group_index::Index;
 
 /// Whether the effect keeps the group, which is in the family. What is known where it fires is noted, and doesn't clash.
 pub fn keeps_by_notes<T: Grounded>(

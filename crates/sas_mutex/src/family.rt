@@ -13,10 +13,10 @@ ghost use Rattle.sas_mutex.specs.Falling.{count, HasRoom, AreCandidates, newly, 
 ghost use Rattle.sas_mutex.specs.Falling.{IsAtRest, IsEffectAtRest, IsPlain, ArePlainAtRest, RestsAt};
 
 use crate::effects::keeps_by_notes;
-use sas_group_index::{Index, under};
 use crate::marks::{Marks, forget_known, note_known};
 use sas_core::{Fact, Items};
 use sas_grounded::Grounded;
+use sas_group_index::{Index, under};
 use sas_lists::Lists;
 
 /// The groups that may still be kept jointly, and those that fell out of them.
@@ -30,7 +30,7 @@ pub struct Family {
 
 /// Takes from the family, which has the groups that may be exclusive, each that some operator doesn't keep, until every
 /// operator keeps each that is left. After groups fell only those operators are looked at again that mention a fact of one.
-/// What was noted of the operators, one item for each, counts for nothing.
+/// `looked` has an item for each operator, where it is noted how many groups had fallen when it was looked at last.
 pub fn find_greatest<T: Grounded>(
     task: &T,
     index: &Index,

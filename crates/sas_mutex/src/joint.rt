@@ -13,11 +13,10 @@ ghost use Rattle.sas_mutex.specs.Joint.{IsUntold, KeepsWithItself, IsVerdictSoFa
 
 use crate::effects::keeps_by_notes;
 use crate::family::{Family, find_greatest};
-use sas_group_index::Index;
 use crate::marks::{Marks, forget_known, note_known};
-use sas_group_index::mentions_of;
 use sas_core::{Fact, Items};
 use sas_grounded::Grounded;
+use sas_group_index::{Index, mentions_of};
 use sas_groups::{Verdict, before_operators};
 use sas_meaning::Layered;
 use std::alloc::{AllocError, Global};

@@ -12,9 +12,9 @@ ghost use Rattle.sas_mutex.specs.Marks.{IsClean, IsNotedFrom, IsNoted};
 ghost use Rattle.sas_mutex.specs.Noting.{AreBelow, IsNotedToo, IsRefused, TakenBySome, TakenByAll, HasOtherValue};
 ghost use Rattle.sas_mutex.specs.Noting.{ChangesAt, IsThere, IsNew, ForgetsGroups, Forgets};
 
-use sas_group_index::Index;
 use sas_core::{Fact, Items};
 use sas_grounded::Grounded;
+use sas_group_index::Index;
 use sas_groups::Known;
 use std::alloc::{AllocError, Global};
 
@@ -56,20 +56,14 @@ impl Noted {
     pub fn is_nothing(self) -> bool
         ensures { IsTrue result ↔ (self ≡ Nothing) }
     {
-        match self {
-            Noted::Nothing => true,
-            _ => false,
-        }
+        matches!(self, Noted::Nothing)
     }
 
     /// Whether several are noted.
     pub fn is_several(self) -> bool
         ensures { IsTrue result ↔ (self ≡ Several) }
     {
-        match self {
-            Noted::Several => true,
-            _ => false,
-        }
+        matches!(self, Noted::Several)
     }
 }
 
