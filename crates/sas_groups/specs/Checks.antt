@@ -22,7 +22,7 @@ pub record Removes (facts : List Fact) (effect : Effect) (fact : Fact) : Type 0 
   pub var : effect.var ≡ fact.var
   pub other : effect.new ≢ fact.value
 
--- if this effect sets a fact of the group on another variable, what holds when both fire clashes
+-- if the second effect sets a fact of the group on another variable than the first, what holds when both fire clashes
 abbrev pub NotBoth : (List Fact → Type 0) → Operator → List Fact → Effect → Effect → Type 0
 NotBoth Counts o group e f = Contains group (sets f) → e.var ≢ f.var → Clash Counts (known o e.conditions f.conditions)
 

@@ -33,8 +33,9 @@ IsVerdictAlone p group Exclusive = IsOnBasic p group
     × IsExclusiveIn p.init group
     × AllKeep p (λ g. g ≡ group) group
 
--- the joint verdict on the group at this place: the groups of the greatest family that is kept jointly are exclusive;
--- of the others each is broken by the lowest operator that doesn't keep it under that family and the group itself
+-- the joint verdict on the group at this place: derived or initial, as by itself; the groups of the greatest family that
+-- is kept jointly are exclusive; any other is broken by the lowest operator that doesn't keep it under that family and
+-- the group itself
 abbrev pub IsJointVerdict : Parts → ℕ → Verdict → Type 0
 IsJointVerdict p place Derived = IsOnBasic p (group_at p place) → ⊥
 IsJointVerdict p place Initial = IsOnBasic p (group_at p place) × (IsExclusiveIn p.init (group_at p place) → ⊥)

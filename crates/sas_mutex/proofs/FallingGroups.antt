@@ -243,6 +243,6 @@ module _ (p : Parts) where
   fallen_exist before after falls exist = subst (All (λ (place : ℕ). place < length p.groups)) (sym falls.behind)
       (All-append (λ (place : ℕ). place < length p.groups) before.fallen.items (newly before after) exist falls.exist)
 
-  -- of an empty queue all that fell is new
+  -- where none had fallen, all that fell is new
   pub newly_all : (before after : Family) → before.fallen.items ≡ [] → newly before after ≡ after.fallen.items
   newly_all before after none = ap (λ (xs : List ℕ). drop (length xs) after.fallen.items) none

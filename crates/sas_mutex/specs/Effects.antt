@@ -16,7 +16,8 @@ family_of kept place = slice_index_or kept place false
 abbrev pub IsKept : Parts → List Bool → List Fact → Type 0
 IsKept p kept = IsGroupOf p (family_of kept)
 
--- no effect sets another fact of the group in the same step, and no other fact of it stays
+-- where the effect sets a fact of the group, no effect sets one on another variable in the same step, and none on another
+-- variable stays, unless what holds then clashes
 pub record EffectKeeps (Counts : List Fact → Type 0) (o : Operator) (group : List Fact) (e : Effect) : Type 0 where
   pub single : (other : ℕ) → other < length o.effects → NotBoth Counts o group e (effect_at o other)
   pub others : (f : Fact) → Contains group f → IsGone Counts o e f

@@ -22,7 +22,8 @@ MentionsNone p operator places = (place : ℕ) → Contains places place → Men
 pub record RestsAt (p : Parts) (kept : List Bool) (waiting : List ℕ) (operator effect place : ℕ) : Type 0 where
   pub keeps : MentionsNone p operator waiting → IsIn p (family_of kept) place → KeepsAt p kept operator effect place
 
--- an effect is at rest: unless its operator mentions a fact of a group that waits, it keeps the groups of the family
+-- an effect is at rest: unless its operator mentions a fact of a group that waits, it keeps the groups of the family that
+-- have the fact which it sets
 abbrev pub IsEffectAtRest : Parts → List Bool → List ℕ → ℕ → ℕ → Type 0
 IsEffectAtRest p kept waiting operator effect = MentionsNone p operator waiting → EffectKeepsAll p kept operator effect
 
@@ -45,13 +46,14 @@ abbrev pub count : List Bool → ℕ
 count [] = 0
 count (kept ∷ rest) = (if kept then 1 else 0) + count rest
 
--- a place in the list for each group, and in the queue room for all that may still fall
+-- a place in the list for each group, and behind those that fell room for all that may still fall; together they are not
+-- more than all groups
 pub record HasRoom (p : Parts) (family : Family) : Type 0 where
   pub one_each : length family.kept ≡ length p.groups
   pub room : count family.kept + length family.fallen.items ≤ vec_capacity family.fallen
   pub few : count family.kept + length family.fallen.items ≤ length p.groups
 
--- the family has the groups that may be exclusive
+-- the family has exactly the groups that may be exclusive
 abbrev pub AreCandidates : Parts → List Bool → Type 0
 AreCandidates p kept =
     (place : ℕ) → place < length p.groups → IsTrue (family_of kept place) ↔ MayBeExclusive p (group_at p place)
@@ -60,7 +62,8 @@ AreCandidates p kept =
 abbrev pub newly : Family → Family → List ℕ
 newly before after = drop (length before.fallen.items) after.fallen.items
 
--- some groups of the family fell: these are noted, and no family that is kept jointly has one of them
+-- some groups of the family fell: these are noted, and no family that is kept jointly, and lay in the one before, has one of
+-- them
 pub record Falls (p : Parts) (before after : Family) : Type 0 where
   pub one_each : length after.kept ≡ length before.kept
   pub behind : after.fallen.items ≡ before.fallen.items ++ newly before after

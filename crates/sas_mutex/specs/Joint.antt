@@ -10,7 +10,7 @@ use Rattle.sas_groups.specs.Groups.{MayBeExclusive}
 use Rattle.sas_groups.specs.Verdicts.{IsFirstVerdict, IsJointVerdict}
 use Rattle.sas_mutex.specs.Effects.{family_of, EffectKeeps}
 
--- the verdict on the group at this place
+-- the verdict on the group at this place; behind the last one it is exclusive
 abbrev pub verdict_at : List Verdict → ℕ → Verdict
 verdict_at verdicts place = slice_index_or verdicts place Exclusive
 
@@ -24,7 +24,7 @@ pub record AreFirstVerdicts (p : Parts) (verdicts : List Verdict) : Type 0 where
   pub one_each : length verdicts ≡ length p.groups
   pub are : (place : ℕ) → place < length p.groups → IsFirstVerdict p (group_at p place) (verdict_at verdicts place)
 
--- the group at this place isn't in the family, and nothing is told of it so far
+-- the group at this place isn't in the family, and nothing is told of it so far, which is said by `Exclusive`
 pub record IsUntold (kept : List Bool) (verdicts : List Verdict) (place : ℕ) : Type 0 where
   pub fell : IsFalse (family_of kept place)
   pub nothing : verdict_at verdicts place ≡ Exclusive

@@ -121,7 +121,8 @@ pub record Removes (marks : Marks) (fact : Fact) (e : Effect) : Type 0 where
 abbrev pub SomeRemoves : Operator → Marks → Fact → Type 0
 SomeRemoves o marks fact = (effect : ℕ) × (effect < length o.effects) × Removes marks fact (effect_at o effect)
 
--- the index is that of the task, and there are as many places in the lists as the task has variables and groups
+-- what a test works with is of this task, which is well ranged: the index, and lists with as many places as the task has
+-- variables and groups
 pub record AreOf (p : Parts) (index : Index) (kept : List Bool) (marks : Marks) : Type 0 where
   pub ranged : WellRanged p
   pub indexed : IsIndexOf p index
@@ -142,7 +143,7 @@ pub record AreNoted (p : Parts) (kept : List Bool) (facts : List Fact) (marks : 
   pub are : AreKnown p kept facts marks
   pub from : IsNotedFrom p facts marks
 
--- what is known where the effect fires is noted, and doesn't clash
+-- what is known where the effect fires is noted, and nothing else, and doesn't clash
 abbrev pub IsNotedFor : Parts → List Bool → ℕ → ℕ → Marks → Type 0
 IsNotedFor p kept operator effect marks = AreNoted p kept (known_at p operator effect) marks
 

@@ -22,7 +22,7 @@ use sas_meaning::Layered;
 use std::alloc::{AllocError, Global};
 
 /// The joint verdict on each group of the task, in their order. Exclusive are the groups of the greatest family that is kept
-/// jointly. All memory is asked for before a group is judged.
+/// jointly. All memory is asked for before the operators are gone through.
 pub fn check_groups<T: Grounded>(
     alloc: Global,
     layered: &Layered<T>,

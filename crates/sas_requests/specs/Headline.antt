@@ -1,10 +1,11 @@
 -- What a planner relies on.
 --
--- A run that meets no memory or device fault prints `plan valid` exactly if the two inputs are texts of a layered task
--- and a plan whose steps, each taken by the first applicable operator of its name, lead from the initial state to a
--- goal state at the printed cost.
+-- A run of `plan` that meets no memory or device fault prints `plan valid` exactly if the two inputs are texts of a
+-- layered task and a plan whose steps, each taken by the first applicable operator of its name, lead from the initial
+-- state to a goal state at the printed cost.
 --
--- And where such a run prints `group K exclusive`, no reachable state of the task has two different facts of group K.
+-- And where such a run of `mutex` prints `group K exclusive`, no reachable state of the task has two different facts of
+-- group K.
 use Rattle.std.specs.Prelude.{◌≡◌, ◌↔◌, ℕ, ◌<◌, List, length, Contains}
 use Rattle.sas_core.specs.declared.parts.Parts.{Parts}
 use Rattle.sas_core.specs.PlanParts.{PlanParts}

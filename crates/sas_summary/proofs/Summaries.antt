@@ -29,7 +29,7 @@ summary_is o numbers is =
     ∙ sym (text_of_both (number_lines o ++ initial_lines o.variables o.init) (goal_lines o.variables o.goal))
 
 module _ (variables : List Variable) where
-  -- the line of a fact of the goal, and that of a variable in the initial state
+  -- the line of a fact of the goal, and that of a variable in the state section
   abbrev pub goal_text : Fact → List ℕ
   goal_text f = text (fact_lines (codes "goal") variables f.var f.value)
 

@@ -41,7 +41,7 @@ abbrev pub fact_lines : List ℕ → List Variable → ℕ → ℕ → List (Lis
 fact_lines word variables var value =
     option_map_or (λ (name : List ℕ). fact_line word var value name ∷ []) (value_name variables var value) []
 
--- `initial VAR VALUE NAME` for each variable, with its value in the initial state
+-- `initial VAR VALUE NAME` for each variable, with its value in the state section
 abbrev pub initial_lines : List Variable → List ℕ → List (List ℕ)
 initial_lines variables values =
     flat_map (λ (var, value). fact_lines (codes "initial") variables var value) (enumerate_from 0 values)

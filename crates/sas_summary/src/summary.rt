@@ -130,7 +130,7 @@ fn derived_count(variables: &Variables) -> usize
     count
 }
 
-/// Puts a line for each variable behind what has come: its value in the initial state.
+/// Puts a line for each variable behind what has come: its value in the state section.
 fn push_state<W: Write>(
     pieces: &mut Pieces,
     out: &mut Watched<W>,

@@ -5,7 +5,7 @@ use Rattle.sas_task_reader.specs.declared.outline.Outline.{Outline}
 use Rattle.sas_reader.specs.Devices.{ValueOf}
 use Rattle.sas_task_format.specs.TaskFormat.{task_format}
 
--- its metric, its variables, its initial state and its goal, and how many groups, operators and rules it has
+-- its metric, its variables, its state section and its goal, and how many groups, operators and rules it has
 abbrev pub outline_of : Parts → Outline
 outline_of p = record {
   metric = p.metric;
