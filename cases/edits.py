@@ -9,9 +9,9 @@ says of each function by itself whether it is proved, and what a function is pro
 which no edit touches. So edits of different functions can share a check. An edit is refused if the function that it changes
 fails by itself: one of its own goals isn't proved, not only that a function that it calls isn't, and not only that an answer
 names what the edit took away. Where a check leaves an edit open, as the prover searches for no proof in a function whose
-callees aren't proved, it is tried in a later one with others, and then alone. An edit of something that isn't a function, as
-a constant, is always tried alone, and refused if the crate isn't proved. Where a function fails that no edit of the check
-touches, the check says nothing, and each of its edits is tried alone.
+callees aren't proved, it is tried in a later one, when the edits of these are settled. An edit of something that isn't a
+function, as a constant, is always tried alone, and refused if the crate isn't proved. Where a function fails that no edit of the check
+touches, or where a check with several edits settles none of them, each of its edits is tried alone.
 
 What is proved of the crate as it stands is proved once, in a folder that the checks of the crate share (`--incremental`).
 
@@ -34,8 +34,6 @@ from dataclasses import dataclass, field
 
 from texts import CASES, TOP
 
-# How often an edit is tried together with others.
-TOGETHER = 2
 STILL_PROVED = "the crate is still proved with it"
 FUNCTION = re.compile(r"( *)(?:pub(?:\([^)]*\))? )?(?:const )?fn (\w+)")
 # the block that a function stands in: the parameters, and what follows
@@ -101,7 +99,7 @@ class Edit:
     changes: list = field(default_factory=list)
     function: Function | None = None
     wrong: str = ""
-    tries: int = 0
+    is_alone: bool = False
 
 
 def function_at(folder, path, lines, at):
@@ -240,17 +238,14 @@ class Crate:
         functions = [it.function for it in batch if it.function]
         check = Check(self, batch, [it.name for it in functions] if len(functions) == len(batch) else [])
         self.checks += 1
-        for edit in batch:
-            edit.tries += 1
         if len(batch) == 1:
             return {batch[0].name: alone(check)}
         strange = [name for name in check.failing() if not any(it.is_said(name) for it in functions)]
-        if strange or not check.is_refused:
-            for edit in batch:
-                edit.tries = TOGETHER
-            return {}
-        found = {it.name: check.why(it.function) for it in batch}
-        return {name: (True, why) for name, why in found.items() if why}
+        found = {} if strange or not check.is_refused else {it.name: check.why(it.function) for it in batch}
+        refused = {name: (True, why) for name, why in found.items() if why}
+        for edit in batch:
+            edit.is_alone = not refused
+        return refused
 
 
 def alone(check):
@@ -264,8 +259,8 @@ def alone(check):
 
 
 def next_batch(edits):
-    """The edits to try next: one for each function, or one alone, if it is no function's or was tried with others before."""
-    batch, together = [], [it for it in edits if it.function and it.tries < TOGETHER]
+    """The edits to try next: one for each function, or one alone, if it is no function's or a check with others settled none."""
+    batch, together = [], [it for it in edits if it.function and not it.is_alone]
     for edit in together:
         if edit.function not in [it.function for it in batch]:
             batch.append(edit)
@@ -301,6 +296,10 @@ class Trials:
     def is_built(self, name):
         """Takes note that a crate is built, and begins with those that waited for it."""
         self.built.add(name)
+        self.begin()
+
+    def begin(self):
+        """Begins with the crates that wait for no library."""
         for it in [it for it in self.waiting if self.built.issuperset(below(it, self.libraries))]:
             self.waiting.remove(it)
             self.results.append(self.pool.submit(self.of_crate, it))

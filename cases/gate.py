@@ -5,8 +5,8 @@ the calls of the libraries, and the command-line cases over ./sas.
 The gate of the toolchain, `rt ci`, proves and builds everything from nothing. It runs on a copy that has no edits, since it
 would check a crate once for each: `edits.py` tries those of different functions together, as soon as what a crate stands on
 is built there, on the processors that the proofs leave free. The gate builds the programs, and what it built is what the
-cases run. The last line is 'N passed, M failed' of all together, and the exit status is 0 exactly if M is 0. A command that
-doesn't end as its own last line says counts as one failure.
+cases run, beside the edits that are left. The last line is 'N passed, M failed' of all together, and the exit status is 0
+exactly if M is 0. A command that doesn't end as its own last line says counts as one failure.
 """
 import os
 import re
@@ -44,20 +44,23 @@ def counts(command, folder=TOP, hear=lambda line: None):
     return passed, failed if agrees else failed + 1
 
 
-def proofs_and_edits(copy):
-    """Runs `rt ci` over a copy without the edits, and tries these beside it."""
+def gate(copy):
+    """Runs `rt ci` over a copy without the edits, with these beside it, and then the cases; gives the counts of each."""
     shutil.copytree(TOP, copy, ignore=shutil.ignore_patterns(".git", "out", "must-fail", "__pycache__"))
     trials, began = edits.Trials(copy), time.monotonic()
+    trials.begin()
 
     def hear(line):
         told = re.match(r"rt: (\w+) (proved$|is kept: )", line)
         if told:
             trials.is_built(told[1])
 
-    proofs = counts(["rt", "ci"], copy, hear)
+    parts = [counts(["rt", "ci"], copy, hear)]
+    take_programs(copy)
+    parts += [counts([sys.executable, *command]) for command in PARTS]
     tried = trials.end()
-    print(f"edits: {tried[0]} passed, {tried[1]} failed, {time.monotonic() - began:.0f} s with the proofs", flush=True)
-    return [proofs, tried]
+    print(f"edits: {tried[0]} passed, {tried[1]} failed, {time.monotonic() - began:.0f} s with the proofs and the cases", flush=True)
+    return [*parts, tried]
 
 
 def take_programs(copy):
@@ -74,9 +77,7 @@ def take_programs(copy):
 def main():
     os.chdir(TOP)
     with tempfile.TemporaryDirectory(prefix="sas-gate-") as room:
-        parts = proofs_and_edits(f"{room}/copy")
-        take_programs(f"{room}/copy")
-    parts += [counts([sys.executable, *command]) for command in PARTS]
+        parts = gate(f"{room}/copy")
     passed, failed = map(sum, zip(*parts))
     print(f"{passed} passed, {failed} failed")
     sys.exit(1 if failed else 0)
