@@ -291,7 +291,8 @@ class Trials:
         self.top, self.libraries = top, libraries_of(top)
         self.edits = {it: edits_of(it) for it in names or self.libraries}
         self.waiting, self.built = [it for it, edits in self.edits.items() if edits], set()
-        self.pool, self.printing, self.results = ThreadPoolExecutor(os.cpu_count()), threading.Lock(), []
+        self.ready, self.results, self.pool = [], [], ThreadPoolExecutor(os.cpu_count())
+        self.choosing, self.printing = threading.Lock(), threading.Lock()
 
     def is_built(self, name):
         """Takes note that a crate is built, and begins with those that waited for it."""
@@ -302,7 +303,16 @@ class Trials:
         """Begins with the crates that wait for no library."""
         for it in [it for it in self.waiting if self.built.issuperset(below(it, self.libraries))]:
             self.waiting.remove(it)
-            self.results.append(self.pool.submit(self.of_crate, it))
+            with self.choosing:
+                self.ready.append(it)
+            self.results.append(self.pool.submit(self.of_next))
+
+    def of_next(self):
+        """Tries the edits of the crate that may be tried and has most of them, so that none that takes long is left for the end."""
+        with self.choosing:
+            name = max(self.ready, key=lambda it: len(self.edits[it]))
+            self.ready.remove(name)
+        return self.of_crate(name)
 
     def of_crate(self, name):
         """Tries the edits of a crate, says what each comes to, and counts those that come to what they must and the others."""
