@@ -10,8 +10,8 @@ which no edit touches. So edits of different functions can share a check. An edi
 fails by itself: one of its own goals isn't proved, not only that a function that it calls isn't, and not only that an answer
 names what the edit took away. Where a check leaves an edit open, as the prover searches for no proof in a function whose
 callees aren't proved, it is tried in a later one, when the edits of these are settled. An edit of something that isn't a
-function, as a constant, is always tried alone, and refused if the crate isn't proved. Where a function fails that no edit of the check
-touches, or where a check with several edits settles none of them, each of its edits is tried alone.
+function, as a constant, is always tried alone, and refused if the crate isn't proved. Where a function fails that no edit
+of the check touches, or where a check with several edits settles none of them, each of its edits is tried alone.
 
 What is proved of the crate as it stands is proved once, in a folder that the checks of the crate share (`--incremental`).
 
