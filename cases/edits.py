@@ -1,19 +1,20 @@
 #!/usr/bin/env python3
-"""Tries the edits that must fail, as many in one check as stand in different functions.
+"""Tries the edits that must fail, all of a crate's functions in one check.
 
     python3 cases/edits.py TOP [CRATE ..]
 
 TOP is a copy of the repository whose libraries `rt ci` has built; the edits, crates/CRATE/must-fail/*.edit, are this
 repository's. The toolchain's own commands, `rt ci` and `rt must-fail`, check the whole crate once for each edit. A check
 says of each function by itself whether it is proved, and what a function is proved from of another is that one's contract,
-which no edit touches. So edits of different functions can share a check. An edit is refused if the function that it changes
-fails by itself: one of its own goals isn't proved, not only that a function that it calls isn't, and not only that an answer
-names what the edit took away. Where a check leaves an edit open, as the prover searches for no proof in a function whose
-callees aren't proved, it is tried in a later one, when the edits of these are settled. An edit of something that isn't a
-function, as a constant, is always tried alone, and refused if the crate isn't proved. Where a function fails that no edit
-of the check touches, or where a check with several edits settles none of them, each of its edits is tried alone.
-
-What is proved of the crate as it stands is proved once, in a folder that the checks of the crate share (`--incremental`).
+which no edit touches. So the edits of a crate can share a check. Each is made in a copy of its function, which stands behind it
+under a name of its own, with the same contract and a copy of its answers; a function of a trait can have no copy beside it, and
+is edited itself. The proof of each function that isn't edited is a hole (`--allow-holes`): what an edit calls counts by its
+contract alone, and that it keeps that is what `rt ci` proves. An edit is refused if its copy, or its function, fails by itself: one
+of its own goals isn't proved, not only that a function that it calls isn't, and not only that an answer names what the edit took
+away. Where a check leaves an edit open, as the prover searches for no proof in a function whose callees fail, it is tried in a later
+one, when the edits of these are settled. An edit that isn't of one function, as that of a constant, is always tried alone, over the
+functions that it changes and those that name the constant. Where a function fails that no edit of the check touches, or where a check
+with several edits settles none of them, each of its edits is tried alone, in the function itself.
 
 The edits in same/CRATE say the same in other words: they are tried with the others, and must not be refused.
 
@@ -30,17 +31,25 @@ import tempfile
 import threading
 import time
 from concurrent.futures import ThreadPoolExecutor
-from dataclasses import dataclass, field
+from dataclasses import dataclass, field, replace
 
 from texts import CASES, TOP
 
-STILL_PROVED = "the crate is still proved with it"
+STILL_PROVED = "what it changes is still proved with it"
+# the proof of a function that no edit changes
+HOLE = """use {0}.Statement.{{statement}}
+
+pub {1}_spec : {{M : Type 1}} → statement M
+{1}_spec = ?
+"""
 FUNCTION = re.compile(r"( *)(?:pub(?:\([^)]*\))? )?(?:const )?fn (\w+)")
-# the block that a function stands in: the parameters, and what follows
-BLOCK = re.compile(r"(?:pub(?:\([^)]*\))? )?(?:impl|trait)\b(<(?:[^<>]|<[^<>]*>)*>)? *([^{]*)")
-SAID = re.compile(r"fn (\S+): (proved|not proved|no proof|could not tell)(?:[:;] (.*))?")
-# what is told of a place: the file, the line, and what is wrong there
-TOLD = re.compile(r"(?:note: )?(?:\./)?(\w+/\S+?):(\d+):\d+: (error: .*|it is not proved .*)")
+CONSTANT = re.compile(r" *(?:pub(?:\([^)]*\))? )?const (\w+):")
+# the block that a function stands in: what it is, the parameters, and what follows
+BLOCK = re.compile(r"(?:pub(?:\([^)]*\))? )?(impl|trait)\b(<(?:[^<>]|<[^<>]*>)*>)? *([^{]*)")
+SAID = re.compile(r"fn (\S+): (no holes|depends on a hole in|not proved|no proof|could not tell)(?:[:;]? (.*))?")
+PROVED, FAILS = ("no holes", "depends on a hole in"), ("not proved", "no proof")
+# what is told of a place: the file, the line, and what is wrong there, which may go on in a line behind
+TOLD = re.compile(r"^(?:note: )?(?:\./)?(\w+/\S+?):(\d+):\d+: ((?:error: .*|it is not proved .*)(?:\n  .*)?)", re.M)
 # a reason that lies in another function
 ELSEWHERE = re.compile(r"it calls |it passes the block ")
 # an answer, or a lemma, that names what the edit took away
@@ -49,11 +58,30 @@ GONE = re.compile(r"has no field|is not in scope|has no `|was not admitted")
 
 @dataclass(frozen=True)
 class Function:
-    """A function as its text stands: its file and lines, and its name as a check prints it and `--only` takes it."""
+    """A function as its text stands: its file and lines, its name as a check prints it and `--only` takes it, and the block that
+    it stands in: none, 'impl', 'impl for' (a trait's, for a type) or 'trait'."""
 
     path: str
     lines: range
     name: str
+    block: str
+
+    def at(self, line, count):
+        """It, where it stands on so many lines from a line on."""
+        return replace(self, lines=range(line, line + count))
+
+    def word(self):
+        """The name that it has where it stands."""
+        return self.name.rpartition("::")[2]
+
+    def answers(self):
+        """The folder of its answers, below the crate's."""
+        return "/".join(["proofs", *self.name.split("::")[1:]])
+
+    def theorems(self):
+        """The path of its theorems, as its answers name it."""
+        crate, *path = self.name.split("::")
+        return ".".join(["Rattle", crate, "proofs", *path])
 
     def is_said(self, said):
         """Whether a name that a check prints is this function's, or that of a closure in it, which has `fn` before its name."""
@@ -79,42 +107,65 @@ def home_of(kind, path, folder):
 
 
 def owner_of(block):
-    """The type of an `impl`, and how a check names the block: the type's words, and the trait's behind them, without parameters."""
-    given, said = BLOCK.match(block).groups()
+    """The type of an `impl`, how a check names the block (the type's words, and the trait's behind them, without parameters), and
+    what it is."""
+    word, given, said = BLOCK.match(block).groups()
     parameters = re.findall(r"'?\w+", re.sub(r":[^,]*", "", given or ""))
     trait, _, kind = said.partition(" where ")[0].rpartition(" for ")
     words = lambda text: [it for it in re.findall(r"'?\w+", text) if it not in parameters and it[0] != "'"]
     if not trait:
-        return words(kind)[0], "+".join(words(kind))
+        return words(kind)[0], "+".join(words(kind)), word
     both = [*words(kind), *words(trait.split("::")[-1])]
-    return both[0], "".join(it[0].upper() + it[1:] for it in both)
+    return both[0], "".join(it[0].upper() + it[1:] for it in both), "impl for"
 
 
 @dataclass
 class Edit:
-    """An edit: its name, the lines that it changes, as (path, number from 0, new line), and the function that it changes, if it is one."""
+    """An edit: its name, the lines that it changes, as (path, number from 0, new line), the functions that it changes, among them
+    those that name a constant that it changes, and which one it is if it changes nothing else."""
 
     name: str
     is_same: bool = False
     changes: list = field(default_factory=list)
+    functions: set = field(default_factory=set)
     function: Function | None = None
     wrong: str = ""
     is_alone: bool = False
+
+    def goes_in_copy(self):
+        """Whether it can be made in a copy of its function."""
+        return self.function and self.function.block in ("", "impl") and all(path == self.function.path for path, _, _ in self.changes)
+
+    def copied_function(self):
+        """The copy of its function, in which it can be made: its name says of which edit it is."""
+        return replace(self.function, name=f"{self.function.name}_with_{os.path.basename(self.name).removesuffix('.edit')}")
+
+    def lines_in(self, path):
+        """The lines that it changes in a file, and what they are then."""
+        return {at: line for changed, at, line in self.changes if changed == path}
 
 
 def function_at(folder, path, lines, at):
     """The function of a crate's source file that has this line, as the file is formatted, or None."""
     heads = [(line, FUNCTION.match(lines[line])) for line in range(at + 1)]
     first, head = next(((line, head) for line, head in reversed(heads) if head), (0, None))
-    last = lines.index(head[1] + "}", first) if head and head[1] + "}" in lines[first:] else 0
+    ends = [line for line in range(first, len(lines)) if head and lines[line] in (head[1] + "}", head[1] + "{}")]
+    last = ends[0] if ends else 0
     if at > last:
         return None
     block = next((it for it in range(first, -1, -1) if BLOCK.match(lines[it])), None) if head[1] else None
-    name = [*module_of(path), head[2]]
+    name, word = [*module_of(path), head[2]], ""
     if block is not None:
-        kind, owner = owner_of(" ".join(lines[block:first]))
+        kind, owner, word = owner_of(" ".join(lines[block:first]))
         name = [*module_of(home_of(kind, path, folder)), owner, head[2]]
-    return Function(path, range(first + 1, last + 2), "::".join([os.path.basename(folder), *name]))
+    return Function(path, range(first + 1, last + 2), "::".join([os.path.basename(folder), *name]), word)
+
+
+def functions_of(folder):
+    """The functions of a crate, but those of its traits."""
+    texts = {os.path.relpath(it, folder): text_of(it).split("\n") for it in glob.glob(f"{folder}/src/**/*.rt", recursive=True)}
+    found = [function_at(folder, path, lines, at) for path, lines in texts.items() for at, it in enumerate(lines) if FUNCTION.match(it)]
+    return [it for it in found if it and it.block != "trait"]
 
 
 def read_edit(file, folder):
@@ -132,15 +183,28 @@ def read_edit(file, folder):
                 edit.wrong = f"its text is in {path} {texts[path].count(old)} times, and not once: {old[:80]}"
                 return edit
             texts[path], old = texts[path].replace(old, told), None
-    functions = set()
+    is_of_one = True
     for path, text in texts.items():
         was, now = text_of(f"{folder}/{path}").split("\n"), text.split("\n")
         changes = [(path, at, line) for at, line in enumerate(now) if line != was[at]]
         edit.changes += changes
-        functions |= {function_at(folder, path, was, at) for _, at, _ in changes if path.startswith("src/")}
-    edit.wrong = "" if edit.changes else "it changes nothing"
-    edit.function = functions.pop() if len(functions) == 1 else None
+        for at in (at for _, at, _ in changes if path.startswith("src/")):
+            changed = function_at(folder, path, was, at)
+            is_of_one = is_of_one and changed is not None
+            edit.functions |= {changed} if changed else naming(folder, was[at])
+    edit.wrong = "" if edit.functions else "it changes no function, and no constant that one names"
+    edit.function = next(iter(edit.functions)) if is_of_one and len(edit.functions) == 1 else None
     return edit
+
+
+def naming(folder, line):
+    """The functions of a crate that name the constant that a line declares."""
+    constant = CONSTANT.match(line)
+    if not constant:
+        return set()
+    texts = {os.path.relpath(it, folder): text_of(it).split("\n") for it in glob.glob(f"{folder}/src/**/*.rt", recursive=True)}
+    places = [(path, at) for path, lines in texts.items() for at, it in enumerate(lines) if re.search(rf"\b{constant[1]}\b", it)]
+    return {function_at(folder, path, texts[path], at) for path, at in places} - {None}
 
 
 def text_of(file):
@@ -148,63 +212,113 @@ def text_of(file):
         return it.read()
 
 
+def write(file, text):
+    with open(file, "w", encoding="utf-8") as it:
+        it.write(text)
+
+
+class Room:
+    """A copy of a crate's files with some edits, and the functions that each edit changes there, by the edit's name. An edit that has
+    company stands in a copy of its function, if that can be. What no edit changes is taken as proved."""
+
+    def __init__(self, crate, edits, folder):
+        self.folder, self.functions = folder, {it.name: it.functions for it in edits}
+        for part in ("src", "specs", "proofs"):
+            if os.path.isdir(f"{crate.folder}/{part}"):
+                shutil.copytree(f"{crate.folder}/{part}", f"{folder}/{part}")
+        for path in {path for edit in edits for path, _, _ in edit.changes}:
+            here = [it for it in edits if it.lines_in(path)]
+            copied = [it for it in here if len(edits) > 1 and it.goes_in_copy()]
+            self.write_file(path, copied, [it for it in here if it not in copied])
+        changed = {it.name for functions in self.functions.values() for it in functions}
+        for function in (it for it in crate.functions if it.name not in changed):
+            shutil.rmtree(f"{folder}/{function.answers()}", ignore_errors=True)
+            os.makedirs(f"{folder}/{function.answers()}")
+            write(f"{folder}/{function.answers()}/Proof.antt", HOLE.format(function.theorems(), function.word()))
+
+    def write_file(self, path, copied, others):
+        """Writes the edits of a file: some in copies of their functions, behind these, and the others in their places."""
+        lines = text_of(f"{self.folder}/{path}").split("\n")
+        copies = [(it.function.lines.stop - 1, it, self.copy_of(it, lines)) for it in copied]
+        for at, line in (change for edit in others for change in edit.lines_in(path).items()):
+            lines[at] = line
+        # each line with its number before, or with the edit whose copy it is of
+        lines = list(enumerate(lines))
+        for at, edit, copy in sorted(copies, key=lambda it: it[0], reverse=True):
+            lines[at:at] = [(edit.name, line) for line in copy]
+        write(f"{self.folder}/{path}", "\n".join(line for _, line in lines))
+        marks = [mark for mark, _ in lines]
+        for edit in others:
+            moved = lambda it: it.at(marks.index(it.lines.start - 1) + 1, len(it.lines)) if it.path == path else it
+            self.functions[edit.name] = {moved(it) for it in self.functions[edit.name]}
+        for _, edit, copy in copies:
+            self.functions[edit.name] = {edit.copied_function().at(marks.index(edit.name) + 1, len(copy))}
+
+    def copy_of(self, edit, lines):
+        """The lines of a copy of an edit's function, with the edit. Its answers are copied, too."""
+        function, copied = edit.function, edit.copied_function()
+        first = head = function.lines.start - 1
+        while lines[first - 1].lstrip().startswith("#["):
+            first -= 1
+        now = {**dict(enumerate(lines)), **edit.lines_in(function.path)}
+        now[head] = now[head].replace(f"fn {function.word()}", f"fn {copied.word()}", 1)
+        if os.path.isdir(f"{self.folder}/{function.answers()}"):
+            shutil.copytree(f"{self.folder}/{function.answers()}", f"{self.folder}/{copied.answers()}")
+            for file in glob.glob(f"{self.folder}/{copied.answers()}/*"):
+                write(file, text_of(file).replace(f"{function.theorems()}.", f"{copied.theorems()}."))
+        return [now[at] for at in range(first, function.lines.stop - 1)]
+
+
 class Check:
     """A check of a crate with some edits: what it says of each function, and what else it tells."""
 
-    def __init__(self, crate, edits, only=()):
+    def __init__(self, crate, edits):
         with tempfile.TemporaryDirectory(prefix="sas-edits-") as room:
-            for part in ("src", "specs", "proofs"):
-                if os.path.isdir(f"{crate.folder}/{part}"):
-                    shutil.copytree(f"{crate.folder}/{part}", f"{room}/{part}")
-            apply(edits, room)
-            command = ["nice", "-n", "19", "rattle", "check", *crate.words, *(word for name in only for word in ("--only", name))]
+            self.functions = Room(crate, edits, room).functions
+            names = [it.name for functions in self.functions.values() for it in functions]
+            command = ["nice", "-n", "19", "rattle", "check", *crate.words, *(word for name in names for word in ("--only", name))]
             self.ran = run(command, room)
             # most likely for memory
             self.ran = run(command, room) if self.ran.returncode == -signal.SIGKILL else self.ran
         self.lines = self.ran.stdout.rstrip("\n").split("\n")
         self.said = {it[1]: it for it in map(SAID.fullmatch, self.lines) if it}
-        self.told = [it for it in map(TOLD.match, self.lines) if it]
-        # the prover has come to a verdict, and it isn't that all is proved
-        self.is_refused = self.ran.returncode == 1 and self.lines[-1].startswith(("logic=not-proved", "only="))
+        self.told = [*TOLD.finditer(self.ran.stdout)]
+        # the prover has come to a verdict
+        self.has_ended = self.ran.returncode in (0, 1) and self.lines[-1].startswith("only=")
 
-    def failing(self):
-        """The functions that fail by themselves, and not only for a function that they call."""
-        waits = lambda it: it[2] == "no proof" and all(map(ELSEWHERE.match, it[3].split("; ")))
-        return [name for name, it in self.said.items() if it[2] != "proved" and not waits(it)]
+    def strange(self):
+        """The functions that fail, and are none that an edit changes."""
+        edited = [it for functions in self.functions.values() for it in functions]
+        return [name for name, it in self.said.items() if it[2] not in PROVED and not any(one.is_said(name) for one in edited)]
 
-    def names_of(self, function):
-        return [it for it in self.said if function.is_said(it)]
+    def of_edit(self, name):
+        """What the check comes to for an edit: (whether it is refused, what to say), or None where it leaves that open."""
+        found = [self.of_function(it) for it in self.functions[name]] if self.has_ended else [None]
+        return next((it for it in found if it and it[0]), found[0] if all(found) else None)
 
-    def why(self, function):
-        """Why a function, or a closure in it, fails by itself, or '' where it doesn't, or only for what an answer names, or
-        where it isn't the only one that may be meant."""
-        names = self.names_of(function)
+    def of_function(self, function):
+        """The same for a function, with the closures in it; open, too, where it isn't the only one that may be meant."""
+        names = [it for it in self.said if function.is_said(it)]
         if len({it for it in names if "::fn::" not in it}) != 1:
-            return ""
-        names = [it for it in self.failing() if it in names and self.said[it][2] != "could not tell"]
-        inside = tuple(f"proofs/{'/'.join(it.split('::')[1:])}/" for it in names)
-        is_there = lambda it: it[1].startswith(inside) or it[1] == function.path and int(it[2]) in function.lines
-        told = [it[3] for it in self.told if names and is_there(it)]
-        return self.first(told or [self.said[it][3] or "not proved" for it in names])
+            return None
+        why = self.why(function, names)
+        if why:
+            return True, why
+        return (False, STILL_PROVED) if all(self.said[it][2] in PROVED for it in names) else None
 
-    def first(self, reasons):
-        """The first of some reasons that isn't that an answer names what isn't there."""
-        return next((it for it in reasons if not GONE.search(it)), "")
+    def why(self, function, names):
+        """Why a function, or a closure in it, fails by itself, or '' where it doesn't, or only for what an answer names."""
+        failing = [it for it in names if self.said[it][2] in FAILS]
+        inside = tuple(f"proofs/{'/'.join(it.split('::')[1:])}/" for it in failing)
+        is_there = lambda it: it[1].startswith(inside) or it[1] == function.path and int(it[2]) in function.lines
+        told = [" ".join(it[3].split()) for it in self.told if failing and is_there(it)]
+        reasons = [it for name in failing for it in (self.said[name][3] or "not proved").split("; ") if not ELSEWHERE.match(it)]
+        return next((it for it in told or reasons if not GONE.search(it)), "")
 
 
 def run(command, folder):
     how = {"stdin": subprocess.DEVNULL, "stdout": subprocess.PIPE, "stderr": subprocess.STDOUT}
     return subprocess.run(command, cwd=folder, **how, encoding="utf-8", errors="replace", check=False)
-
-
-def apply(edits, room):
-    """Makes the changes of some edits, no two of which change one line."""
-    texts = {path: text_of(f"{room}/{path}").split("\n") for edit in edits for path, _, _ in edit.changes}
-    for path, at, line in (change for edit in edits for change in edit.changes):
-        texts[path][at] = line
-    for path, lines in texts.items():
-        with open(f"{room}/{path}", "w", encoding="utf-8") as it:
-            it.write("\n".join(lines))
 
 
 class Crate:
@@ -220,8 +334,8 @@ class Crate:
         self.words += [word for it in own for word in ("--extern", f"{it}={built(it)}/{it}.rlib")]
         self.words += [word for it in below(name, libraries) for word in ("-L", f"dependency={built(it)}")]
         self.words += ["-L", f"dependency={toolchain}/rlibs", "--logic-built", f"{toolchain}/logic_built"]
-        self.words += ["--antt-project", f"{toolchain}/rattle/logic/antt-project.json"]
-        self.checks = 0
+        self.words += ["--antt-project", f"{toolchain}/rattle/logic/antt-project.json", "--allow-holes"]
+        self.functions, self.checks = functions_of(self.folder), 0
 
     def try_all(self, edits):
         """Tries the edits, and gives for each (whether it is refused, what to say), in their order."""
@@ -235,34 +349,24 @@ class Crate:
 
     def try_batch(self, batch):
         """Tries some edits in one check, and gives what is known of each then."""
-        functions = [it.function for it in batch if it.function]
-        check = Check(self, batch, [it.name for it in functions] if len(functions) == len(batch) else [])
+        check = Check(self, batch)
         self.checks += 1
+        found = {it.name: check.of_edit(it.name) for it in batch}
         if len(batch) == 1:
-            return {batch[0].name: alone(check)}
-        strange = [name for name in check.failing() if not any(it.is_said(name) for it in functions)]
-        found = {} if strange or not check.is_refused else {it.name: check.why(it.function) for it in batch}
-        refused = {name: (True, why) for name, why in found.items() if why}
+            unknown = False, f"NOT TRIED, or refused only as an answer names what it took away: {check.ran.stdout.strip()[-900:]}"
+            return {name: said or unknown for name, said in found.items()}
+        settled = {name: said for name, said in found.items() if said and not check.strange()}
         for edit in batch:
-            edit.is_alone = not refused
-        return refused
-
-
-def alone(check):
-    """What a check with one edit comes to."""
-    why = check.first([it[3] for it in check.told] or [check.said[it][3] or "not proved" for it in check.failing()])
-    if check.is_refused and why:
-        return True, why
-    if check.ran.returncode == 0:
-        return False, STILL_PROVED
-    return False, "NOT TRIED, or refused only as an answer names what it took away: " + check.ran.stdout.strip()[-900:]
+            edit.is_alone = not settled
+        return settled
 
 
 def next_batch(edits):
-    """The edits to try next: one for each function, or one alone, if it is no function's or a check with others settled none."""
-    batch, together = [], [it for it in edits if it.function and not it.is_alone]
-    for edit in together:
-        if edit.function not in [it.function for it in batch]:
+    """The edits to try next: all that go in copies of their functions, and one for each other function; or one alone, if it is no
+    function's or a check with others settled none."""
+    batch = []
+    for edit in (it for it in edits if it.function and not it.is_alone):
+        if edit.goes_in_copy() or edit.function not in [it.function for it in batch]:
             batch.append(edit)
     return batch or edits[:1]
 

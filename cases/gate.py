@@ -3,8 +3,8 @@
 the calls of the libraries, and the command-line cases over ./sas.
 
 The gate of the toolchain, `rt ci`, proves and builds everything from nothing. It runs on a copy that has no edits, since it
-would check a crate once for each: `edits.py` tries those of different functions together, as soon as what a crate stands on
-is built there, on the processors that the proofs leave free. The gate builds the programs, and what it built is what the
+would check a crate once for each: `edits.py` tries those of a crate together, as soon as what the crate stands on is built
+there, on the processors that the proofs leave free. The gate builds the programs, and what it built is what the
 cases run, beside the edits that are left. The last line is 'N passed, M failed' of all together, and the exit status is 0
 exactly if M is 0. A command that doesn't end as its own last line says counts as one failure.
 """
