@@ -33,7 +33,8 @@ import time
 from concurrent.futures import ThreadPoolExecutor
 from dataclasses import dataclass, field, replace
 
-from texts import CASES, TOP
+from functions import Function, function_at, functions_naming, functions_of
+from texts import CASES, TOP, text_of
 
 STILL_PROVED = "what it changes is still proved with it"
 # the proof of a function that no edit changes
@@ -42,10 +43,6 @@ HOLE = """use {0}.Statement.{{statement}}
 pub {1}_spec : {{M : Type 1}} → statement M
 {1}_spec = ?
 """
-FUNCTION = re.compile(r"( *)(?:pub(?:\([^)]*\))? )?(?:const )?fn (\w+)")
-CONSTANT = re.compile(r" *(?:pub(?:\([^)]*\))? )?const (\w+):")
-# the block that a function stands in: what it is, the parameters, and what follows
-BLOCK = re.compile(r"(?:pub(?:\([^)]*\))? )?(impl|trait)\b(<(?:[^<>]|<[^<>]*>)*>)? *([^{]*)")
 SAID = re.compile(r"fn (\S+): (no holes|depends on a hole in|not proved|no proof|could not tell)(?:[:;]? (.*))?")
 PROVED, FAILS = ("no holes", "depends on a hole in"), ("not proved", "no proof")
 # what is told of a place: the file, the line, and what is wrong there, which may go on in a line behind
@@ -54,69 +51,6 @@ TOLD = re.compile(r"^(?:note: )?(?:\./)?(\w+/\S+?):(\d+):\d+: ((?:error: .*|it i
 ELSEWHERE = re.compile(r"it calls |it passes the block ")
 # an answer, or a lemma, that names what the edit took away
 GONE = re.compile(r"has no field|is not in scope|has no `|was not admitted")
-
-
-@dataclass(frozen=True)
-class Function:
-    """A function as its text stands: its file and lines, its name as a check prints it and `--only` takes it, and the block that
-    it stands in: none, 'impl', 'impl for' (a trait's, for a type) or 'trait'."""
-
-    path: str
-    lines: range
-    name: str
-    block: str
-
-    def at(self, line, count):
-        """It, where it stands on so many lines from a line on."""
-        return replace(self, lines=range(line, line + count))
-
-    def word(self):
-        """The name that it has where it stands."""
-        return self.name.rpartition("::")[2]
-
-    def answers(self):
-        """The folder of its answers, below the crate's."""
-        return "/".join(["proofs", *self.name.split("::")[1:]])
-
-    def theorems(self):
-        """The path of its theorems, as its answers name it."""
-        crate, *path = self.name.split("::")
-        return ".".join(["Rattle", crate, "proofs", *path])
-
-    def is_said(self, said):
-        """Whether a name that a check prints is this function's, or that of a closure in it, which has `fn` before its name."""
-        parts = said.split("::")
-        if "fn" in parts:
-            at = parts.index("fn")
-            parts = parts[:at] + parts[at + 1 : at + 2]
-        return "::".join(parts) == self.name
-
-
-def module_of(path):
-    """The path of the module that a source file is."""
-    parts = path.removeprefix("src/").removesuffix(".rt").split("/")
-    return [it for it in parts if it not in ("lib", "mod")]
-
-
-def home_of(kind, path, folder):
-    """The file that declares the type of an `impl` that stands in a file: a check names the methods after its module. It is
-    the file itself where no file of the crate declares the type."""
-    declares = re.compile(rf"^(?:pub(?:\([^)]*\))? )?(?:struct|enum|trait) {kind}\b", re.M)
-    files = [path, *sorted(os.path.relpath(it, folder) for it in glob.glob(f"{folder}/src/**/*.rt", recursive=True))]
-    return next((it for it in files if declares.search(text_of(f"{folder}/{it}"))), path)
-
-
-def owner_of(block):
-    """The type of an `impl`, how a check names the block (the type's words, and the trait's behind them, without parameters), and
-    what it is."""
-    word, given, said = BLOCK.match(block).groups()
-    parameters = re.findall(r"'?\w+", re.sub(r":[^,]*", "", given or ""))
-    trait, _, kind = said.partition(" where ")[0].rpartition(" for ")
-    words = lambda text: [it for it in re.findall(r"'?\w+", text) if it not in parameters and it[0] != "'"]
-    if not trait:
-        return words(kind)[0], "+".join(words(kind)), word
-    both = [*words(kind), *words(trait.split("::")[-1])]
-    return both[0], "".join(it[0].upper() + it[1:] for it in both), "impl for"
 
 
 @dataclass
@@ -145,29 +79,6 @@ class Edit:
         return {at: line for changed, at, line in self.changes if changed == path}
 
 
-def function_at(folder, path, lines, at):
-    """The function of a crate's source file that has this line, as the file is formatted, or None."""
-    heads = [(line, FUNCTION.match(lines[line])) for line in range(at + 1)]
-    first, head = next(((line, head) for line, head in reversed(heads) if head), (0, None))
-    ends = [line for line in range(first, len(lines)) if head and lines[line] in (head[1] + "}", head[1] + "{}")]
-    last = ends[0] if ends else 0
-    if at > last:
-        return None
-    block = next((it for it in range(first, -1, -1) if BLOCK.match(lines[it])), None) if head[1] else None
-    name, word = [*module_of(path), head[2]], ""
-    if block is not None:
-        kind, owner, word = owner_of(" ".join(lines[block:first]))
-        name = [*module_of(home_of(kind, path, folder)), owner, head[2]]
-    return Function(path, range(first + 1, last + 2), "::".join([os.path.basename(folder), *name]), word)
-
-
-def functions_of(folder):
-    """The functions of a crate, but those of its traits."""
-    texts = {os.path.relpath(it, folder): text_of(it).split("\n") for it in glob.glob(f"{folder}/src/**/*.rt", recursive=True)}
-    found = [function_at(folder, path, lines, at) for path, lines in texts.items() for at, it in enumerate(lines) if FUNCTION.match(it)]
-    return [it for it in found if it and it.block != "trait"]
-
-
 def read_edit(file, folder):
     """An edit of the crate in a folder: lines 'file: PATH', each with pairs of lines 'old: TEXT' and 'new: TEXT' behind it."""
     edit, path, old, texts = Edit(f"{os.path.basename(folder)}/{os.path.basename(file)}"), "", None, {}
@@ -191,25 +102,10 @@ def read_edit(file, folder):
         for at in (at for _, at, _ in changes if path.startswith("src/")):
             changed = function_at(folder, path, was, at)
             is_of_one = is_of_one and changed is not None
-            edit.functions |= {changed} if changed else naming(folder, was[at])
+            edit.functions |= {changed} if changed else functions_naming(folder, was[at])
     edit.wrong = "" if edit.functions else "it changes no function, and no constant that one names"
     edit.function = next(iter(edit.functions)) if is_of_one and len(edit.functions) == 1 else None
     return edit
-
-
-def naming(folder, line):
-    """The functions of a crate that name the constant that a line declares."""
-    constant = CONSTANT.match(line)
-    if not constant:
-        return set()
-    texts = {os.path.relpath(it, folder): text_of(it).split("\n") for it in glob.glob(f"{folder}/src/**/*.rt", recursive=True)}
-    places = [(path, at) for path, lines in texts.items() for at, it in enumerate(lines) if re.search(rf"\b{constant[1]}\b", it)]
-    return {function_at(folder, path, texts[path], at) for path, at in places} - {None}
-
-
-def text_of(file):
-    with open(file, encoding="utf-8") as it:
-        return it.read()
 
 
 def write(file, text):

@@ -26,6 +26,12 @@ def table(name):
         return json.load(file)
 
 
+def text_of(file):
+    """What a file of text holds, by its path."""
+    with open(file, encoding="utf-8") as it:
+        return it.read()
+
+
 @functools.lru_cache(None)
 def bytes_of_file(name):
     with open(os.path.join(TOP, name), "rb") as file:
