@@ -35,7 +35,8 @@ pub record IsWaiting (p : Parts) (es : List (Entry Waiting)) : Type 0 where
 
 -- what the rule on the layer waits for stands behind the entries so far
 pub record AddsWaiting (p : Parts) (layer rule : ℕ) (es es' : List (Entry Waiting)) : Type 0 where
-  pub only : All (λ (e : Entry Waiting). IsOfOneLayer p e.key e.item) es → All (λ (e : Entry Waiting). IsOfOneLayer p e.key e.item) es'
+  pub only : All (λ (e : Entry Waiting). IsOfOneLayer p e.key e.item) es
+      → All (λ (e : Entry Waiting). IsOfOneLayer p e.key e.item) es'
   pub each : (other var value : ℕ) → IsOnLayer p layer var → waits other var value es'
       ≡ waits other var value es + (if other == rule then asking var value (rule_at p rule).conditions else 0)
   pub off : (other var value : ℕ) → (IsOnLayer p layer var → ⊥) → waits other var value es' ≡ waits other var value es
@@ -57,6 +58,7 @@ waiting_at index var = slice_index_or index var []
 -- under each derived variable each rule of its layer that can fire waits for a value as often as its conditions ask for it
 pub record IsIndex (p : Parts) (index : List (List Waiting)) : Type 0 where
   pub one_each : length index ≡ length p.variables
-  pub only : (layer var : ℕ) → IsOnLayer p layer var → All (λ (w : Waiting). IsRuleOn p layer w.rule) (waiting_at index var)
+  pub only : (layer var : ℕ) → IsOnLayer p layer var
+      → All (λ (w : Waiting). IsRuleOn p layer w.rule) (waiting_at index var)
   pub each : (layer var value rule : ℕ) → IsOnLayer p layer var → IsRuleOn p layer rule
       → occurrences rule (released value (waiting_at index var)) ≡ asking var value (rule_at p rule).conditions

@@ -178,7 +178,8 @@ fn release<T: Grounded>(
     requires layered { IsLayeredTask (T.says task.now) }
     requires waiting { All (λ (w : Waiting). IsRuleOn (T.says task.now) layer w.rule) waiting.now }
     requires room { HasRoom (T.says task.now) counters.old (vec_capacity stack.old) }
-    requires at_work { IsAtWork (T.says task.now) layer state.old stack.old.items counters.old (released value waiting.now) }
+    requires at_work { IsAtWork (T.says task.now) layer state.old stack.old.items counters.old
+        (released value waiting.now) }
     ensures at_work { IsAtWork (T.says task.now) layer state.new stack.new.items counters.new [] }
     ensures room { HasRoom (T.says task.now) counters.new (vec_capacity stack.new) }
     ensures off { SameOff (T.says task.now) layer state.old state.new }

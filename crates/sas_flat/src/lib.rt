@@ -1,4 +1,4 @@
-//! A task or a plan in a few blocks of memory: it takes as many allocations as there are columns, however large it is.
+//! A task or a plan in a few blocks of memory: as many as there are columns, however large it is.
 #![tactic(auto)]
 
 mod effects;

@@ -78,7 +78,8 @@ entries_of_group p group facts = map (λ (fact : Fact). record { key = number p 
 
 -- an entry of the operator for each group that has the fact
 abbrev pub entries_of_fact : Index → ℕ → Fact → List (Entry ℕ)
-entries_of_fact index operator fact = map (λ (group : ℕ). record { key = group; item = operator }) (groups_of index fact)
+entries_of_fact index operator fact =
+    map (λ (group : ℕ). record { key = group; item = operator }) (groups_of index fact)
 
 abbrev pub entries_of_facts : Index → ℕ → List Fact → List (Entry ℕ)
 entries_of_facts index operator facts = flat_map (entries_of_fact index operator) facts

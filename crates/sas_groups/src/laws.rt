@@ -4,9 +4,9 @@ ghost use Rattle.sas_groups.specs.Laws.{ExclusiveJointlyIsInvariant, FamiliesUni
 ghost use Rattle.sas_groups.specs.Laws.{GreatestHasAlone, OutsideIsBroken, JointVerdictIsOne, SomeJointVerdict};
 
 /// What holds of groups. Invariance: no reachable state of a layered task holds two different facts of a group that is
-/// exclusive, alone or jointly, or of any family that is kept jointly. Two such families are one together, and there is
-/// one greatest; it has every group that is exclusive alone, and a group outside it that may be exclusive isn't kept by
-/// all operators under it and itself. Each group has exactly one joint verdict.
+/// exclusive, alone or jointly, or of any family that is kept jointly. Two such families are one together. There is one
+/// greatest at most, and there can't be none; it has every group that is exclusive alone, and a group outside it that may be
+/// exclusive isn't kept by all operators under it and itself. Each group has one joint verdict at most, and can't be without one.
 pub fn group_laws()
     ensures invariance { JointlyKeptIsExclusive }
     ensures alone { ExclusiveAloneIsInvariant }

@@ -1,4 +1,4 @@
-//! Lines and numbers of a text, and devices that note their last failure.
+//! Lines and numbers of a text, and devices that note a failure.
 #![tactic(auto)]
 
 mod devices;

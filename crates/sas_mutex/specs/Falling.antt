@@ -12,7 +12,8 @@ use Rattle.sas_group_index.specs.Index.{MentionsGroup}
 -- the effect at this place of this operator keeps each group of the family that has the fact which it sets
 abbrev pub EffectKeepsAll : Parts → List Bool → ℕ → ℕ → Type 0
 EffectKeepsAll p kept operator effect = (place : ℕ) → IsIn p (family_of kept) place
-    → Contains (group_at p place) (sets (effect_at (operator_at p operator) effect)) → KeepsAt p kept operator effect place
+    → Contains (group_at p place) (sets (effect_at (operator_at p operator) effect))
+    → KeepsAt p kept operator effect place
 
 -- the operator mentions no fact of the groups at these places
 abbrev pub MentionsNone : Parts → ℕ → List ℕ → Type 0

@@ -38,7 +38,8 @@ KeepsWithItself p kept operator effect place = EffectKeeps (IsGroupOfOr p (famil
 pub record KeptSoFar (p : Parts) (kept : List Bool) (operator effect place : ℕ) : Type 0 where
   pub operators : (lower : ℕ) → lower < operator
       → Keeps (IsGroupOfOr p (family_of kept) (group_at p place)) (operator_at p lower) (group_at p place)
-  pub effects : (lower : ℕ) → lower < effect → Contains (group_at p place) (sets (effect_at (operator_at p operator) lower))
+  pub effects : (lower : ℕ) → lower < effect
+      → Contains (group_at p place) (sets (effect_at (operator_at p operator) lower))
       → KeepsWithItself p kept operator lower place
 
 -- the verdict on the group at this place, as far as the operators and effects so far tell it
@@ -50,6 +51,8 @@ IsVerdictSoFar p kept operator effect place Exclusive = MayBeExclusive p (group_
     × ((IsIn p (family_of kept) place → ⊥) → KeptSoFar p kept operator effect place)
 
 -- one such verdict for each group
-pub record AreVerdictsSoFar (p : Parts) (kept : List Bool) (operator effect : ℕ) (verdicts : List Verdict) : Type 0 where
+pub record AreVerdictsSoFar (p : Parts) (kept : List Bool) (operator effect : ℕ) (verdicts : List Verdict)
+    : Type 0 where
   pub one_each : length verdicts ≡ length p.groups
-  pub are : (place : ℕ) → place < length p.groups → IsVerdictSoFar p kept operator effect place (verdict_at verdicts place)
+  pub are : (place : ℕ) → place < length p.groups
+      → IsVerdictSoFar p kept operator effect place (verdict_at verdicts place)

@@ -46,7 +46,8 @@ pub record IsOfGroup (p : Parts) (facts : List Fact) (place : ℕ) (fact : Fact)
 -- what is noted for a group: that none of the facts is of it, or the one that is, or that two different ones are
 abbrev pub IsGroupNote : Parts → List Fact → ℕ → Noted → Type 0
 IsGroupNote p facts place Nothing = (fact : Fact) → IsOfGroup p facts place fact → ⊥
-IsGroupNote p facts place (One fact) = IsOfGroup p facts place fact × ((other : Fact) → IsOfGroup p facts place other → other ≡ fact)
+IsGroupNote p facts place (One fact) = IsOfGroup p facts place fact
+    × ((other : Fact) → IsOfGroup p facts place other → other ≡ fact)
 IsGroupNote p facts place Several = (f g : Fact) × IsOfGroup p facts place f × IsOfGroup p facts place g × (f ≢ g)
 
 -- these facts are noted, by variable and by group

@@ -36,7 +36,8 @@ pub record IsRefused (groups : List ℕ) (kept : List Bool) (fact : Fact) (noted
   pub other : IsNotedToo (group_note noted place) fact Several
 
 -- the fact is noted now for one of these groups; no other was, if it is kept
-pub record Takes (groups : List ℕ) (kept : List Bool) (fact : Fact) (before after : List Noted) (place : ℕ) : Type 0 where
+pub record Takes (groups : List ℕ) (kept : List Bool) (fact : Fact) (before after : List Noted) (place : ℕ)
+    : Type 0 where
   pub among : Contains groups place
   pub now : IsNotedToo (group_note before place) fact (group_note after place)
   pub alone : IsTrue (family_of kept place) → group_note after place ≢ Several
@@ -184,7 +185,8 @@ IsSingleAt p kept operator effect place =
     IsSingle (IsKept p kept) (operator_at p operator) (group_at p place) (effect_at (operator_at p operator) effect)
 
 abbrev pub IsGoneAt : Parts → List Bool → ℕ → ℕ → Fact → Type 0
-IsGoneAt p kept operator effect = IsGone (IsKept p kept) (operator_at p operator) (effect_at (operator_at p operator) effect)
+IsGoneAt p kept operator effect =
+    IsGone (IsKept p kept) (operator_at p operator) (effect_at (operator_at p operator) effect)
 
 abbrev pub AreGoneAt : Parts → List Bool → ℕ → ℕ → ℕ → Type 0
 AreGoneAt p kept operator effect place =

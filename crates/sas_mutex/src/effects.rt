@@ -339,7 +339,8 @@ fn removes<T: Grounded>(task: &T, operator: u32, effect: u32, fact: Fact, marks:
     requires operator { operator < length (T.says task.now).operators }
     requires effect { effect < length (operator_at (T.says task.now) operator).effects }
     ensures yes { IsTrue result → Removes marks.now fact (effect_at (operator_at (T.says task.now) operator) effect) }
-    ensures no { IsFalse result → Removes marks.now fact (effect_at (operator_at (T.says task.now) operator) effect) → ⊥ }
+    ensures no { IsFalse result
+        → Removes marks.now fact (effect_at (operator_at (T.says task.now) operator) effect) → ⊥ }
 {
     let change = task.effect_change(operator, effect);
     if change.var != fact.var || change.new == fact.value {

@@ -260,7 +260,8 @@ fn tell_group<T: Grounded>(
     requires so_far { AreVerdictsSoFar (T.says task.now) kept.old operator effect verdicts.old }
     requires noted { IsNotedFor (T.says task.now) kept.old operator effect marks.old }
     ensures so_far { AreVerdictsSoFar (T.says task.now) kept.old operator effect verdicts.new }
-    ensures told { IsVerdictSoFar (T.says task.now) kept.old operator (effect + 1) group (verdict_at verdicts.new group) }
+    ensures told { IsVerdictSoFar (T.says task.now) kept.old operator (effect + 1) group
+        (verdict_at verdicts.new group) }
     ensures others { (place : ℕ) → place ≢ group → verdict_at verdicts.new place ≡ verdict_at verdicts.old place }
     ensures kept { kept.new ≡ kept.old }
     ensures noted { IsNotedFor (T.says task.now) kept.old operator effect marks.new }

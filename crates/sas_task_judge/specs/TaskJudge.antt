@@ -100,8 +100,10 @@ pub record KnownTo (s : SoFar) (j : TaskJudge) : Type 0 where
   pub range : j.place ≡ at.VariableValues → j.range ≡ length s.values + j.more
 
 -- A part is due that tells an A. Behind it the judge is where `next` says, and what has come is what `adds` says.
-abbrev pub Due : {A : Type 0} → TaskJudge → (List Variable → TaskPart A) → (A → TaskJudge) → (A → SoFar → SoFar) → Type 0
-Due j part next adds = (s : SoFar) → KnownTo s j → state_of j s ≡ part s.parts.variables (λ a. state_of (next a) (adds a s))
+abbrev pub Due : {A : Type 0} → TaskJudge → (List Variable → TaskPart A) → (A → TaskJudge) → (A → SoFar → SoFar)
+    → Type 0
+Due j part next adds = (s : SoFar) → KnownTo s j
+    → state_of j s ≡ part s.parts.variables (λ a. state_of (next a) (adds a s))
 
 -- the line leads from one state to the other
 abbrev pub LeadsOn : TaskProcess → List ℕ → TaskProcess → Type 0

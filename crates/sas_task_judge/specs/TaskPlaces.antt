@@ -173,7 +173,8 @@ abbrev pub variable_values : ℕ → Parts → List ℕ → Option ℕ → ℕ �
 variable_values left p label layer more values = do
   values ← repeat a_name more values
   a_word (codes "end_variable")
-  variable_begin left (record p { variables = p.variables ++ record { name = label; layer = layer; values = values } ∷ [] })
+  variable_begin left
+      (record p { variables = p.variables ++ record { name = label; layer = layer; values = values } ∷ [] })
 
 -- its range is due
 abbrev pub variable_range : ℕ → Parts → List ℕ → Option ℕ → TaskProcess

@@ -260,7 +260,8 @@ impl TaskJudge {
         requires more { 0 < self.old.more }
         requires due { Due self.old a_fact
             (λ _. record self.old { more = self.old.more - 1 }) (λ f s. record s { facts = s.facts ++ f ∷ [] }) }
-        ensures { MovesBy self.old (λ i. fact_in_ranges self.old.ranges (fact_in i)) (format.fact fact) self.new result }
+        ensures { MovesBy self.old (λ i. fact_in_ranges self.old.ranges (fact_in i)) (format.fact fact)
+            self.new result }
     {
         self.said.fact = fact;
         self.more -= 1;

@@ -214,7 +214,8 @@ fn effect_of(effect: &mut Effect, line: &[u8]) -> Result<bool, AllocError>
 /// The change that the line spells, whether its values exist or not.
 fn change_of(line: &[u8]) -> Option<Change>
     ensures found { IfSome result (λ (c : Change). Spells (format.head c.var c.old c.new) line.now) }
-    ensures none { IfNone result ((var : ℕ) (old : Option ℕ) (new : ℕ) → Spells (format.head var old new) line.now → ⊥) }
+    ensures none { IfNone result
+        ((var : ℕ) (old : Option ℕ) (new : ℕ) → Spells (format.head var old new) line.now → ⊥) }
 {
     let mut parts = Numbers::new(line);
     let Some(change) = take_change(&mut parts) else {

@@ -40,7 +40,8 @@ impl TaskJudge {
     /// Goes on behind the variable that was due, which has so many values. After an `Err` it is still due.
     pub fn pass_variable(&mut self, range: u32) -> Result<(), AllocError>
         requires { 0 < self.old.left }
-        ensures ok { OnOk result (self.new ≡ record self.old { ranges = self.old.ranges ++ range ∷ []; left = self.old.left - 1 }) }
+        ensures ok { OnOk result
+            (self.new ≡ record self.old { ranges = self.old.ranges ++ range ∷ []; left = self.old.left - 1 }) }
         ensures err { OnErr result (self.new ≡ self.old) }
     {
         self.ranges.push(range)?;
