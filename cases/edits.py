@@ -308,11 +308,17 @@ class Trials:
             self.results.append(self.pool.submit(self.of_next))
 
     def of_next(self):
-        """Tries the edits of the crate that may be tried and has most of them, so that none that takes long is left for the end."""
+        """Tries the edits of the crate that may be tried and takes longest, so that none that takes long is left for the end."""
         with self.choosing:
-            name = max(self.ready, key=lambda it: len(self.edits[it]))
+            name = max(self.ready, key=self.work_of)
             self.ready.remove(name)
         return self.of_crate(name)
+
+    def work_of(self, name):
+        """About how long a crate's edits take: as many steps as its files have lines, and 200 for each edit and for each crate that
+        it stands on."""
+        files = [it for part in ("src", "specs", "proofs") for it in glob.glob(f"{TOP}/crates/{name}/{part}/**/*.*", recursive=True)]
+        return sum(text_of(it).count("\n") for it in files) + 200 * (len(self.edits[name]) + len(below(name, self.libraries)))
 
     def of_crate(self, name):
         """Tries the edits of a crate, says what each comes to, and counts those that come to what they must and the others."""
