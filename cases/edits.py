@@ -315,8 +315,8 @@ class Trials:
         return self.of_crate(name)
 
     def work_of(self, name):
-        """About how long a crate's edits take: as many steps as its files have lines, and 200 for each edit and for each crate that
-        it stands on."""
+        """How long a crate's edits take, beside those of others: each edit, and each crate that it stands on, about as long as 200
+        lines of its own files."""
         files = [it for part in ("src", "specs", "proofs") for it in glob.glob(f"{TOP}/crates/{name}/{part}/**/*.*", recursive=True)]
         return sum(text_of(it).count("\n") for it in files) + 200 * (len(self.edits[name]) + len(below(name, self.libraries)))
 
