@@ -8,13 +8,14 @@ use Rattle.sas_core.specs.declared.parts.Operator.{Operator}
 use Rattle.sas_core.specs.declared.parts.Parts.{Parts}
 use Rattle.sas_grounded.specs.Grounded.{operator_at, effect_at, group_at}
 use Rattle.sas_groups.specs.Clashes.{Keeps, sets}
-use Rattle.sas_groups.specs.Families.{IsIn, IsGroupOf, IsKeptJointly, IsGreatest}
+use Rattle.sas_groups.specs.Families.{IsIn, IsGroupOf, IsGroupOfOr, IsKeptJointly, IsGreatest}
 use Rattle.sas_groups.proofs.GreatestFamily.{group_of_larger, keeps_more}
 use Rattle.sas_mutex.specs.declared.family.Family.{Family}
-use Rattle.sas_mutex.specs.Effects.{family_of, IsKept, EffectKeeps}
-use Rattle.sas_mutex.specs.Falling.{MentionsNone, IsEffectAtRest, IsAtRest, RestsAt, AreCandidates, newly, Falls, looked_at, WasLookedAt, AreLookedAt}
+use Rattle.sas_mutex.specs.Effects.{family_of, IsKept, EffectKeeps, KeepsAt, KeepsWithItself}
+use Rattle.sas_mutex.specs.Alone.{KeepsAlone, EffectKeepsEachAlone, KeepsEachAlone, IsOfNone}
+use Rattle.sas_mutex.specs.Falling.{MentionsNone, IsEffectAtRest, IsAtRest, RestsAt, AreCandidates, newly, Falls, looked_at, WasLookedAt, AreLookedAt, IsNotedOnce}
 use Rattle.sas_group_index.specs.Index.{under, MentionsGroup, AreMentions}
-use Rattle.sas_mutex.proofs.Keeping.{keeps_from_effects, effect_of_keeps, effect_keeps_still}
+use Rattle.sas_mutex.proofs.Keeping.{keeps_from_effects, effect_of_keeps, effect_keeps_more, effect_keeps_still}
 
 module _ (p : Parts) where
   none_left : (operator : ℕ) (xs ys : List ℕ) → MentionsNone p operator (xs ++ ys) → MentionsNone p operator xs
@@ -141,52 +142,85 @@ module _ (p : Parts) where
       subst (λ (waiting : List ℕ). IsEffectAtRest p c.kept waiting operator effect) (sym (newly_then a b c first second))
       (effect_later b c (newly a b) operator effect exists within second rest)
 
+  -- ---- what is kept where one group alone counts
+
+  -- it is kept by every family that has the group
+  pub alone_keeps : (kept : List Bool) (operator effect place : ℕ) → IsIn p (family_of kept) place → KeepsAlone p operator effect place
+      → KeepsAt p kept operator effect place
+  alone_keeps kept operator effect place w = effect_keeps_more (λ group. group ≡ group_at p place) (IsKept p kept)
+      (operator_at p operator) (group_at p place) (effect_at (operator_at p operator) effect) (λ group is. (place, w, is))
+
+  pub alone_rests : (kept : List Bool) (waiting : List ℕ) (operator : ℕ) → KeepsEachAlone p kept operator → IsAtRest p kept waiting operator
+  alone_rests kept waiting operator alone effect within none place w has = alone_keeps kept operator effect place w (alone effect within place w has)
+
+  -- and stays so while others fall
+  pub effect_alone_still : (b c : Family) (operator effect : ℕ) → Falls p b c
+      → EffectKeepsEachAlone p b.kept operator effect → EffectKeepsEachAlone p c.kept operator effect
+  effect_alone_still b c operator effect falls alone place w has = alone place (falls.less place w) has
+
+  -- what is kept under no family but the group itself is kept so
+  pub alone_by_none : (kept : List Bool) (groups operator effect place : ℕ) → IsOfNone groups kept
+      → KeepsWithItself p kept operator effect place → KeepsAlone p operator effect place
+  alone_by_none kept groups operator effect place of_none = effect_keeps_more (IsGroupOfOr p (family_of kept) (group_at p place)) (λ group. group ≡ group_at p place)
+      (operator_at p operator) (group_at p place) (effect_at (operator_at p operator) effect)
+      (λ group either. elim either [
+        | inl w ↦ absurd (both_ways (family_of kept w.0) (of_none.out w.0) w.1.chosen)
+        | inr is ↦ is
+      ])
+
   -- ---- when operators were looked at
 
   -- an operator that isn't looked at stays as it was while others fall
   pub looked_still : (b c : Family) (looked looked' : List ℕ) (operator : ℕ) → operator < length p.operators → Falls p b c
       → looked_at looked' operator ≡ looked_at looked operator → WasLookedAt p b looked operator → WasLookedAt p c looked' operator
-  looked_still b c looked looked' operator exists falls same was = record {
+  looked_still b c looked looked' operator exists falls same (inr alone) = inr (λ effect within. effect_alone_still b c operator effect falls (alone effect within))
+  looked_still b c looked looked' operator exists falls same (inl was) = inl (record {
     within = let longer = fallen_grow b c falls in let lt = was.within in omega arith;
     rest = subst (λ n. IsAtRest p c.kept (drop n c.fallen.items) operator) (sym same)
-        (subst (λ (waiting : List ℕ). IsAtRest p c.kept waiting operator) (sym behind)
+        (subst (λ (waiting : List ℕ). IsAtRest p c.kept waiting operator) (sym (ap (λ (xs : List ℕ). drop (looked_at looked operator) xs) falls.behind
+        ∙ drop-append-le (looked_at looked operator) b.fallen.items (newly b c) was.within))
         (operator_later b c (drop (looked_at looked operator) b.fallen.items) operator exists falls was.rest));
-  }
-    where
-      behind : drop (looked_at looked operator) c.fallen.items ≡ drop (looked_at looked operator) b.fallen.items ++ newly b c
-      behind = ap (λ (xs : List ℕ). drop (looked_at looked operator) xs) falls.behind
-          ∙ drop-append-le (looked_at looked operator) b.fallen.items (newly b c) was.within
-
-  -- and one that is looked at is at rest, but for what fell then
-  pub looked_now : (b c : Family) (looked : List ℕ) (operator : ℕ) → Falls p b c → looked_at looked operator ≡ length b.fallen.items
-      → IsAtRest p c.kept (newly b c) operator → WasLookedAt p c looked operator
-  looked_now b c looked operator falls now rest = record {
-    within = let longer = fallen_grow b c falls in omega arith;
-    rest = subst (λ n. IsAtRest p c.kept (drop n c.fallen.items) operator) (sym now) rest;
-  }
+  })
 
   -- one operator more
-  module _ (b c : Family) (looked : List ℕ) (operator : ℕ) (falls : Falls p b c) (below : operator < length looked)
-      (rest : IsAtRest p c.kept (newly b c) operator) where
-    abbrev noted : List ℕ
-    noted = set looked operator (length b.fallen.items)
+  module _ (b c : Family) (looked looked' : List ℕ) (operator : ℕ) (falls : Falls p b c) (below : operator < length looked)
+      (rest : IsAtRest p c.kept (newly b c) operator) (turn : IsNotedOnce p b c operator looked looked') where
+    noted_here : looked_at looked' operator ≡ turn.when
+    noted_here = ap (λ (xs : List ℕ). looked_at xs operator) turn.noted ∙ get_or-set_same looked operator turn.when 0 below
 
-    pub noted_here : looked_at noted operator ≡ length b.fallen.items
-    noted_here = get_or-set_same looked operator (length b.fallen.items) 0 below
+    noted_elsewhere : (other : ℕ) → other ≢ operator → looked_at looked' other ≡ looked_at looked other
+    noted_elsewhere other ne = ap (λ (xs : List ℕ). looked_at xs other) turn.noted ∙ get_or-set_other looked operator other turn.when 0 ne
 
-    pub noted_elsewhere : (other : ℕ) → other ≢ operator → looked_at noted other ≡ looked_at looked other
-    noted_elsewhere other ne = get_or-set_other looked operator other (length b.fallen.items) 0 ne
+    -- it is noted at least how many had fallen
+    pub noted_now : length b.fallen.items ≤ looked_at looked' operator
+    noted_now = let here = noted_here in let later = turn.later in omega arith
 
-    pub looked_more : (other : ℕ) → other < length p.operators → (other ≢ operator → WasLookedAt p b looked other) → WasLookedAt p c noted other
+    pub as_many_noted : length looked' ≡ length looked
+    as_many_noted = ap length turn.noted ∙ length-set looked operator turn.when
+
+    -- one that is looked at is at rest, but for what fell then
+    looked_now : WasLookedAt p c looked' operator
+    looked_now = elim turn.how [
+      | inr alone ↦ inr alone
+      | inl now ↦ inl (record {
+        within = let longer = fallen_grow b c falls in let here = noted_here in omega arith;
+        rest = subst (λ n. IsAtRest p c.kept (drop n c.fallen.items) operator) (sym (exactly now)) rest;
+      })
+    ]
+      where
+        exactly : turn.when ≤ length b.fallen.items → looked_at looked' operator ≡ length b.fallen.items
+        exactly now = let here = noted_here in let later = turn.later in omega arith
+
+    pub looked_more : (other : ℕ) → other < length p.operators → (other ≢ operator → WasLookedAt p b looked other) → WasLookedAt p c looked' other
     looked_more other exists was = elim (cases_eq other operator) [
-      | inl e ↦ subst (λ o. WasLookedAt p c noted o) (sym e) (looked_now b c noted operator falls noted_here rest)
-      | inr ne ↦ looked_still b c looked noted other exists falls (noted_elsewhere other ne) (was ne)
+      | inl e ↦ subst (λ o. WasLookedAt p c looked' o) (sym e) looked_now
+      | inr ne ↦ looked_still b c looked looked' other exists falls (noted_elsewhere other ne) (was ne)
     ]
 
-    -- it is noted of none that it was looked at earlier than before
-    pub noted_later : AreLookedAt p b looked → operator < length p.operators → (other : ℕ) → looked_at looked other ≤ looked_at noted other
-    noted_later were exists other = elim (cases_eq other operator) [
-      | inl e ↦ subst (λ o. looked_at looked o ≤ looked_at noted o) (sym e) (let here = noted_here in let lt = (were.each operator exists).within in omega arith)
+    -- of none that was looked at earlier is it noted that it was so before
+    pub noted_later : looked_at looked operator ≤ length b.fallen.items → (other : ℕ) → looked_at looked other ≤ looked_at looked' other
+    noted_later earlier other = elim (cases_eq other operator) [
+      | inl e ↦ subst (λ o. looked_at looked o ≤ looked_at looked' o) (sym e) (let now = noted_now in omega arith)
       | inr ne ↦ (let there = noted_elsewhere other ne in omega arith)
     ]
 
@@ -198,13 +232,16 @@ module _ (p : Parts) where
   pub rest_in_the_end : (family : Family) (looked : List ℕ) → AreLookedAt p family looked
       → ((operator place : ℕ) → place < length family.fallen.items → MentionsGroup p operator (get_or family.fallen.items place 0) → place < looked_at looked operator)
       → (operator : ℕ) → operator < length p.operators → IsAtRest p family.kept [] operator
-  rest_in_the_end family looked were since operator exists effect within _ = (were.each operator exists).rest effect within
-      (λ place waits mentions.
-      let n = looked_at looked operator in
-      let lt : n + waits.0 < length family.fallen.items = let len = length-drop n family.fallen.items in let k = waits.1 in omega arith in
-      let at : get_or family.fallen.items (n + waits.0) 0 ≡ place = sym (get_or-drop n family.fallen.items waits.0 0)
-      ∙ (get_or_default (drop n family.fallen.items) waits.0 0 place waits.1 ∙ waits.2) in
-      absurd (let later = since operator (n + waits.0) lt (subst (MentionsGroup p operator) (sym at) mentions) in omega arith))
+  rest_in_the_end family looked were since operator exists = elim (were.each operator exists) [
+    | inr alone ↦ alone_rests family.kept [] operator alone
+    | inl was ↦ λ effect within _. was.rest effect within
+        (λ place waits mentions.
+        let n = looked_at looked operator in
+        let lt : n + waits.0 < length family.fallen.items = let len = length-drop n family.fallen.items in let k = waits.1 in omega arith in
+        let at : get_or family.fallen.items (n + waits.0) 0 ≡ place = sym (get_or-drop n family.fallen.items waits.0 0)
+        ∙ (get_or_default (drop n family.fallen.items) waits.0 0 place waits.1 ∙ waits.2) in
+        absurd (let later = since operator (n + waits.0) lt (subst (MentionsGroup p operator) (sym at) mentions) in omega arith))
+  ]
 
   -- ---- where nothing waits, the family is the greatest
 

@@ -1,10 +1,10 @@
 -- The verdicts, as the operators tell them one after another.
-use Rattle.std.proofs.Common.{◌≡◌, ◌≢◌, ℕ, ◌+◌, ◌<◌, ◌≤◌, Bool, true, false, List, [], ◌∷◌, ◌++◌, length, set, refl, sym, ◌∙◌, ap, subst, inl, inr, arith}
+use Rattle.std.proofs.Common.{◌≡◌, ◌≢◌, ℕ, ◌+◌, ◌<◌, Bool, true, false, List, [], ◌∷◌, ◌++◌, length, set, refl, sym, ◌∙◌, ap, subst, inl, inr, arith}
 use Rattle.std.proofs.lemmas.Bool.{cases_eq, cases_Bool, both_ways}
 use Rattle.std.proofs.lemmas.List.{length_push, get_or_push, get_or_append_left, length-set, get_or-set_same, get_or-set_other, set-set, set-get_or}
 use Rattle.std.proofs.lemmas.List.Elements.{All-from_get_or}
 use Rattle.std.specs.List.{Contains}
-use Rattle.std.specs.Prelude.{◌↔◌, IsTrue, vec_capacity}
+use Rattle.std.specs.Prelude.{◌↔◌, IsTrue}
 use Rattle.sas_core.specs.declared.parts.Fact.{Fact}
 use Rattle.sas_core.specs.declared.parts.Operator.{Operator}
 use Rattle.sas_core.specs.declared.parts.Parts.{Parts}
@@ -16,16 +16,14 @@ use Rattle.sas_groups.specs.Groups.{MayBeExclusive}
 use Rattle.sas_groups.specs.Families.{IsIn, IsGroupOfOr, IsGreatest}
 use Rattle.sas_groups.specs.Verdicts.{IsFirstVerdict, IsJointVerdict}
 use Rattle.sas_groups.proofs.GreatestFamily.{outside_is_broken, clash_more}
-use Rattle.sas_mutex.specs.declared.family.Family.{Family}
 use Rattle.sas_mutex.specs.declared.marks.Marks.{Marks}
 use Rattle.sas_mutex.specs.declared.marks.Noted.TheVariants.{Several}
-use Rattle.sas_mutex.specs.Effects.{family_of, IsKept, EffectKeeps}
-use Rattle.sas_mutex.specs.Falling.{HasRoom, AreCandidates}
+use Rattle.sas_mutex.specs.Effects.{family_of, IsKept, EffectKeeps, KeepsWithItself}
+use Rattle.sas_mutex.specs.Falling.{AreCandidates}
 use Rattle.sas_group_index.specs.Index.{HasFact}
-use Rattle.sas_mutex.specs.Joint.{verdict_at, AreJointVerdicts, AreFirstVerdicts, IsUntold, KeepsWithItself, KeptSoFar, IsVerdictSoFar, AreVerdictsSoFar}
+use Rattle.sas_mutex.specs.Joint.{verdict_at, AreJointVerdicts, AreFirstVerdicts, IsUntold, KeptSoFar, IsVerdictSoFar, AreVerdictsSoFar}
 use Rattle.sas_mutex.specs.Marks.{group_note, IsGroupNote}
 use Rattle.sas_mutex.specs.Noting.{IsNotedFor, known_at}
-use Rattle.sas_mutex.proofs.Counting.{count_within}
 use Rattle.sas_mutex.proofs.Keeping.{effect_keeps_more, keeps_from_effects, effect_of_keeps}
 use Rattle.sas_mutex.proofs.NotesOfFacts.{at_most_one, several_clash}
 use Rattle.sas_mutex.proofs.ToldByNotes.{clash_keeps}
@@ -72,17 +70,6 @@ module _ (p : Parts) where
       let a = exclusive place (let len = first.one_each in omega arith) in
       let b = exclusive_may place (verdict_at verdicts place) (first.are place lt) in
       (λ h. b.0 (a.0 h), λ may. a.1 (b.1 may))
-
-  pub room_from : (verdicts : List Verdict) (family : Family) → AreFirstVerdicts p verdicts → length family.kept ≡ length verdicts
-      → family.fallen.items ≡ [] → length verdicts ≤ vec_capacity family.fallen → HasRoom p family
-  room_from verdicts family first one_each none room =
-      let few = count_within family.kept in
-      let empty : length family.fallen.items ≡ 0 = ap length none in
-      record {
-        one_each = one_each ∙ first.one_each;
-        room = omega arith;
-        few = let len = first.one_each in omega arith;
-      }
 
 -- ---- a group put into the family for one test
 

@@ -1,11 +1,11 @@
 -- What the parts of the check of one effect decide.
-use Rattle.std.specs.Prelude.{ℕ, ◌<◌, Bool, false, List, length, slice_index_or, Contains}
+use Rattle.std.specs.Prelude.{◌≡◌, ℕ, ◌<◌, Bool, false, List, [], length, slice_index_or, Contains}
 use Rattle.sas_core.specs.declared.parts.Fact.{Fact}
 use Rattle.sas_core.specs.declared.parts.Effect.{Effect}
 use Rattle.sas_core.specs.declared.parts.Operator.{Operator}
 use Rattle.sas_core.specs.declared.parts.Parts.{Parts}
 use Rattle.sas_grounded.specs.Grounded.{operator_at, effect_at, group_at}
-use Rattle.sas_groups.specs.Families.{IsGroupOf}
+use Rattle.sas_groups.specs.Families.{IsGroupOf, IsGroupOfOr}
 use Rattle.sas_groups.specs.Checks.{NotBoth, IsGone}
 
 -- the family of the places at which a list says so
@@ -26,3 +26,12 @@ pub record EffectKeeps (Counts : List Fact → Type 0) (o : Operator) (group : L
 abbrev pub KeepsAt : Parts → List Bool → ℕ → ℕ → ℕ → Type 0
 KeepsAt p kept operator effect place =
     EffectKeeps (IsKept p kept) (operator_at p operator) (group_at p place) (effect_at (operator_at p operator) effect)
+
+-- an effect keeps the group at this place, under the family and the group itself
+abbrev pub KeepsWithItself : Parts → List Bool → ℕ → ℕ → ℕ → Type 0
+KeepsWithItself p kept operator effect place = EffectKeeps (IsGroupOfOr p (family_of kept) (group_at p place))
+    (operator_at p operator) (group_at p place) (effect_at (operator_at p operator) effect)
+
+-- the effect at this place of this operator has no conditions
+abbrev pub IsPlain : Parts → ℕ → ℕ → Type 0
+IsPlain p operator effect = (effect_at (operator_at p operator) effect).conditions ≡ []

@@ -1,12 +1,13 @@
 -- How groups fall out of the family of those that may be kept jointly.
-use Rattle.std.specs.Prelude.{◌≡◌, ℕ, ◌+◌, ◌<◌, ◌≤◌, ◌↔◌, Bool, if◌then◌else◌, IsTrue, List, [], ◌∷◌, ◌++◌, length, drop, slice_index_or, All, Contains, vec_capacity}
+use Rattle.std.specs.Prelude.{◌≡◌, ℕ, ◌+◌, ◌<◌, ◌≤◌, ◌↔◌, ◌⊎◌, Bool, if◌then◌else◌, IsTrue, List, [], ◌∷◌, ◌++◌, length, drop, slice_index_or, slice_set, All, Contains, vec_capacity}
 use Rattle.sas_core.specs.declared.parts.Parts.{Parts}
 use Rattle.sas_grounded.specs.Grounded.{operator_at, effect_at, group_at}
 use Rattle.sas_groups.specs.Clashes.{sets}
 use Rattle.sas_groups.specs.Families.{IsIn, IsKeptJointly}
 use Rattle.sas_groups.specs.Groups.{MayBeExclusive}
 use Rattle.sas_mutex.specs.declared.family.Family.{Family}
-use Rattle.sas_mutex.specs.Effects.{family_of, KeepsAt}
+use Rattle.sas_mutex.specs.Effects.{family_of, KeepsAt, IsPlain}
+use Rattle.sas_mutex.specs.Alone.{KeepsEachAlone, IsOfNone}
 use Rattle.sas_group_index.specs.Index.{MentionsGroup}
 
 -- the effect at this place of this operator keeps each group of the family that has the fact which it sets
@@ -33,10 +34,6 @@ abbrev pub IsAtRest : Parts → List Bool → List ℕ → ℕ → Type 0
 IsAtRest p kept waiting operator = (effect : ℕ) → effect < length (operator_at p operator).effects
     → IsEffectAtRest p kept waiting operator effect
 
--- the effect at this place of this operator has no conditions
-abbrev pub IsPlain : Parts → ℕ → ℕ → Type 0
-IsPlain p operator effect = (effect_at (operator_at p operator) effect).conditions ≡ []
-
 -- those of the operator's first effects that have no conditions are at rest
 abbrev pub ArePlainAtRest : Parts → List Bool → List ℕ → ℕ → ℕ → Type 0
 ArePlainAtRest p kept waiting operator effects = (effect : ℕ) → effect < effects
@@ -47,12 +44,13 @@ abbrev pub count : List Bool → ℕ
 count [] = 0
 count (kept ∷ rest) = (if kept then 1 else 0) + count rest
 
--- a place in the list for each group, and behind those that fell room for all that may still fall; together they are not
+-- a place in the lists for each group, and behind those that fell room for all that may still fall; together they are not
 -- more than all groups
 pub record HasRoom (p : Parts) (family : Family) : Type 0 where
   pub one_each : length family.kept ≡ length p.groups
   pub room : count family.kept + length family.fallen.items ≤ vec_capacity family.fallen
   pub few : count family.kept + length family.fallen.items ≤ length p.groups
+  pub none : IsOfNone (length p.groups) family.none
 
 -- the family has exactly the groups that may be exclusive
 abbrev pub AreCandidates : Parts → List Bool → Type 0
@@ -76,16 +74,27 @@ pub record Falls (p : Parts) (before after : Family) : Type 0 where
       → ((place : ℕ) → IsIn p other place → IsIn p (family_of before.kept) place)
       → (place : ℕ) → IsIn p other place → IsIn p (family_of after.kept) place
 
--- how many groups had fallen when the operator was looked at last
+-- how many groups had fallen when the operator was looked at last, or more, if it need never be looked at again
 abbrev pub looked_at : List ℕ → ℕ → ℕ
 looked_at looked operator = slice_index_or looked operator 0
 
 -- since then the operator is at rest, but for what fell meanwhile
-pub record WasLookedAt (p : Parts) (family : Family) (looked : List ℕ) (operator : ℕ) : Type 0 where
+pub record RestsSince (p : Parts) (family : Family) (looked : List ℕ) (operator : ℕ) : Type 0 where
   pub within : looked_at looked operator ≤ length family.fallen.items
   pub rest : IsAtRest p family.kept (drop (looked_at looked operator) family.fallen.items) operator
+
+-- so is the operator, or it keeps each group where that one alone counts
+abbrev pub WasLookedAt : Parts → Family → List ℕ → ℕ → Type 0
+WasLookedAt p family looked operator = RestsSince p family looked operator ⊎ KeepsEachAlone p family.kept operator
 
 -- and so is each operator
 pub record AreLookedAt (p : Parts) (family : Family) (looked : List ℕ) : Type 0 where
   pub one_each : length looked ≡ length p.operators
   pub each : (operator : ℕ) → operator < length p.operators → WasLookedAt p family looked operator
+
+-- of the operator it is noted now how many groups had fallen before, or more, if it keeps each group where that one alone counts
+pub record IsNotedOnce (p : Parts) (before after : Family) (operator : ℕ) (looked looked' : List ℕ) : Type 0 where
+  pub when : ℕ
+  pub noted : looked' ≡ slice_set looked operator when
+  pub later : length before.fallen.items ≤ when
+  pub how : (when ≤ length before.fallen.items) ⊎ KeepsEachAlone p after.kept operator

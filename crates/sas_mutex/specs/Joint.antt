@@ -8,7 +8,7 @@ use Rattle.sas_groups.specs.Clashes.{sets, Keeps}
 use Rattle.sas_groups.specs.Families.{IsIn, IsGroupOfOr}
 use Rattle.sas_groups.specs.Groups.{MayBeExclusive}
 use Rattle.sas_groups.specs.Verdicts.{IsFirstVerdict, IsJointVerdict}
-use Rattle.sas_mutex.specs.Effects.{family_of, EffectKeeps}
+use Rattle.sas_mutex.specs.Effects.{family_of, KeepsWithItself}
 
 -- the verdict on the group at this place; behind the last one it is exclusive
 abbrev pub verdict_at : List Verdict → ℕ → Verdict
@@ -28,11 +28,6 @@ pub record AreFirstVerdicts (p : Parts) (verdicts : List Verdict) : Type 0 where
 pub record IsUntold (kept : List Bool) (verdicts : List Verdict) (place : ℕ) : Type 0 where
   pub fell : IsFalse (family_of kept place)
   pub nothing : verdict_at verdicts place ≡ Exclusive
-
--- an effect keeps the group at this place, under the family and the group itself
-abbrev pub KeepsWithItself : Parts → List Bool → ℕ → ℕ → ℕ → Type 0
-KeepsWithItself p kept operator effect place = EffectKeeps (IsGroupOfOr p (family_of kept) (group_at p place))
-    (operator_at p operator) (group_at p place) (effect_at (operator_at p operator) effect)
 
 -- the operators below this one keep the group under the family and itself, and so do this one's effects below this place
 pub record KeptSoFar (p : Parts) (kept : List Bool) (operator effect place : ℕ) : Type 0 where

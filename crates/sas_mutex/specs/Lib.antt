@@ -8,5 +8,6 @@ pub use Rattle.sas_groups.specs.Lists
 pub mod Joint
 pub mod Marks
 pub mod Effects
+pub mod Alone
 pub mod Noting
 pub mod Falling

@@ -4,7 +4,7 @@ ghost use Rattle.sas_grounded.specs.Grounded.{operator_at, effect_at};
 ghost use Rattle.sas_core.specs.Variables.{FactExists};
 ghost use Rattle.sas_core.specs.WellRanged.{WellRanged};
 ghost use Rattle.sas_groups.specs.Families.{IsIn};
-ghost use Rattle.sas_mutex.specs.Effects.{family_of, KeepsAt};
+ghost use Rattle.sas_mutex.specs.Effects.{family_of, KeepsAt, KeepsWithItself};
 ghost use Rattle.sas_group_index.specs.Index.{IsIndexOf, groups_of};
 ghost use Rattle.sas_mutex.specs.Marks.{IsWide};
 ghost use Rattle.sas_mutex.specs.Noting.{AreBelow, HasNotedGroup, IsAgainst, IsMet, SomeRemoves, Removes};
@@ -38,6 +38,38 @@ pub fn keeps_by_notes<T: Grounded>(
 {
     is_single(task, index, kept, operator, effect, group, marks)
         && removes_others(task, index, kept, operator, effect, group, marks)
+}
+
+/// Whether the effect keeps the group, which isn't in the family, under the family and the group itself, by what is noted.
+/// The family is in the end as it was.
+pub fn keeps_with_itself<T: Grounded>(
+    task: &T,
+    index: &Index,
+    operator: u32,
+    effect: u32,
+    group: u32,
+    kept: &mut Items<bool>,
+    marks: &mut Marks,
+) -> bool
+    requires fit { AreOf (T.says task.now) index.now kept.old marks.old }
+    requires operator { operator < length (T.says task.now).operators }
+    requires effect { effect < length (operator_at (T.says task.now) operator).effects }
+    requires group { group < length (T.says task.now).groups }
+    requires outside { IsFalse (family_of kept.old group) }
+    requires noted { IsNotedFor (T.says task.now) kept.old operator effect marks.old }
+    ensures yes { IsTrue result → KeepsWithItself (T.says task.now) kept.old operator effect group }
+    ensures no { IsFalse result → KeepsWithItself (T.says task.now) kept.old operator effect group → ⊥ }
+    ensures kept { kept.new ≡ kept.old }
+    ensures noted { IsNotedFor (T.says task.now) kept.old operator effect marks.new }
+{
+    // Two facts of the group are known where the effect fires, so as the group counts it never does.
+    if marks.groups.as_slice()[group as usize].is_several() {
+        return true;
+    }
+    kept.set(group as usize, true);
+    let keeps = keeps_by_notes(task, index, kept.as_slice(), operator, effect, group, marks);
+    kept.set(group as usize, false);
+    keeps
 }
 
 /// Whether no effect that may fire together with this one sets a fact of the group too, on another variable.

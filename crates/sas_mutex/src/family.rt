@@ -5,14 +5,15 @@ ghost use Rattle.sas_core.specs.WellRanged.{WellRanged};
 ghost use Rattle.sas_groups.specs.Clashes.{sets};
 ghost use Rattle.sas_groups.specs.Families.{IsGreatest};
 ghost use Rattle.sas_groups.specs.Lists.{known};
-ghost use Rattle.sas_mutex.specs.Effects.{family_of};
+ghost use Rattle.sas_mutex.specs.Effects.{family_of, IsPlain};
 ghost use Rattle.sas_group_index.specs.Index.{IsIndexOf, AreMentions};
 ghost use Rattle.sas_mutex.specs.Marks.{IsClean};
 ghost use Rattle.sas_mutex.specs.Noting.{AreNoted, IsNotedFor};
 ghost use Rattle.sas_mutex.specs.Falling.{count, HasRoom, AreCandidates, newly, Falls, looked_at, AreLookedAt};
-ghost use Rattle.sas_mutex.specs.Falling.{IsAtRest, IsEffectAtRest, IsPlain, ArePlainAtRest, RestsAt};
+ghost use Rattle.sas_mutex.specs.Falling.{IsAtRest, IsEffectAtRest, ArePlainAtRest, RestsAt, IsNotedOnce};
+ghost use Rattle.sas_mutex.specs.Alone.{KeptAlone, KeepsEachAlone, EffectKeepsEachAlone, PlainKeepEachAlone};
 
-use crate::effects::keeps_by_notes;
+use crate::effects::{keeps_by_notes, keeps_with_itself};
 use crate::marks::{Marks, forget_known, note_known};
 use sas_core::{Fact, Items};
 use sas_grounded::Grounded;
@@ -26,11 +27,17 @@ pub struct Family {
     pub kept: Items<bool>,
     /// Those that fell, in their order.
     pub fallen: Vec<u32>,
+    /// That of no group: under it and the group itself an effect is asked whether it keeps a group by that group alone.
+    pub none: Items<bool>,
 }
 
+/// Noted in place of how many groups had fallen, of an operator that need never be looked at again.
+const FOR_GOOD: u32 = u32::MAX;
+
 /// Takes from the family, which has the groups that may be exclusive, each that some operator doesn't keep, until every
-/// operator keeps each that is left. After groups fell only those operators are looked at again that mention a fact of one.
-/// `looked` has an item for each operator, where it is noted how many groups had fallen when it was looked at last.
+/// operator keeps each that is left. After groups fell only those operators are looked at again that mention a fact of one, and
+/// keep some group by others than itself. `looked` has an item for each operator, where it is noted how many groups had fallen when
+/// it was looked at last.
 pub fn find_greatest<T: Grounded>(
     task: &T,
     index: &Index,
@@ -135,7 +142,7 @@ fn look_at_each<T: Grounded>(
     }
 }
 
-/// Looks at the operator, and notes how many groups had fallen before.
+/// Looks at the operator, and notes how many groups had fallen before, or that it need never be looked at again.
 fn look_once<T: Grounded>(
     task: &T,
     index: &Index,
@@ -151,51 +158,54 @@ fn look_once<T: Grounded>(
     requires clean { IsClean (T.says task.now) marks.old }
     ensures falls { Falls (T.says task.now) family.old family.new }
     ensures rest { IsAtRest (T.says task.now) family.new.kept (newly family.old family.new) operator }
-    ensures looked { looked.new ≡ slice_set looked.old operator (length family.old.fallen.items) }
+    ensures looked { IsNotedOnce (T.says task.now) family.old family.new operator looked.old looked.new }
     ensures room { HasRoom (T.says task.now) family.new }
     ensures clean { IsClean (T.says task.now) marks.new }
 {
     // The contract of this call tells that what the task says is well ranged, so it hasn't more groups than a `u32` tells.
     let _ = task.variables();
     let fallen = family.fallen.len() as u32;
-    look_at(task, index, operator, family, marks);
-    looked.set(operator as usize, fallen);
+    let alone = look_at(task, index, operator, family, marks);
+    looked.set(operator as usize, if alone { FOR_GOOD } else { fallen });
 }
 
-/// Takes from the family the groups that the operator doesn't keep.
+/// Takes from the family the groups that the operator doesn't keep. Says whether it keeps each other one by that group alone.
 fn look_at<T: Grounded>(
     task: &T,
     index: &Index,
     operator: u32,
     family: &mut Family,
     marks: &mut Marks,
-)
+) -> bool
     requires index { IsIndexOf (T.says task.now) index.now }
     requires operator { operator < length (T.says task.now).operators }
     requires room { HasRoom (T.says task.now) family.old }
     requires clean { IsClean (T.says task.now) marks.old }
     ensures falls { Falls (T.says task.now) family.old family.new }
     ensures rest { IsAtRest (T.says task.now) family.new.kept (newly family.old family.new) operator }
+    ensures alone { IsTrue result → KeepsEachAlone (T.says task.now) family.new.kept operator }
     ensures room { HasRoom (T.says task.now) family.new }
     ensures clean { IsClean (T.says task.now) marks.new }
 {
-    look_at_plain(task, index, operator, family, marks);
+    let mut alone = look_at_plain(task, index, operator, family, marks);
     for effect in 0..task.effects(operator) {
         if !is_plain(task, operator, effect) {
-            look_at_effect(task, index, operator, effect, family, marks);
+            alone &= look_at_effect(task, index, operator, effect, family, marks);
         }
     }
+    alone
 }
 
-/// Takes from the family the groups that the operator's effects without conditions don't keep. What is known where they fire
-/// is the same for all of them, and is noted once; if that clashes, none of them ever fires.
+/// Takes from the family the groups that the operator's effects without conditions don't keep. Says whether they keep each other
+/// one by that group alone. What is known where they fire is the same for all of them, and is noted once; if that clashes, none of
+/// them ever fires.
 fn look_at_plain<T: Grounded>(
     task: &T,
     index: &Index,
     operator: u32,
     family: &mut Family,
     marks: &mut Marks,
-)
+) -> bool
     requires index { IsIndexOf (T.says task.now) index.now }
     requires operator { operator < length (T.says task.now).operators }
     requires room { HasRoom (T.says task.now) family.old }
@@ -203,14 +213,17 @@ fn look_at_plain<T: Grounded>(
     ensures falls { Falls (T.says task.now) family.old family.new }
     ensures rest { ArePlainAtRest (T.says task.now) family.new.kept (newly family.old family.new) operator
         (length (operator_at (T.says task.now) operator).effects) }
+    ensures alone { IsTrue result → PlainKeepEachAlone (T.says task.now) family.new.kept operator
+        (length (operator_at (T.says task.now) operator).effects) }
     ensures room { HasRoom (T.says task.now) family.new }
     ensures clean { IsClean (T.says task.now) marks.new }
 {
     if !has_plain(task, operator) {
-        return;
+        return true;
     }
     // The contract of this call tells that what the task says is well ranged.
     let _ = task.variables();
+    let mut alone = false;
     if !note_known(
         task,
         index,
@@ -220,19 +233,21 @@ fn look_at_plain<T: Grounded>(
         &[],
         marks,
     ) {
-        look_at_each_plain(task, index, operator, family, marks);
+        alone = look_at_each_plain(task, index, operator, family, marks);
     }
     forget_known(task, index, operator, &[], &[], marks);
+    alone
 }
 
-/// Takes from the family the groups that the operator's effects without conditions don't keep, by what is noted.
+/// Takes from the family the groups that the operator's effects without conditions don't keep, by what is noted. Says whether
+/// they keep each other one by that group alone.
 fn look_at_each_plain<T: Grounded>(
     task: &T,
     index: &Index,
     operator: u32,
     family: &mut Family,
     marks: &mut Marks,
-)
+) -> bool
     requires ranged { WellRanged (T.says task.now) }
     requires index { IsIndexOf (T.says task.now) index.now }
     requires operator { operator < length (T.says task.now).operators }
@@ -242,16 +257,20 @@ fn look_at_each_plain<T: Grounded>(
     ensures falls { Falls (T.says task.now) family.old family.new }
     ensures rest { ArePlainAtRest (T.says task.now) family.new.kept (newly family.old family.new) operator
         (length (operator_at (T.says task.now) operator).effects) }
+    ensures alone { IsTrue result → PlainKeepEachAlone (T.says task.now) family.new.kept operator
+        (length (operator_at (T.says task.now) operator).effects) }
     ensures room { HasRoom (T.says task.now) family.new }
     ensures noted { AreNoted (T.says task.now) family.new.kept
         (known (operator_at (T.says task.now) operator) [] []) marks.new }
 {
+    let mut alone = true;
     let effects = task.effects(operator);
     for effect in 0..effects {
         if is_plain(task, operator, effect) {
-            look_at_groups(task, index, operator, effect, family, marks);
+            alone &= look_at_groups(task, index, operator, effect, family, marks);
         }
     }
+    alone
 }
 
 /// Whether some effect of the operator has no conditions.
@@ -279,8 +298,8 @@ fn is_plain<T: Grounded>(task: &T, operator: u32, effect: u32) -> bool
     task.effect_conditions(operator, effect).is_empty()
 }
 
-/// Takes from the family the groups that the effect doesn't keep. What is known where it fires is noted once for all of them;
-/// if that clashes, it never fires.
+/// Takes from the family the groups that the effect doesn't keep. Says whether it keeps each other one by that group alone. What
+/// is known where it fires is noted once for all of them; if that clashes, it never fires.
 fn look_at_effect<T: Grounded>(
     task: &T,
     index: &Index,
@@ -288,7 +307,7 @@ fn look_at_effect<T: Grounded>(
     effect: u32,
     family: &mut Family,
     marks: &mut Marks,
-)
+) -> bool
     requires index { IsIndexOf (T.says task.now) index.now }
     requires operator { operator < length (T.says task.now).operators }
     requires effect { effect < length (operator_at (T.says task.now) operator).effects }
@@ -296,12 +315,14 @@ fn look_at_effect<T: Grounded>(
     requires clean { IsClean (T.says task.now) marks.old }
     ensures falls { Falls (T.says task.now) family.old family.new }
     ensures rest { IsEffectAtRest (T.says task.now) family.new.kept (newly family.old family.new) operator effect }
+    ensures alone { IsTrue result → EffectKeepsEachAlone (T.says task.now) family.new.kept operator effect }
     ensures room { HasRoom (T.says task.now) family.new }
     ensures clean { IsClean (T.says task.now) marks.new }
 {
     // The contract of this call tells that what the task says is well ranged.
     let _ = task.variables();
     let known = task.effect_conditions(operator, effect);
+    let mut alone = false;
     if !note_known(
         task,
         index,
@@ -311,12 +332,14 @@ fn look_at_effect<T: Grounded>(
         &[],
         marks,
     ) {
-        look_at_groups(task, index, operator, effect, family, marks);
+        alone = look_at_groups(task, index, operator, effect, family, marks);
     }
     forget_known(task, index, operator, known, &[], marks);
+    alone
 }
 
-/// Takes from the family the groups that the effect doesn't keep, by what is noted.
+/// Takes from the family the groups that the effect doesn't keep, by what is noted. Says whether it keeps each other one by that
+/// group alone.
 fn look_at_groups<T: Grounded>(
     task: &T,
     index: &Index,
@@ -324,7 +347,7 @@ fn look_at_groups<T: Grounded>(
     effect: u32,
     family: &mut Family,
     marks: &mut Marks,
-)
+) -> bool
     requires ranged { WellRanged (T.says task.now) }
     requires index { IsIndexOf (T.says task.now) index.now }
     requires operator { operator < length (T.says task.now).operators }
@@ -333,6 +356,7 @@ fn look_at_groups<T: Grounded>(
     requires noted { IsNotedFor (T.says task.now) family.old.kept operator effect marks.old }
     ensures falls { Falls (T.says task.now) family.old family.new }
     ensures rest { IsEffectAtRest (T.says task.now) family.new.kept (newly family.old family.new) operator effect }
+    ensures alone { IsTrue result → EffectKeepsEachAlone (T.says task.now) family.new.kept operator effect }
     ensures room { HasRoom (T.says task.now) family.new }
     ensures noted { IsNotedFor (T.says task.now) family.new.kept operator effect marks.new }
 {
@@ -341,13 +365,16 @@ fn look_at_groups<T: Grounded>(
         var: change.var,
         value: change.new,
     };
+    let mut alone = true;
     let groups = index.groups_of(set);
     for group in groups {
-        look_at_group(task, index, operator, effect, *group, family, marks);
+        alone &= look_at_group(task, index, operator, effect, *group, family, marks);
     }
+    alone
 }
 
-/// Takes the group from the family if the effect doesn't keep it, by what is noted.
+/// Takes the group from the family if the effect doesn't keep it, by what is noted. Says whether the effect keeps it by the group
+/// alone, if it is left.
 fn look_at_group<T: Grounded>(
     task: &T,
     index: &Index,
@@ -356,7 +383,7 @@ fn look_at_group<T: Grounded>(
     group: u32,
     family: &mut Family,
     marks: &mut Marks,
-)
+) -> bool
     requires ranged { WellRanged (T.says task.now) }
     requires index { IsIndexOf (T.says task.now) index.now }
     requires operator { operator < length (T.says task.now).operators }
@@ -368,22 +395,37 @@ fn look_at_group<T: Grounded>(
     requires noted { IsNotedFor (T.says task.now) family.old.kept operator effect marks.old }
     ensures falls { Falls (T.says task.now) family.old family.new }
     ensures rest { RestsAt (T.says task.now) family.new.kept (newly family.old family.new) operator effect group }
+    ensures alone { IsTrue result → KeptAlone (T.says task.now) family.new.kept operator effect group }
     ensures room { HasRoom (T.says task.now) family.new }
     ensures noted { IsNotedFor (T.says task.now) family.new.kept operator effect marks.new }
 {
-    if family.kept.as_slice()[group as usize]
-        && !keeps_by_notes(
-            task,
-            index,
-            family.kept.as_slice(),
-            operator,
-            effect,
-            group,
-            marks,
-        )
-    {
-        family.take_away(group);
+    if !family.kept.as_slice()[group as usize] {
+        return true;
     }
+    if keeps_with_itself(
+        task,
+        index,
+        operator,
+        effect,
+        group,
+        &mut family.none,
+        marks,
+    ) {
+        return true;
+    }
+    if keeps_by_notes(
+        task,
+        index,
+        family.kept.as_slice(),
+        operator,
+        effect,
+        group,
+        marks,
+    ) {
+        return false;
+    }
+    family.take_away(group);
+    true
 }
 
 impl Family {
@@ -393,6 +435,7 @@ impl Family {
         requires room { count self.old.kept + length self.old.fallen.items ≤ vec_capacity self.old.fallen }
         ensures kept { self.new.kept ≡ slice_set self.old.kept group false }
         ensures fallen { self.new.fallen.items ≡ self.old.fallen.items ++ group ∷ [] }
+        ensures none { self.new.none ≡ self.old.none }
         ensures room { vec_capacity self.old.fallen ≤ vec_capacity self.new.fallen }
     {
         self.kept.set(group as usize, false);

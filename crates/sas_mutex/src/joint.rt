@@ -9,9 +9,10 @@ ghost use Rattle.sas_group_index.specs.Index.{IsIndexOf, HasFact};
 ghost use Rattle.sas_mutex.specs.Marks.{IsClean};
 ghost use Rattle.sas_mutex.specs.Noting.{AreBelow, AreOf, IsNotedFor};
 ghost use Rattle.sas_mutex.specs.Joint.{verdict_at, AreJointVerdicts, AreFirstVerdicts};
-ghost use Rattle.sas_mutex.specs.Joint.{IsUntold, KeepsWithItself, IsVerdictSoFar, AreVerdictsSoFar};
+ghost use Rattle.sas_mutex.specs.Joint.{IsUntold, IsVerdictSoFar, AreVerdictsSoFar};
+ghost use Rattle.sas_mutex.specs.Alone.{IsOfNone};
 
-use crate::effects::keeps_by_notes;
+use crate::effects::keeps_with_itself;
 use crate::family::{Family, find_greatest};
 use crate::marks::{Marks, forget_known, note_known};
 use sas_core::{Fact, Items};
@@ -73,6 +74,7 @@ fn candidates(alloc: Global, verdicts: &[Verdict]) -> Result<Family, AllocError>
         → IsTrue (family_of family.kept place) ↔ (verdict_at verdicts.now place ≡ Exclusive)) }
     ensures none { IfOk result (λ family. family.fallen.items ≡ []) }
     ensures room { IfOk result (λ family. length verdicts.now ≤ vec_capacity family.fallen) }
+    ensures of_none { IfOk result (λ family. IsOfNone (length verdicts.now) family.none) }
 {
     let mut kept = Items::from_vec(Vec::with_capacity(alloc, verdicts.len())?);
     for verdict in verdicts {
@@ -81,6 +83,7 @@ fn candidates(alloc: Global, verdicts: &[Verdict]) -> Result<Family, AllocError>
     Ok(Family {
         kept,
         fallen: Vec::with_capacity(alloc, verdicts.len())?,
+        none: Items::from_vec(vec![in alloc; false; verdicts.len()]?),
     })
 }
 
@@ -271,36 +274,4 @@ fn tell_group<T: Grounded>(
     {
         verdicts.set(group as usize, Verdict::Broken { operator });
     }
-}
-
-/// Whether the effect keeps the group, which isn't in the family, under the family and the group itself, by what is noted.
-/// The family is in the end as it was.
-fn keeps_with_itself<T: Grounded>(
-    task: &T,
-    index: &Index,
-    operator: u32,
-    effect: u32,
-    group: u32,
-    kept: &mut Items<bool>,
-    marks: &mut Marks,
-) -> bool
-    requires fit { AreOf (T.says task.now) index.now kept.old marks.old }
-    requires operator { operator < length (T.says task.now).operators }
-    requires effect { effect < length (operator_at (T.says task.now) operator).effects }
-    requires group { group < length (T.says task.now).groups }
-    requires outside { IsFalse (family_of kept.old group) }
-    requires noted { IsNotedFor (T.says task.now) kept.old operator effect marks.old }
-    ensures yes { IsTrue result → KeepsWithItself (T.says task.now) kept.old operator effect group }
-    ensures no { IsFalse result → KeepsWithItself (T.says task.now) kept.old operator effect group → ⊥ }
-    ensures kept { kept.new ≡ kept.old }
-    ensures noted { IsNotedFor (T.says task.now) kept.old operator effect marks.new }
-{
-    // Two facts of the group are known where the effect fires, so as the group counts it never does.
-    if marks.groups.as_slice()[group as usize].is_several() {
-        return true;
-    }
-    kept.set(group as usize, true);
-    let keeps = keeps_by_notes(task, index, kept.as_slice(), operator, effect, group, marks);
-    kept.set(group as usize, false);
-    keeps
 }

@@ -1,7 +1,6 @@
 -- One more operator was looked at.
-use Rattle.std.proofs.Common.{length, ◌∙◌, arith}
-use Rattle.std.proofs.lemmas.List.{length-set}
-use Rattle.sas_mutex.proofs.FallingGroups.{falls_then, looked_more}
+use Rattle.std.proofs.Common.{◌<◌, length, ◌∙◌, arith}
+use Rattle.sas_mutex.proofs.FallingGroups.{falls_then, as_many_noted, looked_more}
 use Rattle.sas_mutex.proofs.family.look_at_all.Goals as goal
 
 pub loop-operator-preserved : goal.loop-operator-preserved
@@ -14,10 +13,11 @@ loop-operator-preserved g c =
     let operator = c.loop-operator.operator in
     let inv = c.loop-operator.invariant in
     let turn = c.look_once.ensures in
-    rw turn.looked record {
+    let below : operator < length looked = let len = inv.one_each in omega arith in
+    record {
       falls = falls_then p start before after inv.falls turn.falls;
       room = turn.room;
       clean = turn.clean;
-      one_each = length-set looked operator (length before.fallen.items) ∙ inv.one_each;
-      each = λ k lt. looked_more p before after looked operator turn.falls (omega (arith, inv.one_each)) turn.rest k (omega arith) (λ ne. inv.each k (omega arith));
+      one_each = as_many_noted p before after looked c.look_once.new.looked operator turn.falls below turn.rest turn.looked ∙ inv.one_each;
+      each = λ k lt. looked_more p before after looked c.look_once.new.looked operator turn.falls below turn.rest turn.looked k (omega arith) (λ ne. inv.each k (omega arith));
     }

@@ -1,9 +1,8 @@
 -- One more operator was looked at since, now or before.
-use Rattle.std.proofs.Common.{ℕ, ◌<◌, List, length, get_or, ap, ◌∙◌, below_more, arith}
-use Rattle.std.proofs.lemmas.List.{length-set}
+use Rattle.std.proofs.Common.{ℕ, ◌<◌, ◌≤◌, List, length, get_or, ap, ◌∙◌, below_more, arith}
 use Rattle.std.proofs.lemmas.List.Elements.{All-get_or, All-from_get_or}
 use Rattle.sas_mutex.specs.Falling.{looked_at}
-use Rattle.sas_mutex.proofs.FallingGroups.{falls_then, fallen_grow, looked_more, noted_here, noted_later}
+use Rattle.sas_mutex.proofs.FallingGroups.{falls_then, fallen_grow, as_many_noted, looked_more, noted_now, noted_later}
 use Rattle.sas_mutex.proofs.family.look_at_each.Goals as goal
 use Rattle.sas_mutex.proofs.family.look_at_each.Goals.{then-as_slice-operator, else-as_slice-operator}
 
@@ -21,19 +20,23 @@ loop-operator-preserved g c =
           let turn = w.look_once.ensures in
           let exists = All-get_or (λ (o : ℕ). o < length p.operators) c.args.operators.now c.loop-operator.operator-index 0 c.loop-operator-test.true c.requires.exist in
           let below : operator < length looked = (let each = inv.looked.one_each in omega arith) in
-          let later = noted_later p before after looked operator turn.falls below turn.rest inv.looked exists in
-          rw (w.family-is, w.marks-is, w.looked-is, turn.looked) record {
+          let looked' = w.look_once.new.looked in
+          let earlier : looked_at looked operator ≤ length before.fallen.items =
+          (let at = w.if-as_slice-operator.true in let same = ap (λ (xs : List ℕ). get_or xs operator 0) c.as_slice.ensures in
+          let grown = fallen_grow p start before inv.falls in let place = c.requires.place in omega arith) in
+          let later = noted_later p before after looked looked' operator turn.falls below turn.rest turn.looked earlier in
+          rw (w.family-is, w.marks-is, w.looked-is) record {
             falls = falls_then p start before after inv.falls turn.falls;
             room = turn.room;
             clean = turn.clean;
             looked = record {
-              one_each = length-set looked operator (length before.fallen.items) ∙ inv.looked.one_each;
-              each = λ other lt. looked_more p before after looked operator turn.falls below turn.rest other lt (λ ne. inv.looked.each other lt);
+              one_each = as_many_noted p before after looked looked' operator turn.falls below turn.rest turn.looked ∙ inv.looked.one_each;
+              each = λ other lt. looked_more p before after looked looked' operator turn.falls below turn.rest turn.looked other lt (λ ne. inv.looked.each other lt);
             };
             later = λ other. (let first = inv.later other in let then = later other in omega arith);
             past = below_more _ _
                 (λ k lt. (let was = inv.past k lt in let still = later (get_or c.args.operators.now k 0) in omega arith))
-                (let here = noted_here p before after looked operator turn.falls below turn.rest in
+                (let here = noted_now p before after looked looked' operator turn.falls below turn.rest turn.looked in
                 let grown = fallen_grow p start before inv.falls in omega arith);
           })
       | else-as_slice-operator w ↦ rw (w.family-is, w.marks-is, w.looked-is) record {

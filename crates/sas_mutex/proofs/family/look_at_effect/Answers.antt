@@ -16,7 +16,7 @@ pub returns-clause-falls : goal.returns-clause-falls
 returns-clause-falls g c =
     let p = g.T.Grounded.says c.args.task.now in
     elim c.if-not-note_known.branch [
-      | then-not-note_known w ↦ subst (Falls p c.args.family.now) (sym w.family-is) w.look_at_groups.ensures.falls
+      | then-not-note_known w ↦ subst (Falls p c.args.family.now) (sym w.family-is) w.look_at_groups-alone.ensures.falls
       | else-not-note_known w ↦ subst (Falls p c.args.family.now) (sym w.family-is) (none_fell p c.args.family.now)
     ]
 
@@ -28,7 +28,7 @@ returns-clause-rest g c =
     let start = c.args.family.now in
     let AtRest : Family → Type 0 = λ family. IsEffectAtRest p family.kept (newly start family) c.args.operator c.args.effect in
     elim c.if-not-note_known.branch [
-      | then-not-note_known w ↦ subst AtRest (sym w.family-is) w.look_at_groups.ensures.rest
+      | then-not-note_known w ↦ subst AtRest (sym w.family-is) w.look_at_groups-alone.ensures.rest
       | else-not-note_known w ↦ subst AtRest (sym w.family-is) (λ none place in_family has. clash_keeps (IsKept p start.kept) o (group_at p place) e
           (subst (λ (kept : List Bool). Clash (IsKept p kept) (known o e.conditions [])) c.as_slice.ensures
           (subst (λ (conditions : List Fact). Clash (IsKept p c.as_slice.result.now) (known o conditions [])) c.effect_conditions-known.ensures

@@ -1,11 +1,13 @@
 -- One more group rests, and so in the end all that have the fact.
 use Rattle.std.proofs.Common.{ℕ, below_more, arith}
 use Rattle.std.specs.List.{Contains}
+use Rattle.std.proofs.lemmas.Bool.{and_parts}
 use Rattle.std.specs.Prelude.{◌↔◌}
 use Rattle.std.proofs.lemmas.List.Elements.{Contains-get_or}
 use Rattle.sas_grounded.specs.Grounded.{operator_at, effect_at}
 use Rattle.sas_groups.specs.Clashes.{sets}
 use Rattle.sas_mutex.specs.Falling.{newly, RestsAt}
+use Rattle.sas_mutex.specs.Alone.{KeptAlone}
 use Rattle.sas_group_index.specs.Index.{HasFact}
 use Rattle.sas_mutex.proofs.FallingGroups.{falls_then, rests_later, rests_now}
 use Rattle.sas_mutex.proofs.SetFacts.{groups_setting, at_item}
@@ -19,14 +21,14 @@ setting : (g : Over) (c : After-groups_of-groups g) → (place : ℕ)
 setting g c = groups_setting (g.T.Grounded.says c.args.task.now) c.requires.ranged c.args.index.now c.args.operator c.args.effect
     c.requires.index c.requires.operator c.requires.effect c.groups_of-groups.result.now c.effect_change-change.result c.effect_change-change.ensures c.groups_of-groups.ensures
 
-pub look_at_group-requires-clause-group : goal.look_at_group-requires-clause-group
-look_at_group-requires-clause-group g c =
-    ((setting g (goal.at.look_at_group-requires-clause-group g c).After-groups_of-groups _).0
+pub look_at_group-alone-requires-clause-group : goal.look_at_group-alone-requires-clause-group
+look_at_group-alone-requires-clause-group g c =
+    ((setting g (goal.at.look_at_group-alone-requires-clause-group g c).After-groups_of-groups _).0
     (Contains-get_or c.groups_of-groups.result.now c.loop-group.group-index 0 c.loop-group-test.true)).exists
 
-pub look_at_group-requires-clause-has : goal.look_at_group-requires-clause-has
-look_at_group-requires-clause-has g c =
-    ((setting g (goal.at.look_at_group-requires-clause-has g c).After-groups_of-groups _).0
+pub look_at_group-alone-requires-clause-has : goal.look_at_group-alone-requires-clause-has
+look_at_group-alone-requires-clause-has g c =
+    ((setting g (goal.at.look_at_group-alone-requires-clause-has g c).After-groups_of-groups _).0
     (Contains-get_or c.groups_of-groups.result.now c.loop-group.group-index 0 c.loop-group-test.true)).among
 
 pub loop-group-preserved : goal.loop-group-preserved
@@ -34,9 +36,9 @@ loop-group-preserved g c =
     let p = g.T.Grounded.says c.args.task.now in
     let start = c.args.family.now in
     let before = c.loop-group.family in
-    let after = c.look_at_group.new.family in
+    let after = c.look_at_group-alone.new.family in
     let inv = c.loop-group.invariant in
-    let turn = c.look_at_group.ensures in
+    let turn = c.look_at_group-alone.ensures in
     record {
       falls = falls_then p start before after inv.falls turn.falls;
       room = turn.room;
@@ -44,7 +46,17 @@ loop-group-preserved g c =
       rest = below_more _ _
           (λ k lt. rests_later p start before after c.args.operator c.args.effect _ c.requires.operator c.requires.effect inv.falls turn.falls (inv.rest k lt))
           (rests_now p start before after c.args.operator c.args.effect _ inv.falls turn.falls turn.rest);
+      alone = λ t. let both = and_parts c.loop-group.alone c.look_at_group-alone.result t in below_more _ _
+          (λ k lt w. inv.alone both.0 k lt (turn.falls.less _ w))
+          (turn.alone both.1);
     }
+
+pub returns-clause-alone : goal.returns-clause-alone
+returns-clause-alone g c =
+    let p = g.T.Grounded.says c.args.task.now in
+    let at_end = (goal.at.returns-clause-alone g c).After-groups_of-groups in
+    λ t place w has. at_item (KeptAlone p c.loop-group.family.kept c.args.operator c.args.effect) c.groups_of-groups.result.now place
+    (λ k lt. c.loop-group.invariant.alone t k (omega arith)) ((setting g at_end place).1 (record { exists = w.exists; among = has })) w
 
 pub returns-clause-rest : goal.returns-clause-rest
 returns-clause-rest g c =

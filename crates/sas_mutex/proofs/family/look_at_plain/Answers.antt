@@ -14,7 +14,7 @@ pub returns-clause-falls : goal.returns-clause-falls
 returns-clause-falls g c =
     let p = g.T.Grounded.says c.args.task.now in
     elim c.if-not-note_known.branch [
-      | then-not-note_known w ↦ rw (w.family-is) w.look_at_each_plain.ensures.falls
+      | then-not-note_known w ↦ rw (w.family-is) w.look_at_each_plain-alone.ensures.falls
       | else-not-note_known w ↦ rw (w.family-is) (none_fell p c.args.family.now)
     ]
 
@@ -24,7 +24,7 @@ returns-clause-rest g c =
     let o = operator_at p c.args.operator in
     let start = c.args.family.now in
     elim c.if-not-note_known.branch [
-      | then-not-note_known w ↦ rw (w.family-is) w.look_at_each_plain.ensures.rest
+      | then-not-note_known w ↦ rw (w.family-is) w.look_at_each_plain-alone.ensures.rest
       | else-not-note_known w ↦ rw (w.family-is) (λ effect lt plain none place in_family has. clash_keeps (IsKept p start.kept) o (group_at p place) (effect_at o effect)
           (subst (λ (conditions : List Fact). Clash (IsKept p start.kept) (known o conditions [])) (sym plain)
           (subst (λ (kept : List Bool). Clash (IsKept p kept) (known o [] [])) c.as_slice.ensures

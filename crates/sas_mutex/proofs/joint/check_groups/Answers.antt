@@ -4,6 +4,7 @@ use Rattle.std.specs.Prelude.{◌↔◌, IsTrue}
 use Rattle.sas_groups.specs.declared.verdict.Verdict.{Verdict}
 use Rattle.sas_groups.specs.declared.verdict.Verdict.TheVariants.{Exclusive}
 use Rattle.sas_mutex.specs.Effects.{family_of}
+use Rattle.sas_mutex.specs.Alone.{IsOfNone}
 use Rattle.sas_mutex.specs.Joint.{verdict_at}
 use Rattle.sas_mutex.proofs.Counting.{count_within}
 use Rattle.sas_mutex.proofs.Telling.{candidates_from}
@@ -19,6 +20,7 @@ find_greatest-requires-clause-room g c =
       one_each = same;
       room = omega (arith, same, fewer, none, family.ensures.room, family.ensures.one_each);
       few = omega (arith, same, fewer, none);
+      none = subst (λ (groups : ℕ). IsOfNone groups family.family.none) (ap length c.as_slice.ensures ∙ c.in_ok-verdicts.ensures.one_each) family.ensures.of_none;
     }
 
 pub find_greatest-requires-clause-candidates : goal.find_greatest-requires-clause-candidates

@@ -9,7 +9,7 @@ use Rattle.sas_mutex.specs.Marks.{group_note}
 use Rattle.sas_mutex.specs.Noting.{IsNotedFor}
 use Rattle.sas_mutex.proofs.Telling.{keeps_then, keeps_itself, put_back, several_never_fire, noted_with, is_more}
 use Rattle.sas_mutex.proofs.ToldByNotes.{noted_fewer}
-use Rattle.sas_mutex.proofs.joint.keeps_with_itself.Goals as goal
+use Rattle.sas_mutex.proofs.effects.keeps_with_itself.Goals as goal
 
 pub returns-then-is_several-clause-yes : goal.returns-then-is_several-clause-yes
 returns-then-is_several-clause-yes g c =
