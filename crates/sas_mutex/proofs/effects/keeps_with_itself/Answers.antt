@@ -1,6 +1,6 @@
 -- The family with the group has the groups of the family, and this one.
 use Rattle.std.proofs.Common.{◌≡◌, ◌≢◌, Bool, true, false, List, set, sym, ap, ◌∙◌, subst}
-use Rattle.std.proofs.lemmas.Bool.{both_ways}
+use Rattle.std.proofs.lemmas.Bool.{true≢false, both_ways}
 use Rattle.sas_grounded.specs.Grounded.{operator_at, effect_at, group_at}
 use Rattle.sas_mutex.specs.declared.marks.Noted.{Noted}
 use Rattle.sas_mutex.specs.declared.marks.Noted.TheVariants.{Several}
@@ -17,6 +17,9 @@ returns-then-is_several-clause-yes g c =
     let several : group_note c.args.marks.now.groups c.args.group ≡ Several =
     ap (λ (xs : List Noted). group_note xs c.args.group) (sym c.as_slice.ensures) ∙ c.is_several.ensures.0 c.if-is_several.true in
     λ _. several_never_fire p c.args.kept.now c.args.group c.requires.group c.requires.fit.one_each c.args.operator c.args.effect c.args.marks.now c.requires.noted several
+
+pub returns-then-is_several-clause-no : goal.returns-then-is_several-clause-no
+returns-then-is_several-clause-no g c f = absurd (true≢false f)
 
 pub keeps_by_notes-keeps-requires-clause-noted : goal.keeps_by_notes-keeps-requires-clause-noted
 keeps_by_notes-keeps-requires-clause-noted g c =

@@ -1,5 +1,6 @@
 -- A run that is settled is gone, or one fact more.
-use Rattle.std.proofs.Common.{rules}
+use Rattle.std.proofs.Common.{sym}
+use Rattle.std.proofs.lemmas.Bool.{true≢false}
 use Rattle.sas_grounded.specs.Grounded.{operator_at, effect_at}
 use Rattle.sas_groups.specs.Checks.{IsGone}
 use Rattle.sas_groups.proofs.Turns.{each_more}
@@ -22,4 +23,4 @@ loop-fact-preserved g c =
     (c.is_gone.ensures.yes c.if-not-is_gone.false)
 
 pub returns-then-not-is_gone-clause-yes : goal.returns-then-not-is_gone-clause-yes
-returns-then-not-is_gone-clause-yes g c = search rules
+returns-then-not-is_gone-clause-yes g c t = absurd (true≢false (sym t))

@@ -1,5 +1,6 @@
 -- A group that the effect doesn't keep falls. One that it keeps where that group alone counts, it keeps.
 use Rattle.std.proofs.Common.{◌≡◌, Bool, true, List, length, sym, ap, subst, ◌∙◌, arith, rules}
+use Rattle.std.proofs.lemmas.Bool.{true≢false}
 use Rattle.std.proofs.lemmas.List.{length-set, length_push}
 use Rattle.sas_grounded.specs.Grounded.{operator_at, effect_at, group_at}
 use Rattle.sas_mutex.specs.Effects.{family_of, IsKept, EffectKeeps}
@@ -23,6 +24,9 @@ pub returns-then-keeps_with_itself-clause-alone : goal.returns-then-keeps_with_i
 returns-then-keeps_with_itself-clause-alone g c =
     let p = g.T.Grounded.says c.args.task.now in
     λ _ _. alone_by_none p c.args.family.now.none (length p.groups) c.args.operator c.args.effect c.args.group c.requires.room.none (c.keeps_with_itself.ensures.yes c.if-keeps_with_itself.true)
+
+pub returns-then-keeps_by_notes-clause-alone : goal.returns-then-keeps_by_notes-clause-alone
+returns-then-keeps_by_notes-clause-alone g c t = absurd (true≢false (sym t))
 
 pub returns-clause-falls : goal.returns-clause-falls
 returns-clause-falls g c =
