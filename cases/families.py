@@ -1,4 +1,4 @@
-"""Mutex groups computed from the meaning of a task, for small tasks made at random from a fixed seed and for two larger ones:
+"""Mutex groups computed from the meaning of a task, for small tasks made at random from a fixed seed and for three larger ones:
 what `mutex` says of each, and what is said of each group by itself.
 
 A task here is as in walks.py, and has
@@ -26,7 +26,9 @@ from walks import basic_task, random_facts, random_operator
 
 SEED = 7
 TASKS = 300
-MANY = 300
+MANY = 2000
+# groups that share facts, and operators over these
+SHARING, SWAPPING = 4000, 600
 
 
 def contradict(f, g, family):
@@ -219,6 +221,24 @@ def chain_of(last):
     }
 
 
+def sharing_groups():
+    """A task of many groups, each of two facts that all of them have and one of its own. Many operators swap the shared ones,
+    which keeps each group by itself; then each group rests on the next as in `chain_of`, and the last one on nothing."""
+    there, back = ([([], 0, old, 1 - old), ([], 1, 1 - old, old)] for old in (0, 1))
+    own = [(2 + place, 0) for place in range(SHARING)]
+    return {
+        "ranges": [2] * (2 + SHARING),
+        "layers": [None] * (2 + SHARING),
+        "defaults": [0, 1] + [1] * SHARING,
+        "rules": [],
+        "groups": [[(0, 0), (1, 0), fact] for fact in own],
+        "operators": [
+            *(("swap", [], effects, 1) for effects in [there, back] * (SWAPPING // 2)),
+            *(("go", own[place + 1 : place + 2], [([], fact[0], -1, fact[1])], 1) for place, fact in enumerate(own)),
+        ],
+    }
+
+
 def line_of(place, verdict):
     """What `mutex` says of a group with this verdict."""
     words = {"Exclusive": "exclusive", "Derived": "derived", "Initial": "not shown: initial state"}
@@ -249,8 +269,11 @@ def grouped_tasks():
 
 
 def long_chains():
-    """Two tasks of many groups that rest on one another. In the first one the last group rests on nothing, so that all fall,
-    one after another from the last one on; in the other it rests on the first one, and all stay."""
+    """Three tasks of many groups that rest on one another. In the first one the last group rests on nothing, so that all fall,
+    one after another from the last one on; in the second it rests on the first one, and all stay. In the third they fall too, and
+    share facts with many operators: where each of these is looked at again as each group falls, no answer comes in time."""
     broken = [f"Broken {{ operator: {place} }}" for place in range(MANY)]
     yield judged("many groups that fall", chain_of([]), broken, broken)
     yield judged("many groups that stay", chain_of([(0, 0), (1, 0)]), ["Exclusive"] * MANY, broken)
+    broken = [f"Broken {{ operator: {SWAPPING + place} }}" for place in range(SHARING)]
+    yield judged("many groups that share facts and fall", sharing_groups(), broken, broken)

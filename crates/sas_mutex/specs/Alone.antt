@@ -11,22 +11,22 @@ abbrev pub KeepsAlone : Parts → ℕ → ℕ → ℕ → Type 0
 KeepsAlone p operator effect place = EffectKeeps (λ group. group ≡ group_at p place)
     (operator_at p operator) (group_at p place) (effect_at (operator_at p operator) effect)
 
--- and so if it is in the family
+-- it does so, if the group is in the family
 abbrev pub KeptAlone : Parts → List Bool → ℕ → ℕ → ℕ → Type 0
 KeptAlone p kept operator effect place = IsIn p (family_of kept) place → KeepsAlone p operator effect place
 
--- and so each group of the family that has the fact which it sets
+-- the effect keeps each group of the family so that has the fact which it sets
 abbrev pub EffectKeepsEachAlone : Parts → List Bool → ℕ → ℕ → Type 0
 EffectKeepsEachAlone p kept operator effect = (place : ℕ) → IsIn p (family_of kept) place
     → Contains (group_at p place) (sets (effect_at (operator_at p operator) effect))
     → KeepsAlone p operator effect place
 
--- those of the operator's first effects that have no conditions do so
+-- those of the operator's first effects that have no conditions do that
 abbrev pub PlainKeepEachAlone : Parts → List Bool → ℕ → ℕ → Type 0
 PlainKeepEachAlone p kept operator effects = (effect : ℕ) → effect < effects
     → IsPlain p operator effect → EffectKeepsEachAlone p kept operator effect
 
--- all effects of the operator do so
+-- all effects of the operator do that
 abbrev pub KeepsEachAlone : Parts → List Bool → ℕ → Type 0
 KeepsEachAlone p kept operator = (effect : ℕ) → effect < length (operator_at p operator).effects
     → EffectKeepsEachAlone p kept operator effect

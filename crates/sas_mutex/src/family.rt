@@ -35,9 +35,9 @@ pub struct Family {
 const FOR_GOOD: u32 = u32::MAX;
 
 /// Takes from the family, which has the groups that may be exclusive, each that some operator doesn't keep, until every
-/// operator keeps each that is left. After groups fell only those operators are looked at again that mention a fact of one, and
-/// keep some group by others than itself. `looked` has an item for each operator, where it is noted how many groups had fallen when
-/// it was looked at last.
+/// operator keeps each that is left. After groups fell only those operators are looked at again that mention a fact of one,
+/// but for those that keep each group by that group alone. `looked` has an item for each operator, where it is noted how many
+/// groups had fallen when it was looked at last.
 pub fn find_greatest<T: Grounded>(
     task: &T,
     index: &Index,
@@ -169,7 +169,7 @@ fn look_once<T: Grounded>(
     looked.set(operator as usize, if alone { FOR_GOOD } else { fallen });
 }
 
-/// Takes from the family the groups that the operator doesn't keep. Says whether it keeps each other one by that group alone.
+/// Takes from the family the groups that the operator doesn't keep. Says whether it keeps each that is left by that group alone.
 fn look_at<T: Grounded>(
     task: &T,
     index: &Index,
@@ -196,9 +196,9 @@ fn look_at<T: Grounded>(
     alone
 }
 
-/// Takes from the family the groups that the operator's effects without conditions don't keep. Says whether they keep each other
-/// one by that group alone. What is known where they fire is the same for all of them, and is noted once; if that clashes, none of
-/// them ever fires.
+/// Takes from the family the groups that the operator's effects without conditions don't keep. Says whether they keep each that
+/// is left by that group alone. What is known where they fire is the same for all of them, and is noted once; if that clashes,
+/// none of them ever fires.
 fn look_at_plain<T: Grounded>(
     task: &T,
     index: &Index,
@@ -240,7 +240,7 @@ fn look_at_plain<T: Grounded>(
 }
 
 /// Takes from the family the groups that the operator's effects without conditions don't keep, by what is noted. Says whether
-/// they keep each other one by that group alone.
+/// they keep each that is left by that group alone.
 fn look_at_each_plain<T: Grounded>(
     task: &T,
     index: &Index,
@@ -298,8 +298,8 @@ fn is_plain<T: Grounded>(task: &T, operator: u32, effect: u32) -> bool
     task.effect_conditions(operator, effect).is_empty()
 }
 
-/// Takes from the family the groups that the effect doesn't keep. Says whether it keeps each other one by that group alone. What
-/// is known where it fires is noted once for all of them; if that clashes, it never fires.
+/// Takes from the family the groups that the effect doesn't keep. Says whether it keeps each that is left by that group alone.
+/// What is known where it fires is noted once for all of them; if that clashes, it never fires.
 fn look_at_effect<T: Grounded>(
     task: &T,
     index: &Index,
@@ -338,8 +338,8 @@ fn look_at_effect<T: Grounded>(
     alone
 }
 
-/// Takes from the family the groups that the effect doesn't keep, by what is noted. Says whether it keeps each other one by that
-/// group alone.
+/// Takes from the family the groups that the effect doesn't keep, by what is noted. Says whether it keeps each that is left by
+/// that group alone.
 fn look_at_groups<T: Grounded>(
     task: &T,
     index: &Index,
@@ -374,7 +374,7 @@ fn look_at_groups<T: Grounded>(
 }
 
 /// Takes the group from the family if the effect doesn't keep it, by what is noted. Says whether the effect keeps it by the group
-/// alone, if it is left.
+/// alone, if it is left; where it does, every family that has the group will do.
 fn look_at_group<T: Grounded>(
     task: &T,
     index: &Index,
