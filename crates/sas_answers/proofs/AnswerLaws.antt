@@ -1,7 +1,7 @@
 -- What holds of answers about a value.
 use Rattle.std.proofs.Common.{◌≡◌, Result, Ok, Err}
 use Rattle.std.specs.Prelude.{IfOk}
-use Rattle.sas_answers.specs.Answers.{Output}
+use Rattle.sas_output.specs.Ending.{Output}
 
 -- what is so of the value is so in other words
 pub so_if_ok : {A E : Type 0} {P Q : A → Type 0} (r : Result A E) → IfOk r P → ((a : A) → P a → Q a) → IfOk r Q

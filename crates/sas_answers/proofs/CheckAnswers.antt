@@ -9,8 +9,9 @@ use Rattle.sas_meaning.specs.declared.layered.LayerFault.{LayerFault}
 use Rattle.sas_meaning.specs.Layers.{can_fire, IsLayered}
 use Rattle.sas_meaning.specs.LayerChecks.{effect_checks, operator_checks, firing_checks, rule_checks, layer_checks}
 use Rattle.sas_meaning.proofs.LayerChecksAreRules.{checks_are_rules}
-use Rattle.sas_answers.specs.declared.Status.TheVariants.{Yes}
-use Rattle.sas_answers.specs.Answers.{Output, layers_refusal, layers_verdict, CheckAnswer}
+use Rattle.sas_output.specs.declared.ending.Status.TheVariants.{Yes}
+use Rattle.sas_answers.specs.Answers.{layers_refusal, layers_verdict, CheckAnswer}
+use Rattle.sas_output.specs.Ending.{Output}
 use Rattle.sas_answers.proofs.AnswerLaws.{OneAnswer, SomeAnswer}
 
 -- of a layered task, that it is

@@ -12,9 +12,10 @@ use Rattle.sas_lines.specs.Lines.{text}
 use Rattle.sas_groups.specs.declared.verdict.Verdict.{Verdict}
 use Rattle.sas_groups.specs.declared.verdict.Verdict.TheVariants.{Exclusive, Derived, Initial, Broken}
 use Rattle.sas_mutex.proofs.JointLists.{one_list, some_list}
-use Rattle.sas_answers.specs.declared.Status.TheVariants.{No}
+use Rattle.sas_output.specs.declared.ending.Status.TheVariants.{No}
 use Rattle.sas_answers.specs.GroupWords.{group_line, group_lines_from, group_lines, groups_status}
-use Rattle.sas_answers.specs.Answers.{Output, GroupsAnswer, LayeredGroupsAnswer, MutexAnswer}
+use Rattle.sas_answers.specs.Answers.{GroupsAnswer, LayeredGroupsAnswer, MutexAnswer}
+use Rattle.sas_output.specs.Ending.{Output}
 use Rattle.sas_answers.proofs.AnswerLaws.{OneAnswer, SomeAnswer}
 use Rattle.sas_answers.proofs.CheckAnswers.{some_check_answer}
 

@@ -8,7 +8,8 @@ use Rattle.sas_run.specs.declared.plan_check.PlanFault.{PlanFault}
 use Rattle.sas_run.specs.declared.plan_check.PlanFault.TheVariants.{Memory, NoOperator, NotApplicable, Conflict, GoalMissed, CostDiffers}
 use Rattle.sas_run.specs.Verdicts.{IsFaultOf}
 use Rattle.sas_run.proofs.PlanVerdicts.{some_verdict, valid_has_no_fault, fault_is_one}
-use Rattle.sas_answers.specs.Answers.{Output, valid_answer, invalid_answer, VerdictAnswer}
+use Rattle.sas_answers.specs.Answers.{valid_answer, invalid_answer, VerdictAnswer}
+use Rattle.sas_output.specs.Ending.{Output}
 use Rattle.sas_answers.proofs.AnswerLaws.{OneAnswer, SomeAnswer}
 
 pub one_verdict_answer : (p : Parts) → IsLayered p → OneAnswer (VerdictAnswer p)

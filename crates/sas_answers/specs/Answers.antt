@@ -11,27 +11,18 @@ use Rattle.sas_mutex.specs.Joint.{AreJointVerdicts}
 use Rattle.sas_run.specs.declared.plan_check.PlanFault.{PlanFault}
 use Rattle.sas_run.specs.Plans.{IsValid}
 use Rattle.sas_run.specs.Verdicts.{IsFaultOf}
-use Rattle.sas_answers.specs.declared.Status.{Status}
-use Rattle.sas_answers.specs.declared.Status.TheVariants.{Yes, No}
-use Rattle.sas_answers.specs.declared.told.Told.{Told}
+use Rattle.sas_output.specs.declared.ending.Status.TheVariants.{Yes, No}
+use Rattle.sas_output.specs.Ending.{Output}
 use Rattle.sas_answers.specs.GroupWords.{group_lines, groups_status}
 use Rattle.sas_answers.specs.LayerWords.{layer_words, layers_line}
 use Rattle.sas_answers.specs.PlanWords.{valid_line, fault_words, invalid_line}
-
--- what is printed, and the status
-pub record Output : Type 0 where
-  pub text : List ℕ
-  pub status : Status
-
--- a text that is at hand, as such an output
-abbrev pub output_told : Told → Output
-output_told told = record { text = told.text.items; status = told.status }
 
 -- ---- the layers of a task
 
 -- the refusal of a task for a fault of its layers; want of memory has none
 abbrev pub layers_refusal : LayerFault → Option Output
-layers_refusal fault = option_map (λ words. record { text = layers_line words; status = No }) (layer_words fault)
+layers_refusal fault =
+    option_map (λ words. record { text = layers_line words; status = No }) (layer_words fault)
 
 -- what is said of a task's layers, by their first fault if they have one
 abbrev pub layers_verdict : Option LayerFault → Option Output
@@ -73,4 +64,5 @@ invalid_answer cost fault =
 abbrev pub VerdictAnswer : Parts → PlanParts → Output → Type 0
 VerdictAnswer p plan output =
     (((operators : List ℕ) × IsValid p plan operators) × (output ≡ valid_answer plan))
-    ⊎ ((fault : PlanFault) × IsFaultOf p plan fault × (invalid_answer plan.cost fault ≡ Some output))
+    ⊎ ((fault : PlanFault) × IsFaultOf p plan fault
+    × (invalid_answer plan.cost fault ≡ Some output))

@@ -2,8 +2,8 @@
 use Rattle.std.specs.Prelude.{ℕ, ◌+◌, List, [], ◌∷◌, ◌++◌, codes, decimal}
 use Rattle.sas_groups.specs.declared.verdict.Verdict.{Verdict}
 use Rattle.sas_groups.specs.declared.verdict.Verdict.TheVariants.{Exclusive, Derived, Initial, Broken}
-use Rattle.sas_answers.specs.declared.Status.{Status}
-use Rattle.sas_answers.specs.declared.Status.TheVariants.{Yes, No}
+use Rattle.sas_output.specs.declared.ending.Status.{Status}
+use Rattle.sas_output.specs.declared.ending.Status.TheVariants.{Yes, No}
 
 -- what is said of a group
 abbrev pub verdict_words : Verdict → List ℕ
@@ -19,7 +19,8 @@ group_line place verdict = codes "group " ++ decimal place ++ codes " " ++ verdi
 -- a line for each group, the first of which has this place
 abbrev pub group_lines_from : ℕ → List Verdict → List (List ℕ)
 group_lines_from place [] = []
-group_lines_from place (verdict ∷ verdicts) = group_line place verdict ∷ group_lines_from (place + 1) verdicts
+group_lines_from place (verdict ∷ verdicts) =
+    group_line place verdict ∷ group_lines_from (place + 1) verdicts
 
 -- a line for each group of a task
 abbrev pub group_lines : List Verdict → List (List ℕ)

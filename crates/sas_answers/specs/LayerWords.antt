@@ -12,10 +12,12 @@ part_words part place what = part ++ codes " " ++ decimal place ++ codes ": " ++
 abbrev pub layer_words : LayerFault → Option (List ℕ)
 layer_words (EffectOnDerived operator effect) =
     Some (part_words (codes "operator") operator (codes "effect on derived variable"))
-layer_words (RuleOnBasic rule) = Some (part_words (codes "rule") rule (codes "not on a derived variable"))
+layer_words (RuleOnBasic rule) =
+    Some (part_words (codes "rule") rule (codes "not on a derived variable"))
 layer_words (OldValue rule) = Some (part_words (codes "rule") rule (codes "old value"))
 layer_words (TwoValues rule) = Some (part_words (codes "rule") rule (codes "two values"))
-layer_words (LayerOrder rule condition) = Some (part_words (codes "rule") rule (codes "layer order"))
+layer_words (LayerOrder rule condition) =
+    Some (part_words (codes "rule") rule (codes "layer order"))
 layer_words Memory = None
 
 -- the line that refuses a task with these words

@@ -2,4 +2,3 @@ pub mod LayerWords
 pub mod PlanWords
 pub mod GroupWords
 pub mod Answers
-pub mod Ending

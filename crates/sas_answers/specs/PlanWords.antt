@@ -6,7 +6,8 @@ use Rattle.sas_run.specs.declared.plan_check.PlanFault.TheVariants.{Conflict, Go
 
 -- `plan valid: S steps, cost C`
 abbrev pub valid_line : ℕ → ℕ → List ℕ
-valid_line steps cost = codes "plan valid: " ++ decimal steps ++ codes " steps, cost " ++ decimal cost ++ codes "\n"
+valid_line steps cost =
+    codes "plan valid: " ++ decimal steps ++ codes " steps, cost " ++ decimal cost ++ codes "\n"
 
 -- `step S: WHAT`, where S is the step's number, counted from 1
 abbrev pub step_words : ℕ → List ℕ → List ℕ

@@ -1,16 +1,17 @@
 // Which mutex groups of a task are exclusive, as an answer.
 ghost use Rattle.std.specs.Prelude.{◌≡◌, [], ◌∷◌, ◌++◌, IfOk, OnOk};
 ghost use Rattle.sas_lines.specs.Lines.{text};
-ghost use Rattle.sas_answers.specs.Answers.{GroupsAnswer, MutexAnswer, output_told};
+ghost use Rattle.sas_answers.specs.Answers.{GroupsAnswer, MutexAnswer};
+ghost use Rattle.sas_output.specs.Ending.{output_told};
 ghost use Rattle.sas_answers.specs.GroupWords as spec;
 ghost use Rattle.sas_answers.specs.GroupWords.{group_lines};
 
 use crate::layers::refuse_layers;
-use crate::{Status, Told};
 use sas_flat::FlatTask;
 use sas_lines::{push_line, push_number};
 use sas_meaning::Layered;
 use sas_mutex::{Verdict, check_groups};
+use sas_output::{Status, Told};
 use std::alloc::{AllocError, Global};
 
 /// The answer about the mutex groups of a task.
@@ -54,7 +55,8 @@ fn groups_text(alloc: Global, verdicts: &[Verdict]) -> Result<Vec<u8>, AllocErro
 
 /// Appends the line of the group at this place.
 fn push_group(out: &mut Vec<u8>, place: usize, verdict: Verdict) -> Result<(), AllocError>
-    ensures { OnOk result (out.new.items ≡ out.old.items ++ (spec.group_line place verdict ++ 10 ∷ [])) }
+    ensures { OnOk result (out.new.items ≡ out.old.items
+        ++ (spec.group_line place verdict ++ 10 ∷ [])) }
 {
     out.extend_from_slice(b"group ")?;
     push_number(out, place as u128)?;
@@ -70,7 +72,8 @@ fn push_group(out: &mut Vec<u8>, place: usize, verdict: Verdict) -> Result<(), A
 /// Appends that the operator doesn't keep the group, and the line's end.
 fn push_broken(out: &mut Vec<u8>, operator: u32) -> Result<(), AllocError>
     ensures { OnOk result
-        (out.new.items ≡ out.old.items ++ (spec.verdict_words (Verdict.Broken operator) ++ 10 ∷ [])) }
+        (out.new.items ≡ out.old.items
+        ++ (spec.verdict_words (Verdict.Broken operator) ++ 10 ∷ [])) }
 {
     out.extend_from_slice(b"not shown: operator ")?;
     push_number(out, u128::from(operator))?;

@@ -1,12 +1,13 @@
 // Whether a task is layered, as an answer.
 ghost use Rattle.std.specs.Prelude.{◌≡◌, Some, None, IfOk, option_map};
-ghost use Rattle.sas_answers.specs.Answers.{CheckAnswer, layers_refusal, layers_verdict, output_told};
+ghost use Rattle.sas_answers.specs.Answers.{CheckAnswer, layers_refusal, layers_verdict};
+ghost use Rattle.sas_output.specs.Ending.{output_told};
 ghost use Rattle.sas_answers.specs.LayerWords.{layer_words, layers_line, part_words};
 
-use crate::{Status, Told};
 use sas_flat::FlatTask;
 use sas_lines::{push_line, push_number};
 use sas_meaning::{LayerFault, Layered};
+use sas_output::{Status, Told};
 use std::alloc::{AllocError, Global};
 
 /// The answer about the layers of a task.

@@ -2,16 +2,17 @@
 ghost use Rattle.std.specs.Prelude.{◌≡◌, ◌≢◌, option_map, Some, IfOk, IfErr};
 ghost use Rattle.sas_run.specs.Plans.{IsValid};
 ghost use Rattle.sas_run.specs.Verdicts.{IsFaultOf};
-ghost use Rattle.sas_answers.specs.Answers.{VerdictAnswer, invalid_answer, output_told};
+ghost use Rattle.sas_answers.specs.Answers.{VerdictAnswer, invalid_answer};
+ghost use Rattle.sas_output.specs.Ending.{output_told};
 ghost use Rattle.sas_answers.specs.PlanWords.{valid_line, fault_words, step_words};
 ghost use Rattle.sas_answers.specs.PlanWords.{goal_words, cost_words, invalid_line};
 
-use crate::{Status, Told};
 use sas_axioms::Worklist;
+use sas_core::Stepwise;
 use sas_flat::{FlatPlan, FlatTask};
-use sas_grounded::Stepwise;
 use sas_lines::{push_line, push_number};
 use sas_meaning::Layered;
+use sas_output::{Status, Told};
 use sas_run::{PlanFault, Runner, Valid};
 use std::alloc::{AllocError, Global};
 

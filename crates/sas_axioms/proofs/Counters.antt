@@ -4,10 +4,11 @@ use Rattle.std.proofs.lemmas.Bool.{cases_eq, eq-eqb}
 use Rattle.std.proofs.lemmas.Bool.Decides.{eqb_tells}
 use Rattle.std.proofs.lemmas.List.{get_or-set_same, get_or-set_other, length-set, get_or_default}
 use Rattle.std.proofs.Math.ListN.{length-append}
+use Rattle.std.specs.Prelude.{vec_capacity}
 use Rattle.sas_core.specs.declared.parts.Fact.{Fact}
 use Rattle.sas_core.specs.declared.parts.Rule.{Rule}
 use Rattle.sas_core.specs.declared.parts.Parts.{Parts}
-use Rattle.sas_grounded.specs.Grounded.{rule_at}
+use Rattle.sas_core.specs.Grounded.{rule_at}
 use Rattle.sas_core.specs.Variables.{IsState}
 use Rattle.sas_core.specs.WellRanged.{WellRanged}
 use Rattle.sas_meaning.specs.States.{Holds, AllHold}
@@ -17,7 +18,8 @@ use Rattle.sas_meaning.specs.Forced.{OnlyForced, HasFired, SameOff, AtDefault, e
 use Rattle.sas_axioms.specs.LayerRules.{IsRuleOn}
 use Rattle.sas_axioms.specs.Waiting.{occurrences, asking}
 use Rattle.sas_axioms.specs.Conditions.{open_conditions}
-use Rattle.sas_axioms.specs.Worklist.{seen, IsRunning, Counts, HaveFired, IsAtWork, FiresRule, work}
+use Rattle.sas_axioms.specs.declared.firing.Work.{Work}
+use Rattle.sas_axioms.specs.Worklist.{seen, IsRunning, Counts, HaveFired, IsAtWork, GoesOn, FiresRule}
 use Rattle.std.specs.List.{All}
 use Rattle.std.proofs.lemmas.List.Elements.{All-nil, All-cons, All-head, All-tail}
 use Rattle.sas_meaning.proofs.Forced.{Fired, fired_there, rule_new, differs_true, differs_not, fact_within}
@@ -128,15 +130,33 @@ pushed t layer s stack k ranged layered run on_k hold changes = record {
     ]
 
 -- the two writes of a rule that fires
-pub fires_by : (t : Parts) (layer : ℕ) (s stack s' stack' : List ℕ) (k : ℕ) → WellRanged t → IsState t.variables s → IsRuleOn t layer k → Pushed t layer s stack (rule_at t k)
-    → s' ≡ set s (rule_at t k).var (rule_at t k).new → stack' ≡ stack ++ (rule_at t k).var ∷ [] → FiresRule t layer k s stack s' stack'
-fires_by t layer s stack s' stack' k ranged state on p s-is stack-is = rw (s-is, stack-is) record {
-  running = p.running;
-  seen = p.seen;
-  fired = get_or-set_same s (rule_at t k).var (rule_at t k).new 0 (rule_within t s k ranged state on.exists);
-  kept = p.kept;
-  off = p.off;
-  work = let fewer = p.fewer in let len = length-append stack ((rule_at t k).var ∷ []) in omega arith;
+pub fires_by : (t : Parts) (s : List ℕ) (w : Work) (s' : List ℕ) (w' : Work) (k : ℕ) → WellRanged t → IsState t.variables s → IsRuleOn t w.layer k → Pushed t w.layer s w.stack.items (rule_at t k)
+    → s' ≡ set s (rule_at t k).var (rule_at t k).new → w'.stack.items ≡ w.stack.items ++ (rule_at t k).var ∷ []
+    → w'.layer ≡ w.layer → w'.counters ≡ w.counters → vec_capacity w.stack ≤ vec_capacity w'.stack → FiresRule t k s w s' w'
+fires_by t s w s' w' k ranged state on p s-is stack-is layer counters room = record {
+  goes_on = record {
+    layer = layer;
+    off = rw s-is p.off;
+    left = rw (s-is, stack-is) (let fewer = p.fewer in let len = length-append w.stack.items ((rule_at t k).var ∷ []) in omega arith);
+  };
+  counters = counters;
+  room = room;
+  running = rw (s-is, stack-is) p.running;
+  seen = rw (s-is, stack-is) p.seen;
+  fired = rw s-is (get_or-set_same s (rule_at t k).var (rule_at t k).new 0 (rule_within t s k ranged state on.exists));
+  kept = rw s-is p.kept;
+}
+
+-- ---- one piece of work after another
+
+pub goes_on_still : (t : Parts) (s : List ℕ) (w : Work) → GoesOn t s w s w
+goes_on_still t s w = record { layer = refl; off = λ v off. refl; left = omega arith }
+
+pub goes_on_more : (t : Parts) (s : List ℕ) (w : Work) (s' : List ℕ) (w' : Work) (s'' : List ℕ) (w'' : Work) → GoesOn t s w s' w' → GoesOn t s' w' s'' w'' → GoesOn t s w s'' w''
+goes_on_more t s w s' w' s'' w'' so_far more = record {
+  layer = more.layer ∙ so_far.layer;
+  off = λ v off. so_far.off v off ∙ more.off v (subst (λ n. IsOnLayer t n v → ⊥) (sym so_far.layer) off);
+  left = let a = so_far.left in let b = more.left in omega arith;
 }
 
 -- ---- counting conditions
@@ -301,10 +321,17 @@ running_at_default t layer s state at = record {
     equal_places-le (x ∷ xs) (y ∷ ys) = let ih = equal_places-le xs ys in elim (eqb_tells x y) [ inl w ↦ rw w.0 (omega arith) | inr w ↦ rw w.0 (omega arith) ]
 
 -- a rule that was counted down to nothing has fired
-pub at_work_fired : (t : Parts) (layer : ℕ) (s stack s' stack' counters left : List ℕ) (k : ℕ) → k < length counters → IsAtWork t layer s stack counters (k ∷ left)
-    → FiresRule t layer k s stack s' stack' → IsAtWork t layer s' stack' (set counters k (get_or counters k 0 - 1)) left
-at_work_fired t layer s stack s' stack' counters left k within work f = record {
-  running = f.running;
-  counts = counts_seen t layer s s' stack stack' (set counters k (get_or counters k 0 - 1)) left f.seen (counted_down t layer s stack counters left k within work.counts);
-  fired = fired_set t layer s' counters k (get_or counters k 0 - 1) within (λ _. f.fired) (fired_kept t layer s s' counters f.kept work.fired);
+pub at_work_fired : (t : Parts) (s : List ℕ) (w : Work) (s' : List ℕ) (w' : Work) (counters left : List ℕ) (k : ℕ) → k < length w.counters → IsAtWork t s w (k ∷ left)
+    → counters ≡ set w.counters k (get_or w.counters k 0 - 1)
+    → FiresRule t k s (record { layer = w.layer; counters = counters; stack = w.stack }) s' w' → IsAtWork t s' w' left
+at_work_fired t s w s' w' counters left k within work is f = record {
+  room = record {
+    one_each = ap length f.counters ∙ (ap length is ∙ (length-set w.counters k (get_or w.counters k 0 - 1) ∙ work.room.one_each));
+    variables = omega (arith, work.room.variables, f.room);
+  };
+  running = rw f.goes_on.layer f.running;
+  counts = rw (f.goes_on.layer, f.counters, is)
+      (counts_seen t w.layer s s' w.stack.items w'.stack.items (set w.counters k (get_or w.counters k 0 - 1)) left f.seen (counted_down t w.layer s w.stack.items w.counters left k within work.counts));
+  fired = rw (f.goes_on.layer, f.counters, is)
+      (fired_set t w.layer s' w.counters k (get_or w.counters k 0 - 1) within (λ _. f.fired) (fired_kept t w.layer s s' w.counters f.kept work.fired));
 }

@@ -6,7 +6,7 @@ use Rattle.std.proofs.lemmas.List.{get_or-set_other, get_or_push, get_or_append_
 use Rattle.std.proofs.lemmas.List.Elements.{All-head, All-tail}
 use Rattle.sas_core.specs.declared.parts.Fact.{Fact}
 use Rattle.sas_core.specs.declared.parts.Parts.{Parts}
-use Rattle.sas_grounded.specs.Grounded.{rule_at}
+use Rattle.sas_core.specs.Grounded.{rule_at}
 use Rattle.sas_meaning.specs.Layers.{IsBasic, IsOnLayer}
 use Rattle.sas_meaning.specs.Forced.{AtDefault}
 use Rattle.sas_meaning.proofs.Layers.{layer_cases}

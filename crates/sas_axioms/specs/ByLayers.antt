@@ -3,15 +3,9 @@ use Rattle.std.specs.Prelude.{ℕ, ◌<◌, ◌≤◌, List, All}
 use Rattle.sas_core.specs.declared.parts.Rule.{Rule}
 use Rattle.sas_core.specs.declared.parts.Parts.{Parts}
 use Rattle.sas_core.specs.Variables.{IsState}
-use Rattle.sas_core.specs.WellRanged.{WellRanged}
-use Rattle.sas_meaning.specs.Layers.{IsOnLayer, CanFire, IsLayered}
+use Rattle.sas_meaning.specs.Layers.{IsOnLayer, CanFire}
 use Rattle.sas_meaning.specs.Settled.{IsSettledAt}
 use Rattle.sas_meaning.specs.Forced.{SameOff}
-
--- a task of which all is known that a file and its layers ask
-pub record IsLayeredTask (p : Parts) : Type 0 where
-  pub ranged : WellRanged p
-  pub layered : IsLayered p
 
 -- no rule on the layer can fire
 abbrev pub IsIdle : Parts → ℕ → Type 0

@@ -1,10 +1,13 @@
--- The conditions of the rules that can fire: an index of all, which variables they ask about, and how many are open.
+-- The conditions of the rules that can fire: an index of all, which variables they ask about,
+-- and how many are open.
 use Rattle.std.specs.Prelude.{◌≡◌, ℕ, ◌+◌, ◌<◌, ◌==◌, if◌then◌else◌, List, [], ◌∷◌, length, All, Contains, slice_index}
 use Rattle.sas_core.specs.declared.parts.Fact.{Fact}
 use Rattle.sas_core.specs.declared.parts.Parts.{Parts}
-use Rattle.sas_grounded.specs.Grounded.{rule_at}
+use Rattle.sas_core.specs.Grounded.{rule_at}
+use Rattle.sas_core.specs.WellRanged.{WellRanged}
 use Rattle.sas_lists.specs.declared.by_key.Entry.{Entry}
 use Rattle.sas_meaning.specs.Layers.{IsBasic}
+use Rattle.sas_axioms.specs.declared.counting.Counted.{Counted}
 use Rattle.sas_axioms.specs.declared.waiting.Waiting.{Waiting}
 use Rattle.sas_axioms.specs.LayerRules.{IsRuleOn}
 use Rattle.sas_axioms.specs.Waiting.{asking, entry_of, waits, released, occurrences, waiting_at}
@@ -29,12 +32,14 @@ pub record AreAllConditions (p : Parts) (es : List (Entry Waiting)) : Type 0 whe
   pub each : (layer var value rule : ℕ) → IsRuleOn p layer rule
       → waits rule var value es ≡ asking var value (rule_at p rule).conditions
 
--- under each variable each rule that can fire waits for a value as often as its conditions ask for it
+-- under each variable each rule that can fire waits for a value as often as its conditions ask for
+-- it
 pub record IsFullIndex (p : Parts) (index : List (List Waiting)) : Type 0 where
   pub one_each : length index ≡ length p.variables
   pub only : (var : ℕ) → All (IsOfRule p) (waiting_at index var)
   pub each : (layer var value rule : ℕ) → IsRuleOn p layer rule
-      → occurrences rule (released value (waiting_at index var)) ≡ asking var value (rule_at p rule).conditions
+      → occurrences rule (released value (waiting_at index var))
+      ≡ asking var value (rule_at p rule).conditions
 
 -- a rule that can fire has a condition on the variable
 abbrev pub IsAsked : Parts → ℕ → Type 0
@@ -49,16 +54,24 @@ pub record AreAskedBasic (p : Parts) (variables : List ℕ) : Type 0 where
 
 -- the basic variables that conditions ask about have the same values
 abbrev pub SameAsked : Parts → List ℕ → List ℕ → Type 0
-SameAsked p s s' = (var : ℕ) → IsBasic p var → IsAsked p var → slice_index s var ≡ slice_index s' var
+SameAsked p s s' = (var : ℕ) → IsBasic p var → IsAsked p var
+    → slice_index s var ≡ slice_index s' var
 
 -- how many of the conditions don't hold
 abbrev pub open_conditions : (ℕ → ℕ) → List Fact → ℕ
 open_conditions value [] = 0
-open_conditions value (c ∷ cs) = (if value c.var == c.value then 0 else 1) + open_conditions value cs
+open_conditions value (c ∷ cs) =
+    (if value c.var == c.value then 0 else 1) + open_conditions value cs
 
--- the counter of each rule that can fire is the number of its conditions that these values leave open
+-- the counter of each rule that can fire is the number of its conditions that the values leave open
 pub record AreCounted (p : Parts) (values counters : List ℕ) : Type 0 where
   pub one_each : length counters ≡ length p.rules
   pub known : length values ≡ length p.variables
   pub exact : (layer rule : ℕ) → IsRuleOn p layer rule
       → slice_index counters rule ≡ open_conditions (slice_index values) (rule_at p rule).conditions
+
+-- they are counted, by an index of the same task
+pub record IsCounted (p : Parts) (c : Counted) : Type 0 where
+  pub ranged : WellRanged p
+  pub index : IsFullIndex p c.index
+  pub counts : AreCounted p c.values c.counters

@@ -2,7 +2,7 @@
 use Rattle.std.specs.Prelude.{◌≡◌, ℕ, ◌<◌, ◌≤◌, List, [], ◌∷◌, length, All, Contains, slice_index_or}
 use Rattle.std.specs.List.Sorted.{IsNonDecreasingBy}
 use Rattle.sas_core.specs.declared.parts.Parts.{Parts}
-use Rattle.sas_grounded.specs.Grounded.{rule_at}
+use Rattle.sas_core.specs.Grounded.{rule_at}
 use Rattle.sas_meaning.specs.Layers.{IsOnLayer, CanFire}
 use Rattle.sas_axioms.specs.declared.layer_rules.LayerRule.{LayerRule}
 use Rattle.sas_axioms.specs.declared.layer_rules.LayerSpan.{LayerSpan}
@@ -16,7 +16,8 @@ pub record IsRuleOn (p : Parts) (layer rule : ℕ) : Type 0 where
 -- the rules that can fire, each with its layer
 pub record AreFiringRules (p : Parts) (rules : List LayerRule) : Type 0 where
   pub only : All (λ (r : LayerRule). IsRuleOn p r.layer r.rule) rules
-  pub each : (layer rule : ℕ) → IsRuleOn p layer rule → Contains rules (record { layer = layer; rule = rule })
+  pub each : (layer rule : ℕ) → IsRuleOn p layer rule
+      → Contains rules (record { layer = layer; rule = rule })
 
 -- in ascending order of their layers
 pub record AreLayerRules (p : Parts) (rules : List LayerRule) : Type 0 where
@@ -27,7 +28,8 @@ pub record AreLayerRules (p : Parts) (rules : List LayerRule) : Type 0 where
 pub record IsLayerEnd (rules : List LayerRule) (start layer end : ℕ) : Type 0 where
   pub from_start : start ≤ end
   pub within : end ≤ length rules
-  pub on : (place : ℕ) (d : LayerRule) → start ≤ place → place < end → (slice_index_or rules place d).layer ≡ layer
+  pub on : (place : ℕ) (d : LayerRule) → start ≤ place → place < end
+      → (slice_index_or rules place d).layer ≡ layer
   pub last : (d : LayerRule) → end < length rules → (slice_index_or rules end d).layer ≡ layer → ⊥
 
 -- the rules from `start` to `end`, of which there is one, are those of the layer
@@ -45,4 +47,5 @@ AreSpans rules start (span ∷ spans) end =
 -- the rules of one layer that can fire
 pub record AreRulesOn (p : Parts) (layer : ℕ) (rules : List LayerRule) : Type 0 where
   pub only : All (λ (r : LayerRule). IsRuleOn p layer r.rule) rules
-  pub each : (rule : ℕ) → IsRuleOn p layer rule → Contains rules (record { layer = layer; rule = rule })
+  pub each : (rule : ℕ) → IsRuleOn p layer rule
+      → Contains rules (record { layer = layer; rule = rule })

@@ -2,16 +2,17 @@
 use Rattle.std.specs.Prelude.{◌≡◌, ℕ, Bool, false, ◌↔◌, List, length, All, slice_index_or}
 use Rattle.sas_core.specs.declared.parts.Fact.{Fact}
 use Rattle.sas_core.specs.declared.parts.Parts.{Parts}
-use Rattle.sas_grounded.specs.Grounded.{rule_at}
+use Rattle.sas_core.specs.Grounded.{rule_at}
 use Rattle.sas_meaning.specs.Layers.{IsOnLayer}
 use Rattle.sas_meaning.specs.Forced.{AtDefault}
 use Rattle.sas_axioms.specs.declared.resting.Resting.{Resting}
 use Rattle.sas_axioms.specs.LayerRules.{IsRuleOn}
-use Rattle.sas_axioms.specs.Conditions.{IsFullIndex, AreAskedBasic, AreCounted}
+use Rattle.sas_axioms.specs.Conditions.{AreAskedBasic, IsCounted}
 
 -- the derived variables that the rule's conditions are on are all on the layer
 abbrev pub StaysOn : Parts → ℕ → ℕ → Type 0
-StaysOn p layer rule = All (λ (c : Fact). (its : ℕ) → IsOnLayer p its c.var → its ≡ layer) (rule_at p rule).conditions
+StaysOn p layer rule =
+    All (λ (c : Fact). (its : ℕ) → IsOnLayer p its c.var → its ≡ layer) (rule_at p rule).conditions
 
 -- of each rule whether it looks below its layer
 pub record AreLooks (p : Parts) (below : List Bool) : Type 0 where
@@ -22,7 +23,6 @@ pub record AreLooks (p : Parts) (below : List Bool) : Type 0 where
 -- the rules are counted with each derived variable at its default
 pub record IsResting (p : Parts) (r : Resting) : Type 0 where
   pub asked : AreAskedBasic p r.asked.items
-  pub index : IsFullIndex p r.index
-  pub default : (layer : ℕ) → AtDefault p layer r.values
-  pub counts : AreCounted p r.values r.counters
+  pub counted : IsCounted p r.counted
+  pub default : (layer : ℕ) → AtDefault p layer r.counted.values
   pub looks : AreLooks p r.looks_below.items

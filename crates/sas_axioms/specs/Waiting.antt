@@ -2,7 +2,7 @@
 use Rattle.std.specs.Prelude.{◌≡◌, ℕ, ◌+◌, ◌==◌, ◌&&◌, if◌then◌else◌, List, [], ◌∷◌, length, All, slice_index_or}
 use Rattle.sas_core.specs.declared.parts.Fact.{Fact}
 use Rattle.sas_core.specs.declared.parts.Parts.{Parts}
-use Rattle.sas_grounded.specs.Grounded.{rule_at}
+use Rattle.sas_core.specs.Grounded.{rule_at}
 use Rattle.sas_lists.specs.declared.by_key.Entry.{Entry}
 use Rattle.sas_meaning.specs.Layers.{IsOnLayer}
 use Rattle.sas_axioms.specs.declared.waiting.Waiting.{Waiting}
@@ -11,17 +11,20 @@ use Rattle.sas_axioms.specs.LayerRules.{IsRuleOn}
 -- how often the conditions have this fact
 abbrev pub asking : ℕ → ℕ → List Fact → ℕ
 asking var value [] = 0
-asking var value (c ∷ cs) = (if (c.var == var) && (c.value == value) then 1 else 0) + asking var value cs
+asking var value (c ∷ cs) =
+    (if (c.var == var) && (c.value == value) then 1 else 0) + asking var value cs
 
 -- the rule waits for the condition: under its variable, for its value
 abbrev pub entry_of : Fact → ℕ → Entry Waiting
-entry_of condition rule = record { key = condition.var; item = record { value = condition.value; rule = rule } }
+entry_of condition rule =
+    record { key = condition.var; item = record { value = condition.value; rule = rule } }
 
 -- how often the rule waits for this fact
 abbrev pub waits : ℕ → ℕ → ℕ → List (Entry Waiting) → ℕ
 waits rule var value [] = 0
 waits rule var value (e ∷ es) =
-    (if (e.item.rule == rule) && ((e.key == var) && (e.item.value == value)) then 1 else 0) + waits rule var value es
+    (if (e.item.rule == rule) && ((e.key == var) && (e.item.value == value)) then 1 else 0)
+    + waits rule var value es
 
 -- the entry is of a rule that can fire, and of a variable of its layer
 abbrev pub IsOfOneLayer : Parts → ℕ → Waiting → Type 0
@@ -38,8 +41,10 @@ pub record AddsWaiting (p : Parts) (layer rule : ℕ) (es es' : List (Entry Wait
   pub only : All (λ (e : Entry Waiting). IsOfOneLayer p e.key e.item) es
       → All (λ (e : Entry Waiting). IsOfOneLayer p e.key e.item) es'
   pub each : (other var value : ℕ) → IsOnLayer p layer var → waits other var value es'
-      ≡ waits other var value es + (if other == rule then asking var value (rule_at p rule).conditions else 0)
-  pub off : (other var value : ℕ) → (IsOnLayer p layer var → ⊥) → waits other var value es' ≡ waits other var value es
+      ≡ waits other var value es
+      + (if other == rule then asking var value (rule_at p rule).conditions else 0)
+  pub off : (other var value : ℕ) → (IsOnLayer p layer var → ⊥)
+      → waits other var value es' ≡ waits other var value es
 
 -- the rules among these that wait for this value, in order
 abbrev pub released : ℕ → List Waiting → List ℕ
@@ -55,10 +60,12 @@ occurrences n (x ∷ xs) = (if x == n then 1 else 0) + occurrences n xs
 abbrev pub waiting_at : List (List Waiting) → ℕ → List Waiting
 waiting_at index var = slice_index_or index var []
 
--- under each derived variable each rule of its layer that can fire waits for a value as often as its conditions ask for it
+-- under each derived variable each rule of its layer that can fire waits for a value as often as
+-- its conditions ask for it
 pub record IsIndex (p : Parts) (index : List (List Waiting)) : Type 0 where
   pub one_each : length index ≡ length p.variables
   pub only : (layer var : ℕ) → IsOnLayer p layer var
       → All (λ (w : Waiting). IsRuleOn p layer w.rule) (waiting_at index var)
   pub each : (layer var value rule : ℕ) → IsOnLayer p layer var → IsRuleOn p layer rule
-      → occurrences rule (released value (waiting_at index var)) ≡ asking var value (rule_at p rule).conditions
+      → occurrences rule (released value (waiting_at index var))
+      ≡ asking var value (rule_at p rule).conditions

@@ -1,11 +1,13 @@
 -- How far a worklist has come on a layer, and what it needs.
 use Rattle.std.specs.Prelude.{◌≡◌, ℕ, ◌+◌, ◌*◌, ◌<◌, ◌≤◌, ◌==◌, if◌then◌else◌, IsTrue, List, [], length, All, Contains, slice_index, slice_index_or, vec_capacity, drop}
 use Rattle.sas_core.specs.declared.parts.Parts.{Parts}
-use Rattle.sas_grounded.specs.Grounded.{rule_at}
+use Rattle.sas_core.specs.Grounded.{rule_at}
 use Rattle.sas_core.specs.Variables.{IsState, IsDerived}
 use Rattle.sas_meaning.specs.Layers.{IsOnLayer, default_of}
 use Rattle.sas_meaning.specs.Settled.{differs}
 use Rattle.sas_meaning.specs.Forced.{OnlyForced, equal_places, SameOff}
+use Rattle.sas_axioms.specs.declared.firing.Firing.{Firing}
+use Rattle.sas_axioms.specs.declared.firing.Work.{Work}
 use Rattle.sas_axioms.specs.declared.layer_rules.LayerRule.{LayerRule}
 use Rattle.sas_axioms.specs.declared.worklist.Worklist.{Worklist}
 use Rattle.sas_axioms.specs.LayerRules.{IsRuleOn, AreLayerRules, AreSpans}
@@ -21,14 +23,17 @@ seen p s stack var = if occurrences var stack == 0 then slice_index s var else d
 pub record IsRunning (p : Parts) (layer : ℕ) (s stack : List ℕ) : Type 0 where
   pub state : IsState p.variables s
   pub forced : OnlyForced p layer s
-  pub fired : (var : ℕ) → 0 < occurrences var stack → IsOnLayer p layer var × IsTrue (differs p s var)
+  pub fired : (var : ℕ) → 0 < occurrences var stack
+      → IsOnLayer p layer var × IsTrue (differs p s var)
   pub once : (var : ℕ) → occurrences var stack ≤ 1
   pub room : length stack + equal_places s p.init ≤ length s
 
--- each counter is the number of its rule's conditions that don't hold yet, and of its places in `left`
+-- each counter is the number of its rule's conditions that don't hold yet, and of its places in
+-- `left`
 abbrev pub Counts : Parts → ℕ → List ℕ → List ℕ → List ℕ → List ℕ → Type 0
 Counts p layer s stack counters left = (rule : ℕ) → IsRuleOn p layer rule
-    → slice_index counters rule ≡ open_conditions (seen p s stack) (rule_at p rule).conditions + occurrences rule left
+    → slice_index counters rule
+    ≡ open_conditions (seen p s stack) (rule_at p rule).conditions + occurrences rule left
 
 -- each rule with no open condition has given its variable its value
 abbrev pub HaveFired : Parts → ℕ → List ℕ → List ℕ → Type 0
@@ -36,53 +41,67 @@ HaveFired p layer s counters = (rule : ℕ) → IsRuleOn p layer rule
     → slice_index counters rule ≡ 0 → slice_index s (rule_at p rule).var ≡ (rule_at p rule).new
 
 -- what is left to do
-abbrev pub work : Parts → List ℕ → List ℕ → ℕ
-work p s stack = 2 * equal_places s p.init + length stack
+abbrev pub left_to_do : Parts → List ℕ → List ℕ → ℕ
+left_to_do p s stack = 2 * equal_places s p.init + length stack
 
 -- a counter for each rule, and room on the stack for each variable
-pub record HasRoom (p : Parts) (counters : List ℕ) (room : ℕ) : Type 0 where
-  pub one_each : length counters ≡ length p.rules
-  pub variables : length p.variables ≤ room
+pub record HasRoom (p : Parts) (w : Work) : Type 0 where
+  pub one_each : length w.counters ≡ length p.rules
+  pub variables : length p.variables ≤ vec_capacity w.stack
 
 -- the rules of a layer are at work
-pub record IsAtWork (p : Parts) (layer : ℕ) (s stack counters left : List ℕ) : Type 0 where
-  pub running : IsRunning p layer s stack
-  pub counts : Counts p layer s stack counters left
-  pub fired : HaveFired p layer s counters
+pub record IsAtWork (p : Parts) (s : List ℕ) (w : Work) (left : List ℕ) : Type 0 where
+  pub room : HasRoom p w
+  pub running : IsRunning p w.layer s w.stack.items
+  pub counts : Counts p w.layer s w.stack.items w.counters left
+  pub fired : HaveFired p w.layer s w.counters
+
+-- the work goes on, on its layer alone, and no more is left to do than before
+pub record GoesOn (p : Parts) (s : List ℕ) (w : Work) (s' : List ℕ) (w' : Work) : Type 0 where
+  pub layer : w'.layer ≡ w.layer
+  pub off : SameOff p w.layer s s'
+  pub left : left_to_do p s' w'.stack.items ≤ left_to_do p s w.stack.items
 
 -- one rule fired, or had
-pub record FiresRule (p : Parts) (layer rule : ℕ) (s stack s' stack' : List ℕ) : Type 0 where
-  pub running : IsRunning p layer s' stack'
-  pub seen : (var : ℕ) → seen p s' stack' var ≡ seen p s stack var
+pub record FiresRule (p : Parts) (rule : ℕ) (s : List ℕ) (w : Work) (s' : List ℕ) (w' : Work)
+    : Type 0 where
+  pub goes_on : GoesOn p s w s' w'
+  pub counters : w'.counters ≡ w.counters
+  pub room : vec_capacity w.stack ≤ vec_capacity w'.stack
+  pub running : IsRunning p w.layer s' w'.stack.items
+  pub seen : (var : ℕ) → seen p s' w'.stack.items var ≡ seen p s w.stack.items var
   pub fired : slice_index s' (rule_at p rule).var ≡ (rule_at p rule).new
   pub kept : (var : ℕ) → IsTrue (differs p s var) → slice_index s' var ≡ slice_index s var
-  pub off : SameOff p layer s s'
-  pub work : work p s' stack' ≤ work p s stack
+
+-- what settles layers fits the task, and nothing is left on its stack
+pub record IsPrepared (p : Parts) (f : Firing) : Type 0 where
+  pub index : IsIndex p f.index
+  pub resting : IsResting p f.resting
+  pub room : HasRoom p f.work
+  pub empty : f.work.stack.items ≡ []
 
 -- the derived variables, each at least once
 pub record AreDerived (p : Parts) (variables : List ℕ) : Type 0 where
   pub only : All (IsDerived p.variables) variables
   pub each : (var : ℕ) → IsDerived p.variables var → Contains variables var
 
--- what a worklist holds fits the task, and nothing is left on its stack
+-- what a worklist holds fits the task
 pub record IsReadyFor (p : Parts) (w : Worklist) : Type 0 where
   pub variables : AreDerived p w.derived.items
-  pub firing : AreLayerRules p w.rules.items
+  pub rules : AreLayerRules p w.rules.items
   pub spans : AreSpans w.rules.items 0 w.spans.items (length w.rules.items)
-  pub index : IsIndex p w.index
-  pub has_room : HasRoom p w.counters (vec_capacity w.stack)
-  pub resting : IsResting p w.resting
-  pub empty : w.stack.items ≡ []
+  pub firing : IsPrepared p w.firing
 
 -- the rules from this place on are those from the layer on
 pub record StandsAt (rules : List LayerRule) (layer place : ℕ) : Type 0 where
   pub within : place ≤ length rules
   pub before : (k : ℕ) (d : LayerRule) → k < place → (slice_index_or rules k d).layer < layer
-  pub behind : (k : ℕ) (d : LayerRule) → place ≤ k → k < length rules → layer ≤ (slice_index_or rules k d).layer
+  pub behind : (k : ℕ) (d : LayerRule) → place ≤ k → k < length rules
+      → layer ≤ (slice_index_or rules k d).layer
 
 -- it is ready, the layers from this one on are left, and what it keeps are the state's values
 pub record IsReadyFrom (p : Parts) (layer : ℕ) (s : List ℕ) (w : Worklist) : Type 0 where
   pub ready : IsReadyFor p w
   pub stands : StandsAt w.rules.items layer w.start
   pub left : AreSpans w.rules.items w.start (drop w.next w.spans.items) (length w.rules.items)
-  pub follows : SameAsked p s w.resting.values
+  pub follows : SameAsked p s w.firing.resting.counted.values

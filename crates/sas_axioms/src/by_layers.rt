@@ -2,7 +2,7 @@
 ghost use Rattle.sas_core.specs.Variables.{IsState};
 ghost use Rattle.sas_meaning.specs.Settled.{Settles};
 
-use sas_grounded::Grounded;
+use sas_core::Grounded;
 use sas_meaning::{Layered, State};
 
 /// What settles the layers of a task in turn, from the lowest one on.
@@ -35,8 +35,10 @@ pub trait ByLayers<T: Grounded> {
         requires stands { stands self.old layered.now from state.old }
         requires state { IsState layered.now.variables state.old }
         requires default { (layer : ℕ) → from ≤ layer → AtDefault layered.now layer state.old }
-        ensures stands { IfSome result (λ layer. stands self.new layered.now (layer + 1) state.new) }
-        ensures settles { IfSome result (λ layer. SettlesNext layered.now from state.old state.new layer) }
+        ensures stands { IfSome result (λ layer.
+            stands self.new layered.now (layer + 1) state.new) }
+        ensures settles { IfSome result (λ layer.
+            SettlesNext layered.now from state.old state.new layer) }
         ensures ready { IfNone result (ready self.new layered.now) }
         ensures same { IfNone result (state.new ≡ state.old) }
         ensures idle { IfNone result ((layer : ℕ) → from ≤ layer → IsIdle layered.now layer) };
@@ -53,7 +55,7 @@ pub fn settle_by_layers<T: Grounded, E: ByLayers<T>>(
     ensures ready { E.ready evaluator.new layered.now }
     ensures settles { Settles layered.now state.old state.new }
 {
-    // The contract of this call tells that the task is layered.
+    // By its contract the task is well ranged and layered.
     let _ = layered.task();
     evaluator.begin(layered, state);
     let mut from: u64 = 0;

@@ -1,57 +1,78 @@
 // Counting open conditions anew where a variable's value changes.
 ghost use Rattle.std.specs.Prelude.{◌≡◌, ◌≢◌, ◌+◌, ◌<◌, ◌≤◌, ◌^◌, ℕ, IfOk, length, All, slice_index, slice_set};
+ghost use Rattle.sas_core.specs.declared.parts.Parts.{Parts};
 ghost use Rattle.sas_axioms.specs.declared.waiting.Waiting.{Waiting};
-ghost use Rattle.sas_axioms.specs.ByLayers.{IsLayeredTask};
 ghost use Rattle.sas_axioms.specs.Waiting.{occurrences, released};
-ghost use Rattle.sas_axioms.specs.Conditions.{IsFullIndex, AreCounted};
+ghost use Rattle.sas_axioms.specs.Conditions.{AreCounted, IsCounted};
 
+use crate::conditions::index_of_all;
 use crate::firing::open_of;
 use crate::waiting::Waiting;
-use sas_core::{Fact, Items};
-use sas_grounded::Grounded;
+use sas_core::{Fact, Grounded, Items};
 use sas_lists::Lists;
-use sas_meaning::State;
+use sas_meaning::{Layered, State};
 use std::alloc::{AllocError, Global};
 
+/// Values of the variables, and how many conditions of each rule they leave open.
+#[derive(Drop)]
+pub struct Counted {
+    /// Which rules wait for which facts, on any layer and of any variable.
+    pub index: Lists<Waiting>,
+    /// The values.
+    pub values: State,
+    /// How many conditions of each rule the values leave open.
+    pub counters: Items<u32>,
+}
+
+impl Counted {
+    /// The values of the state section, and what they leave open.
+    pub fn new<T: Grounded>(alloc: Global, task: &Layered<T>) -> Result<Counted, AllocError>
+        ensures values { IfOk result (λ counted. counted.values ≡ task.now.init) }
+        ensures counts { IfOk result (λ counted. IsCounted task.now counted) }
+    {
+        // By its contract the task is well ranged and layered.
+        let _ = task.task();
+        let values = State::of_section(alloc, task)?;
+        let counters = open_counters(alloc, task, &values)?;
+        Ok(Counted {
+            index: index_of_all(alloc, task)?,
+            values,
+            counters,
+        })
+    }
+
+    /// Counts anew the rules that wait for the fact's variable, which has the fact's value from now on.
+    pub fn recount(&mut self, fact: Fact)
+        requires var { fact.var < length self.old.values }
+        requires counts { (p : Parts) × IsCounted p self.old }
+        ensures values { self.new.values ≡ slice_set self.old.values fact.var fact.value }
+        ensures counts { (p : Parts) → IsCounted p self.old → IsCounted p self.new }
+    {
+        let former = self.values.value(fact.var);
+        if former != fact.value {
+            let waiting = self.index.get(fact.var as usize);
+            count_change(waiting, former, fact.value, &mut self.counters);
+        }
+        self.values.set(fact);
+    }
+}
+
 /// How many conditions of each rule these values leave open.
-pub fn open_counters<T: Grounded>(
+fn open_counters<T: Grounded>(
     alloc: Global,
-    task: &T,
+    task: &Layered<T>,
     values: &State,
 ) -> Result<Items<u32>, AllocError>
-    requires layered { IsLayeredTask (T.says task.now) }
-    requires known { length values.now ≡ length (T.says task.now).variables }
-    ensures { IfOk result (λ counters. AreCounted (T.says task.now) values.now counters) }
+    requires known { length values.now ≡ length task.now.variables }
+    ensures { IfOk result (λ counters. AreCounted task.now values.now counters) }
 {
+    // By its contract the task is well ranged and layered.
+    let _ = task.task();
     let mut counters = Items::new(alloc);
     for rule in 0..task.rules() {
         counters.push(open_of(values, task.rule_conditions(rule)))?;
     }
     Ok(counters)
-}
-
-/// Counts anew the rules that wait for the fact's variable, which has the fact's value from now on. The task is asked
-/// nothing: it is what the contract speaks of.
-pub fn recount<T: Grounded>(
-    _task: &T,
-    index: &Lists<Waiting>,
-    fact: Fact,
-    counted: &mut State,
-    counters: &mut Items<u32>,
-)
-    requires layered { IsLayeredTask (T.says _task.now) }
-    requires index { IsFullIndex (T.says _task.now) index.now }
-    requires var { fact.var < length (T.says _task.now).variables }
-    requires counts { AreCounted (T.says _task.now) counted.old counters.old }
-    ensures counts { AreCounted (T.says _task.now) counted.new counters.new }
-    ensures counted { counted.new ≡ slice_set counted.old fact.var fact.value }
-{
-    let former = counted.value(fact.var);
-    if former != fact.value {
-        let waiting = index.get(fact.var as usize);
-        count_change(waiting, former, fact.value, counters);
-    }
-    counted.set(fact);
 }
 
 /// Where a variable's value changes, one condition more is open in each rule that waits for the former value, and one less
@@ -61,8 +82,8 @@ fn count_change(waiting: &[Waiting], former: u32, value: u32, counters: &mut Ite
     requires exist { All (λ (w : Waiting). w.rule < length counters.old) waiting.now }
     requires small { All (λ (w : Waiting). slice_index counters.old w.rule
         + occurrences w.rule (released former waiting.now) < 2 ^ 32) waiting.now }
-    requires enough { All (λ (w : Waiting).
-        occurrences w.rule (released value waiting.now) ≤ slice_index counters.old w.rule) waiting.now }
+    requires enough { All (λ (w : Waiting). occurrences w.rule (released value waiting.now)
+        ≤ slice_index counters.old w.rule) waiting.now }
     ensures one_each { length counters.new ≡ length counters.old }
     ensures counts { (rule : ℕ) → rule < length counters.old
         → slice_index counters.new rule + occurrences rule (released value waiting.now)

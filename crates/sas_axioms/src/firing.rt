@@ -1,76 +1,111 @@
 // Settling one layer by counters: each rule counts its conditions that don't hold yet, and fires when none is left.
-ghost use Rattle.std.specs.Prelude.{◌≡◌, ℕ, ◌<◌, ◌≤◌, ◌^◌, [], ◌∷◌, List, length, All, Contains, IsTrue, slice_index, vec_capacity};
-ghost use Rattle.sas_grounded.specs.Grounded.{rule_at};
+ghost use Rattle.std.specs.Prelude.{◌≡◌, ℕ, ◌<◌, ◌^◌, [], ◌∷◌, List, length, All, IfOk, slice_index};
+ghost use Rattle.sas_core.specs.Grounded.{rule_at};
 ghost use Rattle.sas_core.specs.Variables.{IsState};
 ghost use Rattle.sas_meaning.specs.States.{AllHold};
-ghost use Rattle.sas_meaning.specs.Forced.{SameOff, AtDefault};
+ghost use Rattle.sas_meaning.specs.Forced.{AtDefault};
 ghost use Rattle.sas_axioms.specs.declared.waiting.Waiting.{Waiting};
-ghost use Rattle.sas_axioms.specs.ByLayers.{IsLayeredTask, SettlesLayer};
+ghost use Rattle.sas_axioms.specs.ByLayers.{SettlesLayer};
 ghost use Rattle.sas_axioms.specs.LayerRules.{IsRuleOn, AreRulesOn};
 ghost use Rattle.sas_axioms.specs.Waiting.{IsIndex, released};
 ghost use Rattle.sas_axioms.specs.Conditions.{open_conditions, SameAsked};
 ghost use Rattle.sas_axioms.specs.Resting.{IsResting};
-ghost use Rattle.sas_axioms.specs.Worklist.{IsRunning, Counts, HaveFired, HasRoom, IsAtWork, FiresRule, work};
+ghost use Rattle.sas_axioms.specs.Worklist.{IsRunning, Counts, HasRoom, IsAtWork, GoesOn, FiresRule, IsPrepared};
 
 use crate::layer_rules::LayerRule;
 use crate::resting::Resting;
-use crate::waiting::Waiting;
-use sas_core::{Fact, Items};
-use sas_grounded::Grounded;
+use crate::waiting::{Waiting, index_of_own_layers};
+use sas_core::{Fact, Grounded, Items};
 use sas_lists::Lists;
-use sas_meaning::State;
+use sas_meaning::{Layered, State};
+use std::alloc::{AllocError, Global};
 
-/// Settles a layer on which all variables have their default. These are its rules that can fire.
-pub fn settle_layer<T: Grounded>(
-    task: &T,
-    layer: u32,
-    rules: &[LayerRule],
-    index: &Lists<Waiting>,
-    resting: &Resting,
-    counters: &mut Items<u32>,
-    stack: &mut Vec<u32>,
-    state: &mut State,
-)
-    requires layered { IsLayeredTask (T.says task.now) }
-    requires rules { AreRulesOn (T.says task.now) layer rules.now }
-    requires index { IsIndex (T.says task.now) index.now }
-    requires resting { IsResting (T.says task.now) resting.now }
-    requires follows { SameAsked (T.says task.now) state.old resting.now.values }
-    requires room { HasRoom (T.says task.now) counters.old (vec_capacity stack.old) }
-    requires empty { stack.old.items ≡ [] }
-    requires state { IsState (T.says task.now).variables state.old }
-    requires default { AtDefault (T.says task.now) layer state.old }
-    ensures settles { SettlesLayer (T.says task.now) layer state.old state.new }
-    ensures room { HasRoom (T.says task.now) counters.new (vec_capacity stack.new) }
-    ensures empty { stack.new.items ≡ [] }
-{
-    count_conditions(task, layer, rules, resting, state, counters);
-    fire_ready(task, layer, rules, counters.as_slice(), stack, state);
-    empty_stack(task, layer, index, counters, stack, state);
+/// The work on a layer.
+#[derive(Drop)]
+pub struct Work {
+    /// The layer.
+    pub layer: u32,
+    /// How many conditions of each of its rules don't hold yet.
+    pub counters: Items<u32>,
+    /// Variables that were given their rules' value, while the rules that wait for it don't know it yet.
+    pub stack: Vec<u32>,
+}
+
+/// What settles the layers of a task, one at a time.
+#[derive(Drop)]
+pub struct Firing {
+    /// Which rules wait for which facts.
+    index: Lists<Waiting>,
+    /// How many conditions of each rule are open where its layer begins.
+    pub resting: Resting,
+    /// The work on a layer.
+    work: Work,
+}
+
+impl Firing {
+    /// What settles the layers of the task. All that it needs is reserved here.
+    pub fn new<T: Grounded>(alloc: Global, task: &Layered<T>) -> Result<Firing, AllocError>
+        ensures { IfOk result (λ firing. IsPrepared task.now firing) }
+    {
+        let work = Work {
+            layer: 0,
+            counters: Items::from_vec(vec![in alloc; 0u32; task.rules() as usize]?),
+            stack: Vec::with_capacity(alloc, task.variables() as usize)?,
+        };
+        Ok(Firing {
+            index: index_of_own_layers(alloc, task)?,
+            resting: Resting::new(alloc, task)?,
+            work,
+        })
+    }
+
+    /// Settles a layer on which all variables have their default. These are its rules that can fire.
+    pub fn settle_layer<T: Grounded>(
+        &mut self,
+        task: &Layered<T>,
+        layer: u32,
+        rules: &[LayerRule],
+        state: &mut State,
+    )
+        requires prepared { IsPrepared task.now self.old }
+        requires follows { SameAsked task.now state.old self.old.resting.counted.values }
+        requires rules { AreRulesOn task.now layer rules.now }
+        requires state { IsState task.now.variables state.old }
+        requires default { AtDefault task.now layer state.old }
+        ensures prepared { IsPrepared task.now self.new }
+        ensures same { self.new.resting ≡ self.old.resting }
+        ensures settles { SettlesLayer task.now layer state.old state.new }
+    {
+        self.work.layer = layer;
+        count_conditions(task, rules, &self.resting, &mut self.work, state);
+        fire_ready(task, rules, &mut self.work, state);
+        empty_stack(task, &self.index, &mut self.work, state);
+    }
 }
 
 /// Sets the counters of the layer's rules.
 fn count_conditions<T: Grounded>(
-    task: &T,
-    layer: u32,
+    task: &Layered<T>,
     rules: &[LayerRule],
     resting: &Resting,
+    work: &mut Work,
     state: &State,
-    counters: &mut Items<u32>,
 )
-    requires layered { IsLayeredTask (T.says task.now) }
-    requires rules { AreRulesOn (T.says task.now) layer rules.now }
-    requires resting { IsResting (T.says task.now) resting.now }
-    requires follows { SameAsked (T.says task.now) state.now resting.now.values }
-    requires state { IsState (T.says task.now).variables state.now }
-    requires default { AtDefault (T.says task.now) layer state.now }
-    requires one_each { length counters.old ≡ length (T.says task.now).rules }
-    ensures one_each { length counters.new ≡ length counters.old }
-    ensures counts { Counts (T.says task.now) layer state.now [] counters.new [] }
+    requires rules { AreRulesOn task.now work.old.layer rules.now }
+    requires resting { IsResting task.now resting.now }
+    requires follows { SameAsked task.now state.now resting.now.counted.values }
+    requires room { HasRoom task.now work.old }
+    requires state { IsState task.now.variables state.now }
+    requires default { AtDefault task.now work.old.layer state.now }
+    ensures layer { work.new.layer ≡ work.old.layer }
+    ensures stack { work.new.stack ≡ work.old.stack }
+    ensures room { HasRoom task.now work.new }
+    ensures counts { Counts task.now work.old.layer state.now [] work.new.counters [] }
 {
+    let layer = work.layer;
     for entry in rules {
         let open = resting.count_of(task, layer, entry.rule, state);
-        counters.set(entry.rule as usize, open);
+        work.counters.set(entry.rule as usize, open);
     }
 }
 
@@ -91,133 +126,102 @@ pub fn open_of(state: &State, conditions: &[Fact]) -> u32
 
 /// Fires the rules of the layer that have no open condition.
 fn fire_ready<T: Grounded>(
-    task: &T,
-    layer: u32,
+    task: &Layered<T>,
     rules: &[LayerRule],
-    counters: &[u32],
-    stack: &mut Vec<u32>,
+    work: &mut Work,
     state: &mut State,
 )
-    requires layered { IsLayeredTask (T.says task.now) }
-    requires rules { AreRulesOn (T.says task.now) layer rules.now }
-    requires room { HasRoom (T.says task.now) counters.now (vec_capacity stack.old) }
-    requires running { IsRunning (T.says task.now) layer state.old stack.old.items }
-    requires counts { Counts (T.says task.now) layer state.old stack.old.items counters.now [] }
-    ensures at_work { IsAtWork (T.says task.now) layer state.new stack.new.items counters.now [] }
-    ensures room { HasRoom (T.says task.now) counters.now (vec_capacity stack.new) }
-    ensures off { SameOff (T.says task.now) layer state.old state.new }
+    requires rules { AreRulesOn task.now work.old.layer rules.now }
+    requires room { HasRoom task.now work.old }
+    requires running { IsRunning task.now work.old.layer state.old work.old.stack.items }
+    requires counts { Counts task.now work.old.layer state.old work.old.stack.items
+        work.old.counters [] }
+    ensures at_work { IsAtWork task.now state.new work.new [] }
+    ensures goes_on { GoesOn task.now state.old work.old state.new work.new }
 {
+    // By its contract the task is well ranged and layered.
+    let _ = task.task();
     for entry in rules {
-        if counters[entry.rule as usize] == 0 {
-            fire(task, layer, entry.rule, stack, state);
+        if work.counters.as_slice()[entry.rule as usize] == 0 {
+            fire(task, entry.rule, work, state);
         }
     }
 }
 
 /// Gives the rule's variable its value, and notes the variable if the value is new.
-fn fire<T: Grounded>(task: &T, layer: u32, rule: u32, stack: &mut Vec<u32>, state: &mut State)
-    requires layered { IsLayeredTask (T.says task.now) }
-    requires rule { IsRuleOn (T.says task.now) layer rule }
-    requires running { IsRunning (T.says task.now) layer state.old stack.old.items }
-    requires room { length (T.says task.now).variables ≤ vec_capacity stack.old }
-    requires hold { AllHold (slice_index state.old) (rule_at (T.says task.now) rule).conditions }
-    ensures fires { FiresRule (T.says task.now) layer rule state.old stack.old.items state.new stack.new.items }
-    ensures room { vec_capacity stack.old ≤ vec_capacity stack.new }
+fn fire<T: Grounded>(task: &Layered<T>, rule: u32, work: &mut Work, state: &mut State)
+    requires rule { IsRuleOn task.now work.old.layer rule }
+    requires room { HasRoom task.now work.old }
+    requires running { IsRunning task.now work.old.layer state.old work.old.stack.items }
+    requires hold { AllHold (slice_index state.old) (rule_at task.now rule).conditions }
+    ensures { FiresRule task.now rule state.old work.old state.new work.new }
 {
+    // By its contract the task is well ranged and layered.
+    let _ = task.task();
     let change = task.rule_change(rule);
     if state.value(change.var) != change.new {
         state.set(Fact {
             var: change.var,
             value: change.new,
         });
-        stack.push(change.var).unwrap();
+        work.stack.push(change.var).unwrap();
     }
 }
 
 /// Releases what waits for the variables on the stack, until it is empty.
 fn empty_stack<T: Grounded>(
-    task: &T,
-    layer: u32,
+    task: &Layered<T>,
     index: &Lists<Waiting>,
-    counters: &mut Items<u32>,
-    stack: &mut Vec<u32>,
+    work: &mut Work,
     state: &mut State,
 )
-    requires layered { IsLayeredTask (T.says task.now) }
-    requires index { IsIndex (T.says task.now) index.now }
-    requires room { HasRoom (T.says task.now) counters.old (vec_capacity stack.old) }
-    requires at_work { IsAtWork (T.says task.now) layer state.old stack.old.items counters.old [] }
-    ensures settles { SettlesLayer (T.says task.now) layer state.old state.new }
-    ensures room { HasRoom (T.says task.now) counters.new (vec_capacity stack.new) }
-    ensures empty { stack.new.items ≡ [] }
+    requires index { IsIndex task.now index.now }
+    requires at_work { IsAtWork task.now state.old work.old [] }
+    ensures settles { SettlesLayer task.now work.old.layer state.old state.new }
+    ensures room { HasRoom task.now work.new }
+    ensures empty { work.new.stack.items ≡ [] }
 {
-    while let Some(var) = stack.pop() {
+    // By its contract the task is well ranged and layered.
+    let _ = task.task();
+    while let Some(var) = work.stack.pop() {
         let value = state.value(var);
-        release(
-            task,
-            layer,
-            value,
-            index.get(var as usize),
-            counters,
-            stack,
-            state,
-        );
+        release(task, value, index.get(var as usize), work, state);
     }
 }
 
 /// Counts down the rules that wait for this value, and fires those that wait for nothing more.
 fn release<T: Grounded>(
-    task: &T,
-    layer: u32,
+    task: &Layered<T>,
     value: u32,
     waiting: &[Waiting],
-    counters: &mut Items<u32>,
-    stack: &mut Vec<u32>,
+    work: &mut Work,
     state: &mut State,
 )
-    requires layered { IsLayeredTask (T.says task.now) }
-    requires waiting { All (λ (w : Waiting). IsRuleOn (T.says task.now) layer w.rule) waiting.now }
-    requires room { HasRoom (T.says task.now) counters.old (vec_capacity stack.old) }
-    requires at_work { IsAtWork (T.says task.now) layer state.old stack.old.items counters.old
-        (released value waiting.now) }
-    ensures at_work { IsAtWork (T.says task.now) layer state.new stack.new.items counters.new [] }
-    ensures room { HasRoom (T.says task.now) counters.new (vec_capacity stack.new) }
-    ensures off { SameOff (T.says task.now) layer state.old state.new }
-    ensures work { work (T.says task.now) state.new stack.new.items
-        ≤ work (T.says task.now) state.old stack.old.items }
+    requires waiting { All (λ (w : Waiting). IsRuleOn task.now work.old.layer w.rule) waiting.now }
+    requires at_work { IsAtWork task.now state.old work.old (released value waiting.now) }
+    ensures at_work { IsAtWork task.now state.new work.new [] }
+    ensures goes_on { GoesOn task.now state.old work.old state.new work.new }
 {
     for entry in waiting {
         if entry.value == value {
-            count_down(task, layer, entry.rule, counters, stack, state);
+            count_down(task, entry.rule, work, state);
         }
     }
 }
 
 /// Counts the rule down, and fires it if it waits for nothing more.
-fn count_down<T: Grounded>(
-    task: &T,
-    layer: u32,
-    rule: u32,
-    counters: &mut Items<u32>,
-    stack: &mut Vec<u32>,
-    state: &mut State,
-)
-    requires layered { IsLayeredTask (T.says task.now) }
-    requires rule { IsRuleOn (T.says task.now) layer rule }
-    requires room { HasRoom (T.says task.now) counters.old (vec_capacity stack.old) }
-    requires waits { (left : List ℕ)
-        × IsAtWork (T.says task.now) layer state.old stack.old.items counters.old (rule ∷ left) }
-    ensures at_work { (left : List ℕ)
-        → IsAtWork (T.says task.now) layer state.old stack.old.items counters.old (rule ∷ left)
-        → IsAtWork (T.says task.now) layer state.new stack.new.items counters.new left }
-    ensures room { HasRoom (T.says task.now) counters.new (vec_capacity stack.new) }
-    ensures off { SameOff (T.says task.now) layer state.old state.new }
-    ensures work { work (T.says task.now) state.new stack.new.items
-        ≤ work (T.says task.now) state.old stack.old.items }
+fn count_down<T: Grounded>(task: &Layered<T>, rule: u32, work: &mut Work, state: &mut State)
+    requires rule { IsRuleOn task.now work.old.layer rule }
+    requires waits { (left : List ℕ) × IsAtWork task.now state.old work.old (rule ∷ left) }
+    ensures at_work { (left : List ℕ) → IsAtWork task.now state.old work.old (rule ∷ left)
+        → IsAtWork task.now state.new work.new left }
+    ensures goes_on { GoesOn task.now state.old work.old state.new work.new }
 {
-    let open = counters.as_slice()[rule as usize] - 1;
-    counters.set(rule as usize, open);
+    // By its contract the task is well ranged and layered.
+    let _ = task.task();
+    let open = work.counters.as_slice()[rule as usize] - 1;
+    work.counters.set(rule as usize, open);
     if open == 0 {
-        fire(task, layer, rule, stack, state);
+        fire(task, rule, work, state);
     }
 }

@@ -1,9 +1,9 @@
 // The rules that can fire, layer after layer.
 ghost use Rattle.std.specs.Prelude.{◌≡◌, ◌<◌, ◌≤◌, ◌^◌, ℕ, length, IfOk, IfSome, IfNone};
-ghost use Rattle.sas_axioms.specs.ByLayers.{IsLayeredTask};
 ghost use Rattle.sas_axioms.specs.LayerRules.{IsRuleOn, AreFiringRules, AreLayerRules, IsLayerEnd, IsLayerSpan, AreSpans};
 
-use sas_grounded::Grounded;
+use sas_core::Grounded;
+use sas_meaning::Layered;
 use std::alloc::{AllocError, Global};
 
 /// A rule that can fire, and the layer of its variable.
@@ -14,9 +14,11 @@ pub struct LayerRule {
 }
 
 /// The rules that can fire, in ascending order of their layers.
-pub fn ranked_rules<T: Grounded>(alloc: Global, task: &T) -> Result<Vec<LayerRule>, AllocError>
-    requires layered { IsLayeredTask (T.says task.now) }
-    ensures { IfOk result (λ rules. AreLayerRules (T.says task.now) rules.items) }
+pub fn ranked_rules<T: Grounded>(
+    alloc: Global,
+    task: &Layered<T>,
+) -> Result<Vec<LayerRule>, AllocError>
+    ensures { IfOk result (λ rules. AreLayerRules task.now rules.items) }
 {
     let mut rules = firing_rules(alloc, task)?;
     rules.sort_by_key(|entry| entry.layer)?;
@@ -24,9 +26,8 @@ pub fn ranked_rules<T: Grounded>(alloc: Global, task: &T) -> Result<Vec<LayerRul
 }
 
 /// The rules that can fire, in the order of the task.
-fn firing_rules<T: Grounded>(alloc: Global, task: &T) -> Result<Vec<LayerRule>, AllocError>
-    requires layered { IsLayeredTask (T.says task.now) }
-    ensures { IfOk result (λ rules. AreFiringRules (T.says task.now) rules.items) }
+fn firing_rules<T: Grounded>(alloc: Global, task: &Layered<T>) -> Result<Vec<LayerRule>, AllocError>
+    ensures { IfOk result (λ rules. AreFiringRules task.now rules.items) }
 {
     let mut rules = Vec::new(alloc);
     for rule in 0..task.rules() {
@@ -38,12 +39,13 @@ fn firing_rules<T: Grounded>(alloc: Global, task: &T) -> Result<Vec<LayerRule>, 
 }
 
 /// The layer of the rule's variable, if the rule can fire.
-pub fn firing_layer<T: Grounded>(task: &T, rule: u32) -> Option<u32>
-    requires layered { IsLayeredTask (T.says task.now) }
-    requires rule { rule < length (T.says task.now).rules }
-    ensures some { IfSome result (λ layer. IsRuleOn (T.says task.now) layer rule) }
-    ensures none { IfNone result ((layer : ℕ) → IsRuleOn (T.says task.now) layer rule → ⊥) }
+pub fn firing_layer<T: Grounded>(task: &Layered<T>, rule: u32) -> Option<u32>
+    requires rule { rule < length task.now.rules }
+    ensures some { IfSome result (λ layer. IsRuleOn task.now layer rule) }
+    ensures none { IfNone result ((layer : ℕ) → IsRuleOn task.now layer rule → ⊥) }
 {
+    // By its contract the task is well ranged and layered.
+    let _ = task.task();
     let change = task.rule_change(rule);
     if change.new == task.initial_value(change.var) {
         return None;

@@ -1,15 +1,14 @@
 // Settling in rounds: the rules of a layer are repeated until none changes a value.
 ghost use Rattle.std.specs.Prelude.{ℕ, ◌<◌, ◌≤◌, ◌↔◌, length, All, IsTrue, IsFalse, IfSome, IfNone, slice_index};
-ghost use Rattle.sas_grounded.specs.Grounded.{rule_at};
+ghost use Rattle.sas_core.specs.Grounded.{rule_at};
 ghost use Rattle.sas_core.specs.Variables.{IsState};
 ghost use Rattle.sas_meaning.specs.States.{AllHold};
 ghost use Rattle.sas_meaning.specs.Settled.{SameBasic};
 ghost use Rattle.sas_meaning.specs.Forced.{OnlyForced, equal_places, HasFired, Changes, SameOff, AtDefault, Occurs};
-ghost use Rattle.sas_axioms.specs.ByLayers.{IsLayeredTask, SettlesLayer};
+ghost use Rattle.sas_axioms.specs.ByLayers.{SettlesLayer};
 
 use crate::by_layers::{ByLayers, settle_by_layers};
-use sas_core::Fact;
-use sas_grounded::Grounded;
+use sas_core::{Fact, Grounded};
 use sas_meaning::{Layered, Settle, State};
 
 /// Settles states of any layered task: goes through the layers that occur, in ascending order, and repeats the rules of a
@@ -31,22 +30,22 @@ impl<T: Grounded> ByLayers<T> for Rounds {
     ghost stands = { λ _ _ _ _. Unit {0} };
 
     fn begin(&mut self, layered: &Layered<T>, state: &mut State) {
-        set_defaults(layered.task(), state);
+        set_defaults(layered, state);
     }
 
     fn settle_next(&mut self, layered: &Layered<T>, from: u64, state: &mut State) -> Option<u32> {
-        let layer = next_layer(layered.task(), from)?;
-        settle_layer(layered.task(), layer, state);
+        let layer = next_layer(layered, from)?;
+        settle_layer(layered, layer, state);
         Some(layer)
     }
 }
 
 /// Gives all derived variables their default.
-fn set_defaults<T: Grounded>(task: &T, state: &mut State)
-    requires { IsState (T.says task.now).variables state.old }
-    ensures state { IsState (T.says task.now).variables state.new }
-    ensures basic { SameBasic (T.says task.now) state.old state.new }
-    ensures default { (layer : ℕ) → AtDefault (T.says task.now) layer state.new }
+fn set_defaults<T: Grounded>(task: &Layered<T>, state: &mut State)
+    requires { IsState task.now.variables state.old }
+    ensures state { IsState task.now.variables state.new }
+    ensures basic { SameBasic task.now state.old state.new }
+    ensures default { (layer : ℕ) → AtDefault task.now layer state.new }
 {
     for var in 0..task.variables() {
         if task.layer(var).is_some() {
@@ -57,10 +56,10 @@ fn set_defaults<T: Grounded>(task: &T, state: &mut State)
 }
 
 /// The lowest layer of a variable from this one on.
-fn next_layer<T: Grounded>(task: &T, from: u64) -> Option<u32>
-    ensures some { IfSome result (λ n. (from ≤ n) × Occurs (T.says task.now) n
-        × ((m : ℕ) → from ≤ m → Occurs (T.says task.now) m → n ≤ m)) }
-    ensures none { IfNone result ((m : ℕ) → from ≤ m → Occurs (T.says task.now) m → ⊥) }
+fn next_layer<T: Grounded>(task: &Layered<T>, from: u64) -> Option<u32>
+    ensures some { IfSome result (λ n. (from ≤ n) × Occurs task.now n
+        × ((m : ℕ) → from ≤ m → Occurs task.now m → n ≤ m)) }
+    ensures none { IfNone result ((m : ℕ) → from ≤ m → Occurs task.now m → ⊥) }
 {
     let mut lowest: Option<u32> = None;
     for var in 0..task.variables() {
@@ -74,27 +73,27 @@ fn next_layer<T: Grounded>(task: &T, from: u64) -> Option<u32>
 }
 
 /// Settles a layer on which all variables have their default.
-fn settle_layer<T: Grounded>(task: &T, layer: u32, state: &mut State)
-    requires layered { IsLayeredTask (T.says task.now) }
-    requires state { IsState (T.says task.now).variables state.old }
-    requires default { AtDefault (T.says task.now) layer state.old }
-    ensures { SettlesLayer (T.says task.now) layer state.old state.new }
+fn settle_layer<T: Grounded>(task: &Layered<T>, layer: u32, state: &mut State)
+    requires state { IsState task.now.variables state.old }
+    requires default { AtDefault task.now layer state.old }
+    ensures { SettlesLayer task.now layer state.old state.new }
 {
     while go_round(task, layer, state) {}
 }
 
 /// Goes once through the rules of a layer, and says whether a value changed.
-fn go_round<T: Grounded>(task: &T, layer: u32, state: &mut State) -> bool
-    requires layered { IsLayeredTask (T.says task.now) }
-    requires state { IsState (T.says task.now).variables state.old }
-    requires forced { OnlyForced (T.says task.now) layer state.old }
-    ensures state { IsState (T.says task.now).variables state.new }
-    ensures forced { OnlyForced (T.says task.now) layer state.new }
-    ensures off { SameOff (T.says task.now) layer state.old state.new }
+fn go_round<T: Grounded>(task: &Layered<T>, layer: u32, state: &mut State) -> bool
+    requires state { IsState task.now.variables state.old }
+    requires forced { OnlyForced task.now layer state.old }
+    ensures state { IsState task.now.variables state.new }
+    ensures forced { OnlyForced task.now layer state.new }
+    ensures off { SameOff task.now layer state.old state.new }
     ensures more { IsTrue result
-        → equal_places state.new (T.says task.now).init < equal_places state.old (T.says task.now).init }
-    ensures done { IsFalse result → All (HasFired (T.says task.now) layer state.new) (T.says task.now).rules }
+        → equal_places state.new task.now.init < equal_places state.old task.now.init }
+    ensures done { IsFalse result → All (HasFired task.now layer state.new) task.now.rules }
 {
+    // By its contract the task is well ranged and layered.
+    let _ = task.task();
     let mut changed = false;
     for rule in 0..task.rules() {
         if changes(task, layer, state, rule) {
@@ -110,24 +109,17 @@ fn go_round<T: Grounded>(task: &T, layer: u32, state: &mut State) -> bool
 }
 
 /// Whether the rule is on the layer and is to change its variable's value now.
-fn changes<T: Grounded>(task: &T, layer: u32, state: &State, rule: u32) -> bool
-    requires layered { IsLayeredTask (T.says task.now) }
-    requires state { IsState (T.says task.now).variables state.now }
-    requires rule { rule < length (T.says task.now).rules }
-    ensures yes { IsTrue result → Changes (T.says task.now) layer state.now (rule_at (T.says task.now) rule) }
-    ensures no { IsFalse result → HasFired (T.says task.now) layer state.now (rule_at (T.says task.now) rule) }
+fn changes<T: Grounded>(task: &Layered<T>, layer: u32, state: &State, rule: u32) -> bool
+    requires state { IsState task.now.variables state.now }
+    requires rule { rule < length task.now.rules }
+    ensures yes { IsTrue result → Changes task.now layer state.now (rule_at task.now rule) }
+    ensures no { IsFalse result → HasFired task.now layer state.now (rule_at task.now rule) }
 {
+    // By its contract the task is well ranged and layered.
+    let _ = task.task();
     let change = task.rule_change(rule);
     task.layer(change.var) == Some(layer)
         && change.new != task.initial_value(change.var)
         && change.new != state.value(change.var)
-        && all_hold(state, task.rule_conditions(rule))
-}
-
-/// Whether all the facts hold.
-fn all_hold(state: &State, facts: &[Fact]) -> bool
-    requires { All (λ (f : Fact). f.var < length state.now) facts.now }
-    ensures { IsTrue result ↔ AllHold (slice_index state.now) facts.now }
-{
-    facts.iter().all(|fact| state.value(fact.var) == fact.value)
+        && state.holds_all(task.rule_conditions(rule))
 }

@@ -1,13 +1,12 @@
 // Which rules wait for which facts: an index from the variables of facts to the rules that have them as conditions.
 ghost use Rattle.std.specs.Prelude.{◌≡◌, IfOk, OnOk};
-ghost use Rattle.sas_axioms.specs.ByLayers.{IsLayeredTask};
 ghost use Rattle.sas_axioms.specs.LayerRules.{IsRuleOn};
 ghost use Rattle.sas_axioms.specs.Waiting.{entry_of, IsWaiting, AddsWaiting, IsIndex};
 
 use crate::layer_rules::firing_layer;
-use sas_core::Fact;
-use sas_grounded::Grounded;
+use sas_core::{Fact, Grounded};
 use sas_lists::{Entry, Lists};
+use sas_meaning::Layered;
 use std::alloc::{AllocError, Global};
 
 /// A rule that can fire waits for a value of a variable: a condition of it. Under the variable it stands in an index.
@@ -20,19 +19,20 @@ pub struct Waiting {
 /// For each variable which rules wait for its values: the conditions of rules that can fire, on variables of their own layer.
 pub fn index_of_own_layers<T: Grounded>(
     alloc: Global,
-    task: &T,
+    task: &Layered<T>,
 ) -> Result<Lists<Waiting>, AllocError>
-    requires layered { IsLayeredTask (T.says task.now) }
-    ensures { IfOk result (λ index. IsIndex (T.says task.now) index) }
+    ensures { IfOk result (λ index. IsIndex task.now index) }
 {
     let waiting = all_waiting(alloc, task)?;
     Lists::by_key(alloc, waiting.as_slice(), task.variables() as usize)
 }
 
 /// What waits, rule after rule.
-fn all_waiting<T: Grounded>(alloc: Global, task: &T) -> Result<Vec<Entry<Waiting>>, AllocError>
-    requires layered { IsLayeredTask (T.says task.now) }
-    ensures { IfOk result (λ waiting. IsWaiting (T.says task.now) waiting.items) }
+fn all_waiting<T: Grounded>(
+    alloc: Global,
+    task: &Layered<T>,
+) -> Result<Vec<Entry<Waiting>>, AllocError>
+    ensures { IfOk result (λ waiting. IsWaiting task.now waiting.items) }
 {
     let mut waiting = Vec::new(alloc);
     for rule in 0..task.rules() {
@@ -45,15 +45,16 @@ fn all_waiting<T: Grounded>(alloc: Global, task: &T) -> Result<Vec<Entry<Waiting
 
 /// Adds what the rule waits for.
 fn push_waiting<T: Grounded>(
-    task: &T,
+    task: &Layered<T>,
     layer: u32,
     rule: u32,
     waiting: &mut Vec<Entry<Waiting>>,
 ) -> Result<(), AllocError>
-    requires layered { IsLayeredTask (T.says task.now) }
-    requires rule { IsRuleOn (T.says task.now) layer rule }
-    ensures { OnOk result (AddsWaiting (T.says task.now) layer rule waiting.old.items waiting.new.items) }
+    requires rule { IsRuleOn task.now layer rule }
+    ensures { OnOk result (AddsWaiting task.now layer rule waiting.old.items waiting.new.items) }
 {
+    // By its contract the task is well ranged and layered.
+    let _ = task.task();
     for condition in task.rule_conditions(rule) {
         if task.layer(condition.var) == Some(layer) {
             waiting.push(entry_of(*condition, rule))?;

@@ -1,19 +1,14 @@
 // Settling by counters: each rule is looked at when a condition of it comes to hold, and not before.
-ghost use Rattle.std.specs.Prelude.{◌≡◌, ℕ, IfOk, vec_capacity};
+ghost use Rattle.std.specs.Prelude.{ℕ, IfOk};
 ghost use Rattle.sas_core.specs.Variables.{IsState};
 ghost use Rattle.sas_meaning.specs.Settled.{SameBasic};
 ghost use Rattle.sas_meaning.specs.Forced.{AtDefault};
-ghost use Rattle.sas_axioms.specs.ByLayers.{IsLayeredTask};
 ghost use Rattle.sas_axioms.specs.Worklist.{AreDerived, IsReadyFor};
 
 use crate::by_layers::{ByLayers, settle_by_layers};
-use crate::firing::settle_layer;
+use crate::firing::Firing;
 use crate::layer_rules::{LayerRule, LayerSpan, ranked_rules, spans_of};
-use crate::resting::Resting;
-use crate::waiting::{Waiting, index_of_own_layers};
-use sas_core::{Fact, Items};
-use sas_grounded::Grounded;
-use sas_lists::Lists;
+use sas_core::{Fact, Grounded};
 use sas_meaning::{Layered, Settle, State};
 use std::alloc::{AllocError, Global};
 
@@ -33,14 +28,8 @@ pub struct Worklist {
     next: usize,
     /// Where in `rules` the next layer begins.
     start: usize,
-    /// Which rules wait for which facts.
-    index: Lists<Waiting>,
-    /// How many conditions of each rule are open where its layer begins.
-    resting: Resting,
-    /// How many conditions of each rule don't hold yet.
-    counters: Items<u32>,
-    /// Variables that were given their rules' value, while the rules that wait for it don't know it yet.
-    stack: Vec<u32>,
+    /// What settles the layers.
+    firing: Firing,
 }
 
 impl Worklist {
@@ -48,19 +37,15 @@ impl Worklist {
     pub fn new<T: Grounded>(alloc: Global, layered: &Layered<T>) -> Result<Worklist, AllocError>
         ensures { IfOk result (λ w. IsReadyFor layered.now w) }
     {
-        let task = layered.task();
-        let rules = ranked_rules(alloc, task)?;
+        let rules = ranked_rules(alloc, layered)?;
         let spans = spans_of(alloc, rules.as_slice())?;
         Ok(Worklist {
-            derived: derived_variables(alloc, task)?,
+            derived: derived_variables(alloc, layered)?,
             rules,
             spans,
             next: 0,
             start: 0,
-            counters: Items::from_vec(vec![in alloc; 0u32; task.rules() as usize]?),
-            stack: Vec::with_capacity(alloc, task.variables() as usize)?,
-            index: index_of_own_layers(alloc, task)?,
-            resting: Resting::new(alloc, task)?,
+            firing: Firing::new(alloc, layered)?,
         })
     }
 }
@@ -83,28 +68,21 @@ impl<T: Grounded> ByLayers<T> for Worklist {
     ghost stands = { λ w p layer s. IsReadyFrom p layer s w };
 
     fn begin(&mut self, layered: &Layered<T>, state: &mut State) {
-        let task = layered.task();
-        set_defaults(task, self.derived.as_slice(), state);
-        self.resting.follow(task, state);
+        set_defaults(layered, self.derived.as_slice(), state);
+        self.firing.resting.follow(layered, state);
         self.next = 0;
         self.start = 0;
     }
 
     fn settle_next(&mut self, layered: &Layered<T>, _from: u64, state: &mut State) -> Option<u32> {
+        // By its contract the task is well ranged and layered.
+        let _ = layered.task();
         let rules = self.rules.as_slice();
         let Some(span) = self.spans.as_slice().get(self.next) else {
             return None;
         };
-        settle_layer(
-            layered.task(),
-            span.layer,
-            &rules[self.start..span.end],
-            &self.index,
-            &self.resting,
-            &mut self.counters,
-            &mut self.stack,
-            state,
-        );
+        self.firing
+            .settle_layer(layered, span.layer, &rules[self.start..span.end], state);
         self.next += 1;
         self.start = span.end;
         Some(span.layer)
@@ -112,8 +90,11 @@ impl<T: Grounded> ByLayers<T> for Worklist {
 }
 
 /// The derived variables.
-pub fn derived_variables<T: Grounded>(alloc: Global, task: &T) -> Result<Vec<u32>, AllocError>
-    ensures { IfOk result (λ variables. AreDerived (T.says task.now) variables.items) }
+pub fn derived_variables<T: Grounded>(
+    alloc: Global,
+    task: &Layered<T>,
+) -> Result<Vec<u32>, AllocError>
+    ensures { IfOk result (λ variables. AreDerived task.now variables.items) }
 {
     let mut variables = Vec::new(alloc);
     for var in 0..task.variables() {
@@ -125,14 +106,15 @@ pub fn derived_variables<T: Grounded>(alloc: Global, task: &T) -> Result<Vec<u32
 }
 
 /// Gives the derived variables, which these are, their default.
-fn set_defaults<T: Grounded>(task: &T, derived: &[u32], state: &mut State)
-    requires layered { IsLayeredTask (T.says task.now) }
-    requires derived { AreDerived (T.says task.now) derived.now }
-    requires state { IsState (T.says task.now).variables state.old }
-    ensures state { IsState (T.says task.now).variables state.new }
-    ensures basic { SameBasic (T.says task.now) state.old state.new }
-    ensures default { (layer : ℕ) → AtDefault (T.says task.now) layer state.new }
+fn set_defaults<T: Grounded>(task: &Layered<T>, derived: &[u32], state: &mut State)
+    requires derived { AreDerived task.now derived.now }
+    requires state { IsState task.now.variables state.old }
+    ensures state { IsState task.now.variables state.new }
+    ensures basic { SameBasic task.now state.old state.new }
+    ensures default { (layer : ℕ) → AtDefault task.now layer state.new }
 {
+    // By its contract the task is well ranged and layered.
+    let _ = task.task();
     for var in derived {
         state.set(Fact {
             var: *var,

@@ -16,58 +16,20 @@ use Rattle.sas_core.specs.Names.{IsName, is_name}
 use Rattle.sas_core.specs.Numbers.{IsNumber, is_number, IsSigned}
 use Rattle.sas_core.specs.Variables.{range_of, HasValue, has_value, MayHaveValue, FactExists, IsState}
 use Rattle.sas_core.specs.WellRanged.{Listed, VariableFits, EffectFits, OperatorFits, RuleFits, WellRanged}
+use Rattle.sas_core.proofs.Passing.{Pass, by_test, split_row, join_row, and_then}
 use Rattle.sas_core.specs.Checks.{Check, first_fault, check, listed, name_checks, signed_checks, variable_checks, fact_checks, change_checks, effect_checks, operator_checks, rule_checks, values_in_range, state_checks, checks, ChecksAreTheRules}
 
--- no check of these fails
-record Pass (row : List (Check PartsFault)) : Type 0 where
-  pub none : first_fault row ≡ None
-
-check_passes : (passes : Bool) (e : PartsFault) → Pass (check passes e) → passes ≡ true
-check_passes true e pass = refl
-check_passes false e pass = let impossible : Some e ≡ None = pass.none in absurd (cc)
-
-passing_check : (passes : Bool) (e : PartsFault) → passes ≡ true → Pass (check passes e)
-passing_check true e is = record { none = refl }
-passing_check false e is = absurd (cc)
-
--- a test that decides a rule, as a check
-by_test : (passes : Bool) (e : PartsFault) (P : Type 0) → (passes ≡ true → P) → (P → passes ≡ true) → Pass (check passes e) ↔ P
-by_test passes e P to from = (λ pass. to (check_passes passes e pass), λ p. passing_check passes e (from p))
-
-both_none : (passes : Bool) (e : PartsFault) (x y both : Option PartsFault) → (both ≡ None → (x ≡ None) × (y ≡ None)) → (if passes then both else Some e) ≡ None → ((if passes then x else Some e) ≡ None) × (y ≡ None)
-both_none true e x y both split none = split none
-both_none false e x y both split none = absurd (cc)
-
-none_in_both : (passes : Bool) (e : PartsFault) (x both : Option PartsFault) → (x ≡ None → both ≡ None) → (if passes then x else Some e) ≡ None → (if passes then both else Some e) ≡ None
-none_in_both true e x both join none = join none
-none_in_both false e x both join none = absurd (cc)
-
-split_row : (a b : List (Check PartsFault)) → first_fault (a ++ b) ≡ None → (first_fault a ≡ None) × (first_fault b ≡ None)
-split_row [] b none = (refl, none)
-split_row (c ∷ a) b none = both_none c.passes c.fault (first_fault a) (first_fault b) (first_fault (a ++ b)) (split_row a b) none
-
-join_row : (a b : List (Check PartsFault)) → first_fault a ≡ None → first_fault b ≡ None → first_fault (a ++ b) ≡ None
-join_row [] b a_none b_none = b_none
-join_row (c ∷ a) b a_none b_none = none_in_both c.passes c.fault (first_fault a) (first_fault (a ++ b)) (λ none. join_row a b none b_none) a_none
-
--- one section, and another behind it
-and_then : (a b : List (Check PartsFault)) (P Q : Type 0) → Pass a ↔ P → Pass b ↔ Q → Pass (a ++ b) ↔ (P × Q)
-and_then a b P Q first second = (
-  λ pass. (first.0 (record { none = (split_row a b pass.none).0 }), second.0 (record { none = (split_row a b pass.none).1 })),
-  λ p. record { none = join_row a b (first.1 p.0).none (second.1 p.1).none },
-)
-
 number : (n : ℕ) (e : PartsFault) → Pass (check (is_number n) e) ↔ IsNumber n
-number n e = by_test (is_number n) e (IsNumber n) (ltb-true n (2 ^ 31)) (lt-ltb n (2 ^ 31))
+number n e = by_test (is_number n) e (IsNumber n) (ltb-true n (2 ^ 31), lt-ltb n (2 ^ 31))
 
 name : (bytes : List ℕ) → Pass (name_checks bytes) ↔ IsName bytes
-name bytes = by_test (is_name bytes) BadName (IsName bytes) (λ is. is) (λ is. is)
+name bytes = by_test (is_name bytes) BadName (IsName bytes) (λ is. is, λ is. is)
 
 value : (variables : List Variable) (var v : ℕ) → Pass (check (has_value variables var v) BadFact) ↔ HasValue variables var v
-value variables var v = by_test (has_value variables var v) BadFact (HasValue variables var v) (ltb-true v (range_of variables var)) (lt-ltb v (range_of variables var))
+value variables var v = by_test (has_value variables var v) BadFact (HasValue variables var v) (ltb-true v (range_of variables var), lt-ltb v (range_of variables var))
 
 some : (n : ℕ) (e : PartsFault) → Pass (check (not (n == 0)) e) ↔ (0 < n)
-some n e = by_test (not (n == 0)) e (0 < n) (λ is. grind (arith, nat_tests)) (λ below. grind (arith, nat_tests))
+some n e = by_test (not (n == 0)) e (0 < n) (λ is. grind (arith, nat_tests), λ below. grind (arith, nat_tests))
 
 module _ {A : Type 0} (checks_of : A → List (Check PartsFault)) (Follows : A → Type 0) (same : (item : A) → Pass (checks_of item) ↔ Follows item) where
   each_follows : (items : List A) → Pass (flat_map checks_of items) ↔ AllByRecursion Follows items
@@ -155,8 +117,8 @@ fitting_values (v ∷ variables) (x ∷ values) long fit =
 
 state : (variables : List Variable) (values : List ℕ) → Pass (state_checks variables values) ↔ IsState variables values
 state variables values =
-    let one_each = by_test (length values == length variables) InitLength (length values ≡ length variables) (eqb-true _ _) (eq-eqb _ _) in
-    let in_range = by_test (values_in_range variables values) BadFact (values_in_range variables values ≡ true) (λ is. is) (λ is. is) in
+    let one_each = by_test (length values == length variables) InitLength (length values ≡ length variables) (eqb-true _ _, eq-eqb _ _) in
+    let in_range = by_test (values_in_range variables values) BadFact (values_in_range variables values ≡ true) (λ is. is, λ is. is) in
     let both = and_then (check (length values == length variables) InitLength) (check (values_in_range variables values) BadFact) _ _ one_each in_range in (
       λ pass.
           let p = both.0 pass in

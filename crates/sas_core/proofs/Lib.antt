@@ -1,6 +1,7 @@
 pub mod PlainBytes
 pub mod BadNames
 pub mod FirstFaults
+pub mod Passing
 pub mod ChecksAreRules
 pub mod SameParts
 pub mod Places

@@ -30,9 +30,11 @@ first_fault (check ∷ checks) = if check.passes then first_fault checks else So
 abbrev pub check : {F : Type 0} → Bool → F → List (Check F)
 check passes fault = record { passes = passes; fault = fault } ∷ []
 
--- a list behind its count: the count first, and its fault where it is no number, then each item in turn
+-- a list behind its count: the count first, and its fault where it is no number, then each item in
+-- turn
 abbrev pub listed : {F A : Type 0} → F → (A → List (Check F)) → List A → List (Check F)
-listed too_many checks_of items = check (is_number (length items)) too_many ++ flat_map checks_of items
+listed too_many checks_of items =
+    check (is_number (length items)) too_many ++ flat_map checks_of items
 
 abbrev pub name_checks : List ℕ → List (Check PartsFault)
 name_checks name = check (is_name name) BadName
@@ -52,7 +54,8 @@ variable_checks v =
 abbrev pub fact_checks : List Variable → Fact → List (Check PartsFault)
 fact_checks variables fact = check (fact_exists variables fact) BadFact
 
--- what an effect or a rule changes: the old value of its variable, if one is asked for, and the new one
+-- what an effect or a rule changes: the old value of its variable, if one is asked for, and the new
+-- one
 abbrev pub change_checks : List Variable → ℕ → Option ℕ → ℕ → List (Check PartsFault)
 change_checks variables var None new = check (has_value variables var new) BadFact
 change_checks variables var (Some old) new =

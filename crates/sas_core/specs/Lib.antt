@@ -6,3 +6,5 @@ pub mod Variables
 pub mod WellRanged
 pub mod Checks
 pub mod Tasks
+pub mod Grounded
+pub mod Stepwise

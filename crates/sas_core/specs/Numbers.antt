@@ -1,5 +1,5 @@
 -- Which numbers may stand in a file.
-use Rattle.std.specs.Prelude.{ℕ, ◌^◌, ◌<◌, Bool, nat_lt, Option, None, Some}
+use Rattle.std.specs.Prelude.{ℕ, ◌^◌, ◌<◌, Bool, nat_lt, Option, IfSome}
 
 -- a number is at most 2,147,483,647
 abbrev pub IsNumber : ℕ → Type 0
@@ -10,8 +10,7 @@ is_number n = nat_lt n (2 ^ 31)
 
 -- an optional number, which a file writes as -1 where there is none
 abbrev pub IsSigned : Option ℕ → Type 0
-IsSigned None = Unit {0}
-IsSigned (Some n) = IsNumber n
+IsSigned n = IfSome n IsNumber
 
 -- a plan's cost is at most 18,446,744,073,709,551,615
 abbrev pub IsPlanCost : ℕ → Type 0

@@ -6,4 +6,6 @@ use Rattle.sas_core.specs.declared.parts.Parts.{Parts}
 
 -- under metric 1 an operator costs what its cost line says, under metric 0 it costs 1
 abbrev pub cost_of : Parts → ℕ → ℕ
-cost_of p operator = if p.metric then option_map_or (λ (o : Operator). o.cost) (slice_get p.operators operator) 0 else 1
+cost_of p operator =
+    if p.metric then option_map_or (λ (o : Operator). o.cost) (slice_get p.operators operator) 0
+    else 1

@@ -8,7 +8,8 @@ use Rattle.sas_core.specs.declared.parts.Variable.{Variable}
 
 -- the number of a variable's values; 0 where there is no such variable
 abbrev pub range_of : List Variable → ℕ → ℕ
-range_of variables var = option_map_or (λ (v : Variable). length v.values) (slice_get variables var) 0
+range_of variables var =
+    option_map_or (λ (v : Variable). length v.values) (slice_get variables var) 0
 
 -- the layer of a derived variable; a basic one has none
 abbrev pub layer_of : List Variable → ℕ → Option ℕ
@@ -16,7 +17,8 @@ layer_of variables var = option_and_then (λ (v : Variable). v.layer) (slice_get
 
 -- the name of a variable's value, if it has this value
 abbrev pub value_name : List Variable → ℕ → ℕ → Option (List ℕ)
-value_name variables var value = option_and_then (λ (v : Variable). slice_get v.values value) (slice_get variables var)
+value_name variables var value =
+    option_and_then (λ (v : Variable). slice_get v.values value) (slice_get variables var)
 
 -- a variable is derived if it has a layer
 abbrev pub IsDerived : List Variable → ℕ → Type 0
@@ -44,4 +46,5 @@ fact_exists variables fact = has_value variables fact.var fact.value
 -- a value for each variable, in its range
 pub record IsState (variables : List Variable) (values : List ℕ) : Type 0 where
   pub one_each : length values ≡ length variables
-  pub in_range : (var : ℕ) → var < length variables → slice_index values var < range_of variables var
+  pub in_range : (var : ℕ) → var < length variables
+      → slice_index values var < range_of variables var

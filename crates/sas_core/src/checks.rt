@@ -14,9 +14,6 @@ use crate::items::Items;
 use crate::names::is_name;
 use crate::parts::{Effect, Fact, Operator, Parts, Rule, Variable};
 
-/// The greatest number that may stand in a task file.
-const MAX_NUMBER: usize = 2_147_483_647;
-
 /// What is wrong with some parts.
 #[derive(Clone, Copy, Debug, PartialEq, Eq)]
 pub enum PartsFault {
@@ -36,37 +33,57 @@ pub enum PartsFault {
     InitLength,
 }
 
+/// What stands in a task file, and is looked at in the order of the file.
+trait Checked {
+    ghost use Rattle.std.specs.Prelude.{◌≡◌, List};
+    ghost use Rattle.std.specs.Result.{result_err};
+    ghost use Rattle.sas_core.specs.declared.checks.PartsFault.{PartsFault};
+    ghost use Rattle.sas_core.specs.declared.parts.Variable.{Variable};
+    ghost use Rattle.sas_core.specs.Checks.{Check, first_fault};
+
+    /// The checks of it in a task of these variables, in order.
+    ghost checks_of: { List Variable → Self → List (Check PartsFault) };
+
+    /// Looks at it, up to the first fault.
+    fn check_among(&self, variables: &Items<Variable>) -> Result<(), PartsFault>
+        ensures { result_err result ≡ first_fault (checks_of variables.now self.now) };
+}
+
+/// Looks at how many items there are, and at each of them.
+fn check_list<T: Checked>(variables: &Items<Variable>, items: &Items<T>) -> Result<(), PartsFault>
+    ensures { result_err result ≡ first_fault
+        (listed TooMany (T.checks_of variables.now) items.now) }
+{
+    check_count(items)?;
+    for item in items.as_slice() {
+        item.check_among(variables)?;
+    }
+    Ok(())
+}
+
 /// Looks at the parts in the order of the file, up to the first fault.
 pub fn check_parts(parts: &Parts) -> Result<(), PartsFault>
     ensures { result_err result ≡ first_fault (checks parts.now) }
 {
     let variables = &parts.variables;
     check_some(variables, PartsFault::NoVariable)?;
-    check_variables(variables)?;
-    check_groups(variables, &parts.groups)?;
+    check_list(variables, variables)?;
+    check_list(variables, &parts.groups)?;
     check_state(variables, &parts.init)?;
-    check_facts(variables, &parts.goal)?;
-    check_operators(variables, &parts.operators)?;
-    check_rules(variables, &parts.rules)
+    check_list(variables, &parts.goal)?;
+    check_list(variables, &parts.operators)?;
+    check_list(variables, &parts.rules)
 }
 
-fn check_variables(variables: &Items<Variable>) -> Result<(), PartsFault>
-    ensures { result_err result ≡ first_fault (listed TooMany variable_checks variables.now) }
-{
-    check_count(variables)?;
-    for variable in variables.as_slice() {
-        check_variable(variable)?;
+impl Checked for Variable {
+    ghost checks_of = { λ _. variable_checks };
+
+    fn check_among(&self, variables: &Items<Variable>) -> Result<(), PartsFault> {
+        self.name.check_among(variables)?;
+        check_layer(self.layer)?;
+        check_some(&self.values, PartsFault::BadRange)?;
+        check_list(variables, &self.values)
     }
-    Ok(())
-}
-
-fn check_variable(variable: &Variable) -> Result<(), PartsFault>
-    ensures { result_err result ≡ first_fault (variable_checks variable.now) }
-{
-    check_name(&variable.name)?;
-    check_layer(variable.layer)?;
-    check_some(&variable.values, PartsFault::BadRange)?;
-    check_names(&variable.values)
 }
 
 fn check_layer(layer: Option<u32>) -> Result<(), PartsFault>
@@ -78,49 +95,33 @@ fn check_layer(layer: Option<u32>) -> Result<(), PartsFault>
     }
 }
 
-fn check_names(names: &Items<Items<u8>>) -> Result<(), PartsFault>
-    ensures { result_err result ≡ first_fault (listed TooMany name_checks names.now) }
-{
-    check_count(names)?;
-    for name in names.as_slice() {
-        check_name(name)?;
+/// A name.
+impl Checked for Items<u8> {
+    ghost checks_of = { λ _. name_checks };
+
+    fn check_among(&self, _variables: &Items<Variable>) -> Result<(), PartsFault> {
+        check(is_name(self.as_slice()), PartsFault::BadName)
     }
-    Ok(())
 }
 
-fn check_name(name: &Items<u8>) -> Result<(), PartsFault>
-    ensures { result_err result ≡ first_fault (name_checks name.now) }
-{
-    check(is_name(name.as_slice()), PartsFault::BadName)
-}
+/// A mutex group, or the conditions of an operator, an effect or a rule.
+impl Checked for Items<Fact> {
+    ghost checks_of = { λ variables. listed TooMany (fact_checks variables) };
 
-fn check_groups(variables: &Items<Variable>, groups: &Items<Items<Fact>>) -> Result<(), PartsFault>
-    ensures { result_err result ≡ first_fault (listed TooMany (listed TooMany (fact_checks variables.now)) groups.now) }
-{
-    check_count(groups)?;
-    for group in groups.as_slice() {
-        check_facts(variables, group)?;
+    fn check_among(&self, variables: &Items<Variable>) -> Result<(), PartsFault> {
+        check_list(variables, self)
     }
-    Ok(())
 }
 
-fn check_facts(variables: &Items<Variable>, facts: &Items<Fact>) -> Result<(), PartsFault>
-    ensures { result_err result ≡ first_fault (listed TooMany (fact_checks variables.now) facts.now) }
-{
-    check_count(facts)?;
-    for fact in facts.as_slice() {
-        check_fact(variables, *fact)?;
+impl Checked for Fact {
+    ghost checks_of = { fact_checks };
+
+    fn check_among(&self, variables: &Items<Variable>) -> Result<(), PartsFault> {
+        check(
+            has_value(variables, self.var, self.value),
+            PartsFault::BadFact,
+        )
     }
-    Ok(())
-}
-
-fn check_fact(variables: &Items<Variable>, fact: Fact) -> Result<(), PartsFault>
-    ensures { result_err result ≡ first_fault (fact_checks variables.now fact) }
-{
-    check(
-        has_value(variables, fact.var, fact.value),
-        PartsFault::BadFact,
-    )
 }
 
 fn check_state(variables: &Items<Variable>, values: &Items<u32>) -> Result<(), PartsFault>
@@ -138,60 +139,33 @@ fn values_in_range(variables: &Items<Variable>, values: &Items<u32>) -> bool
     pairs.all(|(variable, value)| (*value as usize) < variable.values.len())
 }
 
-fn check_operators(
-    variables: &Items<Variable>,
-    operators: &Items<Operator>,
-) -> Result<(), PartsFault>
-    ensures { result_err result ≡ first_fault (listed TooMany (operator_checks variables.now) operators.now) }
-{
-    check_count(operators)?;
-    for operator in operators.as_slice() {
-        check_operator(variables, operator)?;
+impl Checked for Operator {
+    ghost checks_of = { operator_checks };
+
+    fn check_among(&self, variables: &Items<Variable>) -> Result<(), PartsFault> {
+        self.name.check_among(variables)?;
+        check_list(variables, &self.prevail)?;
+        check_list(variables, &self.effects)?;
+        check_number(self.cost)
     }
-    Ok(())
 }
 
-fn check_operator(variables: &Items<Variable>, operator: &Operator) -> Result<(), PartsFault>
-    ensures { result_err result ≡ first_fault (operator_checks variables.now operator.now) }
-{
-    check_name(&operator.name)?;
-    check_facts(variables, &operator.prevail)?;
-    check_effects(variables, &operator.effects)?;
-    check_number(operator.cost)
-}
+impl Checked for Effect {
+    ghost checks_of = { effect_checks };
 
-fn check_effects(variables: &Items<Variable>, effects: &Items<Effect>) -> Result<(), PartsFault>
-    ensures { result_err result ≡ first_fault (listed TooMany (effect_checks variables.now) effects.now) }
-{
-    check_count(effects)?;
-    for effect in effects.as_slice() {
-        check_effect(variables, effect)?;
+    fn check_among(&self, variables: &Items<Variable>) -> Result<(), PartsFault> {
+        check_list(variables, &self.conditions)?;
+        check_change(variables, self.var, self.old, self.new)
     }
-    Ok(())
 }
 
-fn check_effect(variables: &Items<Variable>, effect: &Effect) -> Result<(), PartsFault>
-    ensures { result_err result ≡ first_fault (effect_checks variables.now effect.now) }
-{
-    check_facts(variables, &effect.conditions)?;
-    check_change(variables, effect.var, effect.old, effect.new)
-}
+impl Checked for Rule {
+    ghost checks_of = { rule_checks };
 
-fn check_rules(variables: &Items<Variable>, rules: &Items<Rule>) -> Result<(), PartsFault>
-    ensures { result_err result ≡ first_fault (listed TooMany (rule_checks variables.now) rules.now) }
-{
-    check_count(rules)?;
-    for rule in rules.as_slice() {
-        check_rule(variables, rule)?;
+    fn check_among(&self, variables: &Items<Variable>) -> Result<(), PartsFault> {
+        check_list(variables, &self.conditions)?;
+        check_change(variables, self.var, self.old, self.new)
     }
-    Ok(())
-}
-
-fn check_rule(variables: &Items<Variable>, rule: &Rule) -> Result<(), PartsFault>
-    ensures { result_err result ≡ first_fault (rule_checks variables.now rule.now) }
-{
-    check_facts(variables, &rule.conditions)?;
-    check_change(variables, rule.var, rule.old, rule.new)
 }
 
 /// Looks at a variable, the old value that is asked of it, if any, and its new value.
@@ -238,15 +212,15 @@ fn check_count<T>(items: &Items<T>) -> Result<(), PartsFault>
     check(is_number(items.len()), PartsFault::TooMany)
 }
 
-/// Whether the number may stand in a file.
+/// Whether the number may stand in a file: it is at most 2,147,483,647.
 fn is_number(n: usize) -> bool
     ensures { result ≡ is_number n }
 {
-    n <= MAX_NUMBER
+    n <= i32::MAX as usize
 }
 
 /// The fault, unless the test passes.
-fn check(passes: bool, fault: PartsFault) -> Result<(), PartsFault>
+pub fn check<F: Copy>(passes: bool, fault: F) -> Result<(), F>
     ensures { result_err result ≡ first_fault (check passes fault) }
 {
     if passes { Ok(()) } else { Err(fault) }

@@ -1,16 +1,21 @@
-//! What the two formats are about: the types, and which of their values may stand in a file.
+//! What the two formats are about: the types, which of their values may stand in a file, and how a task and a plan are asked,
+//! however they are stored.
 #![tactic(auto)]
 
 mod checks;
+mod grounded;
 mod items;
 mod names;
 mod parts;
 mod plan;
+mod stepwise;
 mod task;
 
-pub use checks::PartsFault;
+pub use checks::{PartsFault, check};
+pub use grounded::{Change, Grounded};
 pub use items::Items;
 pub use names::is_name;
 pub use parts::{Effect, Fact, Operator, Parts, Rule, Variable};
 pub use plan::{BadName, CostKind, Plan};
+pub use stepwise::Stepwise;
 pub use task::{Task, task_laws};

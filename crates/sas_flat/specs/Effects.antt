@@ -1,6 +1,6 @@
 -- Effects in columns: what each changes, and its conditions.
 use Rattle.std.specs.Prelude.{ℕ, List, [], length, map, slice_index_or, None}
-use Rattle.sas_grounded.specs.declared.grounded.Change.{Change}
+use Rattle.sas_core.specs.declared.grounded.Change.{Change}
 use Rattle.sas_core.specs.declared.parts.Fact.{Fact}
 use Rattle.sas_core.specs.declared.parts.Effect.{Effect}
 use Rattle.sas_lists.specs.Table.{table}
@@ -23,7 +23,8 @@ change_in changes index = slice_index_or changes index (record { var = 0; old = 
 
 abbrev pub effects_of : List Change → List (List Fact) → List Effect
 effects_of changes conditions =
-    table (length changes) (λ index. effect (change_in changes index) (slice_index_or conditions index []))
+    table (length changes)
+    (λ index. effect (change_in changes index) (slice_index_or conditions index []))
 
 -- the effect at this place; behind the last one that of variable 0 to value 0
 abbrev pub effect_in : List Effect → ℕ → Effect

@@ -4,3 +4,4 @@ pub mod Rules
 pub mod Operators
 pub mod Variables
 pub mod FlatTasks
+pub mod Outlines

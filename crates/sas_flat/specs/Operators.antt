@@ -9,7 +9,8 @@ use Rattle.sas_lists.specs.Lists.{list_at, AreEnds}
 use Rattle.sas_lists.specs.Table.{table}
 
 abbrev pub operator : List ℕ → List Fact → List Effect → ℕ → Operator
-operator name prevail effects cost = record { name = name; prevail = prevail; effects = effects; cost = cost }
+operator name prevail effects cost =
+    record { name = name; prevail = prevail; effects = effects; cost = cost }
 
 -- where the name, the prevail conditions and the effects of each operator end, and what each costs
 abbrev pub name_ends : List Head → List ℕ
@@ -27,8 +28,10 @@ costs heads = map (λ (h : Head). h.cost) heads
 -- the operators that have a head, each with its items
 abbrev pub operators_in : Columns → List Operator
 operators_in c = table (length c.heads.items) (λ index. operator
-    (list_at c.names.items (name_ends c.heads.items) index) (list_at c.prevail.items (prevail_ends c.heads.items) index)
-    (list_at c.effects (effect_ends c.heads.items) index) (slice_index (costs c.heads.items) index))
+    (list_at c.names.items (name_ends c.heads.items) index)
+    (list_at c.prevail.items (prevail_ends c.heads.items) index)
+    (list_at c.effects (effect_ends c.heads.items) index)
+    (slice_index (costs c.heads.items) index))
 
 -- the heads say where the items of each operator end, and no item stands behind these
 pub record AreAligned (c : Columns) : Type 0 where
@@ -38,8 +41,12 @@ pub record AreAligned (c : Columns) : Type 0 where
 
 -- the head of an operator of this cost whose items end where all items end
 abbrev pub end_head : Columns → ℕ → Head
-end_head c cost =
-    record { name = length c.names.items; prevail = length c.prevail.items; effects = length c.effects; cost = cost }
+end_head c cost = record {
+  name = length c.names.items;
+  prevail = length c.prevail.items;
+  effects = length c.effects;
+  cost = cost;
+}
 
 -- the operator at this place; behind the last one that of no name and no effect
 abbrev pub operator_in : List Operator → ℕ → Operator

@@ -1,6 +1,6 @@
 -- Rules, which are like effects.
 use Rattle.std.specs.Prelude.{ℕ, List, [], map, slice_index_or, None}
-use Rattle.sas_grounded.specs.declared.grounded.Change.{Change}
+use Rattle.sas_core.specs.declared.grounded.Change.{Change}
 use Rattle.sas_core.specs.declared.parts.Fact.{Fact}
 use Rattle.sas_core.specs.declared.parts.Effect.{Effect}
 use Rattle.sas_core.specs.declared.parts.Rule.{Rule}
@@ -18,4 +18,5 @@ rule c conditions = record { conditions = conditions; var = c.var; old = c.old; 
 
 -- the rule at this place; behind the last one that of variable 0 to value 0
 abbrev pub rule_in : List Rule → ℕ → Rule
-rule_in rules index = slice_index_or rules index (record { conditions = []; var = 0; old = None; new = 0 })
+rule_in rules index = slice_index_or rules index
+    (record { conditions = []; var = 0; old = None; new = 0 })

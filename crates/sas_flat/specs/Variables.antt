@@ -11,7 +11,8 @@ variable name layer values = record { name = name; layer = layer; values = value
 -- the variables with these names, layers and values, each at its place
 abbrev pub variables_of : List (List ℕ) → List (Option ℕ) → List (List (List ℕ)) → List Variable
 variables_of names layers values = table (length values) (λ index.
-    variable (slice_index_or names index []) (slice_index_or layers index None) (slice_index_or values index []))
+    variable (slice_index_or names index []) (slice_index_or layers index None)
+    (slice_index_or values index []))
 
 abbrev pub variables_in : Columns → List Variable
 variables_in c = variables_of c.names c.layers.items (lists_of c.values c.ends)

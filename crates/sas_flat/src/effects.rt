@@ -1,10 +1,9 @@
 // Effects in a few blocks of memory.
 ghost use Rattle.std.specs.Prelude.{◌≡◌, ◌<◌, ◌≤◌, [], ◌∷◌, ◌++◌, length, take, OnOk, OnErr};
-ghost use Rattle.sas_grounded.specs.Grounded as grounded;
+ghost use Rattle.sas_core.specs.Grounded as grounded;
 ghost use Rattle.sas_flat.specs.Effects.{effect, plain_effects, effect_in};
 
-use sas_core::Fact;
-use sas_grounded::Change;
+use sas_core::{Change, Fact};
 use sas_lists::Lists;
 use std::alloc::{AllocError, Global};
 use std::marker::Model;

@@ -1,14 +1,13 @@
 // Operators in a few blocks of memory.
 ghost use Rattle.std.specs.Prelude.{◌≡◌, ◌<◌, ◌≤◌, [], ◌∷◌, ◌++◌, length, take, OnOk, OnErr};
-ghost use Rattle.sas_grounded.specs.Grounded as grounded;
+ghost use Rattle.sas_core.specs.Grounded as grounded;
 ghost use Rattle.sas_flat.specs.Effects.{effect_in, plain_effects};
 ghost use Rattle.sas_flat.specs.Growing.{Kept};
 ghost use Rattle.sas_lists.specs.Lists.{start_of};
 ghost use Rattle.sas_flat.specs.Operators.{operator, operator_in, name_ends, prevail_ends, effect_ends, end_head};
 
 use crate::effects::Effects;
-use sas_core::Fact;
-use sas_grounded::Change;
+use sas_core::{Change, Fact};
 use std::alloc::{AllocError, Global};
 use std::marker::Model;
 
@@ -91,8 +90,10 @@ impl Columns {
         ensures prevail { Kept self.old.prevail.items self.new.prevail.items }
         ensures effects { self.new.effects ≡ self.old.effects }
         ensures name_ok { OnOk result (self.new.names.items ≡ self.old.names.items ++ name.now) }
-        ensures prevail_ok { OnOk result (self.new.prevail.items ≡ self.old.prevail.items ++ prevail.now) }
-        ensures head_ok { OnOk result (self.new.heads.items ≡ self.old.heads.items ++ end_head self.new cost ∷ []) }
+        ensures prevail_ok { OnOk result
+            (self.new.prevail.items ≡ self.old.prevail.items ++ prevail.now) }
+        ensures head_ok { OnOk result
+            (self.new.heads.items ≡ self.old.heads.items ++ end_head self.new cost ∷ []) }
         ensures head_err { OnErr result (self.new.heads.items ≡ self.old.heads.items) }
     {
         self.names.extend_from_slice(name)?;
@@ -146,7 +147,8 @@ impl Operators {
         effects: &Effects,
         cost: u32,
     ) -> Result<(), AllocError>
-        ensures ok { OnOk result (self.new ≡ self.old ++ operator name.now prevail.now effects.now cost ∷ []) }
+        ensures ok { OnOk result
+            (self.new ≡ self.old ++ operator name.now prevail.now effects.now cost ∷ []) }
         ensures err { OnErr result (self.new ≡ self.old) }
     {
         let end = self.columns.end(cost);
@@ -223,7 +225,8 @@ impl Operators {
     pub(crate) fn change(&self, operator: usize, effect: usize) -> Change
         requires operator { operator < length self.now }
         requires effect { effect < length (operator_in self.now operator).effects }
-        ensures { result ≡ grounded.effect_change (effect_in (operator_in self.now operator).effects effect) }
+        ensures { result
+            ≡ grounded.effect_change (effect_in (operator_in self.now operator).effects effect) }
     {
         // There are no more effects than a `usize` counts, so the place of this one fits.
         let _effects = self.columns.effects.len();
@@ -236,7 +239,8 @@ impl Operators {
     pub(crate) fn conditions(&self, operator: usize, effect: usize) -> &[Fact]
         requires operator { operator < length self.now }
         requires effect { effect < length (operator_in self.now operator).effects }
-        ensures { result.now ≡ (effect_in (operator_in self.now operator).effects effect).conditions }
+        ensures { result.now
+            ≡ (effect_in (operator_in self.now operator).effects effect).conditions }
     {
         // There are no more effects than a `usize` counts, so the place of this one fits.
         let _effects = self.columns.effects.len();

@@ -3,8 +3,7 @@ ghost use Rattle.std.specs.Prelude.{◌≡◌};
 ghost use Rattle.std.specs.List.{AllByRecursion};
 ghost use Rattle.sas_core.specs.Names.{IsName};
 
-use sas_core::CostKind;
-use sas_grounded::Stepwise;
+use sas_core::{CostKind, Stepwise};
 use sas_lists::Lists;
 use std::marker::Model;
 

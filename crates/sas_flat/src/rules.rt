@@ -1,11 +1,10 @@
 // Rules in a few blocks of memory.
 ghost use Rattle.std.specs.Prelude.{◌≡◌, ◌<◌, [], ◌∷◌, ◌++◌, length, OnOk, OnErr};
-ghost use Rattle.sas_grounded.specs.Grounded as grounded;
+ghost use Rattle.sas_core.specs.Grounded as grounded;
 ghost use Rattle.sas_flat.specs.Rules.{rule, rule_in};
 
 use crate::effects::Effects;
-use sas_core::Fact;
-use sas_grounded::Change;
+use sas_core::{Change, Fact};
 use std::alloc::{AllocError, Global};
 use std::marker::Model;
 

@@ -7,7 +7,7 @@ use Rattle.std.proofs.lemmas.List.{map_more, get_or_append_left, get_or-append_r
 use Rattle.std.proofs.lemmas.List.Elements.{Contains-get_or, Contains-append_left, Contains-append_right, Contains-append_cases}
 use Rattle.sas_core.specs.declared.parts.Fact.{Fact}
 use Rattle.sas_core.specs.declared.parts.Parts.{Parts}
-use Rattle.sas_grounded.specs.Grounded.{group_at}
+use Rattle.sas_core.specs.Grounded.{group_at}
 use Rattle.sas_core.specs.Variables.{FactExists}
 use Rattle.sas_core.specs.WellRanged.{WellRanged, Listed}
 use Rattle.sas_core.proofs.Places.{holds_at}

@@ -9,7 +9,7 @@ use Rattle.sas_core.specs.declared.parts.Fact.{Fact}
 use Rattle.sas_core.specs.declared.parts.Operator.{Operator}
 use Rattle.sas_core.specs.declared.parts.Parts.{Parts}
 use Rattle.sas_core.specs.declared.parts.Variable.{Variable}
-use Rattle.sas_grounded.specs.Grounded.{operator_at}
+use Rattle.sas_core.specs.Grounded.{operator_at}
 use Rattle.sas_core.specs.Variables.{FactExists, MayHaveValue}
 use Rattle.sas_core.specs.WellRanged.{WellRanged, OperatorFits, EffectFits}
 use Rattle.sas_core.proofs.Places.{holds_at}

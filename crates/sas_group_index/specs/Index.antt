@@ -7,14 +7,15 @@ use Rattle.sas_core.specs.declared.parts.Fact.{Fact}
 use Rattle.sas_core.specs.declared.parts.Effect.{Effect}
 use Rattle.sas_core.specs.declared.parts.Operator.{Operator}
 use Rattle.sas_core.specs.declared.parts.Parts.{Parts}
-use Rattle.sas_grounded.specs.Grounded.{operator_at, group_at}
+use Rattle.sas_core.specs.Grounded.{operator_at, group_at}
 use Rattle.sas_core.specs.Variables.{FactExists, range_of}
 use Rattle.sas_lists.specs.declared.by_key.Entry.{Entry}
 use Rattle.sas_meaning.specs.Steps.{preconditions, old_fact}
 use Rattle.sas_group_index.specs.declared.index.Index.{Index}
 use Rattle.sas_group_index.specs.Runs.{AreRunsOf}
 
--- how many facts are on variables below this one; the facts of a task are so numbered, variable after variable
+-- how many facts are on variables below this one; the facts of a task are so numbered, variable
+-- after variable
 abbrev pub facts_below : Parts → ℕ → ℕ
 facts_below p zero = 0
 facts_below p (suc var) = facts_below p var + range_of p.variables var
@@ -39,15 +40,18 @@ under lists key = slice_index_or lists key []
 
 -- the groups under the number of the fact
 abbrev pub groups_of : Index → Fact → List ℕ
-groups_of index fact = under index.groups (slice_index_or index.firsts.items fact.var 0 + fact.value)
+groups_of index fact =
+    under index.groups (slice_index_or index.firsts.items fact.var 0 + fact.value)
 
--- under the number of each fact of the task the groups that have it, and under each number in ascending order
+-- under the number of each fact of the task the groups that have it, and under each number in
+-- ascending order
 pub record AreGroupsByFact (p : Parts) (groups : List (List ℕ)) : Type 0 where
   pub are : (fact : Fact) → FactExists p.variables fact
       → (place : ℕ) → Contains (under groups (number p fact)) place ↔ HasFact p place fact
   pub ascending : (key : ℕ) → IsNonDecreasing (under groups key)
 
--- for each fact of the task, the groups that have it; and how the facts of each group fall into runs on one variable
+-- for each fact of the task, the groups that have it; and how the facts of each group fall into
+-- runs on one variable
 pub record IsIndexOf (p : Parts) (index : Index) : Type 0 where
   pub firsts : AreFirstNumbers p index.firsts.items
   pub low : All (λ (first : ℕ). first ≤ 2 ^ 62) index.firsts.items
@@ -58,7 +62,8 @@ pub record IsIndexOf (p : Parts) (index : Index) : Type 0 where
 
 -- the operator mentions the fact: as a precondition, or as a condition of an effect
 abbrev pub Mentions : Operator → Fact → Type 0
-Mentions o fact = Contains (preconditions o) fact ⊎ ((e : Effect) × Contains o.effects e × Contains e.conditions fact)
+Mentions o fact = Contains (preconditions o) fact
+    ⊎ ((e : Effect) × Contains o.effects e × Contains e.conditions fact)
 
 -- the operator mentions a fact of the group at this place
 pub record MentionsGroup (p : Parts) (operator place : ℕ) : Type 0 where
@@ -74,7 +79,8 @@ AreMentions p mentions = (place : ℕ) → place < length p.groups
 
 -- an entry for each of the group's facts, under the fact's number
 abbrev pub entries_of_group : Parts → ℕ → List Fact → List (Entry ℕ)
-entries_of_group p group facts = map (λ (fact : Fact). record { key = number p fact; item = group }) facts
+entries_of_group p group facts =
+    map (λ (fact : Fact). record { key = number p fact; item = group }) facts
 
 -- an entry of the operator for each group that has the fact
 abbrev pub entries_of_fact : Index → ℕ → Fact → List (Entry ℕ)
@@ -84,7 +90,8 @@ entries_of_fact index operator fact =
 abbrev pub entries_of_facts : Index → ℕ → List Fact → List (Entry ℕ)
 entries_of_facts index operator facts = flat_map (entries_of_fact index operator) facts
 
--- the facts that the effect mentions: its variable's old value, if it asks for one, and its conditions
+-- the facts that the effect mentions: its variable's old value, if it asks for one, and its
+-- conditions
 abbrev pub facts_of_effect : Effect → List Fact
 facts_of_effect e = option_to_list (old_fact e) ++ e.conditions
 

@@ -2,7 +2,7 @@
 use Rattle.std.specs.Prelude.{◌≡◌, ℕ, ◌<◌, ◌≤◌, List, [], ◌∷◌, length, take, drop, All, slice_index_or}
 use Rattle.sas_core.specs.declared.parts.Fact.{Fact}
 use Rattle.sas_core.specs.declared.parts.Parts.{Parts}
-use Rattle.sas_grounded.specs.Grounded.{group_at}
+use Rattle.sas_core.specs.Grounded.{group_at}
 
 -- the facts are on one variable
 abbrev pub AreOnOne : List Fact → Type 0
@@ -11,7 +11,9 @@ AreOnOne facts = (var : ℕ) × All (λ (f : Fact). f.var ≡ var) facts
 -- the facts fall into runs of these lengths, each of facts on one variable
 abbrev pub AreRuns : List Fact → List ℕ → Type 0
 AreRuns facts [] = facts ≡ []
-AreRuns facts (n ∷ runs) = (n ≤ length facts) × AreOnOne (take n facts) × AreRuns (drop n facts) runs
+AreRuns facts (n ∷ runs) = (n ≤ length facts)
+    × AreOnOne (take n facts)
+    × AreRuns (drop n facts) runs
 
 -- the runs of the group at this place
 abbrev pub runs_at : List (List ℕ) → ℕ → List ℕ

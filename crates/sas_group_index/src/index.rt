@@ -1,15 +1,14 @@
 // Which groups have which facts.
 ghost use Rattle.std.specs.Prelude.{◌≡◌, ◌<◌, ◌≤◌, ◌^◌, ◌↔◌, ◌++◌, ℕ, [], length, IsTrue, IfOk, OnOk, All, Contains};
 ghost use Rattle.std.specs.List.Sorted.{IsNonDecreasing};
-ghost use Rattle.sas_grounded.specs.Grounded.{group_at};
-ghost use Rattle.sas_core.specs.WellRanged.{WellRanged};
+ghost use Rattle.sas_core.specs.Grounded.{group_at};
 ghost use Rattle.sas_group_index.specs.Index as spec;
 ghost use Rattle.sas_group_index.specs.Index.{under, IsIndexOf, AreFirstNumbers, AreGroupsByFact, facts_below, entries_of_group};
 
 use crate::runs::runs_of_groups;
-use sas_core::{Fact, Items};
-use sas_grounded::Grounded;
+use sas_core::{Fact, Grounded, Items};
 use sas_lists::{Entry, Lists};
+use sas_meaning::Layered;
 use std::alloc::{AllocError, Global};
 
 /// Which groups have which fact. Facts are numbered, variable after variable, so that a look at one takes a fixed time.
@@ -25,8 +24,8 @@ pub struct Index {
 
 impl Index {
     /// The index of the groups of the task.
-    pub fn new<T: Grounded>(alloc: Global, task: &T) -> Result<Index, AllocError>
-        ensures { IfOk result (λ index. IsIndexOf (T.says task.now) index) }
+    pub fn new<T: Grounded>(alloc: Global, task: &Layered<T>) -> Result<Index, AllocError>
+        ensures { IfOk result (λ index. IsIndexOf task.now index) }
     {
         let mut firsts = Vec::with_capacity(alloc, task.variables() as usize)?;
         let facts = number_facts(task, &mut firsts)?;
@@ -63,11 +62,15 @@ impl Index {
 }
 
 /// Adds the number of each variable's first fact to the empty list. Says how many facts there are.
-fn number_facts<T: Grounded>(task: &T, firsts: &mut Vec<usize>) -> Result<usize, AllocError>
+fn number_facts<T: Grounded>(
+    task: &Layered<T>,
+    firsts: &mut Vec<usize>,
+) -> Result<usize, AllocError>
     requires empty { firsts.old.items ≡ [] }
-    ensures firsts { OnOk result (AreFirstNumbers (T.says task.now) firsts.new.items) }
+    ensures firsts { OnOk result (AreFirstNumbers task.now firsts.new.items) }
     ensures low { OnOk result (All (λ (first : ℕ). first ≤ 2 ^ 62) firsts.new.items) }
-    ensures all { IfOk result (λ facts. facts ≡ facts_below (T.says task.now) (length (T.says task.now).variables)) }
+    ensures all { IfOk result
+        (λ facts. facts ≡ facts_below task.now (length task.now.variables)) }
 {
     let mut facts = 0;
     for var in 0..task.variables() {
@@ -80,17 +83,17 @@ fn number_facts<T: Grounded>(task: &T, firsts: &mut Vec<usize>) -> Result<usize,
 /// The groups of the task, each under the numbers of its facts, of which there are so many.
 fn groups_by_fact<T: Grounded>(
     alloc: Global,
-    task: &T,
+    task: &Layered<T>,
     firsts: &[usize],
     facts: usize,
 ) -> Result<Lists<u32>, AllocError>
-    requires firsts { AreFirstNumbers (T.says task.now) firsts.now }
+    requires firsts { AreFirstNumbers task.now firsts.now }
     requires low { All (λ (first : ℕ). first ≤ 2 ^ 62) firsts.now }
-    requires all { facts ≡ facts_below (T.says task.now) (length (T.says task.now).variables) }
-    ensures { IfOk result (λ groups. AreGroupsByFact (T.says task.now) groups) }
+    requires all { facts ≡ facts_below task.now (length task.now.variables) }
+    ensures { IfOk result (λ groups. AreGroupsByFact task.now groups) }
 {
-    // The contract of this call tells that what the task says is well ranged.
-    let _ = task.variables();
+    // The contract of this call tells that the task is well ranged.
+    let _ = task.task();
     let mut entries = Vec::new(alloc);
     for group in 0..task.groups() {
         enter_group(task, firsts, group, &mut entries)?;
@@ -100,18 +103,19 @@ fn groups_by_fact<T: Grounded>(
 
 /// Adds an entry for each fact of the group, under the fact's number.
 fn enter_group<T: Grounded>(
-    task: &T,
+    task: &Layered<T>,
     firsts: &[usize],
     group: u32,
     entries: &mut Vec<Entry<u32>>,
 ) -> Result<(), AllocError>
-    requires ranged { WellRanged (T.says task.now) }
-    requires group { group < length (T.says task.now).groups }
-    requires firsts { AreFirstNumbers (T.says task.now) firsts.now }
+    requires group { group < length task.now.groups }
+    requires firsts { AreFirstNumbers task.now firsts.now }
     requires low { All (λ (first : ℕ). first ≤ 2 ^ 62) firsts.now }
-    ensures { let p = T.says task.now in
-        OnOk result (entries.new.items ≡ entries.old.items ++ entries_of_group p group (group_at p group)) }
+    ensures { let facts = group_at task.now group in OnOk result
+        (entries.new.items ≡ entries.old.items ++ entries_of_group task.now group facts) }
 {
+    // The contract of this call tells that the task is well ranged.
+    let _ = task.task();
     for fact in task.group(group) {
         entries.push(Entry {
             key: firsts[fact.var as usize] + fact.value as usize,

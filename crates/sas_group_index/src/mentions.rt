@@ -1,25 +1,25 @@
 // Which operators mention facts of a group.
 ghost use Rattle.std.specs.Prelude.{◌≡◌, ◌<◌, ◌≤◌, ◌^◌, ◌++◌, ℕ, length, IfOk, OnOk, All};
-ghost use Rattle.sas_grounded.specs.Grounded.{operator_at, effect_at};
+ghost use Rattle.sas_core.specs.Grounded.{operator_at, effect_at};
 ghost use Rattle.sas_group_index.specs.Index.{IsIndexOf, AreMentions, entries_of_fact, entries_of_facts, facts_of_effect, facts_of_operator};
 
 use crate::index::Index;
-use sas_core::Fact;
-use sas_grounded::Grounded;
+use sas_core::{Fact, Grounded};
 use sas_lists::{Entry, Lists};
+use sas_meaning::Layered;
 use std::alloc::{AllocError, Global};
 
 /// For each group, the operators that mention a fact of it, as a precondition or as a condition of an effect.
 pub fn mentions_of<T: Grounded>(
     alloc: Global,
-    task: &T,
+    task: &Layered<T>,
     index: &Index,
 ) -> Result<Lists<u32>, AllocError>
-    requires index { IsIndexOf (T.says task.now) index.now }
-    ensures { IfOk result (λ mentions. AreMentions (T.says task.now) mentions) }
+    requires index { IsIndexOf task.now index.now }
+    ensures { IfOk result (λ mentions. AreMentions task.now mentions) }
 {
-    // The number of variables isn't of use here, but what is told with it is: that the task's facts exist.
-    let _ = task.variables();
+    // The contract of this call tells that the task is well ranged.
+    let _ = task.task();
     let mut entries = Vec::new(alloc);
     for operator in 0..task.operators() {
         enter_operator(task, index, operator, &mut entries)?;
@@ -29,15 +29,15 @@ pub fn mentions_of<T: Grounded>(
 
 /// Adds an entry for each fact that the operator mentions and each group that has it.
 fn enter_operator<T: Grounded>(
-    task: &T,
+    task: &Layered<T>,
     index: &Index,
     operator: u32,
     entries: &mut Vec<Entry<u32>>,
 ) -> Result<(), AllocError>
-    requires operator { operator < length (T.says task.now).operators }
+    requires operator { operator < length task.now.operators }
     requires low { All (λ (first : ℕ). first ≤ 2 ^ 62) index.now.firsts.items }
-    ensures { let facts = facts_of_operator (operator_at (T.says task.now) operator) in
-        OnOk result (entries.new.items ≡ entries.old.items ++ entries_of_facts index.now operator facts) }
+    ensures { let facts = facts_of_operator (operator_at task.now operator) in OnOk result
+        (entries.new.items ≡ entries.old.items ++ entries_of_facts index.now operator facts) }
 {
     enter_facts(index, operator, task.prevail(operator), entries)?;
     for effect in 0..task.effects(operator) {
@@ -48,17 +48,18 @@ fn enter_operator<T: Grounded>(
 
 /// Adds an entry for each fact that the operator's effect mentions and each group that has it.
 fn enter_effect<T: Grounded>(
-    task: &T,
+    task: &Layered<T>,
     index: &Index,
     operator: u32,
     effect: u32,
     entries: &mut Vec<Entry<u32>>,
 ) -> Result<(), AllocError>
-    requires operator { operator < length (T.says task.now).operators }
-    requires effect { effect < length (operator_at (T.says task.now) operator).effects }
+    requires operator { operator < length task.now.operators }
+    requires effect { effect < length (operator_at task.now operator).effects }
     requires low { All (λ (first : ℕ). first ≤ 2 ^ 62) index.now.firsts.items }
-    ensures { let facts = facts_of_effect (effect_at (operator_at (T.says task.now) operator) effect) in
-        OnOk result (entries.new.items ≡ entries.old.items ++ entries_of_facts index.now operator facts) }
+    ensures { let facts = facts_of_effect (effect_at (operator_at task.now operator) effect) in
+        OnOk result
+        (entries.new.items ≡ entries.old.items ++ entries_of_facts index.now operator facts) }
 {
     let change = task.effect_change(operator, effect);
     if let Some(value) = change.old {
@@ -84,7 +85,8 @@ fn enter_facts(
     entries: &mut Vec<Entry<u32>>,
 ) -> Result<(), AllocError>
     requires { All (λ (first : ℕ). first ≤ 2 ^ 62) index.now.firsts.items }
-    ensures { OnOk result (entries.new.items ≡ entries.old.items ++ entries_of_facts index.now operator facts.now) }
+    ensures { OnOk result
+        (entries.new.items ≡ entries.old.items ++ entries_of_facts index.now operator facts.now) }
 {
     for fact in facts {
         enter_fact(index, operator, *fact, entries)?;
@@ -100,7 +102,8 @@ fn enter_fact(
     entries: &mut Vec<Entry<u32>>,
 ) -> Result<(), AllocError>
     requires { All (λ (first : ℕ). first ≤ 2 ^ 62) index.now.firsts.items }
-    ensures { OnOk result (entries.new.items ≡ entries.old.items ++ entries_of_fact index.now operator fact) }
+    ensures { OnOk result
+        (entries.new.items ≡ entries.old.items ++ entries_of_fact index.now operator fact) }
 {
     for group in index.groups_of(fact) {
         entries.push(Entry {

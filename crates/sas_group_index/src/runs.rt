@@ -3,16 +3,19 @@ ghost use Rattle.std.specs.Prelude.{◌≡◌, ℕ, ◌<◌, ◌≤◌, ◌^◌,
 ghost use Rattle.sas_core.specs.declared.parts.Fact.{Fact};
 ghost use Rattle.sas_group_index.specs.Runs.{AreRuns, AreRunsOf};
 
-use sas_core::{Fact, Items};
-use sas_grounded::Grounded;
+use sas_core::{Fact, Grounded, Items};
+use sas_meaning::Layered;
 use std::alloc::{AllocError, Global};
 
 /// For each group of the task, how many of its facts stand in a row on one variable, run after run.
-pub fn runs_of_groups<T: Grounded>(alloc: Global, task: &T) -> Result<Items<Items<u32>>, AllocError>
-    ensures { IfOk result (λ runs. AreRunsOf (T.says task.now) runs) }
+pub fn runs_of_groups<T: Grounded>(
+    alloc: Global,
+    task: &Layered<T>,
+) -> Result<Items<Items<u32>>, AllocError>
+    ensures { IfOk result (λ runs. AreRunsOf task.now runs) }
 {
-    // The contract of this call tells that what the task says is well ranged.
-    let _ = task.variables();
+    // The contract of this call tells that the task is well ranged.
+    let _ = task.task();
     let mut runs = Items::from_vec(Vec::with_capacity(alloc, task.groups() as usize)?);
     for group in 0..task.groups() {
         runs.push(runs_in(alloc, task.group(group))?)?;
@@ -39,7 +42,8 @@ fn runs_in(alloc: Global, facts: &[Fact]) -> Result<Items<u32>, AllocError>
 fn run_length(facts: &[Fact], var: u32) -> usize
     ensures within { result ≤ length facts.now }
     ensures on_it { All (λ (f : Fact). f.var ≡ var) (take result facts.now) }
-    ensures some { (d : Fact) → 0 < length facts.now → (slice_index_or facts.now 0 d).var ≡ var → 0 < result }
+    ensures some { (d : Fact) → 0 < length facts.now
+        → (slice_index_or facts.now 0 d).var ≡ var → 0 < result }
 {
     for (place, fact) in facts.iter().enumerate() {
         if fact.var != var {

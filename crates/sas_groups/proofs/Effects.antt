@@ -4,11 +4,11 @@ use Rattle.std.proofs.lemmas.List.{get_or_default}
 use Rattle.std.proofs.lemmas.List.Elements.{All-contains, Contains-get_or}
 use Rattle.std.specs.List.{Contains}
 use Rattle.std.specs.Prelude.{List}
-use Rattle.sas_grounded.specs.declared.grounded.Change.{Change}
+use Rattle.sas_core.specs.declared.grounded.Change.{Change}
 use Rattle.sas_core.specs.declared.parts.Fact.{Fact}
 use Rattle.sas_core.specs.declared.parts.Effect.{Effect}
 use Rattle.sas_core.specs.declared.parts.Operator.{Operator}
-use Rattle.sas_grounded.specs.Grounded.{effect_at, effect_change}
+use Rattle.sas_core.specs.Grounded.{effect_at, effect_change}
 use Rattle.sas_groups.specs.Clashes.{Keeps, IsRemoved, sets}
 use Rattle.sas_groups.specs.Checks.{Alone, Removes, OfEffects, NotBoth, IsGone, IsSingle, RemovesAll}
 use Rattle.sas_groups.specs.Lists.{known}

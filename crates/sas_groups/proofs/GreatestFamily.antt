@@ -5,7 +5,7 @@ use Rattle.std.proofs.lemmas.Bool.{eq-eqb, eqb-true}
 use Rattle.sas_core.specs.declared.parts.Fact.{Fact}
 use Rattle.sas_core.specs.declared.parts.Operator.{Operator}
 use Rattle.sas_core.specs.declared.parts.Parts.{Parts}
-use Rattle.sas_grounded.specs.Grounded.{group_at}
+use Rattle.sas_core.specs.Grounded.{group_at}
 use Rattle.sas_meaning.specs.Steps.{preconditions}
 use Rattle.sas_groups.specs.Clashes.{Clash, Keeps}
 use Rattle.sas_groups.specs.Groups.{MayBeExclusive}

@@ -1,9 +1,10 @@
--- What the parts of the check of a group decide. Which groups count is said by a condition on groups, `Counts`.
+-- What the parts of the check of a group decide. Which groups count is said by a condition on
+-- groups, `Counts`.
 use Rattle.std.specs.Prelude.{◌≡◌, ◌≢◌, ◌⊎◌, ℕ, ◌<◌, length, List, [], ◌∷◌, All, Contains, slice_index}
 use Rattle.sas_core.specs.declared.parts.Fact.{Fact}
 use Rattle.sas_core.specs.declared.parts.Effect.{Effect}
 use Rattle.sas_core.specs.declared.parts.Operator.{Operator}
-use Rattle.sas_grounded.specs.Grounded.{effect_at}
+use Rattle.sas_core.specs.Grounded.{effect_at}
 use Rattle.sas_meaning.specs.States.{Holds}
 use Rattle.sas_groups.specs.Clashes.{Clash, IsRemoved, sets}
 use Rattle.sas_groups.specs.Lists.{known}
@@ -22,9 +23,11 @@ pub record Removes (facts : List Fact) (effect : Effect) (fact : Fact) : Type 0 
   pub var : effect.var ≡ fact.var
   pub other : effect.new ≢ fact.value
 
--- if the second effect sets a fact of the group on another variable than the first, what holds when both fire clashes
+-- if the second effect sets a fact of the group on another variable than the first, what holds when
+-- both fire clashes
 abbrev pub NotBoth : (List Fact → Type 0) → Operator → List Fact → Effect → Effect → Type 0
-NotBoth Counts o group e f = Contains group (sets f) → e.var ≢ f.var → Clash Counts (known o e.conditions f.conditions)
+NotBoth Counts o group e f = Contains group (sets f) → e.var ≢ f.var
+    → Clash Counts (known o e.conditions f.conditions)
 
 -- if this fact is on another variable, it can't have held before, or it is removed
 abbrev pub IsGone : (List Fact → Type 0) → Operator → Effect → Fact → Type 0

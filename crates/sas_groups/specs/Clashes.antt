@@ -1,5 +1,5 @@
--- Which facts can't hold together, and which operators keep a group. Groups are lists of facts, taken as sets; which of
--- them count is said by a condition on groups, `Counts`.
+-- Which facts can't hold together, and which operators keep a group. Groups are lists of facts,
+-- taken as sets; which of them count is said by a condition on groups, `Counts`.
 use Rattle.std.specs.Prelude.{◌≡◌, ◌≢◌, ◌⊎◌, List, [], ◌∷◌, ◌++◌, All, Contains}
 use Rattle.sas_core.specs.declared.parts.Fact.{Fact}
 use Rattle.sas_core.specs.declared.parts.Effect.{Effect}
@@ -14,7 +14,8 @@ pub record AreOfOneGroup (Counts : List Fact → Type 0) (f g : Fact) : Type 0 w
   pub first : Contains group f
   pub second : Contains group g
 
--- two facts contradict each other if they are two values of one variable, or two different facts of a group that counts
+-- two facts contradict each other if they are two values of one variable, or two different facts of
+-- a group that counts
 abbrev pub Contradict : (List Fact → Type 0) → Fact → Fact → Type 0
 Contradict Counts f g = ((f.var ≡ g.var) × (f.value ≢ g.value)) ⊎ AreOfOneGroup Counts f g
 
@@ -26,7 +27,8 @@ Clash Counts facts = (f g : Fact) × Contains facts f × Contains facts g × Con
 abbrev pub sets : Effect → Fact
 sets e = record { var = e.var; value = e.new }
 
--- (i) where two effects set facts of the group on different variables, what holds when both fire clashes
+-- (i) where two effects set facts of the group on different variables, what holds when both fire
+-- clashes
 abbrev pub NeverSetsTwo : (List Fact → Type 0) → Operator → List Fact → Type 0
 NeverSetsTwo Counts o group = (e f : Effect) → Contains o.effects e → Contains o.effects f
     → Contains group (sets e) → Contains group (sets f) → e.var ≢ f.var
@@ -40,8 +42,8 @@ pub record IsRemoved (o : Operator) (facts : List Fact) (fact : Fact) : Type 0 w
   pub var : effect.var ≡ fact.var
   pub other : effect.new ≢ fact.value
 
--- (ii) where an effect sets a fact of the group, and another fact of it on another variable held before, what holds
--- when it fires clashes, or that other fact is removed
+-- (ii) where an effect sets a fact of the group, and another fact of it on another variable held
+-- before, what holds when it fires clashes, or that other fact is removed
 abbrev pub RemovesOthers : (List Fact → Type 0) → Operator → List Fact → Type 0
 RemovesOthers Counts o group = (e : Effect) (f : Fact) → Contains o.effects e
     → Contains group (sets e) → Contains group f → e.var ≢ f.var

@@ -3,7 +3,7 @@ use Rattle.std.specs.Prelude.{◌≡◌, ◌⊎◌, ℕ, ◌<◌, Bool, IsTrue, 
 use Rattle.sas_core.specs.declared.parts.Fact.{Fact}
 use Rattle.sas_core.specs.declared.parts.Operator.{Operator}
 use Rattle.sas_core.specs.declared.parts.Parts.{Parts}
-use Rattle.sas_grounded.specs.Grounded.{group_at}
+use Rattle.sas_core.specs.Grounded.{group_at}
 use Rattle.sas_groups.specs.Clashes.{Keeps}
 use Rattle.sas_groups.specs.Groups.{MayBeExclusive}
 
@@ -20,7 +20,8 @@ IsGroupOf p family group = (place : ℕ) × IsIn p family place × (group ≡ gr
 abbrev pub AllKeep : Parts → (List Fact → Type 0) → List Fact → Type 0
 AllKeep p Counts group = All (λ (o : Operator). Keeps Counts o group) p.operators
 
--- a family is kept jointly if each group of it may be exclusive, and every operator keeps each under the family
+-- a family is kept jointly if each group of it may be exclusive, and every operator keeps each
+-- under the family
 pub record IsKeptJointly (p : Parts) (family : ℕ → Bool) : Type 0 where
   pub may : (place : ℕ) → IsIn p family place → MayBeExclusive p (group_at p place)
   pub kept : (place : ℕ) → IsIn p family place → AllKeep p (IsGroupOf p family) (group_at p place)
@@ -28,7 +29,8 @@ pub record IsKeptJointly (p : Parts) (family : ℕ → Bool) : Type 0 where
 -- the greatest such family has the groups of every other
 pub record IsGreatest (p : Parts) (family : ℕ → Bool) : Type 0 where
   pub jointly : IsKeptJointly p family
-  pub greatest : (other : ℕ → Bool) → IsKeptJointly p other → (place : ℕ) → IsIn p other place → IsIn p family place
+  pub greatest : (other : ℕ → Bool) → IsKeptJointly p other
+      → (place : ℕ) → IsIn p other place → IsIn p family place
 
 -- a group of the family, or this group
 abbrev pub IsGroupOfOr : Parts → (ℕ → Bool) → List Fact → List Fact → Type 0

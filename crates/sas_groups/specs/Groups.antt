@@ -14,7 +14,8 @@ IsExclusiveIn s group = (f g : Fact) → Contains group f → Contains group g
 abbrev pub IsOnBasic : Parts → List Fact → Type 0
 IsOnBasic p group = All (λ (f : Fact). IsBasic p f.var) group
 
--- what the criterion asks first: the facts are on basic variables, and no two different ones hold in the state section
+-- what the criterion asks first: the facts are on basic variables, and no two different ones hold
+-- in the state section
 pub record MayBeExclusive (p : Parts) (group : List Fact) : Type 0 where
   pub basic : IsOnBasic p group
   pub initial : IsExclusiveIn p.init group

@@ -2,7 +2,7 @@
 use Rattle.std.specs.Prelude.{◌≡◌, ◌||◌, ℕ, ◌<◌, Bool, List, length}
 use Rattle.sas_core.specs.declared.parts.Fact.{Fact}
 use Rattle.sas_core.specs.declared.parts.Parts.{Parts}
-use Rattle.sas_grounded.specs.Grounded.{group_at}
+use Rattle.sas_core.specs.Grounded.{group_at}
 use Rattle.sas_meaning.specs.Layers.{IsLayered}
 use Rattle.sas_meaning.specs.Reachable.{Reachable}
 use Rattle.sas_groups.specs.declared.verdict.Verdict.{Verdict}
@@ -11,10 +11,12 @@ use Rattle.sas_groups.specs.Groups.{IsExclusiveIn, MayBeExclusive}
 use Rattle.sas_groups.specs.Families.{IsIn, IsGroupOfOr, AllKeep, IsKeptJointly, IsGreatest}
 use Rattle.sas_groups.specs.Verdicts.{IsVerdictAlone, IsJointVerdict}
 
--- Invariance: in a reachable state of a layered task no group of a family that is kept jointly has two different facts
+-- Invariance: in a reachable state of a layered task no group of a family that is kept jointly has
+-- two different facts
 abbrev pub JointlyKeptIsExclusive : Type 0
 JointlyKeptIsExclusive = (p : Parts) (family : ℕ → Bool) (place : ℕ) (s : List ℕ) → IsLayered p
-    → IsKeptJointly p family → IsIn p family place → Reachable p s → IsExclusiveIn s (group_at p place)
+    → IsKeptJointly p family → IsIn p family place → Reachable p s
+    → IsExclusiveIn s (group_at p place)
 
 -- and so of a group that is exclusive alone, or jointly
 abbrev pub ExclusiveAloneIsInvariant : Type 0
@@ -41,12 +43,14 @@ GreatestIsOne = (p : Parts) (a b : ℕ → Bool) → IsGreatest p a → IsGreate
 
 -- it has every group that is exclusive alone
 abbrev pub GreatestHasAlone : Type 0
-GreatestHasAlone = (p : Parts) (family : ℕ → Bool) (place : ℕ) → place < length p.groups → IsGreatest p family
+GreatestHasAlone = (p : Parts) (family : ℕ → Bool) (place : ℕ) → place < length p.groups
+    → IsGreatest p family
     → IsVerdictAlone p (group_at p place) Exclusive → IsIn p family place
 
 -- and a group outside it that may be exclusive isn't kept by all operators under it and itself
 abbrev pub OutsideIsBroken : Type 0
-OutsideIsBroken = (p : Parts) (family : ℕ → Bool) (place : ℕ) → place < length p.groups → IsGreatest p family
+OutsideIsBroken = (p : Parts) (family : ℕ → Bool) (place : ℕ) → place < length p.groups
+    → IsGreatest p family
     → (IsIn p family place → ⊥) → MayBeExclusive p (group_at p place)
     → AllKeep p (IsGroupOfOr p family (group_at p place)) (group_at p place) → ⊥
 

@@ -2,7 +2,7 @@
 use Rattle.std.specs.Prelude.{◌≡◌, ℕ, ◌<◌, Bool, List, length}
 use Rattle.sas_core.specs.declared.parts.Fact.{Fact}
 use Rattle.sas_core.specs.declared.parts.Parts.{Parts}
-use Rattle.sas_grounded.specs.Grounded.{operator_at, group_at}
+use Rattle.sas_core.specs.Grounded.{operator_at, group_at}
 use Rattle.sas_groups.specs.declared.verdict.Verdict.{Verdict}
 use Rattle.sas_groups.specs.declared.verdict.Verdict.TheVariants.{Exclusive, Derived, Initial, Broken}
 use Rattle.sas_groups.specs.Clashes.{Keeps}
@@ -10,12 +10,14 @@ use Rattle.sas_groups.specs.Groups.{IsExclusiveIn, IsOnBasic, MayBeExclusive}
 use Rattle.sas_groups.specs.Families.{IsIn, AllKeep, IsGreatest, IsGroupOfOr}
 
 -- the lowest-numbered operator that doesn't keep the group
-pub record IsFirstBreaking (p : Parts) (Counts : List Fact → Type 0) (group : List Fact) (operator : ℕ) : Type 0 where
+pub record IsFirstBreaking (p : Parts) (Counts : List Fact → Type 0) (group : List Fact)
+    (operator : ℕ) : Type 0 where
   pub exists : operator < length p.operators
   pub breaks : Keeps Counts (operator_at p operator) group → ⊥
   pub first : (lower : ℕ) → lower < operator → Keeps Counts (operator_at p lower) group
 
--- what is said of a group before operators are asked; nothing speaks against it so far where it is exclusive
+-- what is said of a group before operators are asked; nothing speaks against it so far where it is
+-- exclusive
 abbrev pub IsFirstVerdict : Parts → List Fact → Verdict → Type 0
 IsFirstVerdict p group Derived = IsOnBasic p group → ⊥
 IsFirstVerdict p group Initial = IsOnBasic p group × (IsExclusiveIn p.init group → ⊥)
@@ -33,12 +35,13 @@ IsVerdictAlone p group Exclusive = IsOnBasic p group
     × IsExclusiveIn p.init group
     × AllKeep p (λ g. g ≡ group) group
 
--- the joint verdict on the group at this place: derived or initial, as by itself; the groups of the greatest family that
--- is kept jointly are exclusive; any other is broken by the lowest operator that doesn't keep it under that family and
--- the group itself
+-- the joint verdict on the group at this place: derived or initial, as by itself; the groups of the
+-- greatest family that is kept jointly are exclusive; any other is broken by the lowest operator
+-- that doesn't keep it under that family and the group itself
 abbrev pub IsJointVerdict : Parts → ℕ → Verdict → Type 0
 IsJointVerdict p place Derived = IsOnBasic p (group_at p place) → ⊥
-IsJointVerdict p place Initial = IsOnBasic p (group_at p place) × (IsExclusiveIn p.init (group_at p place) → ⊥)
+IsJointVerdict p place Initial = IsOnBasic p (group_at p place)
+    × (IsExclusiveIn p.init (group_at p place) → ⊥)
 IsJointVerdict p place (Broken operator) = (family : ℕ → Bool)
     × IsGreatest p family
     × (IsIn p family place → ⊥)

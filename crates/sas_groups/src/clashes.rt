@@ -1,13 +1,12 @@
 // Which facts clash.
 ghost use Rattle.std.specs.Prelude.{◌<◌, ◌↔◌, length, All, Contains, IsTrue, IsFalse};
-ghost use Rattle.sas_grounded.specs.Grounded.{operator_at};
 ghost use Rattle.sas_groups.specs.Clashes.{Contradict, Clash};
 ghost use Rattle.sas_groups.specs.Checks.{Alone, Has};
-ghost use Rattle.sas_groups.specs.Lists.{known};
+ghost use Rattle.sas_groups.specs.Lists.{known_on};
 
-use crate::known::Known;
-use sas_core::Fact;
-use sas_grounded::Grounded;
+use crate::known::{Known, Premises};
+use sas_core::{Fact, Grounded};
+use sas_meaning::Layered;
 
 /// Whether the fact is one of the facts.
 pub fn contains(facts: &[Fact], fact: Fact) -> bool
@@ -28,22 +27,20 @@ fn contradict(group: &[Fact], f: Fact, g: Fact) -> bool
     }
 }
 
-/// Whether the fact contradicts a precondition of the operator, or one of the facts.
+/// Whether the fact contradicts one that is known.
 fn contradicts_known<T: Grounded>(
-    task: &T,
-    operator: u32,
-    first: &[Fact],
-    second: &[Fact],
+    task: &Layered<T>,
+    premises: &Premises<'_>,
     group: &[Fact],
     f: Fact,
 ) -> bool
-    requires { operator < length (T.says task.now).operators }
-    ensures yes { IsTrue result → Has (Contradict (Alone group.now) f)
-        (known (operator_at (T.says task.now) operator) first.now second.now) }
-    ensures no { IsFalse result → All (λ g. Contradict (Alone group.now) f g → ⊥)
-        (known (operator_at (T.says task.now) operator) first.now second.now) }
+    requires { premises.now.operator < length task.now.operators }
+    ensures yes { IsTrue result
+        → Has (Contradict (Alone group.now) f) (known_on task.now premises.now) }
+    ensures no { IsFalse result
+        → All (λ g. Contradict (Alone group.now) f g → ⊥) (known_on task.now premises.now) }
 {
-    for g in Known::new(task, operator, first, second) {
+    for g in Known::new(task, premises) {
         if contradict(group, f, g) {
             return true;
         }
@@ -51,22 +48,14 @@ fn contradicts_known<T: Grounded>(
     false
 }
 
-/// Whether the operator's preconditions and the facts clash.
-pub fn clash<T: Grounded>(
-    task: &T,
-    operator: u32,
-    first: &[Fact],
-    second: &[Fact],
-    group: &[Fact],
-) -> bool
-    requires { operator < length (T.says task.now).operators }
-    ensures yes { IsTrue result → Clash (Alone group.now)
-        (known (operator_at (T.says task.now) operator) first.now second.now) }
-    ensures no { IsFalse result → Clash (Alone group.now)
-        (known (operator_at (T.says task.now) operator) first.now second.now) → ⊥ }
+/// Whether what is known clashes.
+pub fn clash<T: Grounded>(task: &Layered<T>, premises: &Premises<'_>, group: &[Fact]) -> bool
+    requires { premises.now.operator < length task.now.operators }
+    ensures yes { IsTrue result → Clash (Alone group.now) (known_on task.now premises.now) }
+    ensures no { IsFalse result → Clash (Alone group.now) (known_on task.now premises.now) → ⊥ }
 {
-    for f in Known::new(task, operator, first, second) {
-        if contradicts_known(task, operator, first, second, group, f) {
+    for f in Known::new(task, premises) {
+        if contradicts_known(task, premises, group, f) {
             return true;
         }
     }

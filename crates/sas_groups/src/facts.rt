@@ -27,7 +27,8 @@ impl<'a> Facts<'a> {
         second: Option<&'a Effect>,
         extra: Option<Fact>,
     ) -> Facts<'a>
-        ensures { facts_left result ≡ operator.now.prevail ++ (filter_map old_fact operator.now.effects
+        ensures { facts_left result ≡ operator.now.prevail
+            ++ (filter_map old_fact operator.now.effects
             ++ (conditions_of (option_map (λ e. e.now) first.entry)
             ++ (conditions_of (option_map (λ e. e.now) second.entry) ++ option_to_list extra))) }
     {

@@ -9,8 +9,7 @@ ghost use Rattle.sas_groups.specs.Checks.{Alone, IsOnlyOne};
 
 use crate::keeping::keeps;
 use crate::verdict::Verdict;
-use sas_core::Fact;
-use sas_grounded::Grounded;
+use sas_core::{Fact, Grounded};
 use sas_meaning::Layered;
 
 /// Whether the group is exclusive by itself, its facts alone being known to exclude each other. It takes no memory.
@@ -21,9 +20,8 @@ pub fn check_group<T: Grounded>(layered: &Layered<T>, group: &[Fact]) -> Verdict
     requires { All (FactExists layered.now.variables) group.now }
     ensures { IsVerdictAlone layered.now group.now result }
 {
-    let task = layered.task();
-    match before_operators(task, group) {
-        Verdict::Exclusive => match first_breaking(task, group) {
+    match before_operators(layered, group) {
+        Verdict::Exclusive => match first_breaking(layered, group) {
             Some(operator) => Verdict::Broken { operator },
             None => Verdict::Exclusive,
         },
@@ -32,9 +30,9 @@ pub fn check_group<T: Grounded>(layered: &Layered<T>, group: &[Fact]) -> Verdict
 }
 
 /// What is said of a group before operators are asked: that it is exclusive so far, or what speaks against that.
-pub fn before_operators<T: Grounded>(task: &T, group: &[Fact]) -> Verdict
-    requires { All (λ f. f.var < length (T.says task.now).variables) group.now }
-    ensures { IsFirstVerdict (T.says task.now) group.now result }
+pub fn before_operators<T: Grounded>(task: &Layered<T>, group: &[Fact]) -> Verdict
+    requires { All (λ f. f.var < length task.now.variables) group.now }
+    ensures { IsFirstVerdict task.now group.now result }
 {
     if !is_on_basic(task, group) {
         return Verdict::Derived;
@@ -46,10 +44,10 @@ pub fn before_operators<T: Grounded>(task: &T, group: &[Fact]) -> Verdict
 }
 
 /// Whether all the facts are on basic variables.
-fn is_on_basic<T: Grounded>(task: &T, group: &[Fact]) -> bool
-    requires { All (λ f. f.var < length (T.says task.now).variables) group.now }
-    ensures yes { IsTrue result → IsOnBasic (T.says task.now) group.now }
-    ensures no { IsFalse result → IsOnBasic (T.says task.now) group.now → ⊥ }
+fn is_on_basic<T: Grounded>(task: &Layered<T>, group: &[Fact]) -> bool
+    requires { All (λ f. f.var < length task.now.variables) group.now }
+    ensures yes { IsTrue result → IsOnBasic task.now group.now }
+    ensures no { IsFalse result → IsOnBasic task.now group.now → ⊥ }
 {
     for fact in group {
         if task.layer(fact.var).is_some() {
@@ -60,10 +58,10 @@ fn is_on_basic<T: Grounded>(task: &T, group: &[Fact]) -> bool
 }
 
 /// Whether no two different facts hold in the state section.
-fn is_exclusive_in_section<T: Grounded>(task: &T, group: &[Fact]) -> bool
-    requires { All (λ f. f.var < length (T.says task.now).variables) group.now }
-    ensures yes { IsTrue result → IsExclusiveIn (T.says task.now).init group.now }
-    ensures no { IsFalse result → IsExclusiveIn (T.says task.now).init group.now → ⊥ }
+fn is_exclusive_in_section<T: Grounded>(task: &Layered<T>, group: &[Fact]) -> bool
+    requires { All (λ f. f.var < length task.now.variables) group.now }
+    ensures yes { IsTrue result → IsExclusiveIn task.now.init group.now }
+    ensures no { IsFalse result → IsExclusiveIn task.now.init group.now → ⊥ }
 {
     match first_holding(task, group) {
         Some(fact) => is_only_one(task, group, fact),
@@ -72,10 +70,12 @@ fn is_exclusive_in_section<T: Grounded>(task: &T, group: &[Fact]) -> bool
 }
 
 /// The first fact that holds in the state section.
-fn first_holding<T: Grounded>(task: &T, group: &[Fact]) -> Option<Fact>
-    requires { All (λ f. f.var < length (T.says task.now).variables) group.now }
-    ensures some { IfSome result (λ fact. Contains group.now fact × Holds (slice_index (T.says task.now).init) fact) }
-    ensures none { IfNone result (All (λ fact. Holds (slice_index (T.says task.now).init) fact → ⊥) group.now) }
+fn first_holding<T: Grounded>(task: &Layered<T>, group: &[Fact]) -> Option<Fact>
+    requires { All (λ f. f.var < length task.now.variables) group.now }
+    ensures some { IfSome result
+        (λ fact. Contains group.now fact × Holds (slice_index task.now.init) fact) }
+    ensures none { IfNone result
+        (All (λ fact. Holds (slice_index task.now.init) fact → ⊥) group.now) }
 {
     for fact in group {
         if holds(task, *fact) {
@@ -86,10 +86,10 @@ fn first_holding<T: Grounded>(task: &T, group: &[Fact]) -> Option<Fact>
 }
 
 /// Whether no other fact holds in the state section.
-fn is_only_one<T: Grounded>(task: &T, group: &[Fact], fact: Fact) -> bool
-    requires { All (λ f. f.var < length (T.says task.now).variables) group.now }
-    ensures yes { IsTrue result → All (IsOnlyOne (T.says task.now).init fact) group.now }
-    ensures no { IsFalse result → All (IsOnlyOne (T.says task.now).init fact) group.now → ⊥ }
+fn is_only_one<T: Grounded>(task: &Layered<T>, group: &[Fact], fact: Fact) -> bool
+    requires { All (λ f. f.var < length task.now.variables) group.now }
+    ensures yes { IsTrue result → All (IsOnlyOne task.now.init fact) group.now }
+    ensures no { IsFalse result → All (IsOnlyOne task.now.init fact) group.now → ⊥ }
 {
     for other in group {
         if *other != fact && holds(task, *other) {
@@ -100,17 +100,18 @@ fn is_only_one<T: Grounded>(task: &T, group: &[Fact], fact: Fact) -> bool
 }
 
 /// Whether the fact holds in the state section.
-fn holds<T: Grounded>(task: &T, fact: Fact) -> bool
-    requires { fact.var < length (T.says task.now).variables }
-    ensures { IsTrue result ↔ Holds (slice_index (T.says task.now).init) fact }
+fn holds<T: Grounded>(task: &Layered<T>, fact: Fact) -> bool
+    requires { fact.var < length task.now.variables }
+    ensures { IsTrue result ↔ Holds (slice_index task.now.init) fact }
 {
     task.initial_value(fact.var) == fact.value
 }
 
 /// The first operator that doesn't keep the group.
-fn first_breaking<T: Grounded>(task: &T, group: &[Fact]) -> Option<u32>
-    ensures some { IfSome result (λ operator. IsFirstBreaking (T.says task.now) (Alone group.now) group.now operator) }
-    ensures none { IfNone result (AllKeep (T.says task.now) (Alone group.now) group.now) }
+fn first_breaking<T: Grounded>(task: &Layered<T>, group: &[Fact]) -> Option<u32>
+    ensures some { IfSome result
+        (λ operator. IsFirstBreaking task.now (Alone group.now) group.now operator) }
+    ensures none { IfNone result (AllKeep task.now (Alone group.now) group.now) }
 {
     for operator in 0..task.operators() {
         if !keeps(task, operator, group) {

@@ -1,30 +1,33 @@
 // Which operators keep a group.
 ghost use Rattle.std.specs.Prelude.{◌≡◌, ◌<◌, length, IsTrue, IsFalse};
-ghost use Rattle.sas_grounded.specs.Grounded.{operator_at, effect_at};
+ghost use Rattle.sas_core.specs.Grounded.{operator_at, effect_at};
 ghost use Rattle.sas_groups.specs.Clashes.{Keeps};
 ghost use Rattle.sas_groups.specs.Checks.{Alone, NotBoth, IsGone, OfEffects, IsSingle, RemovesAll};
 
 use crate::clashes::{clash, contains};
+use crate::known::Premises;
 use crate::removal::is_removed;
-use sas_core::Fact;
-use sas_grounded::{Change, Grounded};
+use sas_core::{Fact, Grounded};
+use sas_meaning::Layered;
 
 /// Whether the operator keeps the group.
-pub fn keeps<T: Grounded>(task: &T, operator: u32, group: &[Fact]) -> bool
-    requires { operator < length (T.says task.now).operators }
-    ensures yes { IsTrue result → Keeps (Alone group.now) (operator_at (T.says task.now) operator) group.now }
-    ensures no { IsFalse result → Keeps (Alone group.now) (operator_at (T.says task.now) operator) group.now → ⊥ }
+pub fn keeps<T: Grounded>(task: &Layered<T>, operator: u32, group: &[Fact]) -> bool
+    requires { operator < length task.now.operators }
+    ensures yes { IsTrue result
+        → Keeps (Alone group.now) (operator_at task.now operator) group.now }
+    ensures no { IsFalse result
+        → Keeps (Alone group.now) (operator_at task.now operator) group.now → ⊥ }
 {
     never_sets_two(task, operator, group) && removes_others(task, operator, group)
 }
 
 /// Whether no two effects that may fire together set facts of the group on different variables.
-fn never_sets_two<T: Grounded>(task: &T, operator: u32, group: &[Fact]) -> bool
-    requires { operator < length (T.says task.now).operators }
-    ensures yes { IsTrue result → OfEffects (operator_at (T.says task.now) operator)
-        (IsSingle (Alone group.now) (operator_at (T.says task.now) operator) group.now) }
-    ensures no { IsFalse result → OfEffects (operator_at (T.says task.now) operator)
-        (IsSingle (Alone group.now) (operator_at (T.says task.now) operator) group.now) → ⊥ }
+fn never_sets_two<T: Grounded>(task: &Layered<T>, operator: u32, group: &[Fact]) -> bool
+    requires { operator < length task.now.operators }
+    ensures yes { IsTrue result → OfEffects (operator_at task.now operator)
+        (IsSingle (Alone group.now) (operator_at task.now operator) group.now) }
+    ensures no { IsFalse result → OfEffects (operator_at task.now operator)
+        (IsSingle (Alone group.now) (operator_at task.now operator) group.now) → ⊥ }
 {
     for effect in 0..task.effects(operator) {
         if !is_single(task, operator, group, effect) {
@@ -35,15 +38,17 @@ fn never_sets_two<T: Grounded>(task: &T, operator: u32, group: &[Fact]) -> bool
 }
 
 /// Whether no effect that may fire together with this one sets a fact of the group too, on another variable.
-fn is_single<T: Grounded>(task: &T, operator: u32, group: &[Fact], effect: u32) -> bool
-    requires operator { operator < length (T.says task.now).operators }
-    requires effect { effect < length (operator_at (T.says task.now) operator).effects }
-    ensures yes { IsTrue result → IsSingle (Alone group.now) (operator_at (T.says task.now) operator) group.now
-        (effect_at (operator_at (T.says task.now) operator) effect) }
-    ensures no { IsFalse result → IsSingle (Alone group.now) (operator_at (T.says task.now) operator) group.now
-        (effect_at (operator_at (T.says task.now) operator) effect) → ⊥ }
+fn is_single<T: Grounded>(task: &Layered<T>, operator: u32, group: &[Fact], effect: u32) -> bool
+    requires operator { operator < length task.now.operators }
+    requires effect { effect < length (operator_at task.now operator).effects }
+    ensures yes { IsTrue result
+        → IsSingle (Alone group.now) (operator_at task.now operator) group.now
+        (effect_at (operator_at task.now operator) effect) }
+    ensures no { IsFalse result
+        → IsSingle (Alone group.now) (operator_at task.now operator) group.now
+        (effect_at (operator_at task.now operator) effect) → ⊥ }
 {
-    if !contains(group, sets(task.effect_change(operator, effect))) {
+    if !contains(group, task.effect_change(operator, effect).fact()) {
         return true;
     }
     for other in 0..task.effects(operator) {
@@ -55,39 +60,46 @@ fn is_single<T: Grounded>(task: &T, operator: u32, group: &[Fact], effect: u32) 
 }
 
 /// Whether the other effect never sets a fact of the group on another variable in the same step as this effect fires.
-fn not_both<T: Grounded>(task: &T, operator: u32, group: &[Fact], effect: u32, other: u32) -> bool
-    requires operator { operator < length (T.says task.now).operators }
-    requires effect { effect < length (operator_at (T.says task.now) operator).effects }
-    requires other { other < length (operator_at (T.says task.now) operator).effects }
-    ensures yes { IsTrue result → NotBoth (Alone group.now) (operator_at (T.says task.now) operator) group.now
-        (effect_at (operator_at (T.says task.now) operator) effect)
-        (effect_at (operator_at (T.says task.now) operator) other) }
-    ensures no { IsFalse result → NotBoth (Alone group.now) (operator_at (T.says task.now) operator) group.now
-        (effect_at (operator_at (T.says task.now) operator) effect)
-        (effect_at (operator_at (T.says task.now) operator) other)
+fn not_both<T: Grounded>(
+    task: &Layered<T>,
+    operator: u32,
+    group: &[Fact],
+    effect: u32,
+    other: u32,
+) -> bool
+    requires operator { operator < length task.now.operators }
+    requires effect { effect < length (operator_at task.now operator).effects }
+    requires other { other < length (operator_at task.now operator).effects }
+    ensures yes { IsTrue result
+        → NotBoth (Alone group.now) (operator_at task.now operator) group.now
+        (effect_at (operator_at task.now operator) effect)
+        (effect_at (operator_at task.now operator) other) }
+    ensures no { IsFalse result
+        → NotBoth (Alone group.now) (operator_at task.now operator) group.now
+        (effect_at (operator_at task.now operator) effect)
+        (effect_at (operator_at task.now operator) other)
         → ⊥ }
 {
     let change = task.effect_change(operator, effect);
     let second = task.effect_change(operator, other);
-    if change.var == second.var || !contains(group, sets(second)) {
+    if change.var == second.var || !contains(group, second.fact()) {
         return true;
     }
-    clash(
-        task,
+    let both = Premises {
         operator,
-        task.effect_conditions(operator, effect),
-        task.effect_conditions(operator, other),
-        group,
-    )
+        first: task.effect_conditions(operator, effect),
+        second: task.effect_conditions(operator, other),
+    };
+    clash(task, &both, group)
 }
 
 /// Whether no effect sets a fact of the group while another fact of it stays.
-fn removes_others<T: Grounded>(task: &T, operator: u32, group: &[Fact]) -> bool
-    requires { operator < length (T.says task.now).operators }
-    ensures yes { IsTrue result → OfEffects (operator_at (T.says task.now) operator)
-        (RemovesAll (Alone group.now) (operator_at (T.says task.now) operator) group.now) }
-    ensures no { IsFalse result → OfEffects (operator_at (T.says task.now) operator)
-        (RemovesAll (Alone group.now) (operator_at (T.says task.now) operator) group.now) → ⊥ }
+fn removes_others<T: Grounded>(task: &Layered<T>, operator: u32, group: &[Fact]) -> bool
+    requires { operator < length task.now.operators }
+    ensures yes { IsTrue result → OfEffects (operator_at task.now operator)
+        (RemovesAll (Alone group.now) (operator_at task.now operator) group.now) }
+    ensures no { IsFalse result → OfEffects (operator_at task.now operator)
+        (RemovesAll (Alone group.now) (operator_at task.now operator) group.now) → ⊥ }
 {
     for effect in 0..task.effects(operator) {
         if !removes_all(task, operator, group, effect) {
@@ -98,15 +110,17 @@ fn removes_others<T: Grounded>(task: &T, operator: u32, group: &[Fact]) -> bool
 }
 
 /// Whether no other fact of the group stays where this effect sets one.
-fn removes_all<T: Grounded>(task: &T, operator: u32, group: &[Fact], effect: u32) -> bool
-    requires operator { operator < length (T.says task.now).operators }
-    requires effect { effect < length (operator_at (T.says task.now) operator).effects }
-    ensures yes { IsTrue result → RemovesAll (Alone group.now) (operator_at (T.says task.now) operator) group.now
-        (effect_at (operator_at (T.says task.now) operator) effect) }
-    ensures no { IsFalse result → RemovesAll (Alone group.now) (operator_at (T.says task.now) operator) group.now
-        (effect_at (operator_at (T.says task.now) operator) effect) → ⊥ }
+fn removes_all<T: Grounded>(task: &Layered<T>, operator: u32, group: &[Fact], effect: u32) -> bool
+    requires operator { operator < length task.now.operators }
+    requires effect { effect < length (operator_at task.now operator).effects }
+    ensures yes { IsTrue result
+        → RemovesAll (Alone group.now) (operator_at task.now operator) group.now
+        (effect_at (operator_at task.now operator) effect) }
+    ensures no { IsFalse result
+        → RemovesAll (Alone group.now) (operator_at task.now operator) group.now
+        (effect_at (operator_at task.now operator) effect) → ⊥ }
 {
-    if !contains(group, sets(task.effect_change(operator, effect))) {
+    if !contains(group, task.effect_change(operator, effect).fact()) {
         return true;
     }
     for fact in group {
@@ -118,30 +132,29 @@ fn removes_all<T: Grounded>(task: &T, operator: u32, group: &[Fact], effect: u32
 }
 
 /// Whether this fact doesn't stay where the effect fires, if that is on another variable.
-fn is_gone<T: Grounded>(task: &T, operator: u32, group: &[Fact], effect: u32, fact: Fact) -> bool
-    requires operator { operator < length (T.says task.now).operators }
-    requires effect { effect < length (operator_at (T.says task.now) operator).effects }
-    ensures yes { IsTrue result → IsGone (Alone group.now) (operator_at (T.says task.now) operator)
-        (effect_at (operator_at (T.says task.now) operator) effect) fact }
-    ensures no { IsFalse result → IsGone (Alone group.now) (operator_at (T.says task.now) operator)
-        (effect_at (operator_at (T.says task.now) operator) effect) fact → ⊥ }
+fn is_gone<T: Grounded>(
+    task: &Layered<T>,
+    operator: u32,
+    group: &[Fact],
+    effect: u32,
+    fact: Fact,
+) -> bool
+    requires operator { operator < length task.now.operators }
+    requires effect { effect < length (operator_at task.now operator).effects }
+    ensures yes { IsTrue result → IsGone (Alone group.now) (operator_at task.now operator)
+        (effect_at (operator_at task.now operator) effect) fact }
+    ensures no { IsFalse result → IsGone (Alone group.now) (operator_at task.now operator)
+        (effect_at (operator_at task.now operator) effect) fact → ⊥ }
 {
     let change = task.effect_change(operator, effect);
     if change.var == fact.var {
         return true;
     }
-    let conditions = task.effect_conditions(operator, effect);
     let before = [fact];
-    clash(task, operator, conditions, before.as_slice(), group)
-        || is_removed(task, operator, conditions, before.as_slice(), fact)
-}
-
-/// The fact that the change sets.
-fn sets(change: Change) -> Fact
-    ensures { result ≡ record { var = change.var; value = change.new } }
-{
-    Fact {
-        var: change.var,
-        value: change.new,
-    }
+    let with = Premises {
+        operator,
+        first: task.effect_conditions(operator, effect),
+        second: before.as_slice(),
+    };
+    clash(task, &with, group) || is_removed(task, &with, fact)
 }

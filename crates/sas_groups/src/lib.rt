@@ -12,6 +12,6 @@ mod verdict;
 
 pub use facts::Facts;
 pub use group::{before_operators, check_group};
-pub use known::Known;
+pub use known::{Known, Premises};
 pub use laws::group_laws;
 pub use verdict::Verdict;

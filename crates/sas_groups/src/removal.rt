@@ -1,28 +1,21 @@
 // Whether a fact is removed.
 ghost use Rattle.std.specs.Prelude.{◌<◌, length, All, Contains, IsTrue, IsFalse};
-ghost use Rattle.sas_grounded.specs.Grounded.{operator_at, effect_at};
+ghost use Rattle.sas_core.specs.Grounded.{operator_at, effect_at};
 ghost use Rattle.sas_groups.specs.Clashes.{IsRemoved};
 ghost use Rattle.sas_groups.specs.Checks.{Removes};
-ghost use Rattle.sas_groups.specs.Lists.{known};
+ghost use Rattle.sas_groups.specs.Lists.{known_on};
 
-use crate::known::Known;
-use sas_core::Fact;
-use sas_grounded::Grounded;
+use crate::known::{Known, Premises};
+use sas_core::{Fact, Grounded};
+use sas_meaning::Layered;
 
-/// Whether the fact is a precondition of the operator, or one of the facts.
-fn is_known<T: Grounded>(
-    task: &T,
-    operator: u32,
-    first: &[Fact],
-    second: &[Fact],
-    fact: Fact,
-) -> bool
-    requires { operator < length (T.says task.now).operators }
-    ensures yes { IsTrue result → Contains (known (operator_at (T.says task.now) operator) first.now second.now) fact }
-    ensures no { IsFalse result
-        → Contains (known (operator_at (T.says task.now) operator) first.now second.now) fact → ⊥ }
+/// Whether the fact is known.
+fn is_known<T: Grounded>(task: &Layered<T>, premises: &Premises<'_>, fact: Fact) -> bool
+    requires { premises.now.operator < length task.now.operators }
+    ensures yes { IsTrue result → Contains (known_on task.now premises.now) fact }
+    ensures no { IsFalse result → Contains (known_on task.now premises.now) fact → ⊥ }
 {
-    for g in Known::new(task, operator, first, second) {
+    for g in Known::new(task, premises) {
         if g == fact {
             return true;
         }
@@ -31,21 +24,14 @@ fn is_known<T: Grounded>(
 }
 
 /// Whether all the conditions are known.
-fn all_known<T: Grounded>(
-    task: &T,
-    operator: u32,
-    first: &[Fact],
-    second: &[Fact],
-    conditions: &[Fact],
-) -> bool
-    requires { operator < length (T.says task.now).operators }
-    ensures yes { IsTrue result
-        → All (Contains (known (operator_at (T.says task.now) operator) first.now second.now)) conditions.now }
+fn all_known<T: Grounded>(task: &Layered<T>, premises: &Premises<'_>, conditions: &[Fact]) -> bool
+    requires { premises.now.operator < length task.now.operators }
+    ensures yes { IsTrue result → All (Contains (known_on task.now premises.now)) conditions.now }
     ensures no { IsFalse result
-        → All (Contains (known (operator_at (T.says task.now) operator) first.now second.now)) conditions.now → ⊥ }
+        → All (Contains (known_on task.now premises.now)) conditions.now → ⊥ }
 {
     for condition in conditions {
-        if !is_known(task, operator, first, second, *condition) {
+        if !is_known(task, premises, *condition) {
             return false;
         }
     }
@@ -53,21 +39,15 @@ fn all_known<T: Grounded>(
 }
 
 /// Whether an effect of the operator whose conditions are all known sets the variable of the fact to another value.
-pub fn is_removed<T: Grounded>(
-    task: &T,
-    operator: u32,
-    first: &[Fact],
-    second: &[Fact],
-    fact: Fact,
-) -> bool
-    requires { operator < length (T.says task.now).operators }
-    ensures yes { IsTrue result → IsRemoved (operator_at (T.says task.now) operator)
-        (known (operator_at (T.says task.now) operator) first.now second.now) fact }
-    ensures no { IsFalse result → IsRemoved (operator_at (T.says task.now) operator)
-        (known (operator_at (T.says task.now) operator) first.now second.now) fact → ⊥ }
+pub fn is_removed<T: Grounded>(task: &Layered<T>, premises: &Premises<'_>, fact: Fact) -> bool
+    requires { premises.now.operator < length task.now.operators }
+    ensures yes { IsTrue result → IsRemoved (operator_at task.now premises.now.operator)
+        (known_on task.now premises.now) fact }
+    ensures no { IsFalse result → IsRemoved (operator_at task.now premises.now.operator)
+        (known_on task.now premises.now) fact → ⊥ }
 {
-    for effect in 0..task.effects(operator) {
-        if removes(task, operator, first, second, effect, fact) {
+    for effect in 0..task.effects(premises.operator) {
+        if removes(task, premises, effect, fact) {
             return true;
         }
     }
@@ -75,30 +55,21 @@ pub fn is_removed<T: Grounded>(
 }
 
 /// Whether the effect's conditions are all known, and it sets the variable of the fact to another value.
-fn removes<T: Grounded>(
-    task: &T,
-    operator: u32,
-    first: &[Fact],
-    second: &[Fact],
-    effect: u32,
-    fact: Fact,
-) -> bool
-    requires operator { operator < length (T.says task.now).operators }
-    requires effect { effect < length (operator_at (T.says task.now) operator).effects }
-    ensures yes { IsTrue result → Removes (known (operator_at (T.says task.now) operator) first.now second.now)
-        (effect_at (operator_at (T.says task.now) operator) effect) fact }
-    ensures no { IsFalse result → Removes (known (operator_at (T.says task.now) operator) first.now second.now)
-        (effect_at (operator_at (T.says task.now) operator) effect) fact → ⊥ }
+fn removes<T: Grounded>(task: &Layered<T>, premises: &Premises<'_>, effect: u32, fact: Fact) -> bool
+    requires operator { premises.now.operator < length task.now.operators }
+    requires effect { effect < length (operator_at task.now premises.now.operator).effects }
+    ensures yes { IsTrue result → Removes (known_on task.now premises.now)
+        (effect_at (operator_at task.now premises.now.operator) effect) fact }
+    ensures no { IsFalse result → Removes (known_on task.now premises.now)
+        (effect_at (operator_at task.now premises.now.operator) effect) fact → ⊥ }
 {
-    let change = task.effect_change(operator, effect);
+    let change = task.effect_change(premises.operator, effect);
     if change.var != fact.var || change.new == fact.value {
         return false;
     }
     all_known(
         task,
-        operator,
-        first,
-        second,
-        task.effect_conditions(operator, effect),
+        premises,
+        task.effect_conditions(premises.operator, effect),
     )
 }

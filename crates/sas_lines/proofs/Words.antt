@@ -8,7 +8,7 @@ use Rattle.std.proofs.lemmas.Fmt.{digits_decimal, decimal_injective}
 use Rattle.std.proofs.lemmas.Str.Parse.{digit_from_value}
 use Rattle.sas_lines.specs.Parts.{Without, onto_first, parts}
 use Rattle.sas_lines.specs.Lines.{NoEnd}
-use Rattle.sas_core.specs.Numbers.{IsNumber, IsSigned}
+use Rattle.std.specs.Prelude.{IfSome}
 use Rattle.sas_lines.specs.Spelling.{signed_decimal, joined}
 use Rattle.sas_lines.proofs.Separated.{parts-first, parts-only, parts-some}
 use Rattle.sas_lines.proofs.Splitting.{Plain, without_return-none}
@@ -70,10 +70,10 @@ NoEnd-decimal n h = Without-decimal 10 n (omega arith) h
 pub Plain-decimal : (n : ℕ) → n < 2 ^ 64 → Plain (decimal n)
 Plain-decimal n h = record { no_end = NoEnd-decimal n h; no_return = without_return-none (decimal n) (Without-decimal 13 n (omega arith) h) }
 
-pub NoSpace-number : (n : ℕ) → IsNumber n → NoSpace (decimal n)
+pub NoSpace-number : (n : ℕ) → n < 2 ^ 31 → NoSpace (decimal n)
 NoSpace-number n h = NoSpace-decimal n (omega arith)
 
-pub NoSpace-signed : (n : Option ℕ) → IsSigned n → NoSpace (signed_decimal n)
+pub NoSpace-signed : (n : Option ℕ) → IfSome n (λ k. k < 2 ^ 31) → NoSpace (signed_decimal n)
 NoSpace-signed None h = (omega arith, (omega arith, tt))
 NoSpace-signed (Some n) h = NoSpace-number n h
 
@@ -87,7 +87,7 @@ no_minus (d ∷ ds) more h e = let r = digit_from_value d h.0 in let k : d ≡ 4
 pub decimal_no_minus : (n : ℕ) (more : List ℕ) → n < 2 ^ 64 → decimal n ≡ 45 ∷ more → ⊥
 decimal_no_minus n more h e = no_minus (decimal n) more (digits_decimal own n h) e
 
-pub same_signed : (m n : Option ℕ) → IsSigned m → IsSigned n → signed_decimal m ≡ signed_decimal n → m ≡ n
+pub same_signed : (m n : Option ℕ) → IfSome m (λ k. k < 2 ^ 31) → IfSome n (λ k. k < 2 ^ 31) → signed_decimal m ≡ signed_decimal n → m ≡ n
 same_signed None None f g e = refl
 same_signed None (Some n) f g e = absurd (decimal_no_minus n _ (omega arith) (sym e))
 same_signed (Some m) None f g e = absurd (decimal_no_minus m _ (omega arith) e)

@@ -4,7 +4,8 @@ use Rattle.sas_lines.specs.declared.inputs.Opened.{Opened}
 use Rattle.sas_lines.specs.declared.inputs.Opened.TheVariants as opened
 
 -- what an input has left: what its file or its standard input has, or nothing
-abbrev pub left_of : {F I : Type 0} → (F → Option (List ℕ)) → (I → Option (List ℕ)) → Opened F I → Option (List ℕ)
+abbrev pub left_of : {F I : Type 0} → (F → Option (List ℕ)) → (I → Option (List ℕ)) → Opened F I
+    → Option (List ℕ)
 left_of of_file of_standard (opened.File file) = of_file file
 left_of of_file of_standard (opened.Standard input) = of_standard input
 left_of of_file of_standard opened.Nothing = Some []

@@ -4,7 +4,8 @@ use Rattle.std.specs.Prelude.{List, [], ◌∷◌, ◌++◌, length, take}
 use Rattle.std.specs.List.{flat_map, AllByRecursion}
 use Rattle.sas_lines.specs.Parts.{parts}
 
--- a line without its line end, from what stands before its LF: one CR directly before the LF belongs to the end
+-- a line without its line end, from what stands before its LF: one CR directly before the LF
+-- belongs to the end
 abbrev pub without_return : List ℕ → List ℕ
 without_return [] = []
 without_return (b ∷ []) = if b == 13 then [] else b ∷ []

@@ -19,12 +19,13 @@ abbrev pub onto_first : ℕ → List (List ℕ) → List (List ℕ)
 onto_first byte [] = (byte ∷ []) ∷ []
 onto_first byte (part ∷ parts) = (byte ∷ part) ∷ parts
 
--- the parts of the bytes before, between and behind the separators, in order: k separators give k + 1 parts, some
--- perhaps empty
+-- the parts of the bytes before, between and behind the separators, in order: k separators give
+-- k + 1 parts, some perhaps empty
 unfoldable pub parts : ℕ → List ℕ → List (List ℕ)
 parts separator [] = [] ∷ []
 parts separator (byte ∷ bytes) =
-    if byte == separator then [] ∷ parts separator bytes else onto_first byte (parts separator bytes)
+    if byte == separator then [] ∷ parts separator bytes
+    else onto_first byte (parts separator bytes)
 
 -- the parts of the bytes that may be there
 abbrev pub parts_within : ℕ → Option (Bor (List ℕ)) → List (List ℕ)

@@ -1,5 +1,5 @@
--- How numbers are spelled, alone and several on a line. `decimal n` is the digit of n below 10, else `decimal (n / 10)`
--- and then the digit of n % 10.
+-- How numbers are spelled, alone and several on a line. `decimal n` is the digit of n below 10,
+-- else `decimal (n / 10)` and then the digit of n % 10.
 use Rattle.std.specs.Prelude.{◌≡◌, ℕ, ◌+◌, ◌/◌, ◌%◌, ◌^◌, ◌<◌, ◌≤◌, List, [], ◌∷◌, ◌++◌, Option, Some, None, codes}
 use Rattle.std.specs.Fmt.{decimal}
 
@@ -14,8 +14,8 @@ joined [] = []
 joined (word ∷ []) = word
 joined (word ∷ next ∷ words) = word ++ 32 ∷ joined (next ∷ words)
 
--- `decimal` in plain recursion, at every number of 128 bits: one digit below 10, else the decimal of a tenth and one
--- digit more
+-- `decimal` in plain recursion, at every number of 128 bits: one digit below 10, else the decimal
+-- of a tenth and one digit more
 abbrev pub SpellingIsDecimal : Type 0
 SpellingIsDecimal =
     ((n : ℕ) → n < 10 → decimal n ≡ (48 + n) ∷ [])

@@ -72,7 +72,8 @@ impl<R: Read> Watched<R> {
     pub fn take(&mut self, buffer: &mut [u8]) -> Result<usize, Failed>
         requires { self.old.failed ≡ false }
         ensures bound { IfOk result (λ n. n ≤ length buffer.new) }
-        ensures bytes { ReadConsumes (R.remaining self.old.device) (R.remaining self.new.device) result buffer.new }
+        ensures bytes { ReadConsumes (R.remaining self.old.device) (R.remaining self.new.device)
+            result buffer.new }
         ensures note { IsErr result ↔ IsTrue self.new.failed }
     {
         match self.device.read(buffer) {
@@ -89,7 +90,8 @@ impl<W: Write> Watched<W> {
         requires { self.old.failed ≡ false }
         ensures bound { IfOk result (λ n. n ≤ length bytes.now) }
         ensures some { IfOk result (λ n. 0 < length bytes.now → 0 < n) }
-        ensures bytes { WriteAppends (W.contents self.old.device) (W.contents self.new.device) result bytes.now }
+        ensures bytes { WriteAppends (W.contents self.old.device) (W.contents self.new.device)
+            result bytes.now }
         ensures note { IsErr result ↔ IsTrue self.new.failed }
     {
         match self.device.write(bytes) {
@@ -104,9 +106,11 @@ impl<W: Write> Watched<W> {
 #[tactic(auto, using(crate::proofs::Sent::sent_more))]
 pub fn write_out<W: Write>(out: &mut Watched<W>, bytes: &[u8]) -> Result<(), Short>
     requires { out.old.failed ≡ false }
-    ensures ok { OnOk result (Appends (W.contents out.old.device) (W.contents out.new.device) bytes.now) }
+    ensures ok { OnOk result (Appends (W.contents out.old.device) (W.contents out.new.device)
+        bytes.now) }
     ensures short { IfErr result (λ e. (e.written < length bytes.now)
-        × Appends (W.contents out.old.device) (W.contents out.new.device) (take e.written bytes.now)) }
+        × Appends (W.contents out.old.device) (W.contents out.new.device)
+        (take e.written bytes.now)) }
     ensures note { IsErr result ↔ IsTrue out.new.failed }
     ensures none { bytes.now ≡ [] → out.new ≡ out.old }
 {

@@ -105,12 +105,14 @@ impl Lines {
         ensures taken { IfOk result (λ fed. TakesLine piece.now fed.taken fed.complete) }
         // What was pending and what was taken are together the completed line and its end, or what is pending now.
         ensures lines { IfOk result
-            (λ fed. lines (self.old.pending ++ take fed.taken piece.now) ≡ completed fed.complete self.new.line) }
+            (λ fed. lines (self.old.pending ++ take fed.taken piece.now)
+            ≡ completed fed.complete self.new.line) }
         ensures pending { IfOk result
             (λ fed. unfinished (self.old.pending ++ take fed.taken piece.now) ≡ self.new.pending) }
         ensures complete { IfOk result (λ fed. fed.complete ≡ true → self.new.pending ≡ []) }
         ensures incomplete { IfOk result (λ fed. fed.complete ≡ false → self.new.line ≡ []) }
-        ensures refused { OnErr result (self.new ≡ record { line = []; pending = self.old.pending }) }
+        ensures refused { OnErr result (self.new
+            ≡ record { line = []; pending = self.old.pending }) }
     {
         let_line_go(&mut self.held, self.complete);
         self.complete = false;

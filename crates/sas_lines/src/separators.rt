@@ -6,7 +6,8 @@ use memchr::memchr;
 
 /// The place of the first separator.
 pub(crate) fn first_place(separator: u8, bytes: &[u8]) -> Option<usize>
-    ensures { MatchOption result (Without separator bytes.now) (λ place. StandsFirst separator bytes.now place) }
+    ensures { MatchOption result (Without separator bytes.now)
+        (λ place. StandsFirst separator bytes.now place) }
 {
     memchr(separator, bytes)
 }

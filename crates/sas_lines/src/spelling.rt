@@ -1,11 +1,7 @@
 // Numbers from their spelling.
 ghost use Rattle.std.specs.Prelude.{◌≡◌, ◌<◌, ◌≤◌, ◌^◌, ◌↔◌, ℕ, Option, Some, None};
 ghost use Rattle.std.specs.Prelude.{IfSome, IfNone, IsTrue, length, slice_index, decimal};
-ghost use Rattle.sas_core.specs.Numbers.{IsNumber, IsSigned, IsPlanCost};
 ghost use Rattle.sas_lines.specs.Spelling.{SpellingIsDecimal, signed_decimal};
-
-/// No number of a task file is as large.
-const NUMBER_LIMIT: u64 = 1 << 31;
 
 /// Whether more digits stand behind a zero at the front.
 fn has_leading_zero(digits: &[u8]) -> bool
@@ -35,14 +31,14 @@ fn short_number(digits: &[u8]) -> Option<u64>
 
 /// The number that the line spells: decimal digits without sign or leading zero, at most 2,147,483,647.
 pub fn number(line: &[u8]) -> Option<u32>
-    ensures found { IfSome result (λ n. IsNumber n × (line.now ≡ decimal n)) }
-    ensures none { IfNone result ((n : ℕ) → IsNumber n → line.now ≡ decimal n → ⊥) }
+    ensures found { IfSome result (λ n. (n < 2 ^ 31) × (line.now ≡ decimal n)) }
+    ensures none { IfNone result ((n : ℕ) → n < 2 ^ 31 → line.now ≡ decimal n → ⊥) }
 {
     if line.len() > 10 {
         return None;
     }
     let value = short_number(line)?;
-    if value < NUMBER_LIMIT {
+    if value <= i32::MAX as u64 {
         Some(value as u32)
     } else {
         None
@@ -51,8 +47,10 @@ pub fn number(line: &[u8]) -> Option<u32>
 
 /// The signed number that the line spells: a number, or `-1` for none.
 pub fn signed(line: &[u8]) -> Option<Option<u32>>
-    ensures found { IfSome result (λ n. IsSigned n × (line.now ≡ signed_decimal n)) }
-    ensures none { IfNone result ((n : Option ℕ) → IsSigned n → line.now ≡ signed_decimal n → ⊥) }
+    ensures found { IfSome result (λ n. IfSome n (λ k. k < 2 ^ 31)
+        × (line.now ≡ signed_decimal n)) }
+    ensures none { IfNone result ((n : Option ℕ) → IfSome n (λ k. k < 2 ^ 31)
+        → line.now ≡ signed_decimal n → ⊥) }
 {
     if line == b"-1".as_slice() {
         return Some(None);
@@ -62,8 +60,8 @@ pub fn signed(line: &[u8]) -> Option<Option<u32>>
 
 /// The plan cost that the line spells: decimal digits without sign or leading zero, at most 18,446,744,073,709,551,615.
 pub fn cost(line: &[u8]) -> Option<u64>
-    ensures found { IfSome result (λ n. IsPlanCost n × (line.now ≡ decimal n)) }
-    ensures none { IfNone result ((n : ℕ) → IsPlanCost n → line.now ≡ decimal n → ⊥) }
+    ensures found { IfSome result (λ n. (n < 2 ^ 64) × (line.now ≡ decimal n)) }
+    ensures none { IfNone result ((n : ℕ) → n < 2 ^ 64 → line.now ≡ decimal n → ⊥) }
 {
     if line.len() < 20 {
         return short_number(line);

@@ -39,12 +39,14 @@ impl<'a> Read for Breaks<'a> {
         ensures bound { ReadsAtMost result buf.new }
         ensures bytes { ReadConsumes (Some self.old.bytes) (Some self.new.bytes) result buf.new }
         // As many as there are and as there is room for.
-        ensures count { (self.old.bytes ≡ [] → ⊥) → result ≡ Ok (min (length self.old.bytes) (length buf.old)) }
+        ensures count { (self.old.bytes ≡ [] → ⊥)
+            → result ≡ Ok (min (length self.old.bytes) (length buf.old)) }
         ensures copied { IfOk result (λ n. buf.new ≡ take n self.old.bytes ++ drop n buf.old) }
         ensures rest { IfOk result (λ n.
-            self.new ≡ record { bytes = drop n self.old.bytes; interrupted = self.old.interrupted }) }
+            self.new ≡ record self.old { bytes = drop n self.old.bytes }) }
         // It fails when all bytes were given, and changes nothing then.
-        ensures fails { self.old.bytes ≡ [] → IsErrAnd result (λ e. error_kind e ≡ break_kind self.old.interrupted) }
+        ensures fails { self.old.bytes ≡ [] → IsErrAnd result
+            (λ e. error_kind e ≡ break_kind self.old.interrupted) }
         ensures unchanged { OnErr result (self.new ≡ self.old) }
         ensures untouched { OnErr result (buf.new ≡ buf.old) }
     {
@@ -75,7 +77,12 @@ impl Model for Narrow {
 
     ghost Value = { Narrowed };
 
-    ghost view = { λ n. record { kept = n.kept.items; piece = n.piece; room = n.room; fails = n.fails } };
+    ghost view = { λ n. record {
+      kept = n.kept.items;
+      piece = n.piece;
+      room = n.room;
+      fails = n.fails;
+    } };
 
     // No write asks for memory.
     ghost invariant = { λ n. (length n.kept.items ≤ n.room) × (n.room ≤ vec_capacity n.kept) };
@@ -85,7 +92,8 @@ impl Narrow {
     /// Takes at most `piece` bytes at a time, and `room` in all. It then fails if `fails`, and else takes none. An
     /// `Err` comes only for want of memory.
     pub fn new(alloc: Global, piece: usize, room: usize, fails: bool) -> Result<Narrow, AllocError>
-        ensures { IfOk result (λ n. n ≡ record { kept = []; piece = piece; room = room; fails = fails }) }
+        ensures { IfOk result (λ n.
+            n ≡ record { kept = []; piece = piece; room = room; fails = fails }) }
     {
         Ok(Narrow {
             kept: Vec::with_capacity(alloc, room)?,
@@ -109,8 +117,10 @@ impl Write for Narrow {
     fn write(&mut self, buf: &[u8]) -> io::Result<usize>
         ensures bound { WritesAtMost result buf.now }
         ensures bytes { WriteAppends (Some self.old.kept) (Some self.new.kept) result buf.now }
-        ensures count { (IsSpent self.old → ⊥) → result ≡ Ok (count_taken self.old (length buf.now)) }
-        ensures kept { IfOk result (λ n. self.new ≡ record self.old { kept = self.old.kept ++ take n buf.now }) }
+        ensures count { (IsSpent self.old → ⊥)
+            → result ≡ Ok (count_taken self.old (length buf.now)) }
+        ensures kept { IfOk result (λ n.
+            self.new ≡ record self.old { kept = self.old.kept ++ take n buf.now }) }
         ensures fails { IsSpent self.old → IsErrAnd result (λ e. error_kind e ≡ ErrorKind.Other) }
         ensures unchanged { OnErr result (self.new ≡ self.old) }
     {

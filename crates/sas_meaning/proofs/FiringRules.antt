@@ -1,12 +1,12 @@
 -- A rule that can fire: the tests of it by what is known of the rules before it, and which of its checks is the first to fail.
 use Rattle.std.proofs.Common.{◌≡◌, ◌∙◌, ℕ, zero, suc, ◌+◌, ◌<◌, ◌==◌, Bool, true, false, List, [], ◌∷◌, ◌++◌, length, take, slice_index, slice_index_or, slice_set, Option, Some, None, refl, sym, ap, subst, arith}
 use Rattle.std.specs.Option.{option_map_or}
-use Rattle.sas_grounded.specs.declared.grounded.Change.{Change}
+use Rattle.sas_core.specs.declared.grounded.Change.{Change}
 use Rattle.sas_core.specs.declared.parts.Rule.{Rule}
 use Rattle.sas_core.specs.declared.parts.Variable.{Variable}
 use Rattle.sas_core.specs.declared.parts.Parts.{Parts}
 use Rattle.sas_core.specs.Checks.{Check, first_fault, check}
-use Rattle.sas_grounded.specs.Grounded.{rule_at, rule_change}
+use Rattle.sas_core.specs.Grounded.{rule_at, rule_change}
 use Rattle.sas_core.specs.Variables.{range_of}
 use Rattle.sas_core.specs.WellRanged.{RuleFits, WellRanged}
 use Rattle.sas_core.proofs.FirstFaults.{fails_before, decides_after}

@@ -8,53 +8,15 @@ use Rattle.sas_core.specs.declared.parts.Effect.{Effect}
 use Rattle.sas_core.specs.declared.parts.Operator.{Operator}
 use Rattle.sas_core.specs.declared.parts.Rule.{Rule}
 use Rattle.sas_core.specs.declared.parts.Parts.{Parts}
+use Rattle.sas_core.proofs.Passing.{Pass, by_test, split_row, join_row, and_then}
 use Rattle.sas_core.specs.Checks.{Check, first_fault, check}
-use Rattle.sas_grounded.specs.Grounded.{rule_at}
+use Rattle.sas_core.specs.Grounded.{rule_at}
 use Rattle.sas_core.specs.Variables.{layer_of, IsDerived}
 use Rattle.sas_meaning.specs.declared.layered.LayerFault.{LayerFault}
 use Rattle.sas_meaning.specs.declared.layered.LayerFault.TheVariants.{EffectOnDerived, RuleOnBasic, OldValue, TwoValues, LayerOrder}
 use Rattle.sas_meaning.specs.Layers.{IsBasic, default_of, CanFire, can_fire, LooksDown, IsLayeredRule, IsLayered}
 use Rattle.sas_meaning.specs.LayerChecks.{numbered, effect_checks, operator_checks, agrees_with, looks_down, firing_checks, rule_checks, layer_checks, LayerChecksAreTheRules}
 use Rattle.sas_meaning.proofs.RuleTests.{fires, agrees_with_earlier}
-
--- no check of these fails
-record Pass (row : List (Check LayerFault)) : Type 0 where
-  pub none : first_fault row ≡ None
-
-check_passes : (passes : Bool) (e : LayerFault) → Pass (check passes e) → passes ≡ true
-check_passes true e pass = refl
-check_passes false e pass = let impossible : Some e ≡ None = pass.none in absurd (cc)
-
-passing_check : (passes : Bool) (e : LayerFault) → passes ≡ true → Pass (check passes e)
-passing_check true e is = record { none = refl }
-passing_check false e is = absurd (cc)
-
--- a test that decides a rule, as a check
-by_test : (passes : Bool) (e : LayerFault) (P : Type 0) → (passes ≡ true) ↔ P → Pass (check passes e) ↔ P
-by_test passes e P same = (λ pass. same.0 (check_passes passes e pass), λ p. passing_check passes e (same.1 p))
-
-both_none : (passes : Bool) (e : LayerFault) (x y both : Option LayerFault) → (both ≡ None → (x ≡ None) × (y ≡ None)) → (if passes then both else Some e) ≡ None → ((if passes then x else Some e) ≡ None) × (y ≡ None)
-both_none true e x y both split none = split none
-both_none false e x y both split none = absurd (cc)
-
-none_in_both : (passes : Bool) (e : LayerFault) (x both : Option LayerFault) → (x ≡ None → both ≡ None) → (if passes then x else Some e) ≡ None → (if passes then both else Some e) ≡ None
-none_in_both true e x both join none = join none
-none_in_both false e x both join none = absurd (cc)
-
-split_row : (a b : List (Check LayerFault)) → first_fault (a ++ b) ≡ None → (first_fault a ≡ None) × (first_fault b ≡ None)
-split_row [] b none = (refl, none)
-split_row (c ∷ a) b none = both_none c.passes c.fault (first_fault a) (first_fault b) (first_fault (a ++ b)) (split_row a b) none
-
-join_row : (a b : List (Check LayerFault)) → first_fault a ≡ None → first_fault b ≡ None → first_fault (a ++ b) ≡ None
-join_row [] b a_none b_none = b_none
-join_row (c ∷ a) b a_none b_none = none_in_both c.passes c.fault (first_fault a) (first_fault (a ++ b)) (λ none. join_row a b none b_none) a_none
-
--- some checks, and others behind them
-and_then : (a b : List (Check LayerFault)) (P Q : Type 0) → Pass a ↔ P → Pass b ↔ Q → Pass (a ++ b) ↔ (P × Q)
-and_then a b P Q first second = (
-  λ pass. (first.0 (record { none = (split_row a b pass.none).0 }), second.0 (record { none = (split_row a b pass.none).1 })),
-  λ p. record { none = join_row a b (first.1 p.0).none (second.1 p.1).none },
-)
 
 -- checks that are made only where a test says so
 where_so : (so : Bool) (row : List (Check LayerFault)) (C P : Type 0) → (so ≡ true) ↔ C → Pass row ↔ P → Pass (if so then row else []) ↔ (C → P)

@@ -5,7 +5,7 @@ use Rattle.std.proofs.lemmas.List.Sums.{AllPass-from_list_all, list_all-from_All
 use Rattle.std.specs.List.{AllPass, list_all}
 use Rattle.sas_core.specs.declared.parts.Rule.{Rule}
 use Rattle.sas_core.specs.declared.parts.Parts.{Parts}
-use Rattle.sas_grounded.specs.Grounded.{rule_at}
+use Rattle.sas_core.specs.Grounded.{rule_at}
 use Rattle.sas_meaning.specs.Layers.{CanFire, can_fire}
 use Rattle.sas_meaning.specs.LayerChecks.{agrees_with}
 

@@ -9,7 +9,8 @@ use Rattle.sas_meaning.specs.Settled.{new_value_of, IsClosed, differs}
 -- on this layer a variable differs from its default only if every closed set has it,
 -- and then it has its rules' new value
 pub record OnlyForced (t : Parts) (layer : ℕ) (s : List ℕ) : Type 0 where
-  pub new : (v : ℕ) → IsOnLayer t layer v → IsTrue (differs t s v) → slice_index s v ≡ new_value_of t v
+  pub new : (v : ℕ) → IsOnLayer t layer v → IsTrue (differs t s v)
+      → slice_index s v ≡ new_value_of t v
   pub least : (set : ℕ → Bool) → IsClosed t layer s set
       → (v : ℕ) → IsOnLayer t layer v → IsTrue (differs t s v) → IsTrue (set v)
 

@@ -28,4 +28,5 @@ InitialIsOne = (p : Parts) (a b : List ℕ) → IsLayered p → IsInitial p a �
 
 -- a step of an operator leads to one state at most
 abbrev pub StepIsOne : Type 0
-StepIsOne = (p : Parts) (s : List ℕ) (o : Operator) (a b : List ℕ) → IsLayered p → Step p s o a → Step p s o b → a ≡ b
+StepIsOne = (p : Parts) (s : List ℕ) (o : Operator) (a b : List ℕ) → IsLayered p → Step p s o a
+    → Step p s o b → a ≡ b

@@ -16,7 +16,8 @@ use Rattle.sas_meaning.specs.declared.layered.LayerFault.TheVariants.{OldValue, 
 use Rattle.sas_meaning.specs.Layers.{default_of, can_fire, IsLayered}
 
 -- the checks of each item in turn, which is named by its place
-abbrev pub numbered : {A : Type 0} → (ℕ → A → List (Check LayerFault)) → List A → List (Check LayerFault)
+abbrev pub numbered : {A : Type 0} → (ℕ → A → List (Check LayerFault)) → List A
+    → List (Check LayerFault)
 numbered checks_of items = flat_map (λ (place, item). checks_of place item) (enumerate_from 0 items)
 
 -- ---- operators
@@ -33,13 +34,15 @@ operator_checks p operator o = numbered (effect_checks p operator) o.effects
 -- whether no earlier rule of the variable that can fire has another new value
 abbrev pub agrees_with : Parts → List Rule → Rule → Bool
 agrees_with p earlier rule =
-    list_all (λ (other : Rule). not ((other.var == rule.var) && can_fire p other) || (other.new == rule.new)) earlier
+    list_all (λ (other : Rule). not ((other.var == rule.var) && can_fire p other)
+    || (other.new == rule.new)) earlier
 
 -- whether a condition of a rule for this variable looks down
 abbrev pub looks_down : Parts → ℕ → Fact → Bool
 looks_down p var condition =
     option_map_or (λ here.
-    option_map_or (λ its. if condition.value == default_of p condition.var then nat_lt its here else nat_le its here)
+    option_map_or (λ its.
+    if condition.value == default_of p condition.var then nat_lt its here else nat_le its here)
     (layer_of p.variables condition.var) true)
     (layer_of p.variables var) true
 
@@ -48,7 +51,8 @@ abbrev pub firing_checks : Parts → ℕ → Rule → List (Check LayerFault)
 firing_checks p place rule =
     check (option_map_or (λ old. old == default_of p rule.var) rule.old true) (OldValue place)
     ++ check (agrees_with p (take place p.rules) rule) (TwoValues place)
-    ++ numbered (λ condition c. check (looks_down p rule.var c) (LayerOrder place condition)) rule.conditions
+    ++ numbered (λ condition c. check (looks_down p rule.var c) (LayerOrder place condition))
+    rule.conditions
 
 abbrev pub rule_checks : Parts → ℕ → Rule → List (Check LayerFault)
 rule_checks p place rule =

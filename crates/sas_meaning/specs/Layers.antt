@@ -1,4 +1,5 @@
--- Which tasks are layered: those in which the basic values decide the derived ones, layer after layer.
+-- Which tasks are layered: those in which the basic values decide the derived ones, layer after
+-- layer.
 use Rattle.std.specs.Prelude.{◌≡◌, ◌≢◌, ℕ, ◌<◌, ◌≤◌, ◌==◌, Bool, not, Some, None, All, slice_index}
 use Rattle.sas_core.specs.declared.parts.Fact.{Fact}
 use Rattle.sas_core.specs.declared.parts.Effect.{Effect}
@@ -25,8 +26,8 @@ CanFire p rule = rule.new ≢ default_of p rule.var
 abbrev pub can_fire : Parts → Rule → Bool
 can_fire p rule = not (rule.new == default_of p rule.var)
 
--- a condition of a rule for this variable, where it is on a derived variable: that is on the same layer or on a lower
--- one, and on a lower one where its default is asked for
+-- a condition of a rule for this variable, where it is on a derived variable: that is on the same
+-- layer or on a lower one, and on a lower one where its default is asked for
 abbrev pub LooksDown : Parts → ℕ → Fact → Type 0
 LooksDown p var condition = (here its : ℕ) → IsOnLayer p here var → IsOnLayer p its condition.var
     → (its ≤ here) × (condition.value ≡ default_of p condition.var → its < here)
@@ -36,7 +37,8 @@ pub record IsLayeredRule (p : Parts) (rule : Rule) : Type 0 where
   -- its old value is none or the default
   pub old : (value : ℕ) → rule.old ≡ Some value → value ≡ default_of p rule.var
   -- all rules of its variable that can fire have its new value
-  pub one_value : All (λ (other : Rule). CanFire p other → other.var ≡ rule.var → other.new ≡ rule.new) p.rules
+  pub one_value : All (λ (other : Rule). CanFire p other → other.var ≡ rule.var
+      → other.new ≡ rule.new) p.rules
   -- its conditions look down
   pub order : All (LooksDown p rule.var) rule.conditions
 

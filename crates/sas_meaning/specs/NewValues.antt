@@ -1,7 +1,7 @@
 -- What the check of layers knows of the rules before the one that it looks at.
 use Rattle.std.specs.Prelude.{◌≡◌, ℕ, ◌<◌, List, length, slice_index_or, Option, None, Some}
 use Rattle.sas_core.specs.declared.parts.Parts.{Parts}
-use Rattle.sas_grounded.specs.Grounded.{rule_at}
+use Rattle.sas_core.specs.Grounded.{rule_at}
 use Rattle.sas_meaning.specs.Layers.{CanFire}
 
 -- the rule is before this place, can fire, and gives the variable the value
@@ -18,4 +18,5 @@ pub record NewValues (p : Parts) (place : ℕ) (values : List (Option ℕ)) : Ty
   pub all : (rule : ℕ) → rule < place → CanFire p (rule_at p rule)
       → slice_index_or values (rule_at p rule).var None ≡ Some (rule_at p rule).new
   -- and a value is that of a rule that can fire
-  pub only : (var value : ℕ) → slice_index_or values var None ≡ Some value → (rule : ℕ) × Gives p place rule var value
+  pub only : (var value : ℕ) → slice_index_or values var None ≡ Some value → (rule : ℕ)
+      × Gives p place rule var value

@@ -9,7 +9,9 @@ use Rattle.sas_meaning.specs.Steps.{Step}
 abbrev pub IsInitial : Parts → List ℕ → Type 0
 IsInitial p s = Settles p p.init s
 
--- a state is reachable if it is the initial state, or if a step of an operator leads to it from a reachable one
+-- a state is reachable if it is the initial state, or if a step of an operator leads to it from a
+-- reachable one
 pub data Reachable (p : Parts) : List ℕ → Type 0 where
   Initial : {s : List ℕ} → IsInitial p s → Reachable p s
-  Next : {s s' : List ℕ} (o : Operator) → Reachable p s → Contains p.operators o → Step p s o s' → Reachable p s'
+  Next : {s s' : List ℕ} (o : Operator) → Reachable p s → Contains p.operators o → Step p s o s'
+      → Reachable p s'

@@ -1,4 +1,5 @@
--- Settled states: those in which the rules have given each derived variable its value, layer after layer.
+-- Settled states: those in which the rules have given each derived variable its value, layer after
+-- layer.
 use Rattle.std.specs.Prelude.{◌≡◌, ℕ, ◌==◌, ◌&&◌, Bool, false, not, if◌then◌else◌, IsTrue, List, All, slice_index, find}
 use Rattle.std.specs.Option.{option_map_or}
 use Rattle.sas_core.specs.declared.parts.Rule.{Rule}
@@ -11,21 +12,22 @@ use Rattle.sas_meaning.specs.Layers.{IsBasic, IsOnLayer, default_of, CanFire, ca
 abbrev pub is_on_layer : Parts → ℕ → ℕ → Bool
 is_on_layer p layer var = option_map_or (λ its. its == layer) (layer_of p.variables var) false
 
--- the new value of the variable's rules that can fire, of which a layered task has one; where none can, the default
+-- the new value of the variable's rules that can fire, of which a layered task has one; where none
+-- can, the default
 abbrev pub new_value_of : Parts → ℕ → ℕ
 new_value_of p var = option_map_or (λ (rule : Rule). rule.new)
     (find (λ (rule : Rule). (rule.var == var) && can_fire p rule) p.rules) (default_of p var)
 
--- a variable's value where of this layer just the variables of the set get their rules' new value: the others of the
--- layer have their default, and all others their value in the state s
+-- a variable's value where of this layer just the variables of the set get their rules' new value:
+-- the others of the layer have their default, and all others their value in the state s
 abbrev pub given : Parts → ℕ → List ℕ → (ℕ → Bool) → ℕ → ℕ
 given p layer s set var =
     if is_on_layer p layer var
     then (if set var then new_value_of p var else default_of p var)
     else slice_index s var
 
--- a set of variables is closed under the rules of the layer: where the conditions of one that can fire then hold, its
--- variable is in the set
+-- a set of variables is closed under the rules of the layer: where the conditions of one that can
+-- fire then hold, its variable is in the set
 abbrev pub IsClosed : Parts → ℕ → List ℕ → (ℕ → Bool) → Type 0
 IsClosed p layer s set = All (λ (rule : Rule). IsOnLayer p layer rule.var → CanFire p rule
     → AllHold (given p layer s set) rule.conditions → IsTrue (set rule.var)) p.rules
@@ -34,9 +36,11 @@ IsClosed p layer s set = All (λ (rule : Rule). IsOnLayer p layer rule.var → C
 abbrev pub differs : Parts → List ℕ → ℕ → Bool
 differs p s var = not (slice_index s var == default_of p var)
 
--- on this layer the variables that differ from their default have their rules' new value, and are the least closed set
+-- on this layer the variables that differ from their default have their rules' new value, and are
+-- the least closed set
 pub record IsSettledAt (p : Parts) (layer : ℕ) (s : List ℕ) : Type 0 where
-  pub new : (var : ℕ) → IsOnLayer p layer var → IsTrue (differs p s var) → slice_index s var ≡ new_value_of p var
+  pub new : (var : ℕ) → IsOnLayer p layer var → IsTrue (differs p s var)
+      → slice_index s var ≡ new_value_of p var
   pub closed : IsClosed p layer s (differs p s)
   pub least : (set : ℕ → Bool) → IsClosed p layer s set
       → (var : ℕ) → IsOnLayer p layer var → IsTrue (differs p s var) → IsTrue (set var)

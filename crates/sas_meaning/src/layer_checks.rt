@@ -3,7 +3,7 @@ ghost use Rattle.std.specs.Prelude.{◌≡◌, ◌≢◌, ◌==◌, ◌<◌, ◌
 ghost use Rattle.std.specs.Option.{option_map_or};
 ghost use Rattle.std.specs.Result.{result_err};
 ghost use Rattle.sas_core.specs.Checks.{first_fault, check};
-ghost use Rattle.sas_grounded.specs.Grounded.{operator_at, rule_at, rule_change};
+ghost use Rattle.sas_core.specs.Grounded.{operator_at, rule_at, rule_change};
 ghost use Rattle.sas_core.specs.WellRanged.{WellRanged};
 ghost use Rattle.sas_meaning.specs.LayerChecks as spec;
 ghost use Rattle.sas_meaning.specs.Layers.{CanFire};
@@ -11,8 +11,7 @@ ghost use Rattle.sas_meaning.specs.NewValues.{NewValues};
 ghost use Rattle.sas_meaning.specs.declared.layered.LayerFault.TheVariants.{LayerOrder};
 
 use crate::layered::LayerFault;
-use sas_core::{Fact, Items};
-use sas_grounded::{Change, Grounded};
+use sas_core::{Change, Fact, Grounded, Items, check};
 use std::alloc::Global;
 
 /// Looks at the operators and the rules in turn, up to the first fault.
@@ -31,7 +30,8 @@ pub fn check_layers<T: Grounded>(alloc: Global, task: &T) -> Result<(), LayerFau
 fn check_operators<T: Grounded>(task: &T) -> Result<(), LayerFault>
     requires { WellRanged (T.says task.now) }
     ensures { result_err result
-        ≡ first_fault (spec.numbered (spec.operator_checks (T.says task.now)) (T.says task.now).operators) }
+        ≡ first_fault
+        (spec.numbered (spec.operator_checks (T.says task.now)) (T.says task.now).operators) }
 {
     for operator in 0..task.operators() {
         check_operator(task, operator)?;
@@ -44,7 +44,8 @@ fn check_operator<T: Grounded>(task: &T, operator: u32) -> Result<(), LayerFault
     requires well_ranged { WellRanged (T.says task.now) }
     requires operator { operator < length (T.says task.now).operators }
     ensures { result_err result
-        ≡ first_fault (spec.operator_checks (T.says task.now) operator (operator_at (T.says task.now) operator)) }
+        ≡ first_fault
+        (spec.operator_checks (T.says task.now) operator (operator_at (T.says task.now) operator)) }
 {
     for effect in 0..task.effects(operator) {
         let change = task.effect_change(operator, effect);
@@ -127,7 +128,8 @@ fn check_conditions<T: Grounded>(task: &T, rule: u32, var: u32) -> Result<(), La
     requires rule { rule < length (T.says task.now).rules }
     requires var { var ≡ (rule_at (T.says task.now) rule).var }
     ensures { result_err result ≡ first_fault (spec.numbered
-        (λ condition c. check (spec.looks_down (T.says task.now) (rule_at (T.says task.now) rule).var c)
+        (λ condition c.
+        check (spec.looks_down (T.says task.now) (rule_at (T.says task.now) rule).var c)
         (LayerOrder rule condition))
         (rule_at (T.says task.now) rule).conditions) }
 {
@@ -172,11 +174,4 @@ fn is_none_or_just(value: Option<u32>, only: u32) -> bool
     ensures { result ≡ option_map_or (λ its. its == only) value true }
 {
     value.is_none_or(|its| its == only)
-}
-
-/// The fault, unless the test passes.
-fn check(passes: bool, fault: LayerFault) -> Result<(), LayerFault>
-    ensures { result_err result ≡ first_fault (check passes fault) }
-{
-    if passes { Ok(()) } else { Err(fault) }
 }

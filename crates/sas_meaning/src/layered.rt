@@ -5,8 +5,7 @@ ghost use Rattle.sas_meaning.specs.LayerChecks.{layer_checks};
 ghost use Rattle.sas_meaning.specs.Layers.{IsLayered};
 
 use crate::layer_checks::check_layers;
-use sas_core::Task;
-use sas_grounded::Grounded;
+use sas_core::{Change, Fact, Grounded, Task};
 use std::alloc::{AllocError, Global};
 use std::marker::Model;
 
@@ -92,5 +91,78 @@ impl<T: Grounded> Layered<T> {
     {
         let Layered { task } = self;
         task
+    }
+}
+
+/// A layered task is asked as its task is. That it is well ranged and layered need not be said where one is at hand.
+impl<T: Grounded> Grounded for Layered<T> {
+    ghost says = { λ l. l };
+
+    fn variables(&self) -> u32 {
+        self.task.variables()
+    }
+
+    fn groups(&self) -> u32 {
+        self.task.groups()
+    }
+
+    fn operators(&self) -> u32 {
+        self.task.operators()
+    }
+
+    fn rules(&self) -> u32 {
+        self.task.rules()
+    }
+
+    fn range(&self, var: u32) -> u32 {
+        self.task.range(var)
+    }
+
+    fn layer(&self, var: u32) -> Option<u32> {
+        self.task.layer(var)
+    }
+
+    fn initial_value(&self, var: u32) -> u32 {
+        self.task.initial_value(var)
+    }
+
+    fn goal(&self) -> &[Fact] {
+        self.task.goal()
+    }
+
+    fn group(&self, group: u32) -> &[Fact] {
+        self.task.group(group)
+    }
+
+    fn name(&self, operator: u32) -> &[u8] {
+        self.task.name(operator)
+    }
+
+    fn cost(&self, operator: u32) -> u32 {
+        self.task.cost(operator)
+    }
+
+    fn prevail(&self, operator: u32) -> &[Fact] {
+        self.task.prevail(operator)
+    }
+
+    fn effects(&self, operator: u32) -> u32 {
+        self.task.effects(operator)
+    }
+
+    fn effect_conditions(&self, operator: u32, effect: u32) -> &[Fact] {
+        self.task.effect_conditions(operator, effect)
+    }
+
+    fn effect_change(&self, operator: u32, effect: u32) -> Change {
+        self.task.effect_change(operator, effect)
+    }
+
+    fn rule_conditions(&self, rule: u32) -> &[Fact] {
+        self.task.rule_conditions(rule)
+    }
+
+    fn rule_change(&self, rule: u32) -> Change {
+        self.task.rule_change(rule)
     }
 }

@@ -1,10 +1,9 @@
 // The facts that an operator asks for.
 ghost use Rattle.std.specs.Prelude.{◌≡◌, ◌<◌, length};
-ghost use Rattle.sas_grounded.specs.Grounded.{operator_at};
+ghost use Rattle.sas_core.specs.Grounded.{operator_at};
 ghost use Rattle.sas_meaning.specs.Steps.{preconditions};
 
-use sas_core::Fact;
-use sas_grounded::Grounded;
+use sas_core::{Fact, Grounded};
 use std::marker::Model;
 
 /// An iterator over an operator's preconditions: its prevail conditions, then the old values that its effects ask for.
@@ -23,12 +22,13 @@ pub struct Preconditions<'a, T: Grounded> {
 impl<'a, T: Grounded> Model for Preconditions<'a, T> {
     ghost use Rattle.std.specs.Prelude.{List};
     ghost use Rattle.sas_core.specs.declared.parts.Fact.{Fact};
-    ghost use Rattle.sas_grounded.specs.Grounded.{operator_at};
+    ghost use Rattle.sas_core.specs.Grounded.{operator_at};
     ghost use Rattle.sas_meaning.specs.Preconditions.{preconditions_left, IsAtOperator};
 
     ghost Value = { List Fact };
 
-    ghost view = { λ it. preconditions_left it.prevail.now (operator_at (T.says it.task.now) it.operator) it.effect };
+    ghost view = { λ it. preconditions_left it.prevail.now
+        (operator_at (T.says it.task.now) it.operator) it.effect };
 
     ghost invariant = { λ it. IsAtOperator (T.says it.task.now) it.operator it.effect it.effects };
 }

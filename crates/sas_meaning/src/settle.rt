@@ -1,7 +1,7 @@
 // What settles a state.
 use crate::layered::Layered;
 use crate::state::State;
-use sas_grounded::Grounded;
+use sas_core::Grounded;
 
 /// What settles states of a task: it gives the derived variables the values that the rules give them.
 pub trait Settle<T: Grounded> {

@@ -1,10 +1,11 @@
 // States of a task.
-ghost use Rattle.std.specs.Prelude.{◌≡◌, ◌<◌, ◌↔◌, Some, List, ℕ, length};
+ghost use Rattle.std.specs.Prelude.{◌≡◌, ◌<◌, ◌↔◌, Some, List, ℕ, length, All};
 ghost use Rattle.std.specs.Prelude.{slice_get, slice_index, slice_set, IfOk, IsErrOf, IsTrue, IsFalse};
+ghost use Rattle.sas_core.specs.declared.parts.Fact.{Fact};
 ghost use Rattle.sas_core.specs.Variables.{IsState};
+ghost use Rattle.sas_meaning.specs.States.{AllHold};
 
-use sas_core::{Fact, Items};
-use sas_grounded::Grounded;
+use sas_core::{Fact, Grounded, Items};
 use std::alloc::{AllocError, Global};
 use std::marker::Model;
 
@@ -47,7 +48,8 @@ impl State {
     pub fn of<T: Grounded>(alloc: Global, task: &T, values: &[u32]) -> Result<State, StateFault>
         ensures values { IfOk result (λ s. s ≡ values.now) }
         ensures fits { IfOk result (λ s. IsState (T.says task.now).variables s) }
-        ensures bad { IsErrOf result StateFault.BadState ↔ (IsState (T.says task.now).variables values.now → ⊥) }
+        ensures bad { IsErrOf result StateFault.BadState
+            ↔ (IsState (T.says task.now).variables values.now → ⊥) }
     {
         if !fits(task, values) {
             return Err(StateFault::BadState);
@@ -91,6 +93,14 @@ impl State {
             Some(value) => *value == fact.value,
             None => false,
         }
+    }
+
+    /// Whether all the facts hold.
+    pub fn holds_all(&self, facts: &[Fact]) -> bool
+        requires { All (λ (f : Fact). f.var < length self.now) facts.now }
+        ensures { IsTrue result ↔ AllHold (slice_index self.now) facts.now }
+    {
+        facts.iter().all(|fact| self.value(fact.var) == fact.value)
     }
 
     /// Gives the fact's variable the fact's value.

@@ -7,7 +7,7 @@ use Rattle.sas_core.specs.declared.parts.Fact.{Fact}
 use Rattle.sas_core.specs.declared.parts.Effect.{Effect}
 use Rattle.sas_core.specs.declared.parts.Operator.{Operator}
 use Rattle.sas_core.specs.declared.parts.Parts.{Parts}
-use Rattle.sas_grounded.specs.Grounded.{operator_at, effect_at}
+use Rattle.sas_core.specs.Grounded.{operator_at, effect_at}
 use Rattle.sas_meaning.specs.Steps.{preconditions}
 use Rattle.sas_groups.specs.Clashes.{Clash, Keeps, sets}
 use Rattle.sas_groups.specs.Families.{IsIn}

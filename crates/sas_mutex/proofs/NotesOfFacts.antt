@@ -6,7 +6,7 @@ use Rattle.std.proofs.lemmas.List.{get_or-set_same, get_or-set_other, length-set
 use Rattle.std.proofs.lemmas.List.Elements.{All-contains, Contains-append_left, Contains-push, Contains-push_cases}
 use Rattle.sas_core.specs.declared.parts.Fact.{Fact}
 use Rattle.sas_core.specs.declared.parts.Parts.{Parts}
-use Rattle.sas_grounded.specs.Grounded.{group_at}
+use Rattle.sas_core.specs.Grounded.{group_at}
 use Rattle.sas_core.specs.Variables.{FactExists}
 use Rattle.sas_groups.specs.Clashes.{Contradict, Clash}
 use Rattle.sas_group_index.specs.declared.index.Index.{Index}

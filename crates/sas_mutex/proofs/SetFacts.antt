@@ -4,10 +4,10 @@ use Rattle.std.specs.List.{All, Contains}
 use Rattle.std.specs.Prelude.{◌↔◌}
 use Rattle.std.proofs.lemmas.List.{get_or_default}
 use Rattle.std.proofs.lemmas.List.Elements.{All-from_recursion, All-weaker}
-use Rattle.sas_grounded.specs.declared.grounded.Change.{Change}
+use Rattle.sas_core.specs.declared.grounded.Change.{Change}
 use Rattle.sas_core.specs.declared.parts.Fact.{Fact}
 use Rattle.sas_core.specs.declared.parts.Parts.{Parts}
-use Rattle.sas_grounded.specs.Grounded.{operator_at, effect_at, group_at, effect_change}
+use Rattle.sas_core.specs.Grounded.{operator_at, effect_at, group_at, effect_change}
 use Rattle.sas_core.specs.Variables.{FactExists}
 use Rattle.sas_core.specs.WellRanged.{WellRanged, Listed, OperatorFits, EffectFits}
 use Rattle.sas_core.proofs.Places.{holds_at}

@@ -6,7 +6,7 @@ use Rattle.std.proofs.lemmas.List.Elements.{All-nil, All-cons, All-append, All-f
 use Rattle.sas_core.specs.declared.parts.Fact.{Fact}
 use Rattle.sas_core.specs.declared.parts.Effect.{Effect}
 use Rattle.sas_core.specs.declared.parts.Parts.{Parts}
-use Rattle.sas_grounded.specs.Grounded.{operator_at, effect_at, group_at}
+use Rattle.sas_core.specs.Grounded.{operator_at, effect_at, group_at}
 use Rattle.sas_core.specs.Variables.{FactExists, MayHaveValue}
 use Rattle.sas_core.specs.WellRanged.{WellRanged, OperatorFits, EffectFits, Listed}
 use Rattle.sas_core.proofs.Places.{holds_at}

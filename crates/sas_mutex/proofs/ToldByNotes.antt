@@ -8,7 +8,7 @@ use Rattle.sas_core.specs.declared.parts.Fact.{Fact}
 use Rattle.sas_core.specs.declared.parts.Effect.{Effect}
 use Rattle.sas_core.specs.declared.parts.Operator.{Operator}
 use Rattle.sas_core.specs.declared.parts.Parts.{Parts}
-use Rattle.sas_grounded.specs.Grounded.{effect_at, group_at}
+use Rattle.sas_core.specs.Grounded.{effect_at, group_at}
 use Rattle.sas_core.specs.Variables.{FactExists}
 use Rattle.sas_meaning.specs.Steps.{preconditions}
 use Rattle.sas_groups.specs.Clashes.{Contradict, Clash, IsRemoved}

@@ -1,19 +1,21 @@
 -- What an effect keeps where one group alone counts. It keeps that whatever other groups fall.
 use Rattle.std.specs.Prelude.{◌≡◌, ℕ, ◌<◌, Bool, IsFalse, List, length, Contains}
 use Rattle.sas_core.specs.declared.parts.Parts.{Parts}
-use Rattle.sas_grounded.specs.Grounded.{operator_at, effect_at, group_at}
+use Rattle.sas_core.specs.Grounded.{operator_at, effect_at, group_at}
 use Rattle.sas_groups.specs.Clashes.{sets}
 use Rattle.sas_groups.specs.Families.{IsIn}
 use Rattle.sas_mutex.specs.Effects.{family_of, EffectKeeps, IsPlain}
 
--- the effect at this place of this operator keeps the group at this place where that group alone counts
+-- the effect at this place of this operator keeps the group at this place where that group alone
+-- counts
 abbrev pub KeepsAlone : Parts → ℕ → ℕ → ℕ → Type 0
 KeepsAlone p operator effect place = EffectKeeps (λ group. group ≡ group_at p place)
     (operator_at p operator) (group_at p place) (effect_at (operator_at p operator) effect)
 
 -- it does so, if the group is in the family
 abbrev pub KeptAlone : Parts → List Bool → ℕ → ℕ → ℕ → Type 0
-KeptAlone p kept operator effect place = IsIn p (family_of kept) place → KeepsAlone p operator effect place
+KeptAlone p kept operator effect place = IsIn p (family_of kept) place
+    → KeepsAlone p operator effect place
 
 -- the effect keeps each group of the family so that has the fact which it sets
 abbrev pub EffectKeepsEachAlone : Parts → List Bool → ℕ → ℕ → Type 0

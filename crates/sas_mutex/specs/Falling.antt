@@ -1,7 +1,7 @@
 -- How groups fall out of the family of those that may be kept jointly.
 use Rattle.std.specs.Prelude.{◌≡◌, ℕ, ◌+◌, ◌<◌, ◌≤◌, ◌↔◌, ◌⊎◌, Bool, if◌then◌else◌, IsTrue, List, [], ◌∷◌, ◌++◌, length, drop, slice_index_or, slice_set, All, Contains, vec_capacity}
 use Rattle.sas_core.specs.declared.parts.Parts.{Parts}
-use Rattle.sas_grounded.specs.Grounded.{operator_at, effect_at, group_at}
+use Rattle.sas_core.specs.Grounded.{operator_at, effect_at, group_at}
 use Rattle.sas_groups.specs.Clashes.{sets}
 use Rattle.sas_groups.specs.Families.{IsIn, IsKeptJointly}
 use Rattle.sas_groups.specs.Groups.{MayBeExclusive}
@@ -10,7 +10,8 @@ use Rattle.sas_mutex.specs.Effects.{family_of, KeepsAt, IsPlain}
 use Rattle.sas_mutex.specs.Alone.{KeepsEachAlone, IsOfNone}
 use Rattle.sas_group_index.specs.Index.{MentionsGroup}
 
--- the effect at this place of this operator keeps each group of the family that has the fact which it sets
+-- the effect at this place of this operator keeps each group of the family that has the fact which
+-- it sets
 abbrev pub EffectKeepsAll : Parts → List Bool → ℕ → ℕ → Type 0
 EffectKeepsAll p kept operator effect = (place : ℕ) → IsIn p (family_of kept) place
     → Contains (group_at p place) (sets (effect_at (operator_at p operator) effect))
@@ -18,16 +19,21 @@ EffectKeepsAll p kept operator effect = (place : ℕ) → IsIn p (family_of kept
 
 -- the operator mentions no fact of the groups at these places
 abbrev pub MentionsNone : Parts → ℕ → List ℕ → Type 0
-MentionsNone p operator places = (place : ℕ) → Contains places place → MentionsGroup p operator place → ⊥
+MentionsNone p operator places =
+    (place : ℕ) → Contains places place → MentionsGroup p operator place → ⊥
 
--- the effect keeps the group at this place, if it is in the family, unless its operator mentions a fact of a group that waits
-pub record RestsAt (p : Parts) (kept : List Bool) (waiting : List ℕ) (operator effect place : ℕ) : Type 0 where
-  pub keeps : MentionsNone p operator waiting → IsIn p (family_of kept) place → KeepsAt p kept operator effect place
+-- the effect keeps the group at this place, if it is in the family, unless its operator mentions a
+-- fact of a group that waits
+pub record RestsAt (p : Parts) (kept : List Bool) (waiting : List ℕ) (operator effect place : ℕ)
+    : Type 0 where
+  pub keeps : MentionsNone p operator waiting → IsIn p (family_of kept) place
+      → KeepsAt p kept operator effect place
 
--- an effect is at rest: unless its operator mentions a fact of a group that waits, it keeps the groups of the family that
--- have the fact which it sets
+-- an effect is at rest: unless its operator mentions a fact of a group that waits, it keeps the
+-- groups of the family that have the fact which it sets
 abbrev pub IsEffectAtRest : Parts → List Bool → List ℕ → ℕ → ℕ → Type 0
-IsEffectAtRest p kept waiting operator effect = MentionsNone p operator waiting → EffectKeepsAll p kept operator effect
+IsEffectAtRest p kept waiting operator effect =
+    MentionsNone p operator waiting → EffectKeepsAll p kept operator effect
 
 -- and so an operator, if its effects are
 abbrev pub IsAtRest : Parts → List Bool → List ℕ → ℕ → Type 0
@@ -44,8 +50,8 @@ abbrev pub count : List Bool → ℕ
 count [] = 0
 count (kept ∷ rest) = (if kept then 1 else 0) + count rest
 
--- a place in the lists for each group, and behind those that fell room for all that may still fall; together they are not
--- more than all groups
+-- a place in the lists for each group, and behind those that fell room for all that may still fall;
+-- together they are not more than all groups
 pub record HasRoom (p : Parts) (family : Family) : Type 0 where
   pub one_each : length family.kept ≡ length p.groups
   pub room : count family.kept + length family.fallen.items ≤ vec_capacity family.fallen
@@ -54,27 +60,30 @@ pub record HasRoom (p : Parts) (family : Family) : Type 0 where
 
 -- the family has exactly the groups that may be exclusive
 abbrev pub AreCandidates : Parts → List Bool → Type 0
-AreCandidates p kept =
-    (place : ℕ) → place < length p.groups → IsTrue (family_of kept place) ↔ MayBeExclusive p (group_at p place)
+AreCandidates p kept = (place : ℕ) → place < length p.groups
+    → IsTrue (family_of kept place) ↔ MayBeExclusive p (group_at p place)
 
 -- the groups that fell since
 abbrev pub newly : Family → Family → List ℕ
 newly before after = drop (length before.fallen.items) after.fallen.items
 
--- some groups of the family fell: these are noted, and no family that is kept jointly, and lay in the one before, has one of
--- them
+-- some groups of the family fell: these are noted, and no family that is kept jointly, and lay in
+-- the one before, has one of them
 pub record Falls (p : Parts) (before after : Family) : Type 0 where
   pub one_each : length after.kept ≡ length before.kept
   pub behind : after.fallen.items ≡ before.fallen.items ++ newly before after
   pub exist : All (λ place. place < length p.groups) (newly before after)
-  pub less : (place : ℕ) → IsIn p (family_of after.kept) place → IsIn p (family_of before.kept) place
-  pub noted : (place : ℕ) → IsIn p (family_of before.kept) place → (IsIn p (family_of after.kept) place → ⊥)
+  pub less : (place : ℕ) → IsIn p (family_of after.kept) place
+      → IsIn p (family_of before.kept) place
+  pub noted : (place : ℕ) → IsIn p (family_of before.kept) place
+      → (IsIn p (family_of after.kept) place → ⊥)
       → Contains (newly before after) place
   pub none_lost : (other : ℕ → Bool) → IsKeptJointly p other
       → ((place : ℕ) → IsIn p other place → IsIn p (family_of before.kept) place)
       → (place : ℕ) → IsIn p other place → IsIn p (family_of after.kept) place
 
--- how many groups had fallen when the operator was looked at last, or more, if it need never be looked at again
+-- how many groups had fallen when the operator was looked at last, or more, if it need never be
+-- looked at again
 abbrev pub looked_at : List ℕ → ℕ → ℕ
 looked_at looked operator = slice_index_or looked operator 0
 
@@ -85,15 +94,18 @@ pub record RestsSince (p : Parts) (family : Family) (looked : List ℕ) (operato
 
 -- so is the operator, or it keeps each group where that one alone counts
 abbrev pub WasLookedAt : Parts → Family → List ℕ → ℕ → Type 0
-WasLookedAt p family looked operator = RestsSince p family looked operator ⊎ KeepsEachAlone p family.kept operator
+WasLookedAt p family looked operator =
+    RestsSince p family looked operator ⊎ KeepsEachAlone p family.kept operator
 
 -- and so is each operator
 pub record AreLookedAt (p : Parts) (family : Family) (looked : List ℕ) : Type 0 where
   pub one_each : length looked ≡ length p.operators
   pub each : (operator : ℕ) → operator < length p.operators → WasLookedAt p family looked operator
 
--- of the operator it is noted now how many groups had fallen before, or more, if it keeps each group where that one alone counts
-pub record IsNotedOnce (p : Parts) (before after : Family) (operator : ℕ) (looked looked' : List ℕ) : Type 0 where
+-- of the operator it is noted now how many groups had fallen before, or more, if it keeps each
+-- group where that one alone counts
+pub record IsNotedOnce (p : Parts) (before after : Family) (operator : ℕ) (looked looked' : List ℕ)
+    : Type 0 where
   pub when : ℕ
   pub noted : looked' ≡ slice_set looked operator when
   pub later : length before.fallen.items ≤ when

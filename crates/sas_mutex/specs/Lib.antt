@@ -7,6 +7,7 @@ pub use Rattle.sas_groups.specs.Laws
 pub use Rattle.sas_groups.specs.Lists
 pub mod Joint
 pub mod Marks
+pub mod Firing
 pub mod Effects
 pub mod Alone
 pub mod Noting

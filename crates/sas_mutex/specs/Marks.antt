@@ -43,14 +43,20 @@ pub record IsOfGroup (p : Parts) (facts : List Fact) (place : ℕ) (fact : Fact)
   pub among : Contains facts fact
   pub has : HasFact p place fact
 
--- what is noted for a group: that none of the facts is of it, or the one that is, or that two different ones are
+-- what is noted for a group: that none of the facts is of it, or the one that is, or that two
+-- different ones are
 abbrev pub IsGroupNote : Parts → List Fact → ℕ → Noted → Type 0
 IsGroupNote p facts place Nothing = (fact : Fact) → IsOfGroup p facts place fact → ⊥
 IsGroupNote p facts place (One fact) = IsOfGroup p facts place fact
     × ((other : Fact) → IsOfGroup p facts place other → other ≡ fact)
-IsGroupNote p facts place Several = (f g : Fact) × IsOfGroup p facts place f × IsOfGroup p facts place g × (f ≢ g)
+IsGroupNote p facts place Several = (f g : Fact)
+    × IsOfGroup p facts place f
+    × IsOfGroup p facts place g
+    × (f ≢ g)
 
 -- these facts are noted, by variable and by group
 pub record IsNoted (p : Parts) (known : List Fact) (marks : Marks) : Type 0 where
-  pub values : (var : ℕ) → var < length p.variables → IsValueNote known var (value_note marks.values var)
-  pub groups : (place : ℕ) → place < length p.groups → IsGroupNote p known place (group_note marks.groups place)
+  pub values : (var : ℕ) → var < length p.variables
+      → IsValueNote known var (value_note marks.values var)
+  pub groups : (place : ℕ) → place < length p.groups
+      → IsGroupNote p known place (group_note marks.groups place)

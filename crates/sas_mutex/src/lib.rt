@@ -4,6 +4,7 @@
 
 mod effects;
 mod family;
+mod indexed;
 mod joint;
 mod marks;
 

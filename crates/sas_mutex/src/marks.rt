@@ -1,9 +1,8 @@
 // Facts noted by variable and by group, so that each further one is compared with all in a fixed time.
 ghost use Rattle.std.specs.Prelude.{◌≡◌, ◌≢◌, ◌<◌, ◌≤◌, ◌^◌, ◌⊎◌, ◌↔◌, ℕ, length, Some, None, IsTrue, IsFalse, IfOk, All};
-ghost use Rattle.sas_grounded.specs.Grounded.{operator_at};
 ghost use Rattle.sas_core.specs.Variables.{FactExists};
 ghost use Rattle.sas_groups.specs.Clashes.{Clash};
-ghost use Rattle.sas_groups.specs.Lists.{known};
+ghost use Rattle.sas_groups.specs.Lists.{known_on};
 ghost use Rattle.sas_mutex.specs.Effects.{IsKept};
 ghost use Rattle.sas_core.specs.WellRanged.{WellRanged};
 ghost use Rattle.sas_mutex.specs.declared.marks.Noted.TheVariants.{Nothing, One, Several};
@@ -12,10 +11,10 @@ ghost use Rattle.sas_mutex.specs.Marks.{IsClean, IsNotedFrom, IsNoted};
 ghost use Rattle.sas_mutex.specs.Noting.{AreBelow, IsNotedToo, IsRefused, TakenBySome, TakenByAll, HasOtherValue};
 ghost use Rattle.sas_mutex.specs.Noting.{ChangesAt, IsThere, IsNew, ForgetsGroups, Forgets};
 
-use sas_core::{Fact, Items};
-use sas_grounded::Grounded;
+use sas_core::{Fact, Grounded, Items};
 use sas_group_index::Index;
-use sas_groups::Known;
+use sas_groups::{Known, Premises};
+use sas_meaning::Layered;
 use std::alloc::{AllocError, Global};
 
 /// Which facts of a group are noted.
@@ -78,8 +77,8 @@ pub struct Marks {
 
 impl Marks {
     /// Nothing is noted.
-    pub fn new<T: Grounded>(alloc: Global, task: &T) -> Result<Marks, AllocError>
-        ensures { IfOk result (λ marks. IsClean (T.says task.now) marks) }
+    pub fn new<T: Grounded>(alloc: Global, task: &Layered<T>) -> Result<Marks, AllocError>
+        ensures { IfOk result (λ marks. IsClean task.now marks) }
     {
         Ok(Marks {
             values: Items::from_vec(vec![in alloc; None; task.variables() as usize]?),
@@ -88,34 +87,31 @@ impl Marks {
     }
 }
 
-/// Notes what is known where effects of the operator with these conditions fire. Says whether it clashes; then not all of it
-/// is noted.
+/// Notes what is known. Says whether it clashes; then not all of it is noted.
 pub fn note_known<T: Grounded>(
-    task: &T,
+    task: &Layered<T>,
     index: &Index,
     kept: &[bool],
-    operator: u32,
-    first: &[Fact],
-    second: &[Fact],
+    premises: &Premises<'_>,
     marks: &mut Marks,
 ) -> bool
-    requires ranged { WellRanged (T.says task.now) }
-    requires index { IsIndexOf (T.says task.now) index.now }
-    requires one_each { length kept.now ≡ length (T.says task.now).groups }
-    requires operator { operator < length (T.says task.now).operators }
-    requires first { All (FactExists (T.says task.now).variables) first.now }
-    requires second { All (FactExists (T.says task.now).variables) second.now }
-    requires clean { IsClean (T.says task.now) marks.old }
-    ensures yes { IsTrue result → Clash (IsKept (T.says task.now) kept.now)
-        (known (operator_at (T.says task.now) operator) first.now second.now) }
-    ensures no { IsFalse result → Clash (IsKept (T.says task.now) kept.now)
-        (known (operator_at (T.says task.now) operator) first.now second.now) → ⊥ }
-    ensures noted { IsFalse result → IsNoted (T.says task.now)
-        (known (operator_at (T.says task.now) operator) first.now second.now) marks.new }
-    ensures from { IsNotedFrom (T.says task.now)
-        (known (operator_at (T.says task.now) operator) first.now second.now) marks.new }
+    requires index { IsIndexOf task.now index.now }
+    requires one_each { length kept.now ≡ length task.now.groups }
+    requires operator { premises.now.operator < length task.now.operators }
+    requires first { All (FactExists task.now.variables) premises.now.first.now }
+    requires second { All (FactExists task.now.variables) premises.now.second.now }
+    requires clean { IsClean task.now marks.old }
+    ensures yes { IsTrue result
+        → Clash (IsKept task.now kept.now) (known_on task.now premises.now) }
+    ensures no { IsFalse result
+        → Clash (IsKept task.now kept.now) (known_on task.now premises.now) → ⊥ }
+    ensures noted { IsFalse result
+        → IsNoted task.now (known_on task.now premises.now) marks.new }
+    ensures from { IsNotedFrom task.now (known_on task.now premises.now) marks.new }
 {
-    for fact in Known::new(task, operator, first, second) {
+    // The contract of this call tells that the task is well ranged.
+    let _ = task.task();
+    for fact in Known::new(task, premises) {
         if !note(index, kept, fact, marks) {
             return true;
         }
@@ -162,25 +158,23 @@ fn note_in_groups(groups: &[u32], kept: &[bool], fact: Fact, noted: &mut Items<N
     true
 }
 
-/// Takes back what is noted of these facts.
+/// Takes back what is noted of what is known.
 pub fn forget_known<T: Grounded>(
-    task: &T,
+    task: &Layered<T>,
     index: &Index,
-    operator: u32,
-    first: &[Fact],
-    second: &[Fact],
+    premises: &Premises<'_>,
     marks: &mut Marks,
 )
-    requires ranged { WellRanged (T.says task.now) }
-    requires index { IsIndexOf (T.says task.now) index.now }
-    requires operator { operator < length (T.says task.now).operators }
-    requires first { All (FactExists (T.says task.now).variables) first.now }
-    requires second { All (FactExists (T.says task.now).variables) second.now }
-    requires from { IsNotedFrom (T.says task.now)
-        (known (operator_at (T.says task.now) operator) first.now second.now) marks.old }
-    ensures { IsClean (T.says task.now) marks.new }
+    requires index { IsIndexOf task.now index.now }
+    requires operator { premises.now.operator < length task.now.operators }
+    requires first { All (FactExists task.now.variables) premises.now.first.now }
+    requires second { All (FactExists task.now.variables) premises.now.second.now }
+    requires from { IsNotedFrom task.now (known_on task.now premises.now) marks.old }
+    ensures { IsClean task.now marks.new }
 {
-    for fact in Known::new(task, operator, first, second) {
+    // The contract of this call tells that the task is well ranged.
+    let _ = task.task();
+    for fact in Known::new(task, premises) {
         forget(index, fact, marks);
     }
 }

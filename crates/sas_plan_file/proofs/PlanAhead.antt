@@ -9,11 +9,12 @@ use Rattle.std.proofs.Math.ListN.{get_or-append}
 use Rattle.memchr.specs.Find.{Nowhere, NoneBefore, Passes, is_byte2}
 use Rattle.sas_core.specs.Names.{is_plain}
 use Rattle.sas_core.proofs.PlainBytes.{is_none-search}
-use Rattle.sas_lines.specs.Lines.{without_return, NoEnd, LineStandsFirst}
+use Rattle.sas_lines.specs.Lines.{LineStandsFirst}
 use Rattle.sas_lines.proofs.Beginnings.{stands_first, one_stands_first}
 use Rattle.sas_lines.proofs.Splitting.{Plain}
 use Rattle.sas_reader.specs.Machine.{AcceptsAhead}
-use Rattle.sas_reader.specs.System.{IsPlain, Takes}
+use Rattle.sas_reader.proofs.Plain.{plain}
+use Rattle.sas_reader.specs.System.{Takes}
 use Rattle.sas_plan_file.specs.PlanFormat.{step, plan_line_bytes, plan_format, PlanLineFits}
 use Rattle.sas_plan_file.specs.PlanMachine.{plan_line_ok}
 use Rattle.sas_plan_file.specs.PlanLine.{StepStandsFirst}
@@ -59,18 +60,6 @@ module _ (bytes : List ℕ) (end : ℕ) (first : NoneBefore (Passes (is_byte2 10
   pub step_before_end : (found : Option (Bor (List ℕ))) → get_or bytes end 0 ≡ 10 → IfSome found (λ name. 0 < length name.now × (take end bytes ≡ codes "(" ++ (name.now ++ codes ")"))) → IfSome found (λ name. StepStandsFirst bytes name.now)
   step_before_end None here h = tt
   step_before_end (Some name) here h = step_stands_first name.now h.1 h.0 here
-
-plain : (line : List ℕ) → IsPlain line → Plain line
-plain line h = record { no_end = no_end line h; no_return = no_return line h }
-  where
-    no_end : (line : List ℕ) → IsPlain line → NoEnd line
-    no_end [] h = tt
-    no_end (b ∷ line) h = (h.0.0, no_end line h.1)
-
-    no_return : (line : List ℕ) → IsPlain line → without_return line ≡ line
-    no_return [] h = refl
-    no_return (b ∷ []) h = rw (ne_eqb b 13 h.0.1) refl
-    no_return (b ∷ c ∷ line) h = ap (λ (x : List ℕ). b ∷ x) (no_return (c ∷ line) h.1)
 
 module _ (bytes name : List ℕ) (h : StepStandsFirst bytes name) where
   -- its line takes the name, the parentheses and LF

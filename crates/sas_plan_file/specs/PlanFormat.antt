@@ -46,7 +46,8 @@ BeginsWith front line = take (length front) line ≡ front
 pub data PlanKind (line : List ℕ) : Kind → Type 0 where
   like_step : BeginsWith (codes "(") line → PlanKind line Name
   like_cost : BeginsWith cost_front line → PlanKind line Shape
-  like_none : (BeginsWith (codes "(") line → ⊥) → (BeginsWith cost_front line → ⊥) → PlanKind line Keyword
+  like_none : (BeginsWith (codes "(") line → ⊥) → (BeginsWith cost_front line → ⊥)
+      → PlanKind line Keyword
 
 -- plan files; any line may be a step or the cost, so there is one slot
 abbrev pub plan_format : Format PlanParts PlanLine (Unit {0})

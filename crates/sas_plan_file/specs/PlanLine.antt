@@ -27,7 +27,8 @@ line_said (variants.Cost n kind) = cost n kind
 -- the line says what was found; or it may not stand in a plan, and the kind is that of its fault
 abbrev pub JudgesPlanLine : List ℕ → Result code.PlanLine Kind → Type 0
 JudgesPlanLine line (Ok said) =
-    Takes plan_format PlanLineFits tt plan_line_ok (line_said said) × (plan_line_bytes (line_said said) ≡ line)
+    Takes plan_format PlanLineFits tt plan_line_ok (line_said said)
+    × (plan_line_bytes (line_said said) ≡ line)
 JudgesPlanLine line (Err kind) = Judged plan_format PlanLineFits tt plan_line_ok line kind
 
 -- the line of this step stands first in the bytes, and LF behind it

@@ -21,10 +21,8 @@ pub fn read_plan<R: Read>(alloc: Global, reader: &mut Watched<R>) -> Result<Plan
     requires { reader.old.failed ≡ false }
     ensures { ReadsAll R.remaining plan_format (ValueOf plan_format) reader.old reader.new result }
 {
-    match read_all(alloc, PlanMachine::new(alloc), LIMIT, reader) {
-        Ok(machine) => Ok(machine.into_plan()),
-        Err(fault) => Err(fault),
-    }
+    let machine = read_all(alloc, PlanMachine::new(alloc), LIMIT, reader)?;
+    Ok(machine.into_plan())
 }
 
 /// Reads a plan from a device as `read_plan` does, into one block of memory for all names.
@@ -32,20 +30,17 @@ pub fn read_flat_plan<R: Read>(alloc: Global, reader: &mut Watched<R>) -> Result
     requires { reader.old.failed ≡ false }
     ensures { ReadsAll R.remaining plan_format (ValueOf plan_format) reader.old reader.new result }
 {
-    match read_all(alloc, PlanMachine::new_flat(alloc), LIMIT, reader) {
-        Ok(machine) => Ok(machine.into_flat_plan()),
-        Err(fault) => Err(fault),
-    }
+    let machine = read_all(alloc, PlanMachine::new_flat(alloc), LIMIT, reader)?;
+    Ok(machine.into_flat_plan())
 }
 
 /// Reads a plan from a device as `read_plan` does, and gives its text: its lines, each ended by LF. It keeps no plan.
 /// The faults are those of `read_plan`.
 pub fn read_plan_text<R: Read>(alloc: Global, reader: &mut Watched<R>) -> Result<Vec<u8>, Fault>
     requires { reader.old.failed ≡ false }
-    ensures { ReadsAll R.remaining plan_format (λ b t. TextOf plan_format b t.items) reader.old reader.new result }
+    ensures { ReadsAll R.remaining plan_format (λ b t. TextOf plan_format b t.items)
+        reader.old reader.new result }
 {
-    match read_all(alloc, PlanText::new(alloc), LIMIT, reader) {
-        Ok(machine) => Ok(machine.into_text()),
-        Err(fault) => Err(fault),
-    }
+    let machine = read_all(alloc, PlanText::new(alloc), LIMIT, reader)?;
+    Ok(machine.into_text())
 }

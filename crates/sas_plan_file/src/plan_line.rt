@@ -19,7 +19,8 @@ pub enum PlanLine<'a> {
 
 /// What stands behind the front, where the line begins with it.
 fn behind<'a>(line: &'a [u8], front: &[u8]) -> Option<&'a [u8]>
-    ensures { MatchOption result (BeginsWith front.now line.now → ⊥) (λ rest. line.now ≡ front.now ++ rest.now) }
+    ensures { MatchOption result (BeginsWith front.now line.now → ⊥)
+        (λ rest. line.now ≡ front.now ++ rest.now) }
 {
     line.strip_prefix(front)
 }
@@ -27,7 +28,8 @@ fn behind<'a>(line: &'a [u8], front: &[u8]) -> Option<&'a [u8]>
 /// What stands before the back, where the line ends with it.
 fn before<'a>(line: &'a [u8], back: &[u8]) -> Option<&'a [u8]>
     ensures { MatchOption result
-        ((rest : List ℕ) → line.now ≡ rest ++ back.now → ⊥) (λ rest. line.now ≡ rest.now ++ back.now) }
+        ((rest : List ℕ) → line.now ≡ rest ++ back.now → ⊥)
+        (λ rest. line.now ≡ rest.now ++ back.now) }
 {
     line.strip_suffix(back)
 }
@@ -89,7 +91,8 @@ pub fn plan_line(line: &[u8]) -> Result<PlanLine<'_>, Kind>
 
 /// What stands in parentheses, which the line begins and ends with, if that is something.
 fn in_parentheses(line: &[u8]) -> Option<&[u8]>
-    ensures { IfSome result (λ name. 0 < length name.now × (line.now ≡ codes "(" ++ (name.now ++ codes ")"))) }
+    ensures { IfSome result
+        (λ name. 0 < length name.now × (line.now ≡ codes "(" ++ (name.now ++ codes ")"))) }
 {
     match line {
         [b'(', name @ .., b')'] if !name.is_empty() => Some(name),

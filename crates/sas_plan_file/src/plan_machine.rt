@@ -54,17 +54,16 @@ impl<S: StepNames> PlanMachine<S> {
         ensures ok { OnOk result (StepsOn self.old name.now self.new) }
         ensures err { IfErr result (λ k. k ≡ Kind.Memory) }
     {
-        match self.steps.add(self.alloc, name) {
-            Ok(()) => Ok(()),
-            Err(_) => Err(Kind::Memory),
-        }
+        self.steps.add(self.alloc, name)?;
+        Ok(())
     }
 
     /// The steps, the cost and its words, once all lines have come.
     fn into_parts(self) -> (S, u64, CostKind)
         requires { IsClosed self }
         ensures names { AllByRecursion IsName (S.names result.0) }
-        ensures parts { self ≡ closed (record { steps = S.names result.0; cost = result.1; kind = result.2 }) }
+        ensures parts { self ≡ closed
+            (record { steps = S.names result.0; cost = result.1; kind = result.2 }) }
     {
         let PlanMachine { steps, cost, .. } = self;
         match cost {
@@ -130,13 +129,12 @@ impl<S: StepNames> Machine for PlanMachine<S> {
     }
 
     fn accept(&mut self, line: &[u8]) -> Result<(), Kind> {
-        match plan_line(line) {
-            Err(kind) => Err(kind),
-            Ok(PlanLine::Cost(cost, kind)) => {
+        match plan_line(line)? {
+            PlanLine::Cost(cost, kind) => {
                 self.cost = Some((cost, kind));
                 Ok(())
             }
-            Ok(PlanLine::Step(name)) => self.add_step(name),
+            PlanLine::Step(name) => self.add_step(name),
         }
     }
 
@@ -144,13 +142,11 @@ impl<S: StepNames> Machine for PlanMachine<S> {
         let Some(name) = step_ahead(bytes) else {
             return Ok(Front::EMPTY);
         };
-        match self.add_step(name) {
-            Err(kind) => Err(kind),
-            // The parentheses and LF.
-            Ok(()) => Ok(Front {
-                lines: 1,
-                bytes: name.len() + 3,
-            }),
-        }
+        self.add_step(name)?;
+        // The parentheses and LF.
+        Ok(Front {
+            lines: 1,
+            bytes: name.len() + 3,
+        })
     }
 }

@@ -46,9 +46,6 @@ impl PlanReader {
         ensures { Finishes plan_view self result }
     {
         let PlanReader { reader } = self;
-        match reader.finish() {
-            Ok(machine) => Ok(machine.into_plan()),
-            Err(fault) => Err(fault),
-        }
+        Ok(reader.finish()?.into_plan())
     }
 }

@@ -36,14 +36,13 @@ impl PlanText {
 
     /// Keeps one line more.
     fn keep(&mut self, line: &[u8]) -> Result<(), Kind>
-        ensures ok { OnOk result (self.new.text.items ≡ self.old.text.items ++ (line.now ++ 10 ∷ [])) }
+        ensures ok { OnOk result
+            (self.new.text.items ≡ self.old.text.items ++ (line.now ++ 10 ∷ [])) }
         ensures closed { self.new.closed ≡ self.old.closed }
         ensures err { IfErr result (λ k. k ≡ Kind.Memory) }
     {
-        match push_line(&mut self.text, line) {
-            Ok(()) => Ok(()),
-            Err(_) => Err(Kind::Memory),
-        }
+        push_line(&mut self.text, line)?;
+        Ok(())
     }
 }
 
@@ -65,17 +64,10 @@ impl Machine for PlanText {
     }
 
     fn accept(&mut self, line: &[u8]) -> Result<(), Kind> {
-        match plan_line(line) {
-            Err(kind) => Err(kind),
-            Ok(PlanLine::Step(_)) => self.keep(line),
-            Ok(PlanLine::Cost(..)) => match self.keep(line) {
-                Err(kind) => Err(kind),
-                Ok(()) => {
-                    self.closed = true;
-                    Ok(())
-                }
-            },
-        }
+        let is_cost = matches!(plan_line(line)?, PlanLine::Cost(..));
+        self.keep(line)?;
+        self.closed = is_cost;
+        Ok(())
     }
 
     fn accept_ahead(&mut self, bytes: &[u8]) -> Result<Front, Kind> {
@@ -84,12 +76,10 @@ impl Machine for PlanText {
         };
         // The parentheses and LF.
         let taken = name.len() + 3;
-        match self.text.extend_from_slice(&bytes[..taken]) {
-            Err(_) => Err(Kind::Memory),
-            Ok(()) => Ok(Front {
-                lines: 1,
-                bytes: taken,
-            }),
-        }
+        self.text.extend_from_slice(&bytes[..taken])?;
+        Ok(Front {
+            lines: 1,
+            bytes: taken,
+        })
     }
 }

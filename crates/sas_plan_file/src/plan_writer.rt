@@ -10,7 +10,8 @@ use std::alloc::{AllocError, Global};
 
 /// Appends the line of a step and its end.
 fn push_step(out: &mut Vec<u8>, name: &[u8]) -> Result<(), AllocError>
-    ensures { OnOk result (out.new.items ≡ out.old.items ++ (plan_line_bytes (step name.now) ++ 10 ∷ [])) }
+    ensures { OnOk result
+        (out.new.items ≡ out.old.items ++ (plan_line_bytes (step name.now) ++ 10 ∷ [])) }
 {
     out.push(b'(')?;
     out.extend_from_slice(name)?;
@@ -29,7 +30,8 @@ fn words_of(kind: CostKind) -> &'static [u8]
 
 /// Appends the line of the cost and its end.
 fn push_cost(out: &mut Vec<u8>, n: u64, kind: CostKind) -> Result<(), AllocError>
-    ensures { OnOk result (out.new.items ≡ out.old.items ++ (plan_line_bytes (cost n kind) ++ 10 ∷ [])) }
+    ensures { OnOk result
+        (out.new.items ≡ out.old.items ++ (plan_line_bytes (cost n kind) ++ 10 ∷ [])) }
 {
     out.extend_from_slice(b"; cost = ")?;
     push_number(out, u128::from(n))?;

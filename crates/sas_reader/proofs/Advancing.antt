@@ -198,6 +198,10 @@ module _ {M : Type 0} (led_by : List (List ℕ) → M → Type 0) (ended : M →
   advances_wider old new piece front room (Err k) e h =
       record { took = tt; stopped = stopped_wider old new piece room k (subst (λ (x : List ℕ). Stopped led_by ended rejects old new x k) e h.stopped); fault = h.fault; limit = h.limit }
 
+  -- what is handed on where a step stops
+  pub advances_no_more : (old new : Reader M) (piece : List ℕ) (r : Result ℕ Kind) (k : Kind) → r ≡ Err k → Advances led_by ended rejects old piece new (Err k) → Advances led_by ended rejects old piece new r
+  advances_no_more old new piece r k e h = subst (λ (x : Result ℕ Kind). Advances led_by ended rejects old piece new x) (sym e) h
+
   -- ---- behind a front of the piece that was taken
 
   pub took_behind : (old mid new : Reader M) (piece : List ℕ) (i n : ℕ) → TookFront led_by ended rejects old mid piece i → TookFront led_by ended rejects mid new (rest i piece) n → TookFront led_by ended rejects old new piece (i + n)

@@ -1,13 +1,15 @@
 -- Bytes that hold neither LF nor CR.
-use Rattle.std.proofs.Common.{◌≡◌, ◌≢◌, ℕ, ◌<◌, ◌^◌, Bool, true, false, List, [], ◌∷◌, ◌++◌, refl, arith, IsTrue, not}
+use Rattle.std.proofs.Common.{◌≡◌, ◌≢◌, ℕ, ◌<◌, ◌^◌, Bool, true, false, List, [], ◌∷◌, ◌++◌, refl, ap, arith, IsTrue, not}
 use Rattle.std.specs.Prelude.{◌==◌, ◌&&◌, length}
 use Rattle.std.specs.List.{list_all}
 use Rattle.std.specs.Fmt.{decimal}
 use Rattle.std.specs.Str.Parse.{AllDigits, digits_value}
-use Rattle.std.proofs.lemmas.Bool.{eq-eqb}
+use Rattle.std.proofs.lemmas.Bool.{eq-eqb, ne_eqb}
 use Rattle.std.proofs.lemmas.Fmt.{digits_decimal}
 use Rattle.std.proofs.lemmas.Str.Parse.{IsNumeralModel, numerals_by_value, tells_digits, digit_from_value}
 use Rattle.sas_core.specs.Names.{is_plain, IsName}
+use Rattle.sas_lines.specs.Lines.{NoEnd, without_return}
+use Rattle.sas_lines.proofs.Splitting.{Plain}
 use Rattle.sas_reader.specs.System.{IsPlain}
 
 -- ---- the digits of a number
@@ -51,3 +53,17 @@ plain-name bytes h = plain_bytes bytes ((and_parts (not (length bytes == 0)) (li
 pub plain-append : (a b : List ℕ) → IsPlain a → IsPlain b → IsPlain (a ++ b)
 plain-append [] b h g = g
 plain-append (x ∷ a) b h g = (h.0, plain-append a b h.1 g)
+
+-- ---- such bytes as a line
+
+pub plain : (line : List ℕ) → IsPlain line → Plain line
+plain line h = record { no_end = no_end line h; no_return = no_return line h }
+  where
+    no_end : (line : List ℕ) → IsPlain line → NoEnd line
+    no_end [] h = tt
+    no_end (b ∷ line) h = (h.0.0, no_end line h.1)
+
+    no_return : (line : List ℕ) → IsPlain line → without_return line ≡ line
+    no_return [] h = refl
+    no_return (b ∷ []) h = rw (ne_eqb b 13 h.0.1) refl
+    no_return (b ∷ c ∷ line) h = ap (λ (x : List ℕ). b ∷ x) (no_return (c ∷ line) h.1)

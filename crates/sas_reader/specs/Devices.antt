@@ -18,8 +18,9 @@ module _ {V I S : Type 0} (F : Format V I S) where
   abbrev pub TextOf : List ℕ → List ℕ → Type 0
   TextOf input bytes = (v : V) × ValueOf input v × (bytes ≡ text (lines_of F v))
 
-  -- Why an input is refused, by the bytes of it that were read: a read failed behind live bytes, on the line after
-  -- their complete ones; or the bytes are all, and more was due; or they have a fault.
+  -- Why an input is refused, by the bytes of it that were read: a read failed
+  -- behind live bytes, on the line after their complete ones; or the bytes are
+  -- all, and more was due; or they have a fault.
   pub data Refuses (bytes : List ℕ) (At_end : Type 0) (f : Fault) : Type 0 where
     unread_at : Live F most_bytes bytes → f.line ≡ length (lines bytes) + 1 → f.kind ≡ kinds.Read
         → Refuses bytes At_end f
@@ -36,8 +37,8 @@ module _ {D : Type 0} (left : D → Option (List ℕ)) where
   abbrev pub WasReadWhole : Device D → Device D → List ℕ → Type 0
   WasReadWhole old new bytes = WasRead old new bytes × IsAtEnd (left new.device)
 
-  -- What a call says that reads a device to its end or to the first fault. `Gives` says which answer is right for which
-  -- bytes.
+  -- What a call says that reads a device to its end or to the first fault.
+  -- `Gives` says which answer is right for which bytes.
   pub record ReadsAll {V I S A : Type 0} (F : Format V I S) (Gives : List ℕ → A → Type 0)
       (old new : Device D) (result : Result A Fault) : Type 0 where
     -- what was read is all, and the answer is right for it
@@ -47,6 +48,7 @@ module _ {D : Type 0} (left : D → Option (List ℕ)) where
         → (bytes : List ℕ) × WasRead old new bytes × Refuses F bytes (IsAtEnd (left new.device)) f)
     -- memory is wanted only where more is due behind live bytes
     pub memory : IfErr result (λ f. f.kind ≡ kinds.Memory
-        → (bytes piece : List ℕ) × WasRead old new (bytes ++ piece) × MoreIsDue F most_bytes bytes piece)
+        → (bytes piece : List ℕ) × WasRead old new (bytes ++ piece)
+        × MoreIsDue F most_bytes bytes piece)
     -- a failed read is told exactly where the device has failed
     pub note : IsErrAnd result (λ f. f.kind ≡ kinds.Read) ↔ IsTrue new.failed

@@ -1,4 +1,5 @@
--- A format of lines: which byte lists are a text of it, which may still become one, and what is wrong with the others.
+-- A format of lines: which byte lists are a text of it, which may still become
+-- one, and what is wrong with the others.
 use Rattle.std.specs.Prelude.{◌≡◌, ℕ, ◌<◌, ◌≤◌, ◌+◌, List, [], ◌∷◌, ◌++◌, length, map, ◌⊎◌, Result, Ok, Err}
 use Rattle.sas_lines.specs.Lines.{lines, unfinished}
 use Rattle.sas_reader.specs.declared.fault.Fault.{Fault}
@@ -33,8 +34,8 @@ module _ {V I S : Type 0} (F : Format V I S) where
   abbrev pub IsBegun : List (List ℕ) → Type 0
   IsBegun begun = (v : V) × (more : List (List ℕ)) × F.Good v × (lines_of v ≡ begun ++ more)
 
-  -- the bytes are no longer than the limit, and begin some text: their complete lines begin some value's lines and,
-  -- where they are all lines of a value, nothing follows
+  -- the bytes are no longer than the limit, and begin some text: their complete lines
+  -- begin some value's lines and, where they are all lines of a value, nothing follows
   pub record Live (limit : ℕ) (bytes : List ℕ) : Type 0 where
     pub short : length bytes ≤ limit
     pub begun : IsBegun (lines bytes)
@@ -51,16 +52,18 @@ module _ {V I S : Type 0} (F : Format V I S) where
     pub spells : map F.spelled before ≡ begun
     pub slot : F.slot_of item ≡ s
 
-  -- why the byte is a fault behind these live bytes: it passes the limit; or it follows a whole text; or it completes a
-  -- line that may not stand where it does
+  -- why the byte is a fault behind these live bytes: it passes the limit; or it
+  -- follows a whole text; or it completes a line that may not stand where it does
   pub data KindAt (limit : ℕ) (bytes : List ℕ) (byte : ℕ) (kind : Kind) : Type 0 where
     too_long : limit < length bytes + 1 → kind ≡ TooLong → KindAt limit bytes byte kind
-    trailing : length bytes + 1 ≤ limit → (v : V) → Reads bytes v → kind ≡ Trailing → KindAt limit bytes byte kind
-    wrong : length bytes + 1 ≤ limit → (line : List ℕ) → lines (bytes ++ byte ∷ []) ≡ lines bytes ++ line ∷ []
+    trailing : length bytes + 1 ≤ limit → (v : V) → Reads bytes v → kind ≡ Trailing
+        → KindAt limit bytes byte kind
+    wrong : length bytes + 1 ≤ limit → (line : List ℕ)
+        → lines (bytes ++ byte ∷ []) ≡ lines bytes ++ line ∷ []
         → (s : S) → Next (lines bytes) s → F.KindOf s line kind → KindAt limit bytes byte kind
 
-  -- the fault of bytes that aren't live: they are live up to some byte and no longer with it, and the fault is on the
-  -- line behind those that were complete before it
+  -- the fault of bytes that aren't live: they are live up to some byte and no longer
+  -- with it, and the fault is on the line behind those that were complete before it
   pub record FaultOf (limit : ℕ) (bytes : List ℕ) (f : Fault) : Type 0 where
     pub before : List ℕ
     pub byte : ℕ
@@ -78,8 +81,8 @@ module _ {V I S : Type 0} (F : Format V I S) where
     pub line : f.line ≡ length (lines bytes) + 1
     pub kind : f.kind ≡ End
 
-  -- More is due within the piece: behind some front of it, and not behind all, the bytes are live and no text, and the
-  -- limit leaves room.
+  -- More is due within the piece: behind some front of it, and not behind all,
+  -- the bytes are live and no text, and the limit leaves room.
   pub record MoreIsDue (limit : ℕ) (bytes piece : List ℕ) : Type 0 where
     pub front : List ℕ
     pub rest : List ℕ

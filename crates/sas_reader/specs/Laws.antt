@@ -19,7 +19,8 @@ module _ {V I S : Type 0} (F : Format V I S) where
 
   -- the texts of a good value are its lines, each ended by LF or by CR LF
   abbrev pub TextsAreEndedLines : Type 0
-  TextsAreEndedLines = (bytes : List ℕ) (v : V) → F.Good v → Reads F bytes v ↔ EndedLines (lines_of F v) bytes
+  TextsAreEndedLines = (bytes : List ℕ) (v : V) → F.Good v
+      → Reads F bytes v ↔ EndedLines (lines_of F v) bytes
 
   -- so its lines ended by LF are one
   abbrev pub TextIsRead : Type 0
@@ -30,15 +31,18 @@ module _ {V I S : Type 0} (F : Format V I S) where
   OneSlot = (begun : List (List ℕ)) (s t : S) → Next F begun s → Next F begun t → s ≡ t
 
   abbrev pub NoSlotAtEnd : Type 0
-  NoSlotAtEnd = (begun : List (List ℕ)) (s : S) (v : V) → Next F begun s → F.Good v → lines_of F v ≡ begun → ⊥
+  NoSlotAtEnd = (begun : List (List ℕ)) (s : S) (v : V) → Next F begun s → F.Good v
+      → lines_of F v ≡ begun → ⊥
 
   -- a text within the limit is live
   abbrev pub TextIsLive : Type 0
-  TextIsLive = (limit : ℕ) (bytes : List ℕ) (v : V) → length bytes ≤ limit → Reads F bytes v → Live F limit bytes
+  TextIsLive = (limit : ℕ) (bytes : List ℕ) (v : V) → length bytes ≤ limit → Reads F bytes v
+      → Live F limit bytes
 
   -- bytes with a fault aren't live
   abbrev pub FaultIsDead : Type 0
-  FaultIsDead = (limit : ℕ) (bytes : List ℕ) (f : Fault) → FaultOf F limit bytes f → Live F limit bytes → ⊥
+  FaultIsDead = (limit : ℕ) (bytes : List ℕ) (f : Fault) → FaultOf F limit bytes f
+      → Live F limit bytes → ⊥
 
   -- bytes without a fault can't but be live
   abbrev pub FaultlessIsLive : Type 0
@@ -47,7 +51,8 @@ module _ {V I S : Type 0} (F : Format V I S) where
 
   -- bytes have one fault at most, and however they go on it stays their fault
   abbrev pub OneFault : Type 0
-  OneFault = (limit : ℕ) (bytes : List ℕ) (f g : Fault) → FaultOf F limit bytes f → FaultOf F limit bytes g → f ≡ g
+  OneFault = (limit : ℕ) (bytes : List ℕ) (f g : Fault) → FaultOf F limit bytes f
+      → FaultOf F limit bytes g → f ≡ g
 
   abbrev pub FaultStays : Type 0
   FaultStays = (limit : ℕ) (bytes more : List ℕ) (f : Fault) → FaultOf F limit bytes f
@@ -64,7 +69,8 @@ module _ {V I S : Type 0} (F : Format V I S) where
       → ReadsAs F limit bytes r → ReadsAs F limit bytes q → r ≡ q
 
   abbrev pub SomeReading : Type 0
-  SomeReading = (limit : ℕ) (bytes : List ℕ) → ((r : Result V Fault) → ReadsAs F limit bytes r → ⊥) → ⊥
+  SomeReading = (limit : ℕ) (bytes : List ℕ)
+      → ((r : Result V Fault) → ReadsAs F limit bytes r → ⊥) → ⊥
 
   -- What holds of a format with a grammar.
   pub record Laws : Type 0 where

@@ -12,10 +12,12 @@ pub record IsFront (first : List (List ℕ)) (bytes : List ℕ) (front : Front) 
 
 -- `led_by` tells which lines led a machine where it is.
 module _ {M : Type 0} (led_by : List (List ℕ) → M → Type 0) where
-  -- What a machine says that may take the first lines of some bytes: it took lines that stand first in them, or
-  -- nothing; only memory can be refused.
-  pub record AcceptsAhead (old : M) (bytes : List ℕ) (new : M) (result : Result Front Kind) : Type 0 where
-    pub took : IfOk result (λ front. 0 < front.bytes → (first : List (List ℕ)) × IsFront first bytes front
+  -- What a machine says that may take the first lines of some bytes: it took
+  -- lines that stand first in them, or nothing; only memory can be refused.
+  pub record AcceptsAhead (old : M) (bytes : List ℕ) (new : M)
+      (result : Result Front Kind) : Type 0 where
+    pub took : IfOk result
+        (λ front. 0 < front.bytes → (first : List (List ℕ)) × IsFront first bytes front
         × ((before : List (List ℕ)) → led_by before old → led_by (before ++ first) new))
     pub none : IfOk result (λ front. front.bytes ≡ 0 → new ≡ old)
     pub memory : IfErr result (λ k. k ≡ kinds.Memory)

@@ -10,14 +10,17 @@ use Rattle.sas_reader.specs.declared.fault.Kind.TheVariants as kinds
 use Rattle.sas_reader.specs.declared.reader.Reader.{Reader}
 use Rattle.sas_reader.specs.Faults.{IsOfBytes, answer}
 
--- A machine M is led somewhere by lines, may have ended there, and rejects lines that don't lead on.
+-- A machine M is led somewhere by lines, may have ended there, and rejects
+-- lines that don't lead on.
 module _ {M : Type 0} (led_by : List (List ℕ) → M → Type 0) (ended : M → Type 0) where
-  -- the complete lines of the bytes led the machine here, and nothing follows them where it has ended
+  -- the complete lines of the bytes led the machine here, and nothing follows
+  -- them where it has ended
   pub record Reached (machine : M) (bytes : List ℕ) : Type 0 where
     pub led : led_by (lines bytes) machine
     pub rest : ended machine → unfinished bytes ≡ []
 
-  -- the reader has taken the bytes: it holds where their complete lines led, their rest, and their length
+  -- the reader has taken the bytes: it holds where their complete lines led,
+  -- their rest, and their length
   pub record Accepted (r : Reader M) (bytes : List ℕ) : Type 0 where
     pub reached : Reached r.machine bytes
     pub pending : r.pending.pending ≡ unfinished bytes
@@ -33,8 +36,8 @@ module _ {M : Type 0} (led_by : List (List ℕ) → M → Type 0) (ended : M →
     pub line : f.line ≡ length (lines bytes) + 1
     pub kind : f.kind ≡ kinds.End
 
-  -- a line is due within the piece: the machine was led behind some front of it, and not behind all, has not ended, and
-  -- the limit leaves room
+  -- a line is due within the piece: the machine was led behind some front of
+  -- it, and not behind all, has not ended, and the limit leaves room
   pub record LineIsDue (limit : ℕ) (bytes piece : List ℕ) : Type 0 where
     pub machine : M
     pub at : ℕ
@@ -48,7 +51,8 @@ module _ {M : Type 0} (led_by : List (List ℕ) → M → Type 0) (ended : M →
   -- why the byte may not follow these bytes, which led the machine here
   pub data Stops (limit : ℕ) (machine : M) (bytes : List ℕ) (byte : ℕ) (k : Kind) : Type 0 where
     full : length bytes ≡ limit → k ≡ kinds.TooLong → Stops limit machine bytes byte k
-    over : length bytes + 1 ≤ limit → ended machine → k ≡ kinds.Trailing → Stops limit machine bytes byte k
+    over : length bytes + 1 ≤ limit → ended machine → k ≡ kinds.Trailing
+        → Stops limit machine bytes byte k
     rejected : length bytes + 1 ≤ limit → (ended machine → ⊥) → byte ≡ 10
         → rejects machine (without_return (unfinished bytes)) k → Stops limit machine bytes byte k
 
@@ -67,7 +71,8 @@ module _ {M : Type 0} (led_by : List (List ℕ) → M → Type 0) (ended : M →
   StandsAt None r bytes = Accepted led_by ended r bytes
   StandsAt (Some f) r bytes = f.kind ≢ kinds.Memory → FaultIn r.limit bytes f
 
-  -- A reader without a fault has taken the bytes. One with a fault, memory aside, says what is wrong with them.
+  -- A reader without a fault has taken the bytes. One with a fault, memory
+  -- aside, says what is wrong with them.
   unfoldable pub Stands : Reader M → List ℕ → Type 0
   Stands r bytes = StandsAt r.fault r bytes
 
@@ -80,7 +85,8 @@ module _ {M : Type 0} (led_by : List (List ℕ) → M → Type 0) (ended : M →
     pub accepted : (bytes : List ℕ) → Accepted led_by ended old bytes
         → Accepted led_by ended new (bytes ++ take n piece)
 
-  -- the reader was stopped in the piece: a byte of it may not follow, or memory was refused where a line is due
+  -- the reader was stopped in the piece: a byte of it may not follow, or memory
+  -- was refused where a line is due
   pub record Stopped (old new : Reader M) (piece : List ℕ) (k : Kind) : Type 0 where
     pub kind : IsOfBytes k
     pub fault : k ≢ kinds.Memory → (bytes : List ℕ) → Accepted led_by ended old bytes
@@ -89,7 +95,8 @@ module _ {M : Type 0} (led_by : List (List ℕ) → M → Type 0) (ended : M →
         → LineIsDue led_by ended old.limit bytes piece
 
   -- what a step of a reader says: it took so many bytes of the piece, or was stopped
-  pub record Advances (old : Reader M) (piece : List ℕ) (new : Reader M) (result : Result ℕ Kind) : Type 0 where
+  pub record Advances (old : Reader M) (piece : List ℕ) (new : Reader M)
+      (result : Result ℕ Kind) : Type 0 where
     pub took : IfOk result (λ n. TookFront old new piece n)
     pub stopped : IfErr result (λ k. Stopped old new piece k)
     pub fault : new.fault ≡ old.fault
@@ -108,12 +115,14 @@ module _ {M : Type 0} (led_by : List (List ℕ) → M → Type 0) (ended : M →
     -- a new fault is one that bytes show as they come
     pub kind : IfErr result (λ f. old.fault ≡ None → IsOfBytes f.kind)
     -- memory is wanted only where a line is due
-    pub memory : IfErr result (λ f. old.fault ≡ None → f.kind ≡ kinds.Memory → (bytes : List ℕ) → Stands old bytes
+    pub memory : IfErr result
+        (λ f. old.fault ≡ None → f.kind ≡ kinds.Memory → (bytes : List ℕ) → Stands old bytes
         → LineIsDue led_by ended old.limit bytes piece)
     pub count : OnOk result (new.taken ≡ old.taken + length piece)
     pub limit : new.limit ≡ old.limit
 
-  -- the fault of a reader where nothing more comes; want of memory and a failed read are only such as came before
+  -- the fault of a reader where nothing more comes; want of memory and a failed
+  -- read are only such as came before
   pub record FaultAtEnd (r : Reader M) (f : Fault) : Type 0 where
     pub fault : f.kind ≢ kinds.Memory → (bytes : List ℕ) → Stands r bytes
         → FaultIn r.limit bytes f ⊎ EndsEarly led_by ended r.limit bytes f
@@ -130,8 +139,8 @@ module _ {M : Type 0} (led_by : List (List ℕ) → M → Type 0) (ended : M →
 
   -- ---- a device
 
-  -- Why a device was not read as a whole: a read failed behind these bytes; or they are all, and more was due; or they
-  -- have a fault.
+  -- Why a device was not read as a whole: a read failed behind these bytes; or
+  -- they are all, and more was due; or they have a fault.
   pub data ReadFails (limit : ℕ) (bytes : List ℕ) (at_end : Type 0) (f : Fault) : Type 0 where
     unread : (machine : M) → Reached led_by ended machine bytes → length bytes ≤ limit
         → f.line ≡ length (lines bytes) + 1 → f.kind ≡ kinds.Read → ReadFails limit bytes at_end f
@@ -139,9 +148,10 @@ module _ {M : Type 0} (led_by : List (List ℕ) → M → Type 0) (ended : M →
     faulty : FaultIn limit bytes f → f.kind ≢ kinds.Read → ReadFails limit bytes at_end f
 
   module _ {D : Type 0} (left : D → Option (List ℕ)) where
-    -- What a call says that feeds a machine with a device, to the device's end or to the first fault. `left` tells the
-    -- bytes that a device has left, if it tells them.
-    pub record FeedsMachine (limit : ℕ) (old new : Device D) (result : Result M Fault) : Type 0 where
+    -- What a call says that feeds a machine with a device, to the device's end or to
+    -- the first fault. `left` tells the bytes that a device has left, if it tells them.
+    pub record FeedsMachine (limit : ℕ) (old new : Device D)
+        (result : Result M Fault) : Type 0 where
       pub at_end : IfOk result (λ m. ended m)
       pub reached : IfOk result (λ m. (b : List ℕ)
           × Consumes (left old.device) (left new.device) b

@@ -5,8 +5,8 @@ use Rattle.sas_reader.specs.declared.fault.Kind.TheVariants as kinds
 use Rattle.sas_reader.specs.Faults.{IsOfBytes, answer}
 use Rattle.sas_reader.specs.Format.{Format, Live, FaultOf, MoreIsDue, ReadsAs}
 
--- how a reader R of a format is seen: by the byte lists that it stands for, its first fault, where one has come, and
--- the most bytes that it takes
+-- how a reader R of a format is seen: by the byte lists that it stands for, its
+-- first fault, where one has come, and the most bytes that it takes
 pub record View (V I S R : Type 0) : Type 1 where
   pub format : Format V I S
   pub Stands : R → List ℕ → Type 0
@@ -21,7 +21,8 @@ module _ {V I S R : Type 0} (view : View V I S R) where
     pub fault : view.fault reader ≡ None
 
   -- what a reader says that takes a piece
-  pub record Feeds (old : R) (piece : List ℕ) (new : R) (result : Result (Unit {0}) Fault) : Type 0 where
+  pub record Feeds (old : R) (piece : List ℕ) (new : R)
+      (result : Result (Unit {0}) Fault) : Type 0 where
     -- it stands for what it stood for, followed by the piece
     pub stands : (bytes : List ℕ) → view.Stands old bytes → view.Stands new (bytes ++ piece)
     -- the answer is Ok only if all bytes so far are live
@@ -37,7 +38,8 @@ module _ {V I S R : Type 0} (view : View V I S R) where
     pub kind : IfErr result (λ f. view.fault old ≡ None → IsOfBytes f.kind)
     -- memory is wanted only where more is due behind live bytes
     pub memory : IfErr result (λ f. view.fault old ≡ None → f.kind ≡ kinds.Memory
-        → (bytes : List ℕ) → view.Stands old bytes → MoreIsDue view.format (view.limit old) bytes piece)
+        → (bytes : List ℕ) → view.Stands old bytes
+        → MoreIsDue view.format (view.limit old) bytes piece)
     pub limit : view.limit new ≡ view.limit old
 
   -- what a reader says at the end
@@ -46,7 +48,8 @@ module _ {V I S R : Type 0} (view : View V I S R) where
     pub read : IfOk result (λ v. (bytes : List ℕ) → view.Stands reader bytes
         → ReadsAs view.format (view.limit reader) bytes (Ok v))
     -- or their fault
-    pub fault : IfErr result (λ f. f.kind ≢ kinds.Memory → (bytes : List ℕ) → view.Stands reader bytes
+    pub fault : IfErr result
+        (λ f. f.kind ≢ kinds.Memory → (bytes : List ℕ) → view.Stands reader bytes
         → ReadsAs view.format (view.limit reader) bytes (Err f))
     -- want of memory is only such as came before
     pub memory : IfErr result (λ f. f.kind ≡ kinds.Memory → view.fault reader ≡ Some f)

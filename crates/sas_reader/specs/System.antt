@@ -4,7 +4,8 @@ use Rattle.std.specs.List.{AllByRecursion}
 use Rattle.sas_reader.specs.declared.fault.Kind.{Kind}
 use Rattle.sas_reader.specs.Format.{Format, lines_of}
 
--- a state of T is at the end with a value, or before a line at a slot that passes a test and leads on
+-- a state of T is at the end with a value, or before a line at a slot that
+-- passes a test and leads on
 pub data Node (T V I S : Type 0) : Type 0 where
   ended : V → Node T V I S
   before : S → (I → Bool) → (I → T) → Node T V I S
@@ -53,14 +54,17 @@ module _ {T V I S : Type 0} (F : Format V I S) (Fits : I → Type 0) where
     pub after : After node start items p
     pub spells : map F.spelled items ≡ ls
 
-  -- What ties states to a format: what leads from the start to the end is the lines of a good value, the lines of each
-  -- good value lead there, whatever came can be completed, no line of a good value holds LF or CR, and at a slot a line
-  -- has one meaning and its fault one kind.
+  -- What ties states to a format: what leads from the start to the end is the lines of a good
+  -- value, the lines of each good value lead there, whatever came can be completed, no line of
+  -- a good value holds LF or CR, and at a slot a line has one meaning and its fault one kind.
   pub record Grammar (node : T → Node T V I S) (start : T) : Type 0 where
     pub sound : (is : List I) (v : V) → LeadsToEnd node start is v → F.Good v × (is ≡ F.layout v)
     pub complete : (v : V) → F.Good v → LeadsToEnd node start (F.layout v) v
-    pub fillable : (is : List I) (p : T) → After node start is p → (more : List I) × (v : V) × LeadsToEnd node p more v
+    pub fillable : (is : List I) (p : T) → After node start is p
+        → (more : List I) × (v : V) × LeadsToEnd node p more v
     pub plain : (v : V) → F.Good v → AllByRecursion IsPlain (lines_of F v)
-    pub one_item : (i j : I) → F.slot_of i ≡ F.slot_of j → Fits i → Fits j → F.spelled i ≡ F.spelled j → i ≡ j
-    pub one_kind : (s : S) (line : List ℕ) (j k : Kind) → F.KindOf s line j → F.KindOf s line k → j ≡ k
+    pub one_item : (i j : I) → F.slot_of i ≡ F.slot_of j → Fits i → Fits j
+        → F.spelled i ≡ F.spelled j → i ≡ j
+    pub one_kind : (s : S) (line : List ℕ) (j k : Kind) → F.KindOf s line j
+        → F.KindOf s line k → j ≡ k
     pub some_kind : (s : S) (line : List ℕ) → ((k : Kind) → F.KindOf s line k → ⊥) → ⊥

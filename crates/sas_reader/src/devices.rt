@@ -20,7 +20,8 @@ pub fn read_all<M: Machine, R: Read>(
     requires note { device.old.failed ≡ false }
     requires small { limit ≤ most_bytes }
     requires start { M.led_by [] machine }
-    ensures { FeedsMachine M.led_by M.ended M.rejects R.remaining limit device.old device.new result }
+    ensures { FeedsMachine M.led_by M.ended M.rejects R.remaining limit
+        device.old device.new result }
 {
     let mut reader = Reader::new(alloc, machine, limit);
     let mut buffer = [0u8; 4096];
@@ -37,8 +38,6 @@ pub fn read_all<M: Machine, R: Read>(
         if taken == 0 {
             return reader.finish();
         }
-        if let Err(fault) = reader.feed(&buffer[..taken]) {
-            return Err(fault);
-        }
+        reader.feed(&buffer[..taken])?;
     }
 }

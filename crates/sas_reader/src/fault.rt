@@ -1,4 +1,7 @@
 // What may be wrong with an input.
+ghost use Rattle.std.specs.Prelude.{◌≡◌};
+
+use std::alloc::AllocError;
 
 /// The kinds of fault of an input.
 #[derive(Clone, Copy, Debug, PartialEq, Eq)]
@@ -22,6 +25,16 @@ pub enum Kind {
     Read,
     /// Memory was refused.
     Memory,
+}
+
+impl From<AllocError> for Kind {
+    ghost use Rattle.sas_reader.specs.declared.fault.Kind.TheVariants.{Memory};
+
+    ghost from_gives = { λ _ e. e ≡ Memory };
+
+    fn from(_error: AllocError) -> Kind {
+        Kind::Memory
+    }
 }
 
 /// The first fault of an input. In every fault but `Memory`, whose line isn't fixed, the line is 1 plus the number of

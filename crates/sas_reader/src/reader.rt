@@ -45,7 +45,8 @@ pub trait Machine: Drop {
     fn accept(&mut self, line: &[u8]) -> Result<(), Kind>
         requires { ended self.old → ⊥ }
         ensures led { OnOk result
-            ((before : List (List ℕ)) → led_by before self.old → led_by (before ++ line.now ∷ []) self.new) }
+            ((before : List (List ℕ)) → led_by before self.old
+            → led_by (before ++ line.now ∷ []) self.new) }
         ensures rejects { IfErr result (λ k. k ≢ Kind.Memory → rejects self.old line.now k) }
         ensures kind { IfErr result IsOfBytes };
 
@@ -102,21 +103,15 @@ impl<M: Machine> Reader<M> {
         ensures advances { Advances M.led_by M.ended M.rejects self.old piece.now self.new result }
         ensures some { IfOk result (λ n. 0 < n) }
     {
-        match self.pending.feed(piece) {
-            Err(_) => Err(Kind::Memory),
-            Ok(fed) if !fed.complete => {
-                self.taken += fed.taken as u64;
-                Ok(fed.taken)
-            }
-            Ok(fed) => match self.machine.accept(self.pending.line()) {
-                Err(kind) => Err(kind),
-                Ok(()) => {
-                    self.lines += 1;
-                    self.taken += fed.taken as u64;
-                    Ok(fed.taken)
-                }
-            },
+        let fed = self.pending.feed(piece)?;
+        if !fed.complete {
+            self.taken += fed.taken as u64;
+            return Ok(fed.taken);
         }
+        self.machine.accept(self.pending.line())?;
+        self.lines += 1;
+        self.taken += fed.taken as u64;
+        Ok(fed.taken)
     }
 
     /// The bytes of the piece that the limit leaves room for.
@@ -147,14 +142,10 @@ impl<M: Machine> Reader<M> {
         let Some(first) = first_line(within) else {
             return self.go_on(within);
         };
-        match self.machine.accept(first.line) {
-            Err(kind) => Err(kind),
-            Ok(()) => {
-                self.lines += 1;
-                self.taken += first.taken as u64;
-                Ok(first.taken)
-            }
-        }
+        self.machine.accept(first.line)?;
+        self.lines += 1;
+        self.taken += first.taken as u64;
+        Ok(first.taken)
     }
 
     /// Takes some of the first lines of the piece if the machine is quick to see that they may stand here,
@@ -169,10 +160,7 @@ impl<M: Machine> Reader<M> {
         if self.machine.has_ended() {
             return Ok(0);
         }
-        let front = match self.machine.accept_ahead(piece) {
-            Ok(front) => front,
-            Err(kind) => return Err(kind),
-        };
+        let front = self.machine.accept_ahead(piece)?;
         if front.bytes == 0 {
             return Ok(0);
         }
@@ -191,11 +179,11 @@ impl<M: Machine> Reader<M> {
         let within = self.within_limit(piece);
         let mut at = 0;
         while at < within.len() {
-            match self.take_ahead(&within[at..]) {
-                Err(kind) => return Err(kind),
-                Ok(0) => return Ok(at),
-                Ok(taken) => at += taken,
+            let taken = self.take_ahead(&within[at..])?;
+            if taken == 0 {
+                return Ok(at);
             }
+            at += taken;
         }
         Ok(at)
     }
@@ -206,17 +194,11 @@ impl<M: Machine> Reader<M> {
         ensures advances { Advances M.led_by M.ended M.rejects self.old piece.now self.new result }
         ensures some { IfOk result (λ n. 0 < n) }
     {
-        let ahead = match self.go_ahead(piece) {
-            Err(kind) => return Err(kind),
-            Ok(ahead) => ahead,
-        };
+        let ahead = self.go_ahead(piece)?;
         if ahead == piece.len() {
             return Ok(ahead);
         }
-        match self.take_line(&piece[ahead..]) {
-            Err(kind) => Err(kind),
-            Ok(taken) => Ok(ahead + taken),
-        }
+        Ok(ahead + self.take_line(&piece[ahead..])?)
     }
 
     /// Takes the next piece. The first fault is answered from then on.

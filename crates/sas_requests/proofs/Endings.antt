@@ -2,11 +2,11 @@
 use Rattle.std.proofs.Common.{◌≡◌, ℕ, List, ap, sym, subst, ◌∙◌, Option, Some, Result, Ok, Err}
 use Rattle.std.specs.Prelude.{IfOk}
 use Rattle.std.proofs.lemmas.Option.{none-some}
-use Rattle.sas_answers.specs.declared.Status.{Status}
-use Rattle.sas_answers.specs.declared.ToolFault.{ToolFault}
-use Rattle.sas_answers.specs.declared.ToolFault.TheVariants as tool_fault
-use Rattle.sas_answers.specs.Ending.{Ends}
-use Rattle.sas_answers.specs.Answers.{Output}
+use Rattle.sas_output.specs.declared.ending.Status.{Status}
+use Rattle.sas_output.specs.declared.ending.ToolFault.{ToolFault}
+use Rattle.sas_output.specs.declared.ending.ToolFault.TheVariants as tool_fault
+use Rattle.sas_output.specs.Ending.{Ends}
+use Rattle.sas_output.specs.Ending.{Output}
 
 module _ (o : Output) (Sent : List ℕ → Type 0) where
   -- what ends with this output ends with an output that is right

@@ -21,11 +21,12 @@ use Rattle.sas_plan_file.proofs.PlanLaws.{plan_laws_hold}
 use Rattle.sas_task_format.specs.TaskFormat.{task_format}
 use Rattle.sas_task_format.proofs.TaskLaws.{task_laws_hold}
 use Rattle.sas_run.specs.Plans.{cost_of_all}
-use Rattle.sas_answers.specs.declared.Status.{Status}
-use Rattle.sas_answers.specs.declared.Status.TheVariants.{Yes, No}
+use Rattle.sas_output.specs.declared.ending.Status.{Status}
+use Rattle.sas_output.specs.declared.ending.Status.TheVariants.{Yes, No}
 use Rattle.sas_requests.specs.Headline.{Solves, Headline}
 use Rattle.sas_answers.specs.LayerWords.{layer_words, layers_line}
-use Rattle.sas_answers.specs.Answers.{Output, valid_answer, VerdictAnswer}
+use Rattle.sas_answers.specs.Answers.{valid_answer, VerdictAnswer}
+use Rattle.sas_output.specs.Ending.{Output}
 use Rattle.sas_requests.specs.Output.{word_of, refusal, refusal_line, IsAnswerOrRefusal, LayersOut, JudgedOut, PlanOut}
 use Rattle.sas_answers.specs.PlanWords.{valid_line, fault_words, invalid_line}
 use Rattle.sas_requests.proofs.Outputs.{refused_kind}

@@ -25,7 +25,8 @@ use Rattle.sas_groups.specs.Verdicts.{IsJointVerdict}
 use Rattle.sas_mutex.proofs.JointLists.{listed_exclusive}
 use Rattle.sas_requests.specs.Headline.{IsInvariant, Invariants}
 use Rattle.sas_answers.specs.GroupWords.{verdict_words, group_line, group_lines_from, group_lines}
-use Rattle.sas_answers.specs.Answers.{Output, GroupsAnswer, LayeredGroupsAnswer, MutexAnswer}
+use Rattle.sas_answers.specs.Answers.{GroupsAnswer, LayeredGroupsAnswer, MutexAnswer}
+use Rattle.sas_output.specs.Ending.{Output}
 use Rattle.sas_requests.specs.Output.{IsAnswerOrRefusal, MutexOut}
 use Rattle.sas_requests.proofs.Headlines.{text_read, not_long, sent_same}
 

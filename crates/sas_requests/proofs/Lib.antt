@@ -3,3 +3,5 @@ mod PlanAnswers
 mod Headlines
 mod InvariantGroups
 mod Endings
+mod Lengths
+mod SummaryLengths

@@ -14,13 +14,13 @@ use Rattle.sas_task_format.specs.TaskFormat.{TaskSlot, word_slot, name_slot, num
 use Rattle.sas_lines.specs.Device.{Device}
 use Rattle.sas_reader.specs.Devices.{Refuses, unread_at, ended_at, faulty_at, ReadsAll}
 use Rattle.sas_reader.proofs.Known.{known_answer, known_fault}
-use Rattle.sas_answers.specs.Answers.{Output}
+use Rattle.sas_output.specs.Ending.{Output}
 use Rattle.sas_answers.proofs.AnswerLaws.{OneAnswer, SomeAnswer}
 use Rattle.sas_requests.specs.declared.answers.Answer.{Answer}
-use Rattle.sas_answers.specs.declared.ToolFault.{ToolFault}
-use Rattle.sas_answers.specs.declared.ToolFault.TheVariants as tool_fault
+use Rattle.sas_output.specs.declared.ending.ToolFault.{ToolFault}
+use Rattle.sas_output.specs.declared.ending.ToolFault.TheVariants as tool_fault
 use Rattle.sas_requests.specs.Answering.{Answers, AnswersFile, output_of}
-use Rattle.sas_answers.specs.Ending.{IsDecided, IsWrite}
+use Rattle.sas_output.specs.Ending.{IsDecided, IsWrite}
 use Rattle.sas_requests.specs.Output.{word_of, refusal, IsAnswerOrRefusal, FileOut}
 
 -- no word, no refusal

@@ -21,10 +21,11 @@ use Rattle.sas_plan_file.proofs.PlanLaws.{plan_laws_hold}
 use Rattle.sas_task_format.specs.TaskFormat.{task_format}
 use Rattle.sas_task_format.proofs.TaskLaws.{task_laws_hold}
 use Rattle.sas_requests.specs.declared.answers.Answer.{Answer}
-use Rattle.sas_answers.specs.declared.ToolFault.{ToolFault}
-use Rattle.sas_answers.specs.declared.ToolFault.TheVariants as tool_fault
+use Rattle.sas_output.specs.declared.ending.ToolFault.{ToolFault}
+use Rattle.sas_output.specs.declared.ending.ToolFault.TheVariants as tool_fault
 use Rattle.sas_requests.specs.Answering.{Answers, AnswersFile, AnswersFiles, output_of}
-use Rattle.sas_answers.specs.Answers.{Output, layers_refusal, layers_verdict, VerdictAnswer}
+use Rattle.sas_answers.specs.Answers.{layers_refusal, layers_verdict, VerdictAnswer}
+use Rattle.sas_output.specs.Ending.{Output}
 use Rattle.sas_requests.specs.Output.{IsAnswerOrRefusal, FileOut, VerdictOut, LayersOut, JudgedOut, PlanOut}
 use Rattle.sas_requests.proofs.Outputs.{takes_nothing, one_file_output, some_file_output, no_file_output, plan_worded, task_worded}
 use Rattle.sas_answers.proofs.CheckAnswers.{some_check_answer}

@@ -3,13 +3,13 @@ use Rattle.std.specs.Prelude.{◌≡◌, ◌↔◌, ◌||◌, ℕ, List, Option,
 use Rattle.std.specs.Io.KnownBytes.{Consumes}
 use Rattle.sas_lines.specs.Device.{Device}
 use Rattle.sas_lines.specs.Lines.{text}
-use Rattle.sas_answers.specs.declared.Status.TheVariants.{Yes}
-use Rattle.sas_answers.specs.Answers.{Output, output_told}
+use Rattle.sas_output.specs.declared.ending.Status.TheVariants.{Yes}
+use Rattle.sas_output.specs.Ending.{Output, output_told}
 use Rattle.sas_requests.specs.declared.answers.Answer.{Answer}
 use Rattle.sas_requests.specs.declared.answers.Answer.TheVariants.{Text, Summary}
-use Rattle.sas_answers.specs.declared.ToolFault.{ToolFault}
-use Rattle.sas_answers.specs.declared.ToolFault.TheVariants as fault
-use Rattle.sas_answers.specs.Ending.{IsDecided, IsWrite}
+use Rattle.sas_output.specs.declared.ending.ToolFault.{ToolFault}
+use Rattle.sas_output.specs.declared.ending.ToolFault.TheVariants as fault
+use Rattle.sas_output.specs.Ending.{IsDecided, IsWrite}
 use Rattle.sas_requests.specs.Output.{IsLayeredText}
 use Rattle.sas_summary.specs.Summary.{summary_lines}
 
@@ -23,9 +23,11 @@ abbrev pub Answers : (Option Output → Type 0) → Result Answer ToolFault → 
 Answers Out (Ok answer) = Out (Some (output_of answer))
 Answers Out (Err why) = why ≡ fault.TooLong → Out None
 
--- What the answer to a request over one file says, before anything of it is written. `left` tells the bytes that a
--- device has left, if it tells them, and `FileOutput` the output about the bytes of a file.
-module _ {D : Type 0} (left : D → Option (List ℕ)) (FileOutput : List ℕ → Option Output → Type 0) where
+-- What the answer to a request over one file says, before anything of it is written. `left` tells
+-- the bytes that a device has left, if it tells them, and `FileOutput` the output about the bytes
+-- of a file.
+module _ {D : Type 0} (left : D → Option (List ℕ))
+    (FileOutput : List ℕ → Option Output → Type 0) where
   pub record AnswersFile (old new : Device D) (result : Result Answer ToolFault) : Type 0 where
     -- of an input whose bytes are known, the answer is its output
     pub output : (bytes : List ℕ) → left old.device ≡ Some bytes → Answers (FileOutput bytes) result
@@ -36,13 +38,16 @@ module _ {D : Type 0} (left : D → Option (List ℕ)) (FileOutput : List ℕ �
     pub reads : IsErrOf result fault.Read ↔ IsTrue new.failed
     pub writes : IfErr result (λ e. IsWrite e → ⊥)
 
--- And what it says over two files, of which the plan is read only where the task is known to be layered. `left_task`
--- and `left_plan` tell the bytes that the devices have left, and `FilesOutput` the output about the bytes of both.
+-- And what it says over two files, of which the plan is read only where the task is known to be
+-- layered. `left_task` and `left_plan` tell the bytes that the devices have left, and `FilesOutput`
+-- the output about the bytes of both.
 module _ {T P : Type 0} (left_task : T → Option (List ℕ)) (left_plan : P → Option (List ℕ)) where
-  pub record AnswersFiles (FilesOutput : List ℕ → List ℕ → Option Output → Type 0) (old_task new_task : Device T)
+  pub record AnswersFiles (FilesOutput : List ℕ → List ℕ → Option Output → Type 0)
+      (old_task new_task : Device T)
       (old_plan new_plan : Device P) (result : Result Answer ToolFault) : Type 0 where
     -- of inputs whose bytes are known, the answer is their output
-    pub output : (b c : List ℕ) → left_task old_task.device ≡ Some b → left_plan old_plan.device ≡ Some c
+    pub output : (b c : List ℕ) → left_task old_task.device ≡ Some b
+        → left_plan old_plan.device ≡ Some c
         → Answers (FilesOutput b c) result
     -- and of any inputs, the output for the bytes that were read of them
     pub taken : IsDecided result → (b c : List ℕ)
@@ -50,6 +55,7 @@ module _ {T P : Type 0} (left_task : T → Option (List ℕ)) (left_plan : P →
         × Consumes (left_plan old_plan.device) (left_plan new_plan.device) c
         × Answers (FilesOutput b c) result
     -- the plan stays as it was where the task isn't a text of a layered one
-    pub waits : (b : List ℕ) → left_task old_task.device ≡ Some b → (IsLayeredText b → ⊥) → new_plan ≡ old_plan
+    pub waits : (b : List ℕ) → left_task old_task.device ≡ Some b → (IsLayeredText b → ⊥)
+        → new_plan ≡ old_plan
     pub reads : IsErrOf result fault.Read ↔ IsTrue (new_task.failed || new_plan.failed)
     pub writes : IfErr result (λ e. IsWrite e → ⊥)

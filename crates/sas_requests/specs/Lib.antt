@@ -3,7 +3,7 @@ pub use Rattle.sas_answers.specs.LayerWords
 pub use Rattle.sas_answers.specs.PlanWords
 pub use Rattle.sas_answers.specs.GroupWords
 pub use Rattle.sas_answers.specs.Answers
-pub use Rattle.sas_answers.specs.Ending
+pub use Rattle.sas_output.specs.Ending
 pub use Rattle.sas_summary.specs.Summary
 pub mod Output
 pub mod Headline

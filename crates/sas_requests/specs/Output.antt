@@ -15,9 +15,10 @@ use Rattle.sas_reader.specs.Format.{Format, ReadsAs, lines_of}
 use Rattle.sas_reader.specs.Limit.{most_bytes}
 use Rattle.sas_plan_file.specs.PlanFormat.{plan_format}
 use Rattle.sas_task_format.specs.TaskFormat.{task_format}
-use Rattle.sas_task_reader.specs.Outline.{outline_of}
-use Rattle.sas_answers.specs.declared.Status.TheVariants.{Yes, No}
-use Rattle.sas_answers.specs.Answers.{Output, layers_refusal, CheckAnswer, MutexAnswer, VerdictAnswer}
+use Rattle.sas_flat.specs.Outlines.{outline_of}
+use Rattle.sas_output.specs.declared.ending.Status.TheVariants.{Yes, No}
+use Rattle.sas_answers.specs.Answers.{layers_refusal, CheckAnswer, MutexAnswer, VerdictAnswer}
+use Rattle.sas_output.specs.Ending.{Output}
 use Rattle.sas_requests.specs.declared.Request.{Request}
 use Rattle.sas_requests.specs.declared.Request.TheVariants.{Show, Print, Steps, Check, Plan, Mutex}
 use Rattle.sas_summary.specs.Summary.{summary_lines}
@@ -36,17 +37,21 @@ word_of Memory = None
 
 -- the line that refuses the file of this name
 abbrev pub refusal_line : List ℕ → ℕ → List ℕ → List ℕ
-refusal_line name line word = name ++ codes " refused: line " ++ decimal line ++ codes ": " ++ word ++ codes "\n"
+refusal_line name line word =
+    name ++ codes " refused: line " ++ decimal line ++ codes ": " ++ word ++ codes "\n"
 
 -- the refusal of a file for its fault; a file that is too long has none
 abbrev pub refusal : List ℕ → Fault → Option Output
 refusal name fault =
-    option_map (λ word. record { text = refusal_line name fault.line word; status = No }) (word_of fault.kind)
+    option_map (λ word. record { text = refusal_line name fault.line word; status = No })
+    (word_of fault.kind)
 
--- the output about what the file of this name is read as: an answer about its value, or the refusal. `IsAnswer` tells
--- which outputs are answers about a value
-abbrev pub IsAnswerOrRefusal : {V : Type 0} → List ℕ → (V → Output → Type 0) → Result V Fault → Option Output → Type 0
-IsAnswerOrRefusal name IsAnswer (Ok value) output = (answer : Output) × IsAnswer value answer × (output ≡ Some answer)
+-- the output about what the file of this name is read as: an answer about its value, or the
+-- refusal. `IsAnswer` tells which outputs are answers about a value
+abbrev pub IsAnswerOrRefusal : {V : Type 0} → List ℕ → (V → Output → Type 0) → Result V Fault
+    → Option Output → Type 0
+IsAnswerOrRefusal name IsAnswer (Ok value) output =
+    (answer : Output) × IsAnswer value answer × (output ≡ Some answer)
 IsAnswerOrRefusal name IsAnswer (Err fault) output = output ≡ refusal name fault
 
 -- a task is shown by the lines of its summary, each ended by LF
@@ -84,8 +89,8 @@ MutexOut = FileOut task_format (codes "task") MutexAnswer
 abbrev pub VerdictOut : Parts → List ℕ → Option Output → Type 0
 VerdictOut p = FileOut plan_format (codes "plan") (VerdictAnswer p)
 
--- the output about the plan's bytes for a task, by the first fault of its layers if they have one: the task is refused
--- for it, and only the plan of a layered task is judged
+-- the output about the plan's bytes for a task, by the first fault of its layers if they have one:
+-- the task is refused for it, and only the plan of a layered task is judged
 abbrev pub LayersOut : Parts → Option LayerFault → List ℕ → Option Output → Type 0
 LayersOut p (Some fault) c output = output ≡ layers_refusal fault
 LayersOut p None c output = VerdictOut p c output
@@ -97,9 +102,11 @@ JudgedOut (Ok p) c output = LayersOut p (first_fault (layer_checks p)) c output
 
 -- the output of `plan` about the bytes b of the task and c of the plan
 abbrev pub PlanOut : List ℕ → List ℕ → Option Output → Type 0
-PlanOut b c output = (read : Result Parts Fault) × ReadsAs task_format most_bytes b read × JudgedOut read c output
+PlanOut b c output =
+    (read : Result Parts Fault) × ReadsAs task_format most_bytes b read × JudgedOut read c output
 
--- the output for the bytes b of the task and c of the plan, where a file that decides it isn't too long; else none
+-- the output for the bytes b of the task and c of the plan, where a file that decides it isn't too
+-- long; else none
 abbrev pub Out : Request → List ℕ → List ℕ → Option Output → Type 0
 Out Show b c output = ShowOut b output
 Out Print b c output = PrintOut b output
@@ -140,13 +147,15 @@ AreInputs request task plan b c =
 -- one of them passes the limit
 abbrev pub IsLong : Request → List ℕ → List ℕ → Type 0
 IsLong request b c =
-    (IsTrue (reads_task request) × (most_bytes < length b)) ⊎ (IsTrue (reads_plan request) × (most_bytes < length c))
+    (IsTrue (reads_task request) × (most_bytes < length b))
+    ⊎ (IsTrue (reads_plan request) × (most_bytes < length c))
 
 -- ---- laws
 
 -- a request has one output over the same inputs
 abbrev pub OneOutput : Type 0
-OneOutput = (request : Request) (b c : List ℕ) (o p : Option Output) → Out request b c o → Out request b c p → o ≡ p
+OneOutput = (request : Request) (b c : List ℕ) (o p : Option Output) → Out request b c o
+    → Out request b c p → o ≡ p
 
 -- and it can't have nothing
 abbrev pub SomeOutput : Type 0

@@ -3,16 +3,19 @@ ghost use Rattle.std.specs.Prelude.{◌≡◌, ◌↔◌, ◌⊎◌, ◌||◌, �
 ghost use Rattle.std.specs.Prelude.{IfOk, IfErr, IsErrAnd, IsErrOf, IsFalse, IsTrue};
 ghost use Rattle.std.specs.Io.KnownBytes.{Appends, Consumes};
 ghost use Rattle.sas_requests.specs.Answering.{Answers, AnswersFile, output_of};
-ghost use Rattle.sas_answers.specs.Ending.{Ends, IsDecided, IsWrite};
+ghost use Rattle.sas_output.specs.Ending.{Ends, IsDecided, IsWrite};
 ghost use Rattle.sas_requests.specs.Output.{Out, ShowOut, PrintOut, StepsOut, CheckOut, MutexOut, AreInputs};
 ghost use Rattle.sas_requests.specs.Output.{IsLayeredText, reads_plan, reads_task, refusal, refusal_line, word_of};
 
 use crate::plans::plan_answer;
 use crate::{Request, Status, ToolFault};
-use sas_answers::{Told, groups_answer, layers_answer};
+use sas_answers::{groups_answer, layers_answer};
 use sas_lines::{Watched, push_line, push_number};
+use sas_output::Told;
+use sas_plan_file::read_plan_text;
+use sas_reader::{Fault, Kind};
 use sas_summary::Summary;
-use sas_text::{Fault, Kind, read_flat_task, read_outline, read_plan_text, read_task_text};
+use sas_task_reader::{read_flat_task, read_outline, read_task_text};
 use std::alloc::{AllocError, Global};
 use std::io::{Read, Write};
 
@@ -34,7 +37,8 @@ pub fn answer_to<T: Read, P: Read>(
 ) -> Result<Answer, ToolFault>
     requires task { task.old.failed ≡ false }
     requires plan { plan.old.failed ≡ false }
-    ensures output { (b c : List ℕ) → AreInputs request (T.remaining task.old.device) (P.remaining plan.old.device) b c
+    ensures output { (b c : List ℕ)
+        → AreInputs request (T.remaining task.old.device) (P.remaining plan.old.device) b c
         → Answers (Out request b c) result }
     ensures taken { IsDecided result → (b c : List ℕ)
         × Consumes (T.remaining task.old.device) (T.remaining task.new.device) b
@@ -42,7 +46,8 @@ pub fn answer_to<T: Read, P: Read>(
         × Answers (Out request b c) result }
     ensures task_spared { IsFalse (reads_task request) → task.new ≡ task.old }
     ensures plan_spared { IsFalse (reads_plan request) → plan.new ≡ plan.old }
-    ensures plan_waits { request ≡ Request.Plan → (b : List ℕ) → T.remaining task.old.device ≡ Some b
+    ensures plan_waits { request ≡ Request.Plan → (b : List ℕ)
+        → T.remaining task.old.device ≡ Some b
         → (IsLayeredText b → ⊥) → plan.new ≡ plan.old }
     ensures reads { IsErrOf result ToolFault.Read ↔ IsTrue (task.new.failed || plan.new.failed) }
     ensures writes { IfErr result (λ e. IsWrite e → ⊥) }
@@ -67,7 +72,8 @@ pub fn write_answer<W: Write>(
     requires { out.old.failed ≡ false }
     ensures ends { Ends (λ output. output ≡ Some (output_of answer.now))
         (Appends (W.contents out.old.device) (W.contents out.new.device)) result }
-    ensures nothing { IfErr result (λ e. IsWrite e ⊎ ((e ≡ ToolFault.Memory) × (out.new ≡ out.old))) }
+    ensures nothing { IfErr result (λ e. IsWrite e
+        ⊎ ((e ≡ ToolFault.Memory) × (out.new ≡ out.old))) }
     ensures writes { IsErrAnd result IsWrite ↔ IsTrue out.new.failed }
 {
     match answer {
@@ -167,13 +173,11 @@ pub fn refuse(alloc: Global, name: &str, fault: Fault) -> Result<Answer, ToolFau
     ensures read { IsErrOf result ToolFault.Read ↔ (fault.kind ≡ Kind.Read) }
     ensures writes { IfErr result (λ e. IsWrite e → ⊥) }
 {
-    match word(fault.kind) {
-        Ok(word) => Ok(Answer::Text(Told {
-            text: refusal_text(alloc, name, fault.line, word)?,
-            status: Status::No,
-        })),
-        Err(end) => Err(end),
-    }
+    let word = word(fault.kind)?;
+    Ok(Answer::Text(Told {
+        text: refusal_text(alloc, name, fault.line, word)?,
+        status: Status::No,
+    }))
 }
 
 /// The line that refuses the file of this name.

@@ -10,12 +10,12 @@ ghost use Rattle.std.specs.Prelude.{IfErr, IfOk, IsErrAnd, IsErrOf, IsFalse, IsT
 ghost use Rattle.std.specs.Io.KnownBytes.{Appends, Consumes};
 ghost use Rattle.sas_requests.specs.Output.{Out, AreInputs, IsLayeredText, reads_plan, reads_task};
 ghost use Rattle.sas_requests.specs.Headline.{Headline, Invariants};
-ghost use Rattle.sas_answers.specs.Ending.{Ends, IsDecided, IsWrite};
+ghost use Rattle.sas_output.specs.Ending.{Ends, IsDecided, IsWrite};
 
 use answers::{answer_to, write_answer};
 pub use laws::run_laws;
-pub use sas_answers::{Status, ToolFault};
 use sas_lines::Watched;
+pub use sas_output::{Status, ToolFault};
 use std::alloc::Global;
 use std::io::{Read, Write};
 
@@ -56,13 +56,16 @@ pub fn run<T: Read, P: Read, W: Write>(
     requires plan { plan.old.failed ≡ false }
     requires out { out.old.failed ≡ false }
     // Of inputs whose bytes are known, the output went out, or its first bytes, or there is none.
-    ensures output { (b c : List ℕ) → AreInputs request (T.remaining task.old.device) (P.remaining plan.old.device) b c
-        → Ends (Out request b c) (Appends (W.contents out.old.device) (W.contents out.new.device)) result }
+    ensures output { (b c : List ℕ)
+        → AreInputs request (T.remaining task.old.device) (P.remaining plan.old.device) b c
+        → Ends (Out request b c)
+        (Appends (W.contents out.old.device) (W.contents out.new.device)) result }
     // And of any inputs, the output for the bytes that were read of them.
     ensures taken { IsDecided result → (b c : List ℕ)
         × Consumes (T.remaining task.old.device) (T.remaining task.new.device) b
         × Consumes (P.remaining plan.old.device) (P.remaining plan.new.device) c
-        × Ends (Out request b c) (Appends (W.contents out.old.device) (W.contents out.new.device)) result }
+        × Ends (Out request b c)
+        (Appends (W.contents out.old.device) (W.contents out.new.device)) result }
     // Before the answer is known nothing is written.
     ensures nothing { IfErr result (λ e. IsWrite e ⊎ (out.new ≡ out.old)) }
     // `plan valid` is printed exactly if the plan solves the task at the printed cost.
@@ -78,7 +81,8 @@ pub fn run<T: Read, P: Read, W: Write>(
     ensures task_spared { IsFalse (reads_task request) → task.new ≡ task.old }
     ensures plan_spared { IsFalse (reads_plan request) → plan.new ≡ plan.old }
     // So does the plan where the task isn't a text of a layered one.
-    ensures plan_waits { request ≡ Request.Plan → (b : List ℕ) → T.remaining task.old.device ≡ Some b
+    ensures plan_waits { request ≡ Request.Plan → (b : List ℕ)
+        → T.remaining task.old.device ≡ Some b
         → (IsLayeredText b → ⊥) → plan.new ≡ plan.old }
     ensures reads { IsErrOf result ToolFault.Read ↔ IsTrue (task.new.failed || plan.new.failed) }
     ensures writes { IsErrAnd result IsWrite ↔ IsTrue out.new.failed }

@@ -10,7 +10,8 @@ use sas_answers::{refuse_layers, verdict_answer};
 use sas_flat::FlatTask;
 use sas_lines::Watched;
 use sas_meaning::{LayerFault, Layered};
-use sas_text::{read_flat_plan, read_flat_task};
+use sas_plan_file::read_flat_plan;
+use sas_task_reader::read_flat_task;
 use std::alloc::Global;
 use std::io::Read;
 
@@ -22,7 +23,8 @@ pub fn plan_answer<T: Read, P: Read>(
 ) -> Result<Answer, ToolFault>
     requires task { task.old.failed ≡ false }
     requires plan { plan.old.failed ≡ false }
-    ensures { AnswersFiles T.remaining P.remaining PlanOut task.old task.new plan.old plan.new result }
+    ensures { AnswersFiles T.remaining P.remaining PlanOut
+        task.old task.new plan.old plan.new result }
 {
     let read = match read_flat_task(alloc, task) {
         Ok(read) => read,

@@ -6,7 +6,7 @@ use Rattle.std.proofs.lemmas.List.{get_or_default, get_or-set_same, get_or-set_o
 use Rattle.sas_core.specs.declared.parts.Effect.{Effect}
 use Rattle.sas_core.specs.declared.parts.Operator.{Operator}
 use Rattle.sas_core.specs.declared.parts.Parts.{Parts}
-use Rattle.sas_grounded.specs.Grounded.{effect_at}
+use Rattle.sas_core.specs.Grounded.{effect_at}
 use Rattle.sas_core.specs.Variables.{HasValue, IsState}
 use Rattle.sas_core.specs.WellRanged.{EffectFits}
 use Rattle.sas_meaning.specs.States.{AllHold}

@@ -2,7 +2,7 @@
 use Rattle.std.proofs.Common.{ℕ, List, [], ◌∷◌, sym, subst}
 use Rattle.std.proofs.lemmas.List.Elements.{Contains-get_or}
 use Rattle.sas_core.specs.declared.parts.Parts.{Parts}
-use Rattle.sas_grounded.specs.Grounded.{operator_at}
+use Rattle.sas_core.specs.Grounded.{operator_at}
 use Rattle.sas_meaning.specs.Reachable.{Reachable, Initial, Next}
 use Rattle.sas_run.specs.Plans.{GoThrough}
 use Rattle.sas_run.specs.Laws.{LeadsToReachable, LastIsReachable}

@@ -3,7 +3,7 @@ use Rattle.std.specs.Prelude.{◌≡◌, ◌≢◌, ℕ, ◌<◌, List, length, 
 use Rattle.std.specs.Prelude.{slice_index, slice_index_or, slice_set, unwrap_or}
 use Rattle.sas_core.specs.declared.parts.Operator.{Operator}
 use Rattle.sas_core.specs.declared.parts.Parts.{Parts}
-use Rattle.sas_grounded.specs.Grounded.{effect_at}
+use Rattle.sas_core.specs.Grounded.{effect_at}
 use Rattle.sas_core.specs.Variables.{HasValue}
 use Rattle.sas_meaning.specs.Steps.{Fires}
 
@@ -21,11 +21,14 @@ abbrev pub value_after : List (Option ℕ) → List ℕ → ℕ → ℕ
 value_after given s var = unwrap_or (given_to given var) (slice_index s var)
 
 -- the first n effects give just this: each of them that fires gives its variable its new value
-pub record IsGiven (p : Parts) (s : List ℕ) (o : Operator) (n : ℕ) (given : List (Option ℕ)) : Type 0 where
+pub record IsGiven (p : Parts) (s : List ℕ) (o : Operator) (n : ℕ) (given : List (Option ℕ))
+    : Type 0 where
   pub one_each : length given ≡ length p.variables
-  pub gives : (k : ℕ) → k < n → Fires s (effect_at o k) → given_to given (effect_at o k).var ≡ Some (effect_at o k).new
+  pub gives : (k : ℕ) → k < n → Fires s (effect_at o k)
+      → given_to given (effect_at o k).var ≡ Some (effect_at o k).new
   pub giver : (var value : ℕ) → given_to given var ≡ Some value
-      → (k : ℕ) × (k < n) × Fires s (effect_at o k) × ((effect_at o k).var ≡ var) × ((effect_at o k).new ≡ value)
+      → (k : ℕ) × (k < n)
+      × Fires s (effect_at o k) × ((effect_at o k).var ≡ var) × ((effect_at o k).new ≡ value)
 
 -- what is given is a value of its variable, and an effect of the operator is on that
 pub record IsGivenTo (p : Parts) (o : Operator) (given : List (Option ℕ)) : Type 0 where
@@ -34,12 +37,14 @@ pub record IsGivenTo (p : Parts) (o : Operator) (given : List (Option ℕ)) : Ty
   pub effect : (var value : ℕ) → given_to given var ≡ Some value
       → (k : ℕ) × (k < length o.effects) × ((effect_at o k).var ≡ var)
 
--- the variable was given nothing or this value, and is given it now; the others are given what they were
+-- the variable was given nothing or this value, and is given it now; the others are given what
+-- they were
 pub record Gives (given : List (Option ℕ)) (var value : ℕ) (given' : List (Option ℕ)) : Type 0 where
   pub before : (earlier : ℕ) → given_to given var ≡ Some earlier → earlier ≡ value
   pub now : given' ≡ slice_set given var (Some value)
 
 -- the variable was given another value; nothing changes
-pub record GivesOther (given : List (Option ℕ)) (var value : ℕ) (given' : List (Option ℕ)) : Type 0 where
+pub record GivesOther (given : List (Option ℕ)) (var value : ℕ) (given' : List (Option ℕ))
+    : Type 0 where
   pub other : (earlier : ℕ) × (given_to given var ≡ Some earlier) × (earlier ≢ value)
   pub now : given' ≡ given

@@ -13,16 +13,18 @@ use Rattle.sas_run.specs.Verdicts.{IsFaultOf}
 -- a plan is valid or has a fault
 abbrev pub SomeVerdict : Type 0
 SomeVerdict = (p : Parts) (plan : PlanParts) → WellRanged p → IsLayered p
-    → ((operators : List ℕ) × IsValid p plan operators) ⊎ ((fault : PlanFault) × IsFaultOf p plan fault)
+    → ((operators : List ℕ) × IsValid p plan operators)
+    ⊎ ((fault : PlanFault) × IsFaultOf p plan fault)
 
 -- never both
 abbrev pub ValidHasNoFault : Type 0
-ValidHasNoFault = (p : Parts) (plan : PlanParts) (operators : List ℕ) (fault : PlanFault) → IsLayered p
-    → IsValid p plan operators → IsFaultOf p plan fault → ⊥
+ValidHasNoFault = (p : Parts) (plan : PlanParts) (operators : List ℕ) (fault : PlanFault)
+    → IsLayered p → IsValid p plan operators → IsFaultOf p plan fault → ⊥
 
 -- it is valid with one list of operators at most
 abbrev pub ValidIsOne : Type 0
-ValidIsOne = (p : Parts) (plan : PlanParts) (a b : List ℕ) → IsLayered p → IsValid p plan a → IsValid p plan b → a ≡ b
+ValidIsOne = (p : Parts) (plan : PlanParts) (a b : List ℕ) → IsLayered p
+    → IsValid p plan a → IsValid p plan b → a ≡ b
 
 -- and has one fault at most
 abbrev pub FaultIsOne : Type 0
@@ -31,10 +33,10 @@ FaultIsOne = (p : Parts) (plan : PlanParts) (a b : PlanFault) → IsLayered p
 
 -- steps that go through from the initial state lead to a reachable one
 abbrev pub LeadsToReachable : Type 0
-LeadsToReachable = (p : Parts) (steps : List (List ℕ)) (operators last : List ℕ) → LeadsTo p steps operators last
-    → Reachable p last
+LeadsToReachable = (p : Parts) (steps : List (List ℕ)) (operators last : List ℕ)
+    → LeadsTo p steps operators last → Reachable p last
 
 -- so the last state of a valid plan is reachable
 abbrev pub LastIsReachable : Type 0
-LastIsReachable = (p : Parts) (plan : PlanParts) (operators : List ℕ) (valid : IsValid p plan operators)
-    → Reachable p valid.last
+LastIsReachable = (p : Parts) (plan : PlanParts) (operators : List ℕ)
+    (valid : IsValid p plan operators) → Reachable p valid.last

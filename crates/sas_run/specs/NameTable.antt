@@ -3,9 +3,8 @@ use Rattle.std.specs.Prelude.{◌≡◌, ℕ, ◌+◌, ◌<◌, Bool, List, leng
 use Rattle.std.specs.Cmp.Lexicographic.{pointwise}
 use Rattle.indexmap.specs.IndexMap.{IndexMap, get_by}
 use Rattle.sas_core.specs.declared.parts.Parts.{Parts}
-use Rattle.sas_grounded.specs.Grounded.{operator_at}
+use Rattle.sas_core.specs.Grounded.{operator_at}
 use Rattle.sas_run.specs.declared.name_key.NameKey.{NameKey}
-use Rattle.sas_run.specs.declared.names.LookedUp.{LookedUp}
 use Rattle.sas_run.specs.declared.names.Names.{Names}
 use Rattle.sas_run.specs.Names.{IsNextNamed}
 
@@ -13,19 +12,16 @@ use Rattle.sas_run.specs.Names.{IsNextNamed}
 abbrev pub is_called : List ℕ → NameKey → Bool
 is_called name key = pointwise nat_eq name key.bytes.now
 
--- The map tells of each name the lowest operator of it, or that no operator has it; the table tells of each operator
--- the next one of its name, or that there is none.
+-- The map tells of each name the lowest operator of it, or that no operator has it; the table tells
+-- of each operator the next one of its name, or that there is none.
 pub record AreNames (p : Parts) (names : Names) : Type 0 where
   pub first : (name : List ℕ) → IsNextNamed p name 0 (get_by (is_called name) names.first)
   pub one_each : length names.next.items ≡ length p.operators
   pub next : (operator : ℕ) → operator < length p.operators
-      → IsNextNamed p (operator_at p operator).name (operator + 1) (slice_index_or names.next.items operator None)
+      → IsNextNamed p (operator_at p operator).name (operator + 1)
+      (slice_index_or names.next.items operator None)
 
 -- the new map tells this operator of the name, and of each other name what the old one tells
 abbrev pub Puts : {S : Type 0} → List ℕ → ℕ → IndexMap NameKey ℕ S → IndexMap NameKey ℕ S → Type 0
 Puts name operator old new = (other : List ℕ) → get_by (is_called other) new
     ≡ (if pointwise nat_eq name other then Some operator else get_by (is_called other) old)
-
--- it tells the lowest operator of its name, or that no operator has it
-abbrev pub IsLookedUp : Parts → LookedUp → Type 0
-IsLookedUp p l = IsNextNamed p l.name.now 0 l.first

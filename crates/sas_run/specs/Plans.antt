@@ -2,7 +2,7 @@
 use Rattle.std.specs.Prelude.{◌≡◌, ℕ, ◌<◌, List, [], ◌∷◌, length, slice_index, sum_by}
 use Rattle.sas_core.specs.declared.parts.Operator.{Operator}
 use Rattle.sas_core.specs.declared.parts.Parts.{Parts}
-use Rattle.sas_grounded.specs.Grounded.{operator_at}
+use Rattle.sas_core.specs.Grounded.{operator_at}
 use Rattle.sas_core.specs.PlanParts.{PlanParts}
 use Rattle.sas_core.specs.Tasks.{cost_of}
 use Rattle.sas_meaning.specs.States.{AllHold}
@@ -22,7 +22,8 @@ pub record IsNamed (p : Parts) (name : List ℕ) (operator : ℕ) : Type 0 where
 pub record IsChosen (p : Parts) (s name : List ℕ) (operator : ℕ) : Type 0 where
   pub of_name : IsNamed p name operator
   pub applicable : IsApplicable s (operator_at p operator)
-  pub first : (lower : ℕ) → lower < operator → IsNamed p name lower → IsApplicable s (operator_at p lower) → ⊥
+  pub first : (lower : ℕ) → lower < operator → IsNamed p name lower
+      → IsApplicable s (operator_at p lower) → ⊥
 
 -- the named steps go through with these operators, from the state s to the last one
 abbrev pub GoThrough : Parts → List ℕ → List (List ℕ) → List ℕ → List ℕ → Type 0
@@ -44,8 +45,8 @@ pub record LeadsTo (p : Parts) (steps : List (List ℕ)) (operators last : List 
 abbrev pub cost_of_all : Parts → List ℕ → ℕ
 cost_of_all p operators = sum_by (cost_of p) operators
 
--- A plan is valid if its steps lead from the initial state to a state in which the goal holds, and the costs of their
--- operators add up to the plan's cost.
+-- A plan is valid if its steps lead from the initial state to a state in which the goal holds, and
+-- the costs of their operators add up to the plan's cost.
 pub record IsValid (p : Parts) (plan : PlanParts) (operators : List ℕ) : Type 0 where
   pub last : List ℕ
   pub leads : LeadsTo p plan.steps operators last

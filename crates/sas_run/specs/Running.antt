@@ -5,7 +5,7 @@ use Rattle.sas_core.specs.declared.parts.Fact.{Fact}
 use Rattle.sas_core.specs.declared.parts.Effect.{Effect}
 use Rattle.sas_core.specs.declared.parts.Operator.{Operator}
 use Rattle.sas_core.specs.declared.parts.Parts.{Parts}
-use Rattle.sas_grounded.specs.Grounded.{operator_at, effect_at}
+use Rattle.sas_core.specs.Grounded.{operator_at, effect_at}
 use Rattle.sas_core.specs.Variables.{IsState}
 use Rattle.sas_meaning.specs.States.{AllHold}
 use Rattle.sas_meaning.specs.Steps.{preconditions, Fires, Step}
@@ -18,7 +18,8 @@ use Rattle.sas_run.specs.declared.steps.StepFault.TheVariants as step_fault
 use Rattle.sas_run.specs.Plans.{IsApplicable, IsNamed, IsChosen, GoThrough}
 use Rattle.sas_run.specs.Verdicts.{IsFirstMissed}
 
--- which operator a name means in a state: no operator has the name, none that has it is applicable, or the chosen one
+-- which operator a name means in a state: no operator has the name, none that has it is applicable,
+-- or the chosen one
 abbrev pub IsChoice : Parts → List ℕ → List ℕ → Choice → Type 0
 IsChoice p s name Unknown = (operator : ℕ) → IsNamed p name operator → ⊥
 IsChoice p s name Blocked = ((operator : ℕ) × IsNamed p name operator)
@@ -27,8 +28,8 @@ IsChoice p s name (Found operator) = IsChosen p s name operator
 
 -- the first operator from this one on that has its name and is applicable, if there is one
 abbrev pub IsFirstChosen : Parts → List ℕ → ℕ → Option ℕ → Type 0
-IsFirstChosen p s first None = (operator : ℕ) → first ≤ operator → IsNamed p (operator_at p first).name operator
-    → IsApplicable s (operator_at p operator) → ⊥
+IsFirstChosen p s first None = (operator : ℕ) → first ≤ operator
+    → IsNamed p (operator_at p first).name operator → IsApplicable s (operator_at p operator) → ⊥
 IsFirstChosen p s first (Some operator) = (first ≤ operator)
     × IsNamed p (operator_at p first).name operator
     × IsApplicable s (operator_at p operator)
@@ -62,10 +63,13 @@ IsFirstMissedFact value facts fact = (index : ℕ)
     × IsFirstMissed value facts index
     × ((d : Fact) → slice_index_or facts index d ≡ fact)
 
--- why an operator has no step: the first of its preconditions that fails, or, where all hold, the first conflict
+-- why an operator has no step: the first of its preconditions that fails, or, where all hold, the
+-- first conflict
 abbrev pub IsStepFault : List ℕ → Operator → StepFault → Type 0
-IsStepFault s o (step_fault.NotApplicable fact) = IsFirstMissedFact (slice_index s) (preconditions o) fact
-IsStepFault s o (step_fault.Conflict effect) = AllHold (slice_index s) (preconditions o) × IsFirstConflict s o effect
+IsStepFault s o (step_fault.NotApplicable fact) =
+    IsFirstMissedFact (slice_index s) (preconditions o) fact
+IsStepFault s o (step_fault.Conflict effect) =
+    AllHold (slice_index s) (preconditions o) × IsFirstConflict s o effect
 
 -- what the operator's effects that fire do to a state, before it is settled
 pub record IsApplied (p : Parts) (s : List ℕ) (o : Operator) (s' : List ℕ) : Type 0 where
@@ -98,7 +102,8 @@ pub record GoesOn (p : Parts) (s name : List ℕ) (operator : ℕ) (s' : List �
 
 -- the step of this name, counted from 1, isn't made, and why
 abbrev pub StopsAt : Parts → List ℕ → List ℕ → ℕ → PlanFault → Type 0
-StopsAt p s name step (plan_fault.NoOperator at) = (at ≡ step) × ((operator : ℕ) → IsNamed p name operator → ⊥)
+StopsAt p s name step (plan_fault.NoOperator at) = (at ≡ step)
+    × ((operator : ℕ) → IsNamed p name operator → ⊥)
 StopsAt p s name step (plan_fault.NotApplicable at) = (at ≡ step)
     × ((operator : ℕ) × IsNamed p name operator)
     × ((operator : ℕ) → IsChosen p s name operator → ⊥)
@@ -110,11 +115,13 @@ StopsAt p s name step (plan_fault.CostDiffers sum) = ⊥
 StopsAt p s name step plan_fault.Memory = ⊥
 
 -- all steps go through from the state s, or those before one that stops
-abbrev pub GoesThrough : Parts → List ℕ → List (List ℕ) → List ℕ → List ℕ → Result (Unit {0}) PlanFault → Type 0
+abbrev pub GoesThrough : Parts → List ℕ → List (List ℕ) → List ℕ → List ℕ
+    → Result (Unit {0}) PlanFault → Type 0
 GoesThrough p s steps operators s' (Ok _) = GoThrough p s steps operators s'
     × IsState p.variables s'
     × All (λ (o : ℕ). o < length p.operators) operators
-GoesThrough p s steps operators s' (Err fault) = (before behind : List (List ℕ)) × (name mid : List ℕ)
+GoesThrough p s steps operators s' (Err fault) = (before behind : List (List ℕ))
+    × (name mid : List ℕ)
     × (steps ≡ before ++ name ∷ behind)
     × GoThrough p s before operators mid
     × StopsAt p mid name (length before + 1) fault

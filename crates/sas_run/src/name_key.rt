@@ -32,7 +32,8 @@ impl<'a> Eq for NameKey<'a> {
 impl<'a> Hash for NameKey<'a> {
     ghost hash_input = { λ name. name.bytes.now ∷ [] };
 
-    ghost respects_eq = { λ x y same. ap (λ l. l ∷ []) ((bytes_decides x.bytes.now y.bytes.now).0 same) };
+    ghost respects_eq = { λ x y same.
+        ap (λ l. l ∷ []) ((bytes_decides x.bytes.now y.bytes.now).0 same) };
 
     fn hash<H: Hasher>(&self, state: &mut H) {
         state.write(self.bytes);
@@ -43,7 +44,8 @@ impl<'a> Hash for NameKey<'a> {
 impl<'a, 'b> Equivalent<NameKey<'a>> for NameKey<'b> {
     ghost equivalent = { λ q. is_called q.bytes.now };
 
-    ghost respects_hash = { λ q key same. ap (λ l. l ∷ []) ((bytes_decides q.bytes.now key.bytes.now).0 same) };
+    ghost respects_hash = { λ q key same.
+        ap (λ l. l ∷ []) ((bytes_decides q.bytes.now key.bytes.now).0 same) };
 
     ghost respects_eq = { λ q x y. nat_list_eq_equiv.congr q.bytes.now x.bytes.now y.bytes.now };
 

@@ -2,13 +2,14 @@
 ghost use Rattle.std.specs.Prelude.{◌≡◌, ◌+◌, ◌<◌, length, IfOk, OnOk};
 ghost use Rattle.indexmap.specs.IndexMap.{get_by};
 ghost use Rattle.sas_core.specs.declared.parts.Parts.{Parts};
-ghost use Rattle.sas_grounded.specs.Grounded.{operator_at};
+ghost use Rattle.sas_core.specs.Grounded.{operator_at};
 ghost use Rattle.sas_run.specs.NameTable.{AreNames, Puts, is_called};
 ghost use Rattle.sas_run.specs.Names.{IsNextNamed};
 
 use crate::name_key::NameKey;
 use indexmap::IndexMap;
-use sas_grounded::Grounded;
+use sas_core::Grounded;
+use sas_meaning::Layered;
 use std::alloc::{AllocError, Global};
 
 /// For each name the lowest operator of it, and for each operator the next one of the same name.
@@ -18,18 +19,11 @@ pub struct Names<'a> {
     next: Vec<Option<u32>>,
 }
 
-/// A name, and the lowest operator of it.
-#[derive(Clone, Copy)]
-pub struct LookedUp<'n> {
-    pub name: &'n [u8],
-    pub first: Option<u32>,
-}
-
 impl<'a> Names<'a> {
     /// The names of the task's operators. It goes from the last operator to the first, so that the lowest one of each
     /// name comes last.
-    pub fn new<T: Grounded>(alloc: Global, task: &'a T) -> Result<Names<'a>, AllocError>
-        ensures { IfOk result (λ names. AreNames (T.says task.now) names) }
+    pub fn new<T: Grounded>(alloc: Global, task: &'a Layered<T>) -> Result<Names<'a>, AllocError>
+        ensures { IfOk result (λ names. AreNames task.now names) }
     {
         let operators = task.operators();
         let mut first = IndexMap::with_capacity(alloc, operators as usize)?;

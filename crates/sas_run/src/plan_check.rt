@@ -1,18 +1,17 @@
 // Whether a plan is valid.
 ghost use Rattle.std.specs.Prelude.{◌≡◌, ◌≢◌, ◌<◌, ◌≤◌, ◌++◌, ◌∷◌, [], length};
-ghost use Rattle.std.specs.Prelude.{All, IfOk, IfErr, OnOk, OnErr, vec_capacity};
-ghost use Rattle.sas_grounded.specs.Grounded.{operator_at};
+ghost use Rattle.std.specs.Prelude.{All, IfOk, IfErr, OnOk, slice_index_or, vec_capacity};
+ghost use Rattle.sas_core.specs.Grounded.{operator_at};
 ghost use Rattle.sas_core.specs.Variables.{IsState};
+ghost use Rattle.sas_meaning.specs.Reachable.{IsInitial};
 ghost use Rattle.sas_run.specs.Plans.{IsValid, GoThrough, cost_of_all};
-ghost use Rattle.sas_run.specs.NameTable.{IsLookedUp};
-ghost use Rattle.sas_run.specs.Names.{AreFirsts};
+ghost use Rattle.sas_run.specs.Names.{AreFirsts, HaveFirsts, IsFirst, IsNextNamed};
 ghost use Rattle.sas_run.specs.Verdicts.{IsFaultOf};
 ghost use Rattle.sas_run.specs.Running.{GoesOn, StopsAt, GoesThrough};
 
-use crate::names::LookedUp;
-use crate::runner::{Choice, Runner};
-use sas_grounded::{Grounded, Stepwise};
-use sas_meaning::{Settle, State};
+use crate::runner::Runner;
+use sas_core::{Grounded, Stepwise};
+use sas_meaning::{Layered, Settle, State};
 use std::alloc::{AllocError, Global};
 
 /// A valid plan: the operators that its steps mean, and its cost.
@@ -55,26 +54,46 @@ impl<'a, E: Settle<T> + Drop, T: Grounded> Runner<'a, E, T> {
     pub fn check_plan<P: Stepwise>(&mut self, alloc: Global, plan: &P) -> Result<Valid, PlanFault>
         ensures valid { IfOk result (λ v. IsValid self.old (P.says plan.now) v.operators.items) }
         ensures cost { IfOk result (λ v. v.cost ≡ (P.says plan.now).cost) }
-        ensures fault { IfErr result (λ f. f ≢ PlanFault.Memory → IsFaultOf self.old (P.says plan.now) f) }
+        ensures fault { IfErr result (λ f. f ≢ PlanFault.Memory
+            → IsFaultOf self.old (P.says plan.now) f) }
         ensures same { self.new ≡ self.old }
     {
         let firsts = self.first_operators(alloc, plan)?;
         let mut operators = Vec::with_capacity(alloc, plan.steps())?;
         let mut state = self.initial(alloc)?;
-        if let Err(fault) = self.go_through(plan, firsts.as_slice(), &mut state, &mut operators) {
-            return Err(fault);
-        }
-        if let Some(index) = self.goal(&state) {
-            return Err(PlanFault::GoalMissed { index });
-        }
-        let sum = cost_of(self.layered().task(), operators.as_slice());
-        if sum != u128::from(plan.cost()) {
-            return Err(PlanFault::CostDiffers { sum });
-        }
+        self.judge(plan, firsts.as_slice(), &mut state, &mut operators)?;
         Ok(Valid {
             operators,
             cost: plan.cost(),
         })
+    }
+
+    /// Whether the plan is valid whose steps' lowest operators these are; its operators are added, for which there is room.
+    /// Without an allocator it can ask for no memory.
+    fn judge<P: Stepwise>(
+        &mut self,
+        plan: &P,
+        firsts: &[u32],
+        state: &mut State,
+        operators: &mut Vec<u32>,
+    ) -> Result<(), PlanFault>
+        requires firsts { AreFirsts self.old (P.says plan.now).steps firsts.now }
+        requires initial { IsInitial self.old state.old }
+        requires room { length (P.says plan.now).steps ≤ vec_capacity operators.old }
+        requires empty { operators.old.items ≡ [] }
+        ensures valid { OnOk result (IsValid self.old (P.says plan.now) operators.new.items) }
+        ensures fault { IfErr result (IsFaultOf self.old (P.says plan.now)) }
+        ensures same { self.new ≡ self.old }
+    {
+        self.go_through(plan, firsts, state, operators)?;
+        if let Some(index) = self.goal(state) {
+            return Err(PlanFault::GoalMissed { index });
+        }
+        let sum = cost_of(self.layered(), operators.as_slice());
+        if sum != u128::from(plan.cost()) {
+            return Err(PlanFault::CostDiffers { sum });
+        }
+        Ok(())
     }
 
     /// For each step, up to the first one whose name no operator has, the lowest operator of its name. A name that comes
@@ -84,16 +103,29 @@ impl<'a, E: Settle<T> + Drop, T: Grounded> Runner<'a, E, T> {
         ensures { IfOk result (λ firsts. AreFirsts self.now (P.says plan.now).steps firsts.items) }
     {
         let mut firsts = Vec::with_capacity(alloc, plan.steps())?;
-        // No step has the empty name, so the first one's is looked up.
-        let mut looked_up = self.look_up(b"");
-        for step in 0..plan.steps() {
-            looked_up = self.look_up_after(looked_up, plan.step(step));
-            match looked_up.first {
+        for _step in 0..plan.steps() {
+            match self.next_first(plan, firsts.as_slice()) {
                 Some(first) => firsts.push(first).unwrap(),
                 None => return Ok(firsts),
             }
         }
         Ok(firsts)
+    }
+
+    /// The lowest operator of the name of the next step, where these are those of the steps before it.
+    fn next_first<P: Stepwise>(&self, plan: &P, firsts: &[u32]) -> Option<u32>
+        requires step { length firsts.now < length (P.says plan.now).steps }
+        requires firsts { HaveFirsts self.now (P.says plan.now).steps firsts.now }
+        ensures { IsNextNamed self.now
+            (slice_index_or (P.says plan.now).steps (length firsts.now) []) 0 result }
+    {
+        let step = firsts.len();
+        let name = plan.step(step);
+        if step > 0 && plan.step(step - 1) == name {
+            Some(firsts[step - 1])
+        } else {
+            self.look_up(name)
+        }
     }
 
     /// Makes the plan's steps in turn, whose lowest operators these are, and adds their operators, for which there is room.
@@ -108,18 +140,13 @@ impl<'a, E: Settle<T> + Drop, T: Grounded> Runner<'a, E, T> {
         requires state { IsState self.old.variables state.old }
         requires room { length (P.says plan.now).steps ≤ vec_capacity operators.old }
         requires empty { operators.old.items ≡ [] }
-        ensures goes { GoesThrough self.old state.old (P.says plan.now).steps operators.new.items state.new result }
+        ensures goes { GoesThrough self.old state.old (P.says plan.now).steps operators.new.items
+            state.new result }
         ensures same { self.new ≡ self.old }
     {
         for before in 0..firsts.len() {
-            let looked_up = LookedUp {
-                name: plan.step(before),
-                first: Some(firsts[before]),
-            };
-            match self.go_on(looked_up, before + 1, state) {
-                Ok(operator) => operators.push(operator).unwrap(),
-                Err(fault) => return Err(fault),
-            }
+            let operator = self.go_on(firsts[before], before + 1, state)?;
+            operators.push(operator).unwrap();
         }
         if firsts.len() < plan.steps() {
             return Err(PlanFault::NoOperator {
@@ -129,23 +156,18 @@ impl<'a, E: Settle<T> + Drop, T: Grounded> Runner<'a, E, T> {
         Ok(())
     }
 
-    /// Makes the step of this name.
-    fn go_on(
-        &mut self,
-        looked_up: LookedUp<'_>,
-        step: usize,
-        state: &mut State,
-    ) -> Result<u32, PlanFault>
-        requires name { IsLookedUp self.old looked_up }
+    /// Makes the step of the name of this operator, which is the lowest that has it.
+    fn go_on(&mut self, first: u32, step: usize, state: &mut State) -> Result<u32, PlanFault>
+        requires first { IsFirst self.old first }
         requires state { IsState self.old.variables state.old }
-        ensures ok { IfOk result (λ operator. GoesOn self.old state.old looked_up.entry.name.now operator state.new) }
-        ensures err { IfErr result (λ fault. StopsAt self.old state.old looked_up.entry.name.now step fault) }
+        ensures ok { IfOk result (λ operator.
+            GoesOn self.old state.old (operator_at self.old first).name operator state.new) }
+        ensures err { IfErr result (λ fault.
+            StopsAt self.old state.old (operator_at self.old first).name step fault) }
         ensures same { self.new ≡ self.old }
     {
-        let operator = match self.choose_looked_up(state, looked_up) {
-            Choice::Unknown => return Err(PlanFault::NoOperator { step }),
-            Choice::Blocked => return Err(PlanFault::NotApplicable { step }),
-            Choice::Found(operator) => operator,
+        let Some(operator) = self.choose_from(state, first) else {
+            return Err(PlanFault::NotApplicable { step });
         };
         match self.step_on(state, operator) {
             Ok(()) => Ok(operator),
@@ -155,9 +177,9 @@ impl<'a, E: Settle<T> + Drop, T: Grounded> Runner<'a, E, T> {
 }
 
 /// What the operators cost together.
-fn cost_of<T: Grounded>(task: &T, operators: &[u32]) -> u128
-    requires exist { All (λ operator. operator < length (T.says task.now).operators) operators.now }
-    ensures { result ≡ cost_of_all (T.says task.now) operators.now }
+fn cost_of<T: Grounded>(task: &Layered<T>, operators: &[u32]) -> u128
+    requires exist { All (λ operator. operator < length task.now.operators) operators.now }
+    ensures { result ≡ cost_of_all task.now operators.now }
 {
     let mut sum = 0u128;
     for operator in operators {

@@ -1,18 +1,18 @@
 // What goes through the steps of plans.
 ghost use Rattle.std.specs.Prelude.{◌≡◌, ◌<◌, ◌↔◌, length, IfOk, IfErr, IfSome, IfNone, IsTrue, slice_index};
-ghost use Rattle.sas_grounded.specs.Grounded.{operator_at};
+ghost use Rattle.sas_core.specs.Grounded.{operator_at};
 ghost use Rattle.sas_core.specs.Variables.{IsState};
 ghost use Rattle.sas_meaning.specs.Reachable.{IsInitial};
-ghost use Rattle.sas_run.specs.NameTable.{AreNames, IsLookedUp};
+ghost use Rattle.sas_run.specs.NameTable.{AreNames};
+ghost use Rattle.sas_run.specs.Names.{IsNextNamed};
 ghost use Rattle.sas_run.specs.Given.{IsClean};
 ghost use Rattle.sas_run.specs.Plans.{IsApplicable, IsNamed};
 ghost use Rattle.sas_run.specs.Running.{IsChoice, IsFirstChosen, IsGoalAnswer, Steps};
 
 use crate::holding::first_missed;
-use crate::names::{LookedUp, Names};
+use crate::names::Names;
 use crate::steps::{StepFault, apply, missed_precondition};
-use sas_core::{Items, Task};
-use sas_grounded::Grounded;
+use sas_core::{Grounded, Items, Task};
 use sas_meaning::{Layered, Settle, State};
 use std::alloc::{AllocError, Global};
 use std::marker::Model;
@@ -65,11 +65,11 @@ impl<'a, E: Settle<T> + Drop, T: Grounded> Runner<'a, E, T> {
         ensures task { IfOk result (λ r. r ≡ layered.now) }
         ensures handed_back { IfErr result (λ e. e.0 ≡ evaluator) }
     {
-        let names = match Names::new(alloc, layered.task()) {
+        let names = match Names::new(alloc, layered) {
             Ok(names) => names,
             Err(error) => return Err((evaluator, error)),
         };
-        match nothing_given(alloc, layered.task()) {
+        match nothing_given(alloc, layered) {
             Ok(given) => Ok(Runner {
                 layered,
                 evaluator,
@@ -96,7 +96,7 @@ impl<'a, E: Settle<T> + Drop, T: Grounded> Runner<'a, E, T> {
         requires state { IsState self.now.variables state.now }
         ensures { IsTrue result ↔ IsApplicable state.now (operator_at self.now operator) }
     {
-        is_applicable(self.layered.task(), state, operator)
+        is_applicable(self.layered, state, operator)
     }
 
     /// Which operator the name means in the state: the lowest-numbered one that has exactly this name and is
@@ -105,46 +105,29 @@ impl<'a, E: Settle<T> + Drop, T: Grounded> Runner<'a, E, T> {
         requires { IsState self.now.variables state.now }
         ensures { IsChoice self.now state.now name.now result }
     {
-        self.choose_looked_up(state, self.look_up(name))
-    }
-
-    /// Looks the name up. It takes no memory.
-    pub(crate) fn look_up<'n>(&self, name: &'n [u8]) -> LookedUp<'n>
-        ensures name { result.name.now ≡ name.now }
-        ensures is { IsLookedUp self.now result }
-    {
-        LookedUp {
-            name,
-            first: self.names.first(name),
-        }
-    }
-
-    /// Looks the name up, unless it is the one that was looked up last. It takes no memory.
-    pub(crate) fn look_up_after<'n>(&self, last: LookedUp<'n>, name: &'n [u8]) -> LookedUp<'n>
-        requires { IsLookedUp self.now last }
-        ensures name { result.name.now ≡ name.now }
-        ensures is { IsLookedUp self.now result }
-    {
-        if last.name == name {
-            last
-        } else {
-            self.look_up(name)
-        }
-    }
-
-    /// Which operator a name that was looked up means in the state. It takes no memory.
-    pub(crate) fn choose_looked_up(&self, state: &State, looked_up: LookedUp<'_>) -> Choice
-        requires state { IsState self.now.variables state.now }
-        requires name { IsLookedUp self.now looked_up }
-        ensures { IsChoice self.now state.now looked_up.entry.name.now result }
-    {
-        let Some(first) = looked_up.first else {
+        let Some(first) = self.look_up(name) else {
             return Choice::Unknown;
         };
-        match first_applicable(self.layered.task(), &self.names, state, first) {
+        match self.choose_from(state, first) {
             Some(operator) => Choice::Found(operator),
             None => Choice::Blocked,
         }
+    }
+
+    /// The lowest operator of the name. It takes no memory.
+    pub(crate) fn look_up(&self, name: &[u8]) -> Option<u32>
+        ensures { IsNextNamed self.now name.now 0 result }
+    {
+        self.names.first(name)
+    }
+
+    /// The first operator that is applicable, of this one and those behind it that have its name. It takes no memory.
+    pub(crate) fn choose_from(&self, state: &State, first: u32) -> Option<u32>
+        requires state { IsState self.now.variables state.now }
+        requires first { first < length self.now.operators }
+        ensures { IsFirstChosen self.now state.now first result }
+    {
+        first_applicable(self.layered, &self.names, state, first)
     }
 
     /// Makes the step of the operator, if there is one; else the state is as it was. It takes no memory.
@@ -154,7 +137,7 @@ impl<'a, E: Settle<T> + Drop, T: Grounded> Runner<'a, E, T> {
         ensures steps { Steps self.old state.old operator state.new result }
         ensures same { self.new ≡ self.old }
     {
-        match missed_precondition(self.layered.task(), operator, state) {
+        match missed_precondition(self.layered, operator, state) {
             Some(fact) => Err(StepFault::NotApplicable { fact }),
             None => self.step_on(state, operator),
         }
@@ -168,13 +151,11 @@ impl<'a, E: Settle<T> + Drop, T: Grounded> Runner<'a, E, T> {
         ensures steps { Steps self.old state.old operator state.new result }
         ensures same { self.new ≡ self.old }
     {
-        match apply(self.layered.task(), operator, &mut self.given, state) {
-            Ok(()) => {
-                self.evaluator.settle(self.layered, state);
-                Ok(())
-            }
-            Err(fault) => Err(fault),
-        }
+        // By its contract the task is well ranged and layered.
+        let _ = self.layered.task();
+        apply(self.layered, operator, &mut self.given, state)?;
+        self.evaluator.settle(self.layered, state);
+        Ok(())
     }
 
     /// The index of the first fact of the goal that doesn't hold. It takes no memory.
@@ -197,17 +178,20 @@ impl<'a, E: Settle<T> + Drop, T: Grounded> Runner<'a, E, T> {
 }
 
 /// Nothing given to any variable.
-fn nothing_given<T: Grounded>(alloc: Global, task: &T) -> Result<Items<Option<u32>>, AllocError>
-    ensures { IfOk result (λ given. IsClean (T.says task.now) given) }
+fn nothing_given<T: Grounded>(
+    alloc: Global,
+    task: &Layered<T>,
+) -> Result<Items<Option<u32>>, AllocError>
+    ensures { IfOk result (λ given. IsClean task.now given) }
 {
     Ok(Items::from_vec(vec![in alloc; None; task.variables() as usize]?))
 }
 
 /// Whether the operator's preconditions hold.
-fn is_applicable<T: Grounded>(task: &T, state: &State, operator: u32) -> bool
-    requires operator { operator < length (T.says task.now).operators }
-    requires state { IsState (T.says task.now).variables state.now }
-    ensures { IsTrue result ↔ IsApplicable state.now (operator_at (T.says task.now) operator) }
+fn is_applicable<T: Grounded>(task: &Layered<T>, state: &State, operator: u32) -> bool
+    requires operator { operator < length task.now.operators }
+    requires state { IsState task.now.variables state.now }
+    ensures { IsTrue result ↔ IsApplicable state.now (operator_at task.now operator) }
 {
     match missed_precondition(task, operator, state) {
         Some(_) => false,
@@ -217,15 +201,15 @@ fn is_applicable<T: Grounded>(task: &T, state: &State, operator: u32) -> bool
 
 /// The first operator that is applicable, of this one and those behind it that have its name.
 fn first_applicable<T: Grounded>(
-    task: &T,
+    task: &Layered<T>,
     names: &Names<'_>,
     state: &State,
     first: u32,
 ) -> Option<u32>
-    requires names { AreNames (T.says task.now) names.now }
-    requires first { first < length (T.says task.now).operators }
-    requires state { IsState (T.says task.now).variables state.now }
-    ensures { IsFirstChosen (T.says task.now) state.now first result }
+    requires names { AreNames task.now names.now }
+    requires first { first < length task.now.operators }
+    requires state { IsState task.now.variables state.now }
+    ensures { IsFirstChosen task.now state.now first result }
 {
     let mut next = Some(first);
     while let Some(operator) = next {

@@ -1,16 +1,13 @@
 // One step: from a state by an operator to the next state, before it is settled.
 ghost use Rattle.std.specs.Prelude.{◌≡◌, ℕ, ◌<◌, length, IsTrue, IsFalse, IfSome, IfNone, slice_index};
-ghost use Rattle.sas_grounded.specs.Grounded.{operator_at};
+ghost use Rattle.sas_core.specs.Grounded.{operator_at};
 ghost use Rattle.sas_core.specs.Variables.{IsState};
-ghost use Rattle.sas_core.specs.WellRanged.{WellRanged};
 ghost use Rattle.sas_run.specs.Plans.{IsApplicable};
 ghost use Rattle.sas_run.specs.Running.{IsFirstConflict, IsStepFault, Applies};
 ghost use Rattle.sas_run.specs.Given.{IsClean, IsGiven, IsGivenTo, value_after, Gives, GivesOther};
 
-use crate::holding::all_hold;
-use sas_core::{Fact, Items};
-use sas_grounded::Grounded;
-use sas_meaning::{Preconditions, State};
+use sas_core::{Fact, Grounded, Items};
+use sas_meaning::{Layered, Preconditions, State};
 
 /// Why an operator has no step in a state.
 #[derive(Clone, Copy, Debug, PartialEq, Eq)]
@@ -22,15 +19,19 @@ pub enum StepFault {
 }
 
 /// The first of the operator's preconditions that doesn't hold.
-pub fn missed_precondition<T: Grounded>(task: &T, operator: u32, state: &State) -> Option<Fact>
-    requires operator { operator < length (T.says task.now).operators }
-    requires state { IsState (T.says task.now).variables state.now }
+pub fn missed_precondition<T: Grounded>(
+    task: &Layered<T>,
+    operator: u32,
+    state: &State,
+) -> Option<Fact>
+    requires operator { operator < length task.now.operators }
+    requires state { IsState task.now.variables state.now }
     ensures some { IfSome result (λ fact.
-        IsStepFault state.now (operator_at (T.says task.now) operator) (StepFault.NotApplicable fact)) }
-    ensures none { IfNone result (IsApplicable state.now (operator_at (T.says task.now) operator)) }
+        IsStepFault state.now (operator_at task.now operator) (StepFault.NotApplicable fact)) }
+    ensures none { IfNone result (IsApplicable state.now (operator_at task.now operator)) }
 {
-    // The contract of this call tells that what the task says is well ranged.
-    let _ = task.variables();
+    // By its contract the task is well ranged and layered.
+    let _ = task.task();
     for fact in Preconditions::new(task, operator) {
         if state.value(fact.var) != fact.value {
             return Some(fact);
@@ -42,20 +43,18 @@ pub fn missed_precondition<T: Grounded>(task: &T, operator: u32, state: &State) 
 /// Does what the effects that fire do, where the preconditions hold, unless two of the effects conflict. What is given
 /// to variables meanwhile is nothing again in the end.
 pub fn apply<T: Grounded>(
-    task: &T,
+    task: &Layered<T>,
     operator: u32,
     given: &mut Items<Option<u32>>,
     state: &mut State,
 ) -> Result<(), StepFault>
-    requires operator { operator < length (T.says task.now).operators }
-    requires state { IsState (T.says task.now).variables state.old }
-    requires applicable { IsApplicable state.old (operator_at (T.says task.now) operator) }
-    requires clean { IsClean (T.says task.now) given.old }
-    ensures applies { Applies (T.says task.now) state.old operator state.new result }
-    ensures clean { IsClean (T.says task.now) given.new }
+    requires operator { operator < length task.now.operators }
+    requires state { IsState task.now.variables state.old }
+    requires applicable { IsApplicable state.old (operator_at task.now operator) }
+    requires clean { IsClean task.now given.old }
+    ensures applies { Applies task.now state.old operator state.new result }
+    ensures clean { IsClean task.now given.new }
 {
-    // The contract of this call tells that what the task says is well ranged.
-    let _ = task.variables();
     if let Some(effect) = give_effects(task, operator, state, given) {
         take_back(task, operator, given);
         return Err(StepFault::Conflict { effect });
@@ -67,22 +66,24 @@ pub fn apply<T: Grounded>(
 /// Gives each variable what the effects that fire set it to, up to the first that conflicts with an earlier one: that
 /// is the answer.
 fn give_effects<T: Grounded>(
-    task: &T,
+    task: &Layered<T>,
     operator: u32,
     state: &State,
     given: &mut Items<Option<u32>>,
 ) -> Option<u32>
-    requires ranged { WellRanged (T.says task.now) }
-    requires operator { operator < length (T.says task.now).operators }
-    requires state { IsState (T.says task.now).variables state.now }
-    requires clean { IsClean (T.says task.now) given.old }
-    ensures some { IfSome result (λ effect. IsFirstConflict state.now (operator_at (T.says task.now) operator) effect) }
-    ensures none { IfNone result (IsGiven (T.says task.now) state.now (operator_at (T.says task.now) operator)
-        (length (operator_at (T.says task.now) operator).effects) given.new) }
-    ensures given_to { IsGivenTo (T.says task.now) (operator_at (T.says task.now) operator) given.new }
+    requires operator { operator < length task.now.operators }
+    requires state { IsState task.now.variables state.now }
+    requires clean { IsClean task.now given.old }
+    ensures some { IfSome result (λ effect.
+        IsFirstConflict state.now (operator_at task.now operator) effect) }
+    ensures none { IfNone result (IsGiven task.now state.now (operator_at task.now operator)
+        (length (operator_at task.now operator).effects) given.new) }
+    ensures given_to { IsGivenTo task.now (operator_at task.now operator) given.new }
 {
+    // By its contract the task is well ranged and layered.
+    let _ = task.task();
     for effect in 0..task.effects(operator) {
-        if all_hold(state, task.effect_conditions(operator, effect)) {
+        if state.holds_all(task.effect_conditions(operator, effect)) {
             let change = task.effect_change(operator, effect);
             if !give(given, change.var, change.new) {
                 return Some(effect);
@@ -108,12 +109,13 @@ fn give(given: &mut Items<Option<u32>>, var: u32, value: u32) -> bool
 }
 
 /// Takes back what is given to the variables of the effects.
-fn take_back<T: Grounded>(task: &T, operator: u32, given: &mut Items<Option<u32>>)
-    requires ranged { WellRanged (T.says task.now) }
-    requires operator { operator < length (T.says task.now).operators }
-    requires given_to { IsGivenTo (T.says task.now) (operator_at (T.says task.now) operator) given.old }
-    ensures { IsClean (T.says task.now) given.new }
+fn take_back<T: Grounded>(task: &Layered<T>, operator: u32, given: &mut Items<Option<u32>>)
+    requires operator { operator < length task.now.operators }
+    requires given_to { IsGivenTo task.now (operator_at task.now operator) given.old }
+    ensures { IsClean task.now given.new }
 {
+    // By its contract the task is well ranged and layered.
+    let _ = task.task();
     for effect in 0..task.effects(operator) {
         let change = task.effect_change(operator, effect);
         given.set(change.var as usize, None);
@@ -122,19 +124,20 @@ fn take_back<T: Grounded>(task: &T, operator: u32, given: &mut Items<Option<u32>
 
 /// Writes what is given to the variables of the effects into the state, and takes it back.
 fn write_given<T: Grounded>(
-    task: &T,
+    task: &Layered<T>,
     operator: u32,
     given: &mut Items<Option<u32>>,
     state: &mut State,
 )
-    requires ranged { WellRanged (T.says task.now) }
-    requires operator { operator < length (T.says task.now).operators }
-    requires state { IsState (T.says task.now).variables state.old }
-    requires given_to { IsGivenTo (T.says task.now) (operator_at (T.says task.now) operator) given.old }
-    ensures state { IsState (T.says task.now).variables state.new }
+    requires operator { operator < length task.now.operators }
+    requires state { IsState task.now.variables state.old }
+    requires given_to { IsGivenTo task.now (operator_at task.now operator) given.old }
+    ensures state { IsState task.now.variables state.new }
     ensures written { (var : ℕ) → slice_index state.new var ≡ value_after given.old state.old var }
-    ensures clean { IsClean (T.says task.now) given.new }
+    ensures clean { IsClean task.now given.new }
 {
+    // By its contract the task is well ranged and layered.
+    let _ = task.task();
     for effect in 0..task.effects(operator) {
         let var = task.effect_change(operator, effect).var;
         if let Some(value) = given.as_slice()[var as usize] {

@@ -1,5 +1,1 @@
-mod Putting
-mod Sent
-mod Summaries
-mod Lengths
-pub mod SummaryLengths
+pub mod Summaries

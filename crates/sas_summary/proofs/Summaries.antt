@@ -8,10 +8,10 @@ use Rattle.sas_core.specs.declared.parts.Fact.{Fact}
 use Rattle.sas_core.specs.declared.parts.Variable.{Variable}
 use Rattle.sas_lines.specs.Lines.{text}
 use Rattle.sas_lines.specs.declared.devices.Short.{Short}
-use Rattle.sas_task_reader.specs.declared.outline.Outline.{Outline}
-use Rattle.sas_summary.specs.Pieces.{Piece, Puts, Breaks}
+use Rattle.sas_flat.specs.declared.outline.Outline.{Outline}
+use Rattle.sas_output.specs.Pieces.{Piece, Puts, Breaks}
 use Rattle.sas_summary.specs.Summary.{number_lines, fact_lines, initial_lines, goal_lines, summary_lines}
-use Rattle.sas_summary.proofs.Putting.{item_puts, item_breaks}
+use Rattle.sas_output.proofs.Putting.{item_puts, item_breaks}
 
 -- lines in a row
 text_of_both : (a b : List (List ℕ)) → text (a ++ b) ≡ text a ++ text b

@@ -7,7 +7,7 @@ use Rattle.std.specs.List.{enumerate_from}
 use Rattle.sas_core.specs.declared.parts.Fact.{Fact}
 use Rattle.sas_core.specs.declared.parts.Variable.{Variable}
 use Rattle.sas_core.specs.Variables.{value_name}
-use Rattle.sas_task_reader.specs.declared.outline.Outline.{Outline}
+use Rattle.sas_flat.specs.declared.outline.Outline.{Outline}
 
 -- `WORD N`
 abbrev pub number_line : List ℕ → ℕ → List ℕ
@@ -21,7 +21,8 @@ metric_line metric = number_line (codes "metric") (if metric then 1 else 0)
 abbrev pub derived_count : List Variable → ℕ
 derived_count variables = count_by (λ (v : Variable). is_some v.layer) variables
 
--- the lines of the task's numbers: `metric M`, `variables N`, `derived D`, `groups G`, `operators O`, `rules R`
+-- the lines of the task's numbers: `metric M`, `variables N`, `derived D`, `groups G`, `operators
+-- O`, `rules R`
 abbrev pub number_lines : Outline → List (List ℕ)
 number_lines o =
     metric_line o.metric
@@ -34,22 +35,27 @@ number_lines o =
 
 -- `WORD VAR VALUE NAME`, where NAME is the value's name
 abbrev pub fact_line : List ℕ → ℕ → ℕ → List ℕ → List ℕ
-fact_line word var value name = word ++ codes " " ++ decimal var ++ codes " " ++ decimal value ++ codes " " ++ name
+fact_line word var value name =
+    word ++ codes " " ++ decimal var ++ codes " " ++ decimal value ++ codes " " ++ name
 
 -- the line of a fact, which there is for each fact that exists
 abbrev pub fact_lines : List ℕ → List Variable → ℕ → ℕ → List (List ℕ)
 fact_lines word variables var value =
-    option_map_or (λ (name : List ℕ). fact_line word var value name ∷ []) (value_name variables var value) []
+    option_map_or (λ (name : List ℕ). fact_line word var value name ∷ [])
+    (value_name variables var value) []
 
 -- `initial VAR VALUE NAME` for each variable, with its value in the state section
 abbrev pub initial_lines : List Variable → List ℕ → List (List ℕ)
 initial_lines variables values =
-    flat_map (λ (var, value). fact_lines (codes "initial") variables var value) (enumerate_from 0 values)
+    flat_map (λ (var, value). fact_lines (codes "initial") variables var value)
+    (enumerate_from 0 values)
 
 -- `goal VAR VALUE NAME` for each fact of the goal
 abbrev pub goal_lines : List Variable → List Fact → List (List ℕ)
-goal_lines variables facts = flat_map (λ (f : Fact). fact_lines (codes "goal") variables f.var f.value) facts
+goal_lines variables facts =
+    flat_map (λ (f : Fact). fact_lines (codes "goal") variables f.var f.value) facts
 
 -- the lines of the summary of a task with this outline, in order
 abbrev pub summary_lines : Outline → List (List ℕ)
-summary_lines o = number_lines o ++ initial_lines o.variables o.init ++ goal_lines o.variables o.goal
+summary_lines o =
+    number_lines o ++ initial_lines o.variables o.init ++ goal_lines o.variables o.goal

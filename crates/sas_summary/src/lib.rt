@@ -1,7 +1,6 @@
 //! The summary of a task, written in pieces as it is made.
 #![tactic(auto)]
 
-mod pieces;
 mod summary;
 
 pub use summary::Summary;

@@ -3,17 +3,15 @@ ghost use Rattle.std.specs.Prelude.{◌≡◌, ◌<◌, ◌^◌, ◌⊎◌, ◌�
 ghost use Rattle.std.specs.Prelude.{Some, IfErr, IfOk, IsErr, IsErrAnd, IsTrue, OnOk};
 ghost use Rattle.std.specs.Io.KnownBytes.{Appends};
 ghost use Rattle.sas_lines.specs.Lines.{text};
-ghost use Rattle.sas_answers.specs.Ending.{Ends, IsWrite};
-ghost use Rattle.sas_summary.specs.Pieces.{PutsOrBreaks};
+ghost use Rattle.sas_output.specs.Ending.{Ends, IsWrite};
+ghost use Rattle.sas_output.specs.Pieces.{PutsOrBreaks};
 ghost use Rattle.sas_summary.specs.Summary as spec;
 ghost use Rattle.sas_summary.specs.Summary.{summary_lines};
 
-use crate::pieces::Pieces;
 use itoa::Buffer;
-use sas_answers::{Status, ToolFault};
-use sas_flat::Variables;
+use sas_flat::{Outline, Variables};
 use sas_lines::{Short, Watched, push_number};
-use sas_task_reader::Outline;
+use sas_output::{Pieces, Status, ToolFault};
 use std::alloc::{AllocError, Global};
 use std::io::Write;
 use std::marker::Model;
@@ -27,7 +25,7 @@ pub struct Summary {
 impl Model for Summary {
     ghost use Rattle.std.specs.Prelude.{◌<◌, ◌^◌, length};
     ghost use Rattle.sas_lines.specs.Lines.{text};
-    ghost use Rattle.sas_task_reader.specs.declared.outline.Outline.{Outline};
+    ghost use Rattle.sas_flat.specs.declared.outline.Outline.{Outline};
     ghost use Rattle.sas_summary.specs.Summary.{summary_lines};
 
     ghost Value = { Outline };
@@ -51,9 +49,11 @@ impl Summary {
     pub fn write<W: Write>(&self, alloc: Global, out: &mut Watched<W>) -> Result<Status, ToolFault>
         requires { out.old.failed ≡ false }
         ensures ends { Ends
-            (λ output. output ≡ Some (record { text = text (summary_lines self.now); status = Status.Yes }))
+            (λ output. output
+            ≡ Some (record { text = text (summary_lines self.now); status = Status.Yes }))
             (Appends (W.contents out.old.device) (W.contents out.new.device)) result }
-        ensures nothing { IfErr result (λ e. IsWrite e ⊎ ((e ≡ ToolFault.Memory) × (out.new ≡ out.old))) }
+        ensures nothing { IfErr result (λ e. IsWrite e
+            ⊎ ((e ≡ ToolFault.Memory) × (out.new ≡ out.old))) }
         ensures writes { IsErrAnd result IsWrite ↔ IsTrue out.new.failed }
     {
         // What takes memory comes first.
@@ -76,7 +76,8 @@ fn push_summary<W: Write>(
     outline: &Outline,
 ) -> Result<(), Short>
     requires { out.old.failed ≡ false }
-    ensures puts { PutsOrBreaks (W.contents out.old.device) (W.contents out.new.device) pieces.old pieces.new
+    ensures puts { PutsOrBreaks (W.contents out.old.device) (W.contents out.new.device)
+        pieces.old pieces.new
         (numbers.now ++ text (spec.initial_lines outline.now.variables outline.now.init)
         ++ text (spec.goal_lines outline.now.variables outline.now.goal)) result }
     ensures empty { OnOk result (pieces.new.held ≡ []) }
@@ -108,7 +109,8 @@ fn numbers_text(alloc: Global, outline: &Outline) -> Result<Vec<u8>, AllocError>
 
 /// Appends the line of a word and a number.
 fn push_number_line(out: &mut Vec<u8>, word: &[u8], n: u128) -> Result<(), AllocError>
-    ensures { OnOk result (out.new.items ≡ out.old.items ++ (spec.number_line word.now n ++ 10 ∷ [])) }
+    ensures { OnOk result (out.new.items ≡ out.old.items
+        ++ (spec.number_line word.now n ++ 10 ∷ [])) }
 {
     out.extend_from_slice(word)?;
     out.push(b' ')?;
@@ -130,6 +132,13 @@ fn derived_count(variables: &Variables) -> usize
     count
 }
 
+/// A variable, named by its place, and a value of it.
+#[derive(Clone, Copy)]
+struct Valued {
+    var: usize,
+    value: u32,
+}
+
 /// Puts a line for each variable behind what has come: its value in the state section.
 fn push_state<W: Write>(
     pieces: &mut Pieces,
@@ -137,12 +146,14 @@ fn push_state<W: Write>(
     outline: &Outline,
 ) -> Result<(), Short>
     requires { out.old.failed ≡ false }
-    ensures puts { PutsOrBreaks (W.contents out.old.device) (W.contents out.new.device) pieces.old pieces.new
+    ensures puts { PutsOrBreaks (W.contents out.old.device) (W.contents out.new.device)
+        pieces.old pieces.new
         (text (spec.initial_lines outline.now.variables outline.now.init)) result }
     ensures note { IsErr result ↔ IsTrue out.new.failed }
 {
     for (var, value) in outline.init.as_slice().iter().enumerate() {
-        push_fact(pieces, out, b"initial", outline, var, *value)?;
+        let valued = Valued { var, value: *value };
+        push_fact(pieces, out, b"initial", outline, valued)?;
     }
     Ok(())
 }
@@ -154,13 +165,17 @@ fn push_goal<W: Write>(
     outline: &Outline,
 ) -> Result<(), Short>
     requires { out.old.failed ≡ false }
-    ensures puts { PutsOrBreaks (W.contents out.old.device) (W.contents out.new.device) pieces.old pieces.new
+    ensures puts { PutsOrBreaks (W.contents out.old.device) (W.contents out.new.device)
+        pieces.old pieces.new
         (text (spec.goal_lines outline.now.variables outline.now.goal)) result }
     ensures note { IsErr result ↔ IsTrue out.new.failed }
 {
     for fact in outline.goal.as_slice() {
-        let var = fact.var as usize;
-        push_fact(pieces, out, b"goal", outline, var, fact.value)?;
+        let valued = Valued {
+            var: fact.var as usize,
+            value: fact.value,
+        };
+        push_fact(pieces, out, b"goal", outline, valued)?;
     }
     Ok(())
 }
@@ -172,16 +187,18 @@ fn push_fact<W: Write>(
     out: &mut Watched<W>,
     word: &[u8],
     outline: &Outline,
-    var: usize,
-    value: u32,
+    valued: Valued,
 ) -> Result<(), Short>
     requires { out.old.failed ≡ false }
-    ensures puts { PutsOrBreaks (W.contents out.old.device) (W.contents out.new.device) pieces.old pieces.new
-        (text (spec.fact_lines word.now outline.now.variables var value)) result }
+    ensures puts { PutsOrBreaks (W.contents out.old.device) (W.contents out.new.device)
+        pieces.old pieces.new
+        (text (spec.fact_lines word.now outline.now.variables valued.var valued.value))
+        result }
     ensures note { IsErr result ↔ IsTrue out.new.failed }
 {
-    match outline.variables.value_name(var, value as usize) {
-        Some(name) => push_fact_line(pieces, out, word, var, value, name),
+    let variables = &outline.variables;
+    match variables.value_name(valued.var, valued.value as usize) {
+        Some(name) => push_fact_line(pieces, out, word, valued, name),
         None => Ok(()),
     }
 }
@@ -191,19 +208,19 @@ fn push_fact_line<W: Write>(
     pieces: &mut Pieces,
     out: &mut Watched<W>,
     word: &[u8],
-    var: usize,
-    value: u32,
+    valued: Valued,
     name: &[u8],
 ) -> Result<(), Short>
     requires { out.old.failed ≡ false }
-    ensures puts { PutsOrBreaks (W.contents out.old.device) (W.contents out.new.device) pieces.old pieces.new
-        (spec.fact_line word.now var value name.now ++ 10 ∷ []) result }
+    ensures puts { PutsOrBreaks (W.contents out.old.device) (W.contents out.new.device)
+        pieces.old pieces.new
+        (spec.fact_line word.now valued.var valued.value name.now ++ 10 ∷ []) result }
     ensures note { IsErr result ↔ IsTrue out.new.failed }
 {
     let mut var_buffer = Buffer::new();
     let mut value_buffer = Buffer::new();
-    let var_digits = var_buffer.format(var).as_bytes();
-    let value_digits = value_buffer.format(value).as_bytes();
+    let var_digits = var_buffer.format(valued.var).as_bytes();
+    let value_digits = value_buffer.format(valued.value).as_bytes();
     let parts: [&[u8]; 8] = [
         word,
         b" ",

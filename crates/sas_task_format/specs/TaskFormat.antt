@@ -30,7 +30,8 @@ pub data TaskLine : Type 0 where
   signed : Option ℕ → TaskLine
   -- a variable and one of its values
   fact : Fact → TaskLine
-  -- an effect of an operator: its conditions, its variable, the variable's old value, if any, and its new one
+  -- an effect of an operator: its conditions, its variable, the variable's old
+  -- value, if any, and its new one
   effect : Effect → TaskLine
   -- the head of a rule: its variable, the variable's old value, if any, and its new one
   head : ℕ → Option ℕ → ℕ → TaskLine
@@ -66,7 +67,8 @@ head_words var old new = decimal var ∷ signed_decimal old ∷ decimal new ∷ 
 -- the number c of the conditions, then each as `var value`, then `var old new`: 2c + 4 words
 abbrev pub effect_words : Effect → List (List ℕ)
 effect_words e =
-    (decimal (length e.conditions) ∷ []) ++ flat_map fact_words e.conditions ++ head_words e.var e.old e.new
+    (decimal (length e.conditions) ∷ []) ++ flat_map fact_words e.conditions
+    ++ head_words e.var e.old e.new
 
 -- the bytes of a line; its words stand with one space between each two
 abbrev pub task_line_bytes : TaskLine → List ℕ
@@ -122,9 +124,11 @@ version_lines = between (codes "begin_version") (line number 3) (codes "end_vers
 
 -- the metric is 1 where cost lines count, else 0
 abbrev pub metric_lines : Bool → List TaskLine
-metric_lines metric = between (codes "begin_metric") (line number (if metric then 1 else 0)) (codes "end_metric")
+metric_lines metric = between (codes "begin_metric") (line number (if metric then 1 else 0))
+    (codes "end_metric")
 
--- a variable's name, its axiom layer (`-1` for none), and how many values it has, with the name of each
+-- a variable's name, its axiom layer (`-1` for none), and how many values it
+-- has, with the name of each
 abbrev pub variable_lines : Variable → List TaskLine
 variable_lines v =
     between (codes "begin_variable")
@@ -135,11 +139,13 @@ variable_lines v =
 
 -- the facts of a mutex group
 abbrev pub group_lines : List Fact → List TaskLine
-group_lines facts = between (codes "begin_mutex_group") (counted (line fact) facts) (codes "end_mutex_group")
+group_lines facts = between (codes "begin_mutex_group") (counted (line fact) facts)
+    (codes "end_mutex_group")
 
 -- the initial state: a value for each variable, in order
 abbrev pub state_lines : List ℕ → List TaskLine
-state_lines values = between (codes "begin_state") (flat_map (line number) values) (codes "end_state")
+state_lines values = between (codes "begin_state") (flat_map (line number) values)
+    (codes "end_state")
 
 -- the facts of the goal
 abbrev pub goal_lines : List Fact → List TaskLine
@@ -181,15 +187,17 @@ task_layout p =
 
 -- the bytes are those of some line that belongs at the slot, with each number at most 2,147,483,647
 abbrev pub HasShape : TaskSlot → List ℕ → Type 0
-HasShape slot bytes = (i : TaskLine) × (task_slot i ≡ slot) × TaskLineFits i × (task_line_bytes i ≡ bytes)
+HasShape slot bytes = (i : TaskLine) × (task_slot i ≡ slot) × TaskLineFits i
+    × (task_line_bytes i ≡ bytes)
 
--- a wrong line of numbers hasn't the shape of its slot, or has it with a number that may not stand there
+-- a wrong line of numbers hasn't the shape of its slot, or has it with a number
+-- that may not stand there
 pub data NumbersKind (slot : TaskSlot) (bytes : List ℕ) : Kind → Type 0 where
   no_shape : (HasShape slot bytes → ⊥) → NumbersKind slot bytes Shape
   no_value : HasShape slot bytes → NumbersKind slot bytes Value
 
--- the kind of fault of a line that may not stand: it isn't the word that was due, or no name where one was due; or it
--- is a wrong line of numbers
+-- the kind of fault of a line that may not stand: it isn't the word that was
+-- due, or no name where one was due; or it is a wrong line of numbers
 abbrev pub TaskKind : TaskSlot → List ℕ → Kind → Type 0
 TaskKind (word_slot w) bytes kind = kind ≡ Keyword
 TaskKind name_slot bytes kind = kind ≡ Name

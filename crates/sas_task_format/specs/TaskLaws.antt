@@ -8,8 +8,9 @@ use Rattle.sas_task_format.specs.TaskFormat.{TaskLine, word, name, number, signe
 use Rattle.sas_task_format.specs.TaskFormat.{word_slot, name_slot, number_slot, signed_slot, fact_slot, effect_slot}
 use Rattle.sas_task_format.specs.TaskFormat.{head_slot, task_slot, task_line_bytes, task_layout, task_format}
 
--- what a number is filled by, by the slot of the line before it: behind `begin_version` it is the version, 3; behind
--- `end_metric` the number of variables, 1; behind an axiom layer a range, 1; and everywhere else 0
+-- what a number is filled by, by the slot of the line before it: behind
+-- `begin_version` it is the version, 3; behind `end_metric` the number of
+-- variables, 1; behind an axiom layer a range, 1; and everywhere else 0
 abbrev pub number_filling : Option TaskSlot → ℕ
 number_filling (Some (word_slot w)) =
     if pointwise nat_eq w (codes "begin_version")
@@ -18,8 +19,8 @@ number_filling (Some (word_slot w)) =
 number_filling (Some signed_slot) = 1
 number_filling _ = 0
 
--- what fills a slot: its word, the name `x`, such a number, `-1`, the fact `0 0`, the effect `0 0 -1 0`,
--- the head `0 -1 0`
+-- what fills a slot: its word, the name `x`, such a number, `-1`, the fact
+-- `0 0`, the effect `0 0 -1 0`, the head `0 -1 0`
 abbrev pub filling : Option TaskSlot → TaskSlot → TaskLine
 filling before (word_slot w) = word w
 filling before name_slot = name (codes "x")
@@ -44,7 +45,8 @@ last_slot before (i ∷ items) = last_slot (Some (task_slot i)) items
 -- behind a slot, each line is the filling of its slot
 abbrev pub AreFillings : Option TaskSlot → List TaskLine → Type 0
 AreFillings before [] = Unit {0}
-AreFillings before (i ∷ items) = (i ≡ filling before (task_slot i)) × AreFillings (Some (task_slot i)) items
+AreFillings before (i ∷ items) = (i ≡ filling before (task_slot i))
+    × AreFillings (Some (task_slot i)) items
 
 -- the lines are the first of a task, and all lines behind them are fillings
 pub record Completion (begun : List (List ℕ)) : Type 0 where

@@ -76,7 +76,8 @@ may_change variables var (Some old) new = has_value variables var old && has_val
 
 -- an effect's conditions exist, and so does what it changes
 abbrev pub effect_may_stand : List Variable → Effect → Bool
-effect_may_stand variables e = list_all (fact_exists variables) e.conditions && may_change variables e.var e.old e.new
+effect_may_stand variables e = list_all (fact_exists variables) e.conditions
+    && may_change variables e.var e.old e.new
 
 -- what a head changes exists
 abbrev pub head_may_stand : List Variable → Head → Bool

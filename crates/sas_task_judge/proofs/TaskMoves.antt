@@ -12,9 +12,9 @@ use Rattle.sas_task_format.specs.TaskFormat.{TaskLine, effect, TaskSlot, number_
 use Rattle.sas_core.specs.declared.parts.Parts.{Parts}
 use Rattle.sas_core.specs.declared.parts.Variable.{Variable}
 use Rattle.sas_core.specs.Variables.{range_of}
-use Rattle.sas_task_events.specs.declared.task_events.Event.{Event}
-use Rattle.sas_task_events.specs.declared.task_events.Said.{Said}
-use Rattle.sas_task_events.specs.declared.so_far.SoFar.{SoFar}
+use Rattle.sas_task_line.specs.declared.task_events.Event.{Event}
+use Rattle.sas_task_line.specs.declared.task_events.Said.{Said}
+use Rattle.sas_task_line.specs.declared.so_far.SoFar.{SoFar}
 use Rattle.sas_task_judge.specs.declared.task_judge.Place.{Place}
 use Rattle.sas_task_judge.specs.declared.task_judge.Place.TheVariants as at
 use Rattle.sas_task_judge.specs.declared.task_judge.TaskJudge.{TaskJudge}
@@ -22,7 +22,7 @@ use Rattle.sas_task_judge.specs.TaskPlaces.{state_values, state_values_of, goal_
 use Rattle.sas_task_judge.specs.TaskJudge.{state_at, state_of, KnownTo, LeadsOn, RejectsLine, TakesMemory, Moves, MovesBy, MovesAhead}
 use Rattle.sas_core.specs.declared.parts.Effect.{Effect}
 use Rattle.sas_lines.specs.Lines.{LineStandsFirst}
-use Rattle.sas_grounded.specs.declared.grounded.Change.{Change}
+use Rattle.sas_core.specs.declared.grounded.Change.{Change}
 use Rattle.sas_flat.specs.Effects.{plain_effect}
 use Rattle.sas_task_line.specs.Ahead.{SpellsAhead}
 use Rattle.sas_task_line.specs.TaskRanges.{change_in, effect_in_ranges}

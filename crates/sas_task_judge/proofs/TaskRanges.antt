@@ -7,7 +7,7 @@ use Rattle.sas_core.specs.declared.parts.Fact.{Fact}
 use Rattle.sas_core.specs.declared.parts.Variable.{Variable}
 use Rattle.sas_core.specs.Variables.{range_of, has_value, fact_exists}
 use Rattle.sas_reader.specs.declared.fault.Kind.{Kind}
-use Rattle.sas_task_events.specs.declared.so_far.SoFar.{SoFar}
+use Rattle.sas_task_line.specs.declared.so_far.SoFar.{SoFar}
 use Rattle.sas_task_judge.specs.declared.task_judge.TaskJudge.{TaskJudge}
 use Rattle.sas_reader.specs.System.{Takes, Judged}
 use Rattle.sas_task_format.specs.TaskFormat.{TaskLine, TaskSlot, task_format, TaskLineFits}

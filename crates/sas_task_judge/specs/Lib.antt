@@ -1,2 +1,4 @@
 pub mod TaskPlaces
 pub mod TaskJudge
+pub mod TaskMachine
+pub mod Sections

@@ -4,8 +4,8 @@ use Rattle.sas_core.specs.declared.parts.Variable.{Variable}
 use Rattle.sas_lines.specs.Lines.{LineStandsFirst}
 use Rattle.sas_reader.specs.declared.fault.Kind.{Kind}
 use Rattle.sas_reader.specs.declared.fault.Kind.TheVariants as kinds
-use Rattle.sas_task_events.specs.declared.task_events.Event.{Event}
-use Rattle.sas_task_events.specs.declared.so_far.SoFar.{SoFar}
+use Rattle.sas_task_line.specs.declared.task_events.Event.{Event}
+use Rattle.sas_task_line.specs.declared.so_far.SoFar.{SoFar}
 use Rattle.sas_task_judge.specs.declared.task_judge.Place.{Place}
 use Rattle.sas_task_judge.specs.declared.task_judge.Place.TheVariants as at
 use Rattle.sas_task_judge.specs.declared.task_judge.sections.Section.{Section}
@@ -14,7 +14,7 @@ use Rattle.sas_task_judge.specs.declared.task_judge.TaskJudge.{TaskJudge}
 use Rattle.sas_reader.specs.Faults.{IsOfBytes}
 use Rattle.sas_task_format.specs.Process.{process_node, ◌>>◌}
 use Rattle.sas_reader.specs.System.{OneLine, Rejects, Takes}
-use Rattle.sas_task_events.specs.TaskEvents.{after}
+use Rattle.sas_task_line.specs.TaskEvents.{after}
 use Rattle.sas_task_format.specs.TaskFormat.{TaskLine, task_slot, task_line_bytes, task_format, TaskLineFits}
 use Rattle.sas_task_format.specs.TaskProcess.{TaskProcess, TaskPart, a_word}
 use Rattle.sas_task_line.specs.TaskRanges.{ranges_of}
@@ -22,8 +22,8 @@ use Rattle.sas_task_judge.specs.TaskPlaces.{version_begin, version_number, versi
 
 -- ---- what may still come
 
--- at a place, with so many variables, groups, operators or rules left, so many values, facts or effects left, and behind
--- what has come
+-- at a place, with so many variables, groups, operators or rules left, so many
+-- values, facts or effects left, and behind what has come
 abbrev pub state_at : Place → ℕ → ℕ → SoFar → TaskProcess
 state_at at.VersionBegin left more s = version_begin s.parts
 state_at at.VersionNumber left more s = version_number s.parts
@@ -99,8 +99,10 @@ pub record KnownTo (s : SoFar) (j : TaskJudge) : Type 0 where
   -- the range of a variable counts its values, those that have come and those that are left
   pub range : j.place ≡ at.VariableValues → j.range ≡ length s.values + j.more
 
--- A part is due that tells an A. Behind it the judge is where `next` says, and what has come is what `adds` says.
-abbrev pub Due : {A : Type 0} → TaskJudge → (List Variable → TaskPart A) → (A → TaskJudge) → (A → SoFar → SoFar)
+-- A part is due that tells an A. Behind it the judge is where `next` says, and
+-- what has come is what `adds` says.
+abbrev pub Due : {A : Type 0} → TaskJudge → (List Variable → TaskPart A) → (A → TaskJudge)
+    → (A → SoFar → SoFar)
     → Type 0
 Due j part next adds = (s : SoFar) → KnownTo s j
     → state_of j s ≡ part s.parts.variables (λ a. state_of (next a) (adds a s))
@@ -116,15 +118,18 @@ abbrev pub RejectsLine : TaskJudge → List ℕ → Kind → Type 0
 RejectsLine j line kind = (s : SoFar) → KnownTo s j
     → Rejects task_format TaskLineFits (process_node (state_of j s)) line kind
 
--- what the judge keeps of the next line takes memory: the range of a variable that ends, or the conditions of an effect
+-- what the judge keeps of the next line takes memory: the range of a variable
+-- that ends, or the conditions of an effect
 abbrev pub TakesMemory : TaskJudge → Type 0
-TakesMemory j = ((j.place ≡ at.VariableValues) × (j.more ≡ 0)) ⊎ ((j.place ≡ at.Effects) × (0 < j.more))
+TakesMemory j = ((j.place ≡ at.VariableValues) × (j.more ≡ 0))
+    ⊎ ((j.place ≡ at.Effects) × (0 < j.more))
 
--- The line leads from what has come to that with what it adds; or it may not follow, and the kind is that of its fault; or
--- memory was refused, where some is taken.
+-- The line leads from what has come to that with what it adds; or it may not follow,
+-- and the kind is that of its fault; or memory was refused, where some is taken.
 abbrev pub Moves : TaskJudge → List ℕ → TaskJudge → Result Event Kind → Type 0
 Moves j line k (Ok event) = (s : SoFar) → KnownTo s j
-    → KnownTo (after s event k.said line) k × LeadsOn (state_of j s) line (state_of k (after s event k.said line))
+    → KnownTo (after s event k.said line) k
+    × LeadsOn (state_of j s) line (state_of k (after s event k.said line))
 Moves j line k (Err kind) =
     IsOfBytes kind
     × (kind ≡ kinds.Memory → TakesMemory j)
@@ -133,11 +138,13 @@ Moves j line k (Err kind) =
 -- a line that says this moves the judge on, where it may stand under the test
 abbrev pub MovesBy : TaskJudge → (TaskLine → Bool) → TaskLine → TaskJudge → Event → Type 0
 MovesBy j test i k event = (line : List ℕ)
-    → Takes task_format TaskLineFits (task_slot i) test i × (task_line_bytes i ≡ line) → Moves j line k (Ok event)
+    → Takes task_format TaskLineFits (task_slot i) test i × (task_line_bytes i ≡ line)
+    → Moves j line k (Ok event)
 
--- A line stands first in the bytes, takes so many of them with its end, which is LF, and leads from what has come to that
--- with what it adds.
-pub record MovesAhead (j : TaskJudge) (bytes : List ℕ) (k : TaskJudge) (event : Event) (n : ℕ) : Type 0 where
+-- A line stands first in the bytes, takes so many of them with its end, which
+-- is LF, and leads from what has come to that with what it adds.
+pub record MovesAhead (j : TaskJudge) (bytes : List ℕ) (k : TaskJudge) (event : Event)
+    (n : ℕ) : Type 0 where
   pub line : List ℕ
   pub first : LineStandsFirst bytes line n
   pub before_end : line ≡ take (n - 1) bytes

@@ -1,5 +1,5 @@
--- The states of a task file: what may still come, by what came. They stand here from the last to the first. Each has the
--- parts so far and, inside a list, how many are left behind those so far.
+-- The states of a task file: what may still come, by what came. They stand here from the last to
+-- the first. Each has the parts so far and, inside a list, how many are left behind those so far.
 use Rattle.std.specs.Prelude.{ℕ, List, [], ◌∷◌, ◌++◌, ◌==◌, nat_lt, drop, length, Option, codes}
 use Rattle.sas_core.specs.declared.parts.Fact.{Fact}
 use Rattle.sas_core.specs.declared.parts.Variable.{Variable}
@@ -33,7 +33,8 @@ abbrev pub rule_conditions : ℕ → Parts → ℕ → List Fact → TaskProcess
 rule_conditions left p more conditions = do
   conditions ← repeat (a_fact p.variables) more conditions
   change ← a_head p.variables
-  rule_end left p (record { conditions = conditions; var = change.var; old = change.old; new = change.new })
+  rule_end left p
+      (record { conditions = conditions; var = change.var; old = change.old; new = change.new })
 
 -- the number of its conditions is due
 abbrev pub rule_size : ℕ → Parts → TaskProcess
@@ -174,7 +175,9 @@ variable_values left p label layer more values = do
   values ← repeat a_name more values
   a_word (codes "end_variable")
   variable_begin left
-      (record p { variables = p.variables ++ record { name = label; layer = layer; values = values } ∷ [] })
+      (record p {
+        variables = p.variables ++ record { name = label; layer = layer; values = values } ∷ [];
+      })
 
 -- its range is due
 abbrev pub variable_range : ℕ → Parts → List ℕ → Option ℕ → TaskProcess

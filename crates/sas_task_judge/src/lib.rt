@@ -1,6 +1,11 @@
-//! Judges the lines of a task file, one after another, and tells what each adds to what has come.
+//! Judges the lines of a task file, one after another, and tells what each adds to what has come; what a line adds is handed to a
+//! keeper, or a whole section at once.
 #![tactic(auto)]
 
+mod keeper;
 mod task_judge;
+mod task_machine;
 
+pub use keeper::{Keeper, VariableKept};
 pub use task_judge::{Place, Section, TaskJudge};
+pub use task_machine::TaskMachine;

@@ -1,6 +1,6 @@
 // What judges the lines of a task file, one after another: whether each may stand where it stands, and what it adds.
 ghost use Rattle.std.specs.Prelude.{◌≡◌, ◌≢◌, ◌<◌, ◌≤◌, ◌-◌, ◌^◌, ◌↔◌, length, nat_lt, IsTrue, [], ◌∷◌, ◌++◌};
-ghost use Rattle.sas_task_events.specs.declared.so_far.SoFar.{SoFar};
+ghost use Rattle.sas_task_line.specs.declared.so_far.SoFar.{SoFar};
 ghost use Rattle.sas_task_format.specs.TaskFormat as format;
 ghost use Rattle.sas_task_format.specs.TaskProcess.{a_word, a_number, a_fact, any, number_in, fact_in, effect_in, head_in};
 ghost use Rattle.sas_task_line.specs.TaskRanges.{range_in, fact_in_ranges, effect_in_ranges, head_in_ranges};
@@ -9,13 +9,11 @@ ghost use Rattle.sas_task_judge.specs.TaskJudge.{Due, Moves, MovesBy, HasEnded, 
 mod ahead;
 mod sections;
 
-use sas_core::{Fact, Items};
-use sas_grounded::Change;
+use sas_core::{Change, Fact, Items};
 use sas_reader::Kind;
-use sas_task_events::{Event, Said};
 use sas_task_line::{
-    effect_at, fact_at, head_at, name_at, number_at, number_below, positive_at, signed_at,
-    version_at, word_at,
+    Event, Said, effect_at, fact_at, head_at, name_at, number_at, number_below, positive_at,
+    signed_at, version_at, word_at,
 };
 pub use sections::Section;
 use std::alloc::Global;
@@ -112,7 +110,8 @@ impl TaskJudge {
     /// Takes a fixed word.
     fn word(&mut self, line: &[u8], word: &[u8], next: Place) -> Result<Event, Kind>
         requires apart { next ≢ Place.VariableValues }
-        requires due { Due self.old (λ _. a_word word.now) (λ _. record self.old { place = next }) (λ _ s. s) }
+        requires due { Due self.old (λ _. a_word word.now)
+            (λ _. record self.old { place = next }) (λ _ s. s) }
         ensures { Moves self.old line.now self.new result }
     {
         word_at(line, word)?;
@@ -222,13 +221,9 @@ impl TaskJudge {
         ensures { Moves self.old line.now self.new result }
     {
         word_at(line, b"end_variable")?;
-        match self.ranges.push(self.range) {
-            Ok(()) => {
-                self.place = Place::Variables;
-                Ok(Event::Variable)
-            }
-            Err(_) => Err(Kind::Memory),
-        }
+        self.ranges.push(self.range)?;
+        self.place = Place::Variables;
+        Ok(Event::Variable)
     }
 
     /// Goes on behind the number of facts that are due next, or of conditions.
@@ -259,8 +254,10 @@ impl TaskJudge {
         requires apart { self.old.place ≢ Place.VariableValues }
         requires more { 0 < self.old.more }
         requires due { Due self.old a_fact
-            (λ _. record self.old { more = self.old.more - 1 }) (λ f s. record s { facts = s.facts ++ f ∷ [] }) }
-        ensures { MovesBy self.old (λ i. fact_in_ranges self.old.ranges (fact_in i)) (format.fact fact)
+            (λ _. record self.old { more = self.old.more - 1 })
+            (λ f s. record s { facts = s.facts ++ f ∷ [] }) }
+        ensures { MovesBy self.old (λ i. fact_in_ranges self.old.ranges (fact_in i))
+            (format.fact fact)
             self.new result }
     {
         self.said.fact = fact;
@@ -273,7 +270,8 @@ impl TaskJudge {
         requires apart { self.old.place ≢ Place.VariableValues }
         requires more { 0 < self.old.more }
         requires due { Due self.old a_fact
-            (λ _. record self.old { more = self.old.more - 1 }) (λ f s. record s { facts = s.facts ++ f ∷ [] }) }
+            (λ _. record self.old { more = self.old.more - 1 })
+            (λ f s. record s { facts = s.facts ++ f ∷ [] }) }
         ensures { Moves self.old line.now self.new result }
     {
         let fact = fact_at(&self.ranges, line)?;
@@ -306,7 +304,8 @@ impl TaskJudge {
         requires place { self.old.place ≡ Place.StateValues }
         requires more { self.old.valued < length self.old.ranges }
         requires few { length self.old.ranges < 2 ^ 64 }
-        ensures { MovesBy self.old (λ i. nat_lt (number_in i) (range_in self.old.ranges self.old.valued))
+        ensures { MovesBy self.old
+            (λ i. nat_lt (number_in i) (range_in self.old.ranges self.old.valued))
             (format.number value) self.new result }
     {
         self.said.number = value;

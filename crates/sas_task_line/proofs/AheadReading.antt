@@ -9,30 +9,18 @@ use Rattle.sas_core.specs.Names.{is_plain, IsName}
 use Rattle.sas_core.proofs.PlainBytes.{is_none-search}
 use Rattle.std.proofs.lemmas.Bool.{ne_eqb}
 use Rattle.sas_core.specs.declared.parts.Fact.{Fact}
-use Rattle.sas_lines.specs.Lines.{without_return, NoEnd, LineStandsFirst}
+use Rattle.sas_lines.specs.Lines.{LineStandsFirst}
 use Rattle.sas_lines.proofs.Beginnings.{stands_first}
 use Rattle.sas_lines.proofs.Splitting.{Plain}
-use Rattle.sas_reader.specs.System.{IsPlain}
+use Rattle.sas_reader.proofs.Plain.{plain}
 use Rattle.sas_task_format.specs.TaskFormat.{TaskLine, word, name, number, signed, fact, effect, head, task_line_bytes, TaskLineFits, EffectNumbers}
 use Rattle.sas_task_format.proofs.TaskPlain.{Sayable, plain-line}
-use Rattle.sas_grounded.specs.declared.grounded.Change.{Change}
+use Rattle.sas_core.specs.declared.grounded.Change.{Change}
 use Rattle.sas_task_line.proofs.Digits.{digit_is, digit_more, digits_more}
 use Rattle.sas_task_line.specs.Ahead.{SpellsAhead, LineAhead, NumberAhead, SignedAhead, ChangeAhead}
 use Rattle.sas_flat.specs.Effects.{plain_effect}
 
 -- ---- a line and its LF
-
-pub plain : (line : List ℕ) → IsPlain line → Plain line
-plain line h = record { no_end = no_end line h; no_return = no_return line h }
-  where
-    no_end : (line : List ℕ) → IsPlain line → NoEnd line
-    no_end [] h = tt
-    no_end (b ∷ line) h = (h.0.0, no_end line h.1)
-
-    no_return : (line : List ℕ) → IsPlain line → without_return line ≡ line
-    no_return [] h = refl
-    no_return (b ∷ []) h = rw (ne_eqb b 13 h.0.1) refl
-    no_return (b ∷ c ∷ line) h = ap (λ (x : List ℕ). b ∷ x) (no_return (c ∷ line) h.1)
 
 -- a line that is said before LF
 pub says_line : (i : TaskLine) (bytes rest : List ℕ) → TaskLineFits i → Sayable i → bytes ≡ task_line_bytes i ++ 10 ∷ rest → LineAhead i bytes rest

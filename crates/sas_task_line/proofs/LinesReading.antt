@@ -7,11 +7,12 @@ use Rattle.std.proofs.lemmas.List.{map-append, take_at, length-map}
 use Rattle.std.proofs.lemmas.List.Folds.{list_all-append}
 use Rattle.sas_core.specs.declared.parts.Fact.{Fact}
 use Rattle.sas_core.specs.Names.{is_name, IsName}
-use Rattle.sas_grounded.specs.declared.grounded.Change.{Change}
+use Rattle.sas_core.specs.declared.grounded.Change.{Change}
 use Rattle.sas_lines.specs.Lines.{LinesStandFirst, text}
 use Rattle.sas_lines.proofs.Beginnings.{lines_stand_first}
 use Rattle.sas_lines.proofs.Splitting.{Plain}
 use Rattle.sas_reader.specs.declared.reader.Front.{Front}
+use Rattle.sas_reader.proofs.Plain.{plain}
 use Rattle.sas_reader.specs.System.{IsPlain}
 use Rattle.sas_task_format.specs.TaskFormat.{TaskLine, word, name, number, signed, fact, effect, head, line, task_line_bytes, TaskLineFits, variable_lines, group_lines, operator_lines, rule_lines}
 use Rattle.sas_task_line.specs.declared.sections.Gathered.{Gathered}
@@ -20,7 +21,7 @@ use Rattle.sas_flat.specs.Effects.{plain_effect}
 use Rattle.sas_task_line.specs.LinesBefore.{LinesBefore, CountedBefore, NamesBefore, FactsBefore, ChangesBefore}
 use Rattle.sas_task_line.specs.Sections.{spelled, LinesAhead, VariableAhead, GroupAhead, OperatorAhead, RuleAhead, gathered_variable, gathered_operator, gathered_rule}
 use Rattle.sas_task_line.specs.TaskRanges.{effect_in_ranges, change_in}
-use Rattle.sas_task_line.proofs.AheadReading.{plain, number_is_ahead}
+use Rattle.sas_task_line.proofs.AheadReading.{number_is_ahead}
 
 -- ---- some lines, then more
 

@@ -6,9 +6,10 @@ use Rattle.sas_lines.specs.Lines.{LineStandsFirst}
 use Rattle.sas_lines.specs.Spelling.{signed_decimal, joined}
 use Rattle.sas_reader.specs.System.{IsPlain}
 use Rattle.sas_task_format.specs.TaskFormat.{TaskLine, task_line_bytes, TaskLineFits, head_words, HeadNumbers}
-use Rattle.sas_grounded.specs.declared.grounded.Change.{Change}
+use Rattle.sas_core.specs.declared.grounded.Change.{Change}
 
--- the bytes begin with this line, its numbers being numbers that a file can say, and with its LF it takes so many of them
+-- the bytes begin with this line, its numbers being numbers that a file can
+-- say, and with its LF it takes so many of them
 pub record SpellsAhead (i : TaskLine) (bytes : List ℕ) (taken : ℕ) : Type 0 where
   pub fits : TaskLineFits i
   pub first : LineStandsFirst bytes (task_line_bytes i) taken

@@ -4,3 +4,4 @@ pub mod TaskRanges
 pub mod Ahead
 pub mod Sections
 pub mod LinesBefore
+pub mod TaskEvents

@@ -3,7 +3,7 @@ use Rattle.std.specs.Prelude.{◌≡◌, Bool, ℕ, List, ◌∷◌, ◌++◌, I
 use Rattle.std.specs.List.{flat_map, list_all, AllByRecursion}
 use Rattle.sas_core.specs.declared.parts.Fact.{Fact}
 use Rattle.sas_core.specs.Names.{is_name}
-use Rattle.sas_grounded.specs.declared.grounded.Change.{Change}
+use Rattle.sas_core.specs.declared.grounded.Change.{Change}
 use Rattle.sas_lines.specs.Lines.{text}
 use Rattle.sas_reader.specs.System.{IsPlain}
 use Rattle.sas_task_format.specs.TaskFormat.{TaskLine, name, number, fact, effect, line, TaskLineFits}
@@ -11,7 +11,8 @@ use Rattle.sas_flat.specs.Effects.{plain_effect}
 use Rattle.sas_task_line.specs.Sections.{spelled}
 use Rattle.sas_task_line.specs.TaskRanges.{fact_in_ranges, effect_in_ranges}
 
--- the bytes are these lines, their numbers being numbers that a file can say, each with LF, and the rest
+-- the bytes are these lines, their numbers being numbers that a file can say,
+-- each with LF, and the rest
 pub record LinesBefore (items : List TaskLine) (bytes rest : List ℕ) : Type 0 where
   pub fits : AllByRecursion TaskLineFits items
   pub plain : AllByRecursion IsPlain (spelled items)
@@ -29,10 +30,11 @@ NamesBefore count names bytes rest = CountedBefore name is_name count names byte
 
 -- this number and the lines of these facts, each of which exists, are before the rest
 abbrev pub FactsBefore : List ℕ → ℕ → List Fact → List ℕ → List ℕ → Type 0
-FactsBefore ranges count facts bytes rest = CountedBefore fact (fact_in_ranges ranges) count facts bytes rest
+FactsBefore ranges count facts bytes rest =
+    CountedBefore fact (fact_in_ranges ranges) count facts bytes rest
 
--- this number and the lines of the effects that make these changes without conditions, each of whose facts exists, are
--- before the rest
+-- this number and the lines of the effects that make these changes without
+-- conditions, each of whose facts exists, are before the rest
 abbrev pub ChangesBefore : List ℕ → ℕ → List Change → List ℕ → List ℕ → Type 0
 ChangesBefore ranges count changes bytes rest =
     CountedBefore effect (effect_in_ranges ranges) count (map plain_effect changes) bytes rest

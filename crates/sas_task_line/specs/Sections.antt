@@ -6,7 +6,7 @@ use Rattle.sas_core.specs.declared.parts.Variable.{Variable}
 use Rattle.sas_core.specs.declared.parts.Operator.{Operator}
 use Rattle.sas_core.specs.declared.parts.Rule.{Rule}
 use Rattle.sas_core.specs.Names.{IsName}
-use Rattle.sas_grounded.specs.declared.grounded.Change.{Change}
+use Rattle.sas_core.specs.declared.grounded.Change.{Change}
 use Rattle.sas_lines.specs.Lines.{text}
 use Rattle.sas_reader.specs.declared.reader.Front.{Front}
 use Rattle.sas_reader.specs.Machine.{IsFront}
@@ -19,7 +19,8 @@ use Rattle.sas_task_line.specs.TaskRanges.{fact_in_ranges, effect_in_ranges, cha
 abbrev pub spelled : List TaskLine → List (List ℕ)
 spelled items = map task_line_bytes items
 
--- the bytes begin with these lines, their numbers being numbers that a file can say, and the front is as long as they are
+-- the bytes begin with these lines, their numbers being numbers that a file can
+-- say, and the front is as long as they are
 pub record LinesAhead (items : List TaskLine) (bytes : List ℕ) (front : Front) : Type 0 where
   pub fits : AllByRecursion TaskLineFits items
   pub stands : IsFront (spelled items) bytes front
@@ -53,7 +54,8 @@ GroupAhead ranges bytes facts front =
 
 -- the operator stands first in the bytes, and its facts exist
 abbrev pub OperatorAhead : List ℕ → List ℕ → Operator → Front → Type 0
-OperatorAhead ranges bytes o front = OperatorInRanges ranges o × LinesAhead (operator_lines o) bytes front
+OperatorAhead ranges bytes o front = OperatorInRanges ranges o
+    × LinesAhead (operator_lines o) bytes front
 
 -- the rule stands first in the bytes, and its facts exist
 abbrev pub RuleAhead : List ℕ → List ℕ → Rule → Front → Type 0
@@ -70,4 +72,5 @@ gathered_operator name cost g =
 
 -- the rule of this head, with the facts that were gathered
 abbrev pub gathered_rule : Change → Gathered → Rule
-gathered_rule head g = record { conditions = g.facts; var = head.var; old = head.old; new = head.new }
+gathered_rule head g =
+    record { conditions = g.facts; var = head.var; old = head.old; new = head.new }

@@ -34,4 +34,5 @@ head_in_ranges ranges h = change_in ranges h.var h.old h.new
 
 -- an effect's conditions exist, and so does what it changes
 abbrev pub effect_in_ranges : List ℕ → Effect → Bool
-effect_in_ranges ranges e = list_all (fact_in_ranges ranges) e.conditions && change_in ranges e.var e.old e.new
+effect_in_ranges ranges e = list_all (fact_in_ranges ranges) e.conditions
+    && change_in ranges e.var e.old e.new

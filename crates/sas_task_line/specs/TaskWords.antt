@@ -1,4 +1,5 @@
--- Reading a line of a task file part by part: the words before a step of the code, and the rest that it leaves.
+-- Reading a line of a task file part by part: the words before a step of the
+-- code, and the rest that it leaves.
 use Rattle.std.specs.Prelude.{◌≡◌, ℕ, List, ◌∷◌, ◌++◌, length, Option}
 use Rattle.std.specs.List.{flat_map, AllByRecursion}
 use Rattle.std.specs.Fmt.{decimal}
@@ -24,11 +25,13 @@ abbrev pub TakesFact : List (List ℕ) → Fact → List (List ℕ) → Type 0
 TakesFact words f rest = FactNumbers f × (words ≡ fact_words f ++ rest)
 
 -- as many facts as the count says stand before the rest
-pub record TakesFacts (words : List (List ℕ)) (count : ℕ) (facts : List Fact) (rest : List (List ℕ)) : Type 0 where
+pub record TakesFacts (words : List (List ℕ)) (count : ℕ) (facts : List Fact)
+    (rest : List (List ℕ)) : Type 0 where
   pub many : length facts ≡ count
   pub numbers : AllByRecursion FactNumbers facts
   pub before : words ≡ flat_map fact_words facts ++ rest
 
 -- a variable, its old value, if any, and its new one stand before the rest
 abbrev pub TakesHead : List (List ℕ) → ℕ → Option ℕ → ℕ → List (List ℕ) → Type 0
-TakesHead words var old new rest = HeadNumbers var old new × (words ≡ head_words var old new ++ rest)
+TakesHead words var old new rest = HeadNumbers var old new
+    × (words ≡ head_words var old new ++ rest)

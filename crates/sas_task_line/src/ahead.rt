@@ -8,8 +8,7 @@ ghost use Rattle.sas_task_line.specs.Ahead.{SpellsAhead, LineAhead, NumberAhead,
 ghost use Rattle.sas_flat.specs.Effects.{plain_effect};
 
 use memchr::memchr2;
-use sas_core::Fact;
-use sas_grounded::Change;
+use sas_core::{Change, Fact};
 
 /// What the first line of some bytes says, and how many of the bytes the line takes with its LF.
 #[derive(Clone, Copy, Debug, PartialEq, Eq)]
@@ -24,7 +23,8 @@ pub struct Ahead<A> {
 fn longer_before(first: u32, bytes: &[u8], end: u8) -> Option<(u32, &[u8])>
     requires some { 0 < first }
     requires few { first < 100 }
-    ensures { IfSome result (λ found. NumberAhead (decimal first ++ bytes.now) found.0 end found.1.now) }
+    ensures { IfSome result
+        (λ found. NumberAhead (decimal first ++ bytes.now) found.0 end found.1.now) }
 {
     let mut value = first;
     let mut left = bytes;
@@ -102,7 +102,8 @@ pub(crate) fn fact_before(bytes: &[u8]) -> Option<(Fact, &[u8])>
 /// that.
 #[inline(always)]
 pub(crate) fn effect_before(bytes: &[u8]) -> Option<(Change, &[u8])>
-    ensures { IfSome result (λ found. LineAhead (format.effect (plain_effect found.0)) bytes.now found.1.now) }
+    ensures { IfSome result
+        (λ found. LineAhead (format.effect (plain_effect found.0)) bytes.now found.1.now) }
 {
     let [b'0', b' ', rest @ ..] = bytes else {
         return None;
@@ -159,7 +160,8 @@ pub fn fact_ahead(bytes: &[u8]) -> Option<Ahead<Fact>>
 
 /// An effect without conditions, by its change, whether its facts exist or not.
 pub fn effect_ahead(bytes: &[u8]) -> Option<Ahead<Change>>
-    ensures { IfSome result (λ a. SpellsAhead (format.effect (plain_effect a.said)) bytes.now a.taken) }
+    ensures { IfSome result
+        (λ a. SpellsAhead (format.effect (plain_effect a.said)) bytes.now a.taken) }
 {
     let (said, rest) = effect_before(bytes)?;
     Some(Ahead {
@@ -170,7 +172,8 @@ pub fn effect_ahead(bytes: &[u8]) -> Option<Ahead<Change>>
 
 /// The head of a rule, whether its facts exist or not.
 pub fn head_ahead(bytes: &[u8]) -> Option<Ahead<Change>>
-    ensures { IfSome result (λ a. SpellsAhead (format.head a.said.var a.said.old a.said.new) bytes.now a.taken) }
+    ensures { IfSome result
+        (λ a. SpellsAhead (format.head a.said.var a.said.old a.said.new) bytes.now a.taken) }
 {
     let (said, rest) = change_before(bytes)?;
     Some(Ahead {

@@ -1,8 +1,11 @@
-//! One line of a task file: what it says, or the kind of its fault; and whole sections that stand first in some bytes.
+//! One line of a task file: what it says, or the kind of its fault; what it adds to what has come, and what keeps all of that;
+//! and whole sections that stand first in some bytes.
 #![tactic(auto)]
 
 mod ahead;
 mod sections;
+mod so_far;
+mod task_events;
 mod task_line;
 mod variables_and_groups;
 
@@ -10,6 +13,8 @@ pub use ahead::{
     Ahead, effect_ahead, fact_ahead, head_ahead, name_ahead, number_ahead, word_ahead,
 };
 pub use sections::{Gathered, OperatorFound, RuleFound, operator_found, rule_found};
+pub use so_far::SoFar;
+pub use task_events::{Event, Said};
 pub use task_line::{
     change_in, effect_at, fact_at, head_at, name_at, number_at, number_below, positive_at,
     signed_at, value_in, version_at, word_at,

@@ -11,8 +11,7 @@ use crate::ahead::{
     change_before, effect_before, fact_before, name_before, number_before, word_before,
 };
 use crate::task_line::{change_in, value_in};
-use sas_core::{Fact, Items};
-use sas_grounded::Change;
+use sas_core::{Change, Fact, Items};
 use sas_lists::Lists;
 use sas_reader::Front;
 use std::alloc::{AllocError, Global};
@@ -120,7 +119,8 @@ fn changes_before<'a>(
 #[inline(always)]
 fn end_before(bytes: &[u8]) -> Option<(u32, &[u8])>
     ensures { IfSome result (λ found.
-        LinesBefore (format.number found.0 ∷ format.word (codes "end_operator") ∷ []) bytes.now found.1.now) }
+        LinesBefore (format.number found.0 ∷ format.word (codes "end_operator") ∷ [])
+        bytes.now found.1.now) }
 {
     let (cost, rest) = number_before(bytes, b'\n')?;
     let rest = word_before(rest, b"end_operator")?;
@@ -131,7 +131,8 @@ fn end_before(bytes: &[u8]) -> Option<(u32, &[u8])>
 #[inline(always)]
 fn begin_before(bytes: &[u8]) -> Option<(&[u8], &[u8])>
     ensures { IfSome result (λ found. IsName found.0.now
-        × LinesBefore (format.word (codes "begin_operator") ∷ format.name found.0.now ∷ []) bytes.now found.1.now) }
+        × LinesBefore (format.word (codes "begin_operator") ∷ format.name found.0.now ∷ [])
+        bytes.now found.1.now) }
 {
     let rest = word_before(bytes, b"begin_operator")?;
     name_before(rest)
@@ -146,7 +147,8 @@ pub fn operator_found<'a>(
     gathered: &mut Gathered,
 ) -> Result<Option<OperatorFound<'a>>, AllocError>
     ensures { IfOk result (λ found. IfSome found (λ o.
-        OperatorAhead ranges.now bytes.now (gathered_operator o.name.now o.cost gathered.new) o.front)) }
+        OperatorAhead ranges.now bytes.now
+        (gathered_operator o.name.now o.cost gathered.new) o.front)) }
 {
     let Some((name, rest)) = begin_before(bytes) else {
         return Ok(None);
@@ -170,9 +172,10 @@ pub fn operator_found<'a>(
 /// The head of a rule whose facts exist that stands before the last word, and the rest.
 #[inline(always)]
 fn head_before<'a>(ranges: &Items<u32>, bytes: &'a [u8]) -> Option<(Change, &'a [u8])>
-    ensures { IfSome result (λ found. IsTrue (change_in ranges.now found.0.var found.0.old found.0.new)
-        × LinesBefore (format.head found.0.var found.0.old found.0.new ∷ format.word (codes "end_rule") ∷ [])
-        bytes.now found.1.now) }
+    ensures { IfSome result (λ found.
+        IsTrue (change_in ranges.now found.0.var found.0.old found.0.new)
+        × LinesBefore (format.head found.0.var found.0.old found.0.new
+        ∷ format.word (codes "end_rule") ∷ []) bytes.now found.1.now) }
 {
     let (head, rest) = change_before(bytes)?;
     if !change_in(ranges, head.var, head.old, head.new) {

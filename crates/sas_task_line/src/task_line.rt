@@ -8,8 +8,7 @@ ghost use Rattle.sas_task_line.specs.TaskRanges.{value_in, change_in, fact_in_ra
 ghost use Rattle.sas_task_line.specs.TaskLine.{Says, SaysOrWants};
 ghost use Rattle.sas_task_line.specs.TaskWords.{Spells, TakesNumber, TakesSigned, TakesFact, TakesFacts, TakesHead};
 
-use sas_core::{Effect, Fact, Items, is_name};
-use sas_grounded::Change;
+use sas_core::{Change, Effect, Fact, Items, is_name};
 use sas_lines::{Numbers, number, signed};
 use sas_reader::Kind;
 use std::alloc::AllocError;
@@ -19,7 +18,8 @@ const VERSION: u32 = 3;
 
 /// The fixed word.
 pub fn word_at(line: &[u8], word: &[u8]) -> Result<(), Kind>
-    ensures { Says (format.word_slot word.now) (λ _. true) (λ _. format.word word.now) line.now result }
+    ensures { Says (format.word_slot word.now) (λ _. true) (λ _. format.word word.now)
+        line.now result }
 {
     if line == word {
         Ok(())
@@ -30,7 +30,8 @@ pub fn word_at(line: &[u8], word: &[u8]) -> Result<(), Kind>
 
 /// A name: the line itself.
 pub fn name_at(line: &[u8]) -> Result<(), Kind>
-    ensures { Says format.name_slot (λ i. is_name (name_in i)) (λ _. format.name line.now) line.now result }
+    ensures { Says format.name_slot (λ i. is_name (name_in i)) (λ _. format.name line.now)
+        line.now result }
 {
     if is_name(line) {
         Ok(())
@@ -62,7 +63,8 @@ pub fn positive_at(line: &[u8]) -> Result<u32, Kind>
 
 /// A number below a bound.
 pub fn number_below(line: &[u8], bound: usize) -> Result<u32, Kind>
-    ensures { Says format.number_slot (λ i. nat_lt (number_in i) bound) format.number line.now result }
+    ensures { Says format.number_slot (λ i. nat_lt (number_in i) bound) format.number
+        line.now result }
 {
     match number(line) {
         None => Err(Kind::Shape),
@@ -95,7 +97,8 @@ pub fn signed_at(line: &[u8]) -> Result<Option<u32>, Kind>
 /// The next part, as a number.
 fn take_number(parts: &mut Numbers<'_>) -> Option<u32>
     ensures found { IfSome result (λ n. TakesNumber parts.old n parts.new) }
-    ensures none { IfNone result ((n : ℕ) (rest : List (List ℕ)) → TakesNumber parts.old n rest → ⊥) }
+    ensures none { IfNone result
+        ((n : ℕ) (rest : List (List ℕ)) → TakesNumber parts.old n rest → ⊥) }
 {
     match parts.next() {
         Some(part) => number(part),
@@ -106,7 +109,8 @@ fn take_number(parts: &mut Numbers<'_>) -> Option<u32>
 /// The next part, as a number or none.
 fn take_signed(parts: &mut Numbers<'_>) -> Option<Option<u32>>
     ensures found { IfSome result (λ n. TakesSigned parts.old n parts.new) }
-    ensures none { IfNone result ((n : Option ℕ) (rest : List (List ℕ)) → TakesSigned parts.old n rest → ⊥) }
+    ensures none { IfNone result
+        ((n : Option ℕ) (rest : List (List ℕ)) → TakesSigned parts.old n rest → ⊥) }
 {
     match parts.next() {
         Some(part) => signed(part),
@@ -117,7 +121,8 @@ fn take_signed(parts: &mut Numbers<'_>) -> Option<Option<u32>>
 /// The next two parts, as a fact.
 fn take_fact(parts: &mut Numbers<'_>) -> Option<Fact>
     ensures found { IfSome result (λ f. TakesFact parts.old f parts.new) }
-    ensures none { IfNone result ((f : Fact) (rest : List (List ℕ)) → TakesFact parts.old f rest → ⊥) }
+    ensures none { IfNone result
+        ((f : Fact) (rest : List (List ℕ)) → TakesFact parts.old f rest → ⊥) }
 {
     let Some(var) = take_number(parts) else {
         return None;
@@ -135,7 +140,8 @@ fn take_facts(
     parts: &mut Numbers<'_>,
     count: u32,
 ) -> Result<bool, AllocError>
-    ensures found { IfOk result (λ found. IsTrue found → TakesFacts parts.old count facts.new parts.new) }
+    ensures found { IfOk result
+        (λ found. IsTrue found → TakesFacts parts.old count facts.new parts.new) }
     ensures none { IfOk result (λ found. found ≡ false
         → (facts : List Fact) (rest : List (List ℕ)) → TakesFacts parts.old count facts rest → ⊥) }
 {
@@ -151,7 +157,8 @@ fn take_facts(
 
 /// The next three parts, as a change.
 fn take_change(parts: &mut Numbers<'_>) -> Option<Change>
-    ensures found { IfSome result (λ (c : Change). TakesHead parts.old c.var c.old c.new parts.new) }
+    ensures found { IfSome result
+        (λ (c : Change). TakesHead parts.old c.var c.old c.new parts.new) }
     ensures none { IfNone result ((var : ℕ) (old : Option ℕ) (new : ℕ) (rest : List (List ℕ))
         → TakesHead parts.old var old new rest → ⊥) }
 {
@@ -192,8 +199,10 @@ fn fact_of(line: &[u8]) -> Option<Fact>
 
 /// Takes the effect that the line spells, whether its facts exist or not: whether it spells one.
 fn effect_of(effect: &mut Effect, line: &[u8]) -> Result<bool, AllocError>
-    ensures found { IfOk result (λ found. IsTrue found → Spells (format.effect effect.exit.now) line.now) }
-    ensures none { IfOk result (λ found. found ≡ false → (e : Effect) → Spells (format.effect e) line.now → ⊥) }
+    ensures found { IfOk result
+        (λ found. IsTrue found → Spells (format.effect effect.exit.now) line.now) }
+    ensures none { IfOk result
+        (λ found. found ≡ false → (e : Effect) → Spells (format.effect e) line.now → ⊥) }
 {
     let mut parts = Numbers::new(line);
     let Some(count) = take_number(&mut parts) else {
@@ -213,7 +222,8 @@ fn effect_of(effect: &mut Effect, line: &[u8]) -> Result<bool, AllocError>
 
 /// The change that the line spells, whether its values exist or not.
 fn change_of(line: &[u8]) -> Option<Change>
-    ensures found { IfSome result (λ (c : Change). Spells (format.head c.var c.old c.new) line.now) }
+    ensures found { IfSome result
+        (λ (c : Change). Spells (format.head c.var c.old c.new) line.now) }
     ensures none { IfNone result
         ((var : ℕ) (old : Option ℕ) (new : ℕ) → Spells (format.head var old new) line.now → ⊥) }
 {
@@ -268,7 +278,8 @@ fn effect_in_ranges(ranges: &Items<u32>, effect: &Effect) -> bool
 
 /// A fact that exists.
 pub fn fact_at(ranges: &Items<u32>, line: &[u8]) -> Result<Fact, Kind>
-    ensures { Says format.fact_slot (λ i. fact_in_ranges ranges.now (fact_in i)) format.fact line.now result }
+    ensures { Says format.fact_slot (λ i. fact_in_ranges ranges.now (fact_in i)) format.fact
+        line.now result }
 {
     match fact_of(line) {
         None => Err(Kind::Shape),
@@ -283,12 +294,14 @@ pub fn effect_at(effect: &mut Effect, ranges: &Items<u32>, line: &[u8]) -> Resul
         (λ _. format.effect effect.exit.now) line.now result }
 {
     // The whole line is read before a fact is looked up, since a wrong shape is told before a fact that doesn't exist.
-    match effect_of(effect, line) {
-        Err(_) => Err(Kind::Memory),
-        Ok(false) => Err(Kind::Shape),
-        Ok(true) if effect_in_ranges(ranges, effect) => Ok(()),
-        Ok(true) => Err(Kind::Value),
+    let found = effect_of(effect, line)?;
+    if !found {
+        return Err(Kind::Shape);
     }
+    if !effect_in_ranges(ranges, effect) {
+        return Err(Kind::Value);
+    }
+    Ok(())
 }
 
 /// The head of a rule, of which each fact exists.

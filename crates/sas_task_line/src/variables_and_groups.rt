@@ -24,8 +24,8 @@ pub struct VariableFound<'a> {
 #[inline(always)]
 fn begin_before(bytes: &[u8]) -> Option<(&[u8], Option<u32>, &[u8])>
     ensures { IfSome result (λ found. IsName found.0.now
-        × LinesBefore (format.word (codes "begin_variable") ∷ format.name found.0.now ∷ format.signed found.1 ∷ [])
-        bytes.now found.2.now) }
+        × LinesBefore (format.word (codes "begin_variable")
+        ∷ format.name found.0.now ∷ format.signed found.1 ∷ []) bytes.now found.2.now) }
 {
     let rest = word_before(bytes, b"begin_variable")?;
     let (name, rest) = name_before(rest)?;

@@ -1,12 +1,12 @@
 -- What is kept for an outline, behind what a line says and behind a variable.
 use Rattle.std.proofs.Common.{◌≡◌, ℕ, List, refl, ap, ◌∙◌}
 use Rattle.sas_core.specs.declared.parts.Variable.{Variable}
-use Rattle.sas_task_events.specs.declared.task_events.Event.{Event}
-use Rattle.sas_task_events.specs.declared.task_events.Event.TheVariants as event
-use Rattle.sas_task_events.specs.declared.task_events.Said.{Said}
-use Rattle.sas_task_events.specs.declared.so_far.SoFar.{SoFar}
-use Rattle.sas_task_events.specs.TaskEvents.{after}
-use Rattle.sas_task_machine.specs.Sections.{behind_variable}
+use Rattle.sas_task_line.specs.declared.task_events.Event.{Event}
+use Rattle.sas_task_line.specs.declared.task_events.Event.TheVariants as event
+use Rattle.sas_task_line.specs.declared.task_events.Said.{Said}
+use Rattle.sas_task_line.specs.declared.so_far.SoFar.{SoFar}
+use Rattle.sas_task_line.specs.TaskEvents.{after}
+use Rattle.sas_task_judge.specs.Sections.{behind_variable}
 use Rattle.sas_task_reader.specs.declared.task_outline.Seen.{Seen}
 use Rattle.sas_task_reader.specs.TaskOutline.{seen}
 

@@ -4,16 +4,16 @@ use Rattle.std.proofs.Math.Logic.{∥∥₁_elim}
 use Rattle.std.proofs.Props.{props}
 use Rattle.sas_core.proofs.ChecksAreRules.{checks_are_the_rules}
 use Rattle.sas_core.specs.WellRanged.{WellRanged}
-use Rattle.sas_task_events.specs.declared.so_far.SoFar.{SoFar}
-use Rattle.sas_task_machine.specs.declared.task_machine.TaskMachine.{TaskMachine}
+use Rattle.sas_task_line.specs.declared.so_far.SoFar.{SoFar}
+use Rattle.sas_task_judge.specs.declared.task_machine.TaskMachine.{TaskMachine}
 use Rattle.sas_reader.specs.Format.{Reads, ReadsAs}
 use Rattle.sas_task_format.specs.Process.{process_node}
 use Rattle.sas_reader.specs.Reader as reading
 use Rattle.sas_task_format.specs.TaskFormat.{task_format, TaskLineFits}
 use Rattle.sas_task_judge.specs.TaskJudge.{state_of, HasEnded, RejectsLine}
-use Rattle.sas_task_machine.specs.TaskMachine.{LedBy}
+use Rattle.sas_task_judge.specs.TaskMachine.{LedBy}
 use Rattle.sas_task_format.specs.TaskProcess.{task_start}
-use Rattle.sas_task_machine.specs.TaskMachine.{LedTo, EndedAt, RejectsAt}
+use Rattle.sas_task_judge.specs.TaskMachine.{LedTo, EndedAt, RejectsAt}
 use Rattle.sas_reader.proofs.Conversion.{Follows, reads_of_format}
 use Rattle.sas_task_judge.proofs.TaskEnds.{done_is, ended_if_done, ends_with}
 use Rattle.sas_task_format.proofs.TaskGrammar.{task_grammar}

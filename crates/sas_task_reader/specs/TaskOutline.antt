@@ -1,9 +1,9 @@
 -- What is kept of a task for its outline.
 use Rattle.std.specs.Prelude.{ℕ, ◌-◌, ◌^◌, min, List, [], length}
 use Rattle.sas_core.specs.declared.parts.Parts.{Parts}
-use Rattle.sas_task_reader.specs.declared.outline.Outline.{Outline}
-use Rattle.sas_task_reader.specs.Outline.{outline_of}
-use Rattle.sas_task_events.specs.declared.so_far.SoFar.{SoFar}
+use Rattle.sas_flat.specs.declared.outline.Outline.{Outline}
+use Rattle.sas_flat.specs.Outlines.{outline_of}
+use Rattle.sas_task_line.specs.declared.so_far.SoFar.{SoFar}
 use Rattle.sas_task_reader.specs.declared.task_outline.Seen.{Seen}
 
 -- how many there are, as far as 32 bits count; no task has more
@@ -13,7 +13,11 @@ as_far_as_counted items = min (length items) (2 ^ 32 - 1)
 -- what is kept of what has come
 abbrev pub seen : SoFar → Seen
 seen s = record {
-  rest = record s { parts = record s.parts { groups = []; operators = []; rules = [] }; facts = []; effects = [] };
+  rest = record s {
+    parts = record s.parts { groups = []; operators = []; rules = [] };
+    facts = [];
+    effects = [];
+  };
   groups = as_far_as_counted s.parts.groups;
   operators = as_far_as_counted s.parts.operators;
   rules = as_far_as_counted s.parts.rules;
@@ -21,7 +25,8 @@ seen s = record {
 
 -- the outline of these parts, but with these numbers of groups, operators and rules
 abbrev pub outline_with : Parts → ℕ → ℕ → ℕ → Outline
-outline_with p groups operators rules = record (outline_of p) { groups = groups; operators = operators; rules = rules }
+outline_with p groups operators rules =
+    record (outline_of p) { groups = groups; operators = operators; rules = rules }
 
 -- the outline that is kept
 abbrev pub outline_in : Seen → Outline

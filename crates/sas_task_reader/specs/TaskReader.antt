@@ -4,11 +4,11 @@ use Rattle.sas_reader.specs.Reader as reading
 use Rattle.sas_reader.specs.Reading.{View}
 use Rattle.sas_task_format.specs.TaskFormat.{TaskLine, TaskSlot, task_format}
 use Rattle.sas_task_reader.specs.declared.task_reader.TaskReader.{TaskReader}
-use Rattle.sas_task_machine.specs.TaskMachine.{LedTo, EndedAt, RejectsAt}
+use Rattle.sas_task_judge.specs.TaskMachine.{LedTo, EndedAt, RejectsAt}
 
--- How a reader of tasks is seen. Without a fault it stands for the bytes that it has taken: their complete lines are
--- those that it accepted, their rest is the line that has begun, and their length is what it counted. With a fault,
--- memory aside, that is theirs.
+-- How a reader of tasks is seen. Without a fault it stands for the bytes that it has
+-- taken: their complete lines are those that it accepted, their rest is the line that has
+-- begun, and their length is what it counted. With a fault, memory aside, that is theirs.
 abbrev pub task_view : View Parts TaskLine TaskSlot TaskReader
 task_view = record {
   format = task_format;

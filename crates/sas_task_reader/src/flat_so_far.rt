@@ -5,24 +5,23 @@ ghost use Rattle.sas_core.specs.declared.parts.Variable.{Variable};
 ghost use Rattle.sas_core.specs.declared.parts.Operator.{Operator};
 ghost use Rattle.sas_core.specs.declared.parts.Rule.{Rule};
 ghost use Rattle.sas_core.specs.WellRanged.{WellRanged};
-ghost use Rattle.sas_task_events.specs.declared.task_events.Event.TheVariants as event;
-ghost use Rattle.sas_task_events.specs.declared.task_events.Said.{Said};
+ghost use Rattle.sas_task_line.specs.declared.task_events.Event.TheVariants as event;
+ghost use Rattle.sas_task_line.specs.declared.task_events.Said.{Said};
 ghost use Rattle.sas_task_line.specs.Sections.{GroupAhead, OperatorAhead, RuleAhead};
-ghost use Rattle.sas_task_events.specs.TaskEvents.{nothing_yet, after};
-ghost use Rattle.sas_task_machine.specs.Sections.{VariableWithRange, behind_variable};
-ghost use Rattle.sas_task_machine.specs.Sections.{behind_group, behind_operator, behind_rule};
+ghost use Rattle.sas_task_line.specs.TaskEvents.{nothing_yet, after};
+ghost use Rattle.sas_task_judge.specs.Sections.{VariableWithRange, behind_variable};
+ghost use Rattle.sas_task_judge.specs.Sections.{behind_group, behind_operator, behind_rule};
 ghost use Rattle.sas_task_reader.specs.TaskOutline.{outline_with};
 
 use crate::fronts::NO_VARIABLE;
-use crate::outline::Outline;
-use sas_core::{Fact, Items};
-use sas_flat::{Effects, FlatTask, Operators, Rules, Variables};
-use sas_grounded::Change;
+use sas_core::{Change, Fact, Items};
+use sas_flat::{Effects, FlatTask, Operators, Outline, Rules, TaskColumns, Variables};
 use sas_lists::Lists;
 use sas_reader::{Front, Kind};
-use sas_task_events::{Event, Said};
-use sas_task_line::{Gathered, group_found, operator_found, rule_found, variable_found};
-use sas_task_machine::{Keeper, VariableKept};
+use sas_task_judge::{Keeper, VariableKept};
+use sas_task_line::{
+    Event, Gathered, Said, group_found, operator_found, rule_found, variable_found,
+};
 use std::alloc::{AllocError, Global};
 use std::marker::Model;
 
@@ -31,13 +30,7 @@ use std::marker::Model;
 #[derive(Drop)]
 pub struct FlatSoFar {
     alloc: Global,
-    metric: bool,
-    variables: Variables,
-    groups: Lists<Fact>,
-    init: Items<u32>,
-    goal: Items<Fact>,
-    operators: Operators,
-    rules: Rules,
+    columns: TaskColumns,
     begun: Begun,
 }
 
@@ -56,14 +49,14 @@ struct Begun {
 }
 
 impl Model for FlatSoFar {
-    ghost use Rattle.sas_flat.specs.FlatTasks.{parts};
-    ghost use Rattle.sas_task_events.specs.declared.so_far.SoFar.{SoFar};
+    ghost use Rattle.sas_flat.specs.FlatTasks.{parts_in};
+    ghost use Rattle.sas_task_line.specs.declared.so_far.SoFar.{SoFar};
 
     ghost Value = { SoFar };
 
     ghost view = { λ s. record {
       alloc = s.alloc;
-      parts = parts s.metric s.variables s.groups s.init s.goal s.operators s.rules;
+      parts = parts_in s.columns;
       name = s.begun.name;
       layer = s.begun.layer;
       values = s.begun.values;
@@ -79,13 +72,15 @@ impl FlatSoFar {
     {
         FlatSoFar {
             alloc,
-            metric: false,
-            variables: Variables::new(alloc),
-            groups: Lists::new(alloc),
-            init: Items::new(alloc),
-            goal: Items::new(alloc),
-            operators: Operators::new(alloc),
-            rules: Rules::new(alloc),
+            columns: TaskColumns {
+                metric: false,
+                variables: Variables::new(alloc),
+                groups: Lists::new(alloc),
+                init: Items::new(alloc),
+                goal: Items::new(alloc),
+                operators: Operators::new(alloc),
+                rules: Rules::new(alloc),
+            },
             begun: Begun {
                 name: Items::new(alloc),
                 layer: None,
@@ -102,26 +97,18 @@ impl FlatSoFar {
         requires { WellRanged self.parts }
         ensures { result ≡ self.parts }
     {
-        let FlatSoFar {
-            metric,
-            variables,
-            groups,
-            init,
-            goal,
-            operators,
-            rules,
-            begun,
-            ..
-        } = self;
+        let FlatSoFar { columns, begun, .. } = self;
         drop(begun);
-        FlatTask::of_parts(metric, variables, groups, init, goal, operators, rules)
+        FlatTask::of_parts(columns)
     }
 
     /// The outline of the parts that have come, with these numbers of groups, operators and rules.
     pub fn into_outline(self, groups: u32, operators: u32, rules: u32) -> Outline
         ensures { result ≡ outline_with self.parts groups operators rules }
     {
-        let FlatSoFar {
+        let FlatSoFar { columns, begun, .. } = self;
+        drop(begun);
+        let TaskColumns {
             metric,
             variables,
             groups: group_lists,
@@ -129,10 +116,7 @@ impl FlatSoFar {
             goal,
             operators: operator_columns,
             rules: rule_columns,
-            begun,
-            ..
-        } = self;
-        drop(begun);
+        } = columns;
         drop(rule_columns);
         drop(operator_columns);
         drop(group_lists);
@@ -164,7 +148,7 @@ impl FlatSoFar {
     fn variable(&mut self) -> Result<(), AllocError>
         ensures { (said : Said) → OnOk result (self.new ≡ after self.old event.Variable said []) }
     {
-        self.variables.push(
+        self.columns.variables.push(
             self.begun.name.as_slice(),
             self.begun.layer,
             &self.begun.values,
@@ -177,7 +161,7 @@ impl FlatSoFar {
     fn group(&mut self) -> Result<(), AllocError>
         ensures { (said : Said) → OnOk result (self.new ≡ after self.old event.Group said []) }
     {
-        self.groups.push(self.begun.facts.as_slice())?;
+        self.columns.groups.push(self.begun.facts.as_slice())?;
         self.begun.facts.clear();
         Ok(())
     }
@@ -198,7 +182,7 @@ impl FlatSoFar {
     fn operator(&mut self, said: &Said) -> Result<(), AllocError>
         ensures { OnOk result (self.new ≡ after self.old event.Operator said.now []) }
     {
-        self.operators.push(
+        self.columns.operators.push(
             self.begun.name.as_slice(),
             self.begun.facts.as_slice(),
             &self.begun.effects,
@@ -213,7 +197,9 @@ impl FlatSoFar {
     fn rule(&mut self, said: &Said) -> Result<(), AllocError>
         ensures { OnOk result (self.new ≡ after self.old event.Rule said.now []) }
     {
-        self.rules.push(self.begun.facts.as_slice(), said.head)?;
+        self.columns
+            .rules
+            .push(self.begun.facts.as_slice(), said.head)?;
         self.begun.facts.clear();
         Ok(())
     }
@@ -223,14 +209,16 @@ impl FlatSoFar {
     #[inline(always)]
     fn variable_ahead(&mut self, bytes: &[u8]) -> Result<VariableKept, AllocError>
         ensures took { IfOk result (λ kept. 0 < kept.front.bytes
-            → (v : Variable) × VariableWithRange bytes.now v kept × (self.new ≡ behind_variable self.old v)) }
+            → (v : Variable) × VariableWithRange bytes.now v kept
+            × (self.new ≡ behind_variable self.old v)) }
         ensures none { IfOk result (λ kept. kept.front.bytes ≡ 0 → self.new ≡ self.old) }
     {
         let found = variable_found(bytes, &mut self.begun.gathered)?;
         let Some(found) = found else {
             return Ok(NO_VARIABLE);
         };
-        self.variables
+        self.columns
+            .variables
             .push(found.name, found.layer, &self.begun.gathered.values)?;
         self.begun.name.clear();
         self.begun.layer = found.layer;
@@ -252,7 +240,9 @@ impl FlatSoFar {
         let Some(front) = found else {
             return Ok(Front::EMPTY);
         };
-        self.groups.push(self.begun.gathered.facts.as_slice())?;
+        self.columns
+            .groups
+            .push(self.begun.gathered.facts.as_slice())?;
         self.begun.facts.clear();
         Ok(front)
     }
@@ -260,14 +250,15 @@ impl FlatSoFar {
     /// Takes the operator that stands first in the bytes likewise.
     fn operator_ahead(&mut self, ranges: &Items<u32>, bytes: &[u8]) -> Result<Front, AllocError>
         ensures took { IfOk result (λ front. 0 < front.bytes
-            → (o : Operator) × OperatorAhead ranges.now bytes.now o front × (self.new ≡ behind_operator self.old o)) }
+            → (o : Operator) × OperatorAhead ranges.now bytes.now o front
+            × (self.new ≡ behind_operator self.old o)) }
         ensures none { IfOk result (λ front. front.bytes ≡ 0 → self.new ≡ self.old) }
     {
         let found = operator_found(ranges, bytes, &mut self.begun.gathered)?;
         let Some(found) = found else {
             return Ok(Front::EMPTY);
         };
-        self.operators.push_plain(
+        self.columns.operators.push_plain(
             found.name,
             self.begun.gathered.facts.as_slice(),
             self.begun.gathered.changes.as_slice(),
@@ -282,14 +273,16 @@ impl FlatSoFar {
     /// Takes the rule that stands first in the bytes likewise.
     fn rule_ahead(&mut self, ranges: &Items<u32>, bytes: &[u8]) -> Result<Front, AllocError>
         ensures took { IfOk result (λ front. 0 < front.bytes
-            → (r : Rule) × RuleAhead ranges.now bytes.now r front × (self.new ≡ behind_rule self.old r)) }
+            → (r : Rule) × RuleAhead ranges.now bytes.now r front
+            × (self.new ≡ behind_rule self.old r)) }
         ensures none { IfOk result (λ front. front.bytes ≡ 0 → self.new ≡ self.old) }
     {
         let found = rule_found(ranges, bytes, &mut self.begun.gathered)?;
         let Some(found) = found else {
             return Ok(Front::EMPTY);
         };
-        self.rules
+        self.columns
+            .rules
             .push(self.begun.gathered.facts.as_slice(), found.head)?;
         self.begun.facts.clear();
         Ok(found.front)
@@ -301,7 +294,7 @@ impl FlatSoFar {
     {
         match event {
             Event::Nothing => {}
-            Event::Metric => self.metric = said.number == 1,
+            Event::Metric => self.columns.metric = said.number == 1,
             Event::Name => return self.name(line),
             Event::Layer => self.begun.layer = said.layer,
             Event::Values => self.begun.values.clear(),
@@ -310,8 +303,8 @@ impl FlatSoFar {
             Event::Facts => self.begun.facts.clear(),
             Event::Fact => return self.begun.facts.push(said.fact),
             Event::Group => return self.group(),
-            Event::State => return self.init.push(said.number),
-            Event::Goal => return self.goal.push(said.fact),
+            Event::State => return self.columns.init.push(said.number),
+            Event::Goal => return self.columns.goal.push(said.fact),
             Event::Effects => self.begun.effects.clear(),
             Event::Effect => return self.effect(said),
             Event::Operator => return self.operator(said),
@@ -327,38 +320,24 @@ impl Keeper for FlatSoFar {
     ghost keeps = { λ lines s kept. kept ≡ s };
 
     fn keep(&mut self, line: &[u8], event: Event, said: &mut Said) -> Result<(), Kind> {
-        match self.add(line, event, said) {
-            Ok(()) => Ok(()),
-            Err(_) => Err(Kind::Memory),
-        }
+        self.add(line, event, said)?;
+        Ok(())
     }
 
     #[inline(always)]
     fn keep_variable(&mut self, bytes: &[u8]) -> Result<VariableKept, Kind> {
-        match self.variable_ahead(bytes) {
-            Ok(kept) => Ok(kept),
-            Err(_) => Err(Kind::Memory),
-        }
+        Ok(self.variable_ahead(bytes)?)
     }
 
     fn keep_group(&mut self, ranges: &Items<u32>, bytes: &[u8]) -> Result<Front, Kind> {
-        match self.group_ahead(ranges, bytes) {
-            Ok(front) => Ok(front),
-            Err(_) => Err(Kind::Memory),
-        }
+        Ok(self.group_ahead(ranges, bytes)?)
     }
 
     fn keep_operator(&mut self, ranges: &Items<u32>, bytes: &[u8]) -> Result<Front, Kind> {
-        match self.operator_ahead(ranges, bytes) {
-            Ok(front) => Ok(front),
-            Err(_) => Err(Kind::Memory),
-        }
+        Ok(self.operator_ahead(ranges, bytes)?)
     }
 
     fn keep_rule(&mut self, ranges: &Items<u32>, bytes: &[u8]) -> Result<Front, Kind> {
-        match self.rule_ahead(ranges, bytes) {
-            Ok(front) => Ok(front),
-            Err(_) => Err(Kind::Memory),
-        }
+        Ok(self.rule_ahead(ranges, bytes)?)
     }
 }

@@ -7,7 +7,7 @@ use crate::flat_so_far::FlatSoFar;
 use sas_flat::FlatTask;
 use sas_lines::Watched;
 use sas_reader::{Fault, LIMIT, read_all};
-use sas_task_machine::TaskMachine;
+use sas_task_judge::TaskMachine;
 use std::alloc::Global;
 use std::io::Read;
 
@@ -17,9 +17,7 @@ pub fn read_flat_task<R: Read>(alloc: Global, reader: &mut Watched<R>) -> Result
     requires { reader.old.failed ≡ false }
     ensures { ReadsAll R.remaining task_format (ValueOf task_format) reader.old reader.new result }
 {
-    let machine = TaskMachine::new(alloc, FlatSoFar::new(alloc));
-    match read_all(alloc, machine, LIMIT, reader) {
-        Ok(machine) => Ok(machine.into_kept().into_task()),
-        Err(fault) => Err(fault),
-    }
+    let start = TaskMachine::new(alloc, FlatSoFar::new(alloc));
+    let machine = read_all(alloc, start, LIMIT, reader)?;
+    Ok(machine.into_kept().into_task())
 }

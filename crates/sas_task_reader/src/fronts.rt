@@ -4,13 +4,13 @@ ghost use Rattle.sas_core.specs.declared.parts.Fact.{Fact};
 ghost use Rattle.sas_core.specs.declared.parts.Variable.{Variable};
 ghost use Rattle.sas_core.specs.declared.parts.Operator.{Operator};
 ghost use Rattle.sas_core.specs.declared.parts.Rule.{Rule};
-ghost use Rattle.sas_task_machine.specs.Sections.{VariableWithRange};
+ghost use Rattle.sas_task_judge.specs.Sections.{VariableWithRange};
 ghost use Rattle.sas_task_line.specs.Sections.{GroupAhead, OperatorAhead, RuleAhead};
 
 use sas_core::Items;
 use sas_reader::{Front, Kind};
+use sas_task_judge::VariableKept;
 use sas_task_line::{Gathered, group_found, operator_found, rule_found, variable_found};
-use sas_task_machine::VariableKept;
 
 /// No variable was kept.
 pub const NO_VARIABLE: VariableKept = VariableKept {
@@ -25,10 +25,7 @@ pub fn variable_front(bytes: &[u8], gathered: &mut Gathered) -> Result<Option<Va
         (v : Variable) × VariableWithRange bytes.now v kept)) }
     ensures err { IfErr result (λ k. k ≡ Kind.Memory) }
 {
-    let Ok(found) = variable_found(bytes, gathered) else {
-        return Err(Kind::Memory);
-    };
-    let Some(found) = found else {
+    let Some(found) = variable_found(bytes, gathered)? else {
         return Ok(None);
     };
     Ok(Some(VariableKept {
@@ -47,10 +44,7 @@ pub fn group_front(
         (facts : List Fact) × GroupAhead ranges.now bytes.now facts front)) }
     ensures err { IfErr result (λ k. k ≡ Kind.Memory) }
 {
-    let Ok(found) = group_found(ranges, bytes, gathered) else {
-        return Err(Kind::Memory);
-    };
-    Ok(found)
+    Ok(group_found(ranges, bytes, gathered)?)
 }
 
 /// The lines of the operator that stands first in the bytes likewise.
@@ -63,10 +57,7 @@ pub fn operator_front(
         (o : Operator) × OperatorAhead ranges.now bytes.now o front)) }
     ensures err { IfErr result (λ k. k ≡ Kind.Memory) }
 {
-    let Ok(found) = operator_found(ranges, bytes, gathered) else {
-        return Err(Kind::Memory);
-    };
-    let Some(found) = found else {
+    let Some(found) = operator_found(ranges, bytes, gathered)? else {
         return Ok(None);
     };
     Ok(Some(found.front))
@@ -82,10 +73,7 @@ pub fn rule_front(
         (r : Rule) × RuleAhead ranges.now bytes.now r front)) }
     ensures err { IfErr result (λ k. k ≡ Kind.Memory) }
 {
-    let Ok(found) = rule_found(ranges, bytes, gathered) else {
-        return Err(Kind::Memory);
-    };
-    let Some(found) = found else {
+    let Some(found) = rule_found(ranges, bytes, gathered)? else {
         return Ok(None);
     };
     Ok(Some(found.front))

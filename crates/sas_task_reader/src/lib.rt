@@ -11,6 +11,6 @@ mod task_reader;
 mod task_text;
 
 pub use flat_task::read_flat_task;
-pub use outline::{Outline, read_outline};
+pub use outline::read_outline;
 pub use task::{read_task, read_task_text};
 pub use task_reader::TaskReader;

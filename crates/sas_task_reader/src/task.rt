@@ -7,8 +7,8 @@ use crate::task_text::TaskText;
 use sas_core::Task;
 use sas_lines::Watched;
 use sas_reader::{Fault, LIMIT, read_all};
-use sas_task_events::SoFar;
-use sas_task_machine::TaskMachine;
+use sas_task_judge::TaskMachine;
+use sas_task_line::SoFar;
 use std::alloc::Global;
 use std::io::Read;
 
@@ -21,22 +21,19 @@ pub fn read_task<R: Read>(alloc: Global, reader: &mut Watched<R>) -> Result<Task
     requires { reader.old.failed ≡ false }
     ensures { ReadsAll R.remaining task_format (ValueOf task_format) reader.old reader.new result }
 {
-    let machine = TaskMachine::new(alloc, SoFar::new(alloc));
-    match read_all(alloc, machine, LIMIT, reader) {
-        Ok(machine) => Ok(Task::of_parts(machine.into_kept().into_parts())),
-        Err(fault) => Err(fault),
-    }
+    let start = TaskMachine::new(alloc, SoFar::new(alloc));
+    let machine = read_all(alloc, start, LIMIT, reader)?;
+    Ok(Task::of_parts(machine.into_kept().into_parts()))
 }
 
 /// Reads a task from a device as `read_task` does, and gives its text: its lines, each ended by LF. It keeps no task.
 /// The faults are those of `read_task`.
 pub fn read_task_text<R: Read>(alloc: Global, reader: &mut Watched<R>) -> Result<Vec<u8>, Fault>
     requires { reader.old.failed ≡ false }
-    ensures { ReadsAll R.remaining task_format (λ b t. TextOf task_format b t.items) reader.old reader.new result }
+    ensures { ReadsAll R.remaining task_format (λ b t. TextOf task_format b t.items)
+        reader.old reader.new result }
 {
-    let machine = TaskMachine::new(alloc, TaskText::new(alloc));
-    match read_all(alloc, machine, LIMIT, reader) {
-        Ok(machine) => Ok(machine.into_kept().into_text()),
-        Err(fault) => Err(fault),
-    }
+    let start = TaskMachine::new(alloc, TaskText::new(alloc));
+    let machine = read_all(alloc, start, LIMIT, reader)?;
+    Ok(machine.into_kept().into_text())
 }

@@ -3,19 +3,18 @@ ghost use Rattle.std.specs.Prelude.{◌≡◌, List};
 ghost use Rattle.sas_core.specs.declared.parts.Fact.{Fact};
 ghost use Rattle.sas_core.specs.declared.parts.Operator.{Operator};
 ghost use Rattle.sas_core.specs.declared.parts.Rule.{Rule};
-ghost use Rattle.sas_task_events.specs.declared.so_far.SoFar.{SoFar};
-ghost use Rattle.sas_task_events.specs.TaskEvents.{nothing_yet};
-ghost use Rattle.sas_task_machine.specs.Sections.{behind_group, behind_operator, behind_rule};
+ghost use Rattle.sas_task_line.specs.declared.so_far.SoFar.{SoFar};
+ghost use Rattle.sas_task_line.specs.TaskEvents.{nothing_yet};
+ghost use Rattle.sas_task_judge.specs.Sections.{behind_group, behind_operator, behind_rule};
 ghost use Rattle.sas_task_reader.specs.TaskOutline.{outline_in, seen};
 
 use crate::flat_so_far::FlatSoFar;
 use crate::fronts::{group_front, operator_front, rule_front};
-use crate::outline::Outline;
 use sas_core::Items;
+use sas_flat::Outline;
 use sas_reader::{Front, Kind};
-use sas_task_events::{Event, Said};
-use sas_task_line::Gathered;
-use sas_task_machine::{Keeper, VariableKept};
+use sas_task_judge::{Keeper, VariableKept};
+use sas_task_line::{Event, Gathered, Said};
 use std::alloc::Global;
 use std::marker::Model;
 
@@ -47,14 +46,16 @@ impl Model for TaskOutline {
 impl Seen {
     /// A mutex group more has come.
     fn group(&mut self)
-        ensures { (s : SoFar) (facts : List Fact) → self.old ≡ seen s → self.new ≡ seen (behind_group s facts) }
+        ensures { (s : SoFar) (facts : List Fact) → self.old ≡ seen s
+            → self.new ≡ seen (behind_group s facts) }
     {
         self.groups = self.groups.saturating_add(1);
     }
 
     /// An operator more has come. The name was the operator's, and goes with it.
     fn operator(&mut self)
-        ensures { (s : SoFar) (o : Operator) → self.old ≡ seen s → self.new ≡ seen (behind_operator s o) }
+        ensures { (s : SoFar) (o : Operator) → self.old ≡ seen s
+            → self.new ≡ seen (behind_operator s o) }
     {
         self.rest.forget_name();
         self.operators = self.operators.saturating_add(1);

@@ -3,12 +3,12 @@ ghost use Rattle.std.specs.Prelude.{◌≤◌, ℕ, List};
 ghost use Rattle.sas_reader.specs.Limit.{most_bytes};
 ghost use Rattle.sas_reader.specs.Reader as reading;
 ghost use Rattle.sas_reader.specs.Reading.{Starts, Feeds, Finishes};
-ghost use Rattle.sas_task_machine.specs.TaskMachine.{LedTo, EndedAt, RejectsAt};
+ghost use Rattle.sas_task_judge.specs.TaskMachine.{LedTo, EndedAt, RejectsAt};
 
 use sas_core::Task;
 use sas_reader::{Fault, LIMIT, Reader};
-use sas_task_events::SoFar;
-use sas_task_machine::TaskMachine;
+use sas_task_judge::TaskMachine;
+use sas_task_line::SoFar;
 use std::alloc::Global;
 
 /// Reads a task file that comes in pieces, cut anywhere.
@@ -51,9 +51,7 @@ impl TaskReader {
         ensures { Finishes task_view self result }
     {
         let TaskReader { reader } = self;
-        match reader.finish() {
-            Ok(machine) => Ok(Task::of_parts(machine.into_kept().into_parts())),
-            Err(fault) => Err(fault),
-        }
+        let machine = reader.finish()?;
+        Ok(Task::of_parts(machine.into_kept().into_parts()))
     }
 }

@@ -5,9 +5,8 @@ use crate::fronts::{NO_VARIABLE, group_front, operator_front, rule_front, variab
 use sas_core::Items;
 use sas_lines::push_line;
 use sas_reader::{Front, Kind};
-use sas_task_events::{Event, Said};
-use sas_task_line::Gathered;
-use sas_task_machine::{Keeper, VariableKept};
+use sas_task_judge::{Keeper, VariableKept};
+use sas_task_line::{Event, Gathered, Said};
 use std::alloc::Global;
 use std::marker::Model;
 
@@ -52,10 +51,8 @@ impl TaskText {
         ensures ok { OnOk result (self.new ≡ self.old ++ take count bytes.now) }
         ensures err { IfErr result (λ k. k ≡ Kind.Memory) }
     {
-        match self.text.extend_from_slice(&bytes[..count]) {
-            Ok(()) => Ok(()),
-            Err(_) => Err(Kind::Memory),
-        }
+        self.text.extend_from_slice(&bytes[..count])?;
+        Ok(())
     }
 }
 
@@ -66,10 +63,8 @@ impl Keeper for TaskText {
     ghost keeps = { λ lines _ kept. kept ≡ text lines };
 
     fn keep(&mut self, line: &[u8], _event: Event, _said: &mut Said) -> Result<(), Kind> {
-        match push_line(&mut self.text, line) {
-            Ok(()) => Ok(()),
-            Err(_) => Err(Kind::Memory),
-        }
+        push_line(&mut self.text, line)?;
+        Ok(())
     }
 
     fn keep_variable(&mut self, bytes: &[u8]) -> Result<VariableKept, Kind> {

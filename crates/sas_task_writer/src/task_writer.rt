@@ -90,7 +90,8 @@ fn push_fact(out: &mut Vec<u8>, fact: &Fact) -> Result<(), AllocError>
 
 /// Appends the words of some facts, each fact followed by a space, as more words stand behind them.
 fn push_conditions(out: &mut Vec<u8>, facts: &Items<Fact>) -> Result<(), AllocError>
-    ensures { OnOk result (out.new.items ≡ out.old.items ++ spaced (flat_map fact_words facts.now)) }
+    ensures { OnOk result
+        (out.new.items ≡ out.old.items ++ spaced (flat_map fact_words facts.now)) }
 {
     for fact in facts.as_slice() {
         push_fact(out, fact)?;
@@ -101,7 +102,8 @@ fn push_conditions(out: &mut Vec<u8>, facts: &Items<Fact>) -> Result<(), AllocEr
 
 /// Appends the words of a change, which are the head of a rule and the end of an effect, and the line end.
 fn push_head(out: &mut Vec<u8>, var: u32, old: Option<u32>, new: u32) -> Result<(), AllocError>
-    ensures { OnOk result (out.new.items ≡ out.old.items ++ text_of (format.head var old new ∷ [])) }
+    ensures { OnOk result
+        (out.new.items ≡ out.old.items ++ text_of (format.head var old new ∷ [])) }
 {
     push_number(out, u128::from(var))?;
     out.push(b' ')?;

@@ -11,3 +11,4 @@ pub use Rattle.sas_task_format.specs.TaskFormat
 pub use Rattle.sas_task_format.specs.TaskLaws
 pub use Rattle.sas_task_reader.specs.TaskReader
 pub use Rattle.sas_task_reader.specs.Outline
+pub use Rattle.sas_flat.specs.Outlines

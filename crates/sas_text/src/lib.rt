@@ -2,12 +2,11 @@
 //! and written.
 #![tactic(auto)]
 
+pub use sas_flat::Outline;
 pub use sas_plan_file::{
     PlanReader, encode_plan, plan_laws, read_flat_plan, read_plan, read_plan_text,
 };
 pub use sas_reader::{Fault, Kind, LIMIT};
 pub use sas_task_format::task_laws;
-pub use sas_task_reader::{
-    Outline, TaskReader, read_flat_task, read_outline, read_task, read_task_text,
-};
+pub use sas_task_reader::{TaskReader, read_flat_task, read_outline, read_task, read_task_text};
 pub use sas_task_writer::encode_task;

@@ -21,18 +21,39 @@ const NOT_UNDERSTOOD: u8 = 2;
 /// The exit status at any other fault.
 const FAULT: u8 = 3;
 
+/// A folder that there always is.
+const FOLDER: &str = "/";
+
 const OUT_OF_MEMORY: &str = "sas: out of memory";
 
 const WRITE_FAILED: &str = "sas: write failed";
 
+/// What stands in the places of standard streams that were closed at the start, while the program runs. A file that is
+/// opened takes the lowest place that is free, and one that is named must not become standard input or output.
+#[derive(Drop)]
+struct Places<F> {
+    first: Option<F>,
+    second: Option<F>,
+    third: Option<F>,
+}
+
 /// Runs the program. In this order: its words, opening its inputs, the run, and flushing standard output. The first of
 /// these that fails is told by a line on standard error; a failure to write that line is ignored. The exit
-/// status is 0 for yes, 1 for no, 2 for words that aren't understood, and 3 otherwise.
+/// status is 0 for yes, 1 for no, 2 for words that aren't understood, and 3 otherwise. A read of standard
+/// input that is closed at the start fails, and so does a write to standard output that is.
 pub fn start<R: AllocGlobal + Env + Files + Input + Print + Eprint>(rt: &R) -> ExitCode {
     let job = match job_of_words(rt) {
         Ok(job) => job,
         Err(status) => return status,
     };
+    let places = take_places(rt);
+    let ended = run_job(rt, job);
+    drop(places);
+    ended
+}
+
+/// Opens the inputs of the job, runs it and flushes standard output.
+fn run_job<R: AllocGlobal + Files + Input + Print + Eprint>(rt: &R, job: Job) -> ExitCode {
     let Ok(mut task) = open_source(rt, job.task) else {
         return stop(rt, FAULT, "sas: cannot open the task");
     };
@@ -96,6 +117,16 @@ fn ending(outcome: &Result<Status, ToolFault>) -> (u8, Option<&'static str>) {
 fn stop<R: Eprint>(rt: &R, status: u8, line: &str) -> ExitCode {
     let _ = rt.eprintln(line);
     ExitCode::from(status)
+}
+
+/// Takes the places of standard input, output and error, where they are free. A folder can be opened, and neither be
+/// read nor written, so it fails as a stream does that isn't open.
+fn take_places<R: Files>(rt: &R) -> Places<R::File> {
+    Places {
+        first: fs::open(rt, FOLDER).ok(),
+        second: fs::open(rt, FOLDER).ok(),
+        third: fs::open(rt, FOLDER).ok(),
+    }
 }
 
 /// Opens an input of the program. What the request doesn't read is nothing.

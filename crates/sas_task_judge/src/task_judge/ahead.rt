@@ -2,15 +2,14 @@
 // that large files are made of; all others, and all faults, are left to `take`.
 ghost use Rattle.std.specs.Prelude.{◌≡◌, ◌≢◌, ◌<◌, ◌≤◌, ◌-◌, ◌^◌, length, [], ◌∷◌, ◌++◌, IfSome, IfNone};
 ghost use Rattle.sas_core.specs.Names.{IsName};
-ghost use Rattle.sas_task_events.specs.declared.so_far.SoFar.{SoFar};
+ghost use Rattle.sas_task_line.specs.declared.so_far.SoFar.{SoFar};
 ghost use Rattle.sas_task_format.specs.TaskProcess.{a_word, a_name, a_number, a_fact, any};
 ghost use Rattle.sas_task_judge.specs.TaskJudge.{Due, MovesAhead, HasEnded};
 
 use super::{Place, TaskJudge};
-use sas_task_events::Event;
 use sas_task_line::{
-    Ahead, change_in, effect_ahead, fact_ahead, head_ahead, name_ahead, number_ahead, value_in,
-    word_ahead,
+    Ahead, Event, change_in, effect_ahead, fact_ahead, head_ahead, name_ahead, number_ahead,
+    value_in, word_ahead,
 };
 
 impl TaskJudge {
@@ -18,7 +17,8 @@ impl TaskJudge {
     fn word_ahead(&mut self, bytes: &[u8], word: &[u8], next: Place) -> Option<Ahead<Event>>
         requires name { IsName word.now }
         requires apart { next ≢ Place.VariableValues }
-        requires due { Due self.old (λ _. a_word word.now) (λ _. record self.old { place = next }) (λ _ s. s) }
+        requires due { Due self.old (λ _. a_word word.now)
+            (λ _. record self.old { place = next }) (λ _ s. s) }
         ensures some { IfSome result (λ a. MovesAhead self.old bytes.now self.new a.said a.taken) }
         ensures none { IfNone result (self.new ≡ self.old) }
     {
@@ -100,7 +100,8 @@ impl TaskJudge {
         requires apart { self.old.place ≢ Place.VariableValues }
         requires more { 0 < self.old.more }
         requires due { Due self.old a_fact
-            (λ _. record self.old { more = self.old.more - 1 }) (λ f s. record s { facts = s.facts ++ f ∷ [] }) }
+            (λ _. record self.old { more = self.old.more - 1 })
+            (λ f s. record s { facts = s.facts ++ f ∷ [] }) }
         ensures some { IfSome result (λ a. MovesAhead self.old bytes.now self.new a.said a.taken) }
         ensures none { IfNone result (self.new ≡ self.old) }
     {

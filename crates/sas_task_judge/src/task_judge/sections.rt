@@ -41,7 +41,10 @@ impl TaskJudge {
     pub fn pass_variable(&mut self, range: u32) -> Result<(), AllocError>
         requires { 0 < self.old.left }
         ensures ok { OnOk result
-            (self.new ≡ record self.old { ranges = self.old.ranges ++ range ∷ []; left = self.old.left - 1 }) }
+            (self.new ≡ record self.old {
+              ranges = self.old.ranges ++ range ∷ [];
+              left = self.old.left - 1;
+            }) }
         ensures err { OnErr result (self.new ≡ self.old) }
     {
         self.ranges.push(range)?;

@@ -6,14 +6,14 @@ use Rattle.sas_axioms.proofs.conditions.all_conditions.Goals.{in-Some+in_ok-push
 
 pub loop-rule-preserved : goal.loop-rule-preserved
 loop-rule-preserved g c =
-    let p = g.T.Grounded.says c.args.task.now in
+    let p = c.args.task.now in
     let waiting = c.loop-rule.waiting.items in
     elim c.match-firing_layer.branch [
       | in-Some+in_ok-push_conditions w ↦
           (let pushed = w.in_ok-push_conditions.ensures in
-          rw (w.waiting-is, pushed) (conditions_more p c.loop-rule.rule w.in-Some._layer waiting c.requires.layered.ranged w.in-Some.ensures.some c.loop-rule.invariant))
+          rw (w.waiting-is, pushed) (conditions_more p c.loop-rule.rule w.in-Some._layer waiting c.task.ensures.well_ranged w.in-Some.ensures.some c.loop-rule.invariant))
       | in_default w ↦ rw w.waiting-is (conditions_skip p c.loop-rule.rule waiting w.in_default.ensures.none c.loop-rule.invariant)
     ]
 
 pub returns : goal.returns
-returns g c = conditions_all (g.T.Grounded.says c.args.task.now) c.loop-rule.rule c.loop-rule.waiting.items (omega arith) c.loop-rule.invariant
+returns g c = conditions_all c.args.task.now c.loop-rule.rule c.loop-rule.waiting.items (omega arith) c.loop-rule.invariant

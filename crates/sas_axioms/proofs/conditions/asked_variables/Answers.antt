@@ -20,11 +20,11 @@ is_zero : (n : ℕ) → (n == 0) ≡ true → n ≡ 0
 is_zero n e = elim (eqb_tells n 0) [ inl w ↦ w.1 | inr w ↦ (let f : false ≡ true = sym w.0 ∙ e in absurd cc) ]
 
 pub loop-var-init : goal.loop-var-init
-loop-var-init g c = rw c.new-variables.ensures.items (asked_none (g.T.Grounded.says c.args.task.now))
+loop-var-init g c = rw c.new-variables.ensures.items (asked_none c.args.task.now)
 
 pub loop-var-preserved : goal.loop-var-preserved
 loop-var-preserved g c =
-    let p = g.T.Grounded.says c.args.task.now in
+    let p = c.args.task.now in
     let var = c.loop-var.var in
     let variables = c.loop-var.variables.items in
     let within : var < length p.variables = omega (arith, c.loop-var-test.true, c.variables-var-end.ensures.count) in
@@ -43,7 +43,7 @@ loop-var-preserved g c =
     ]
 
 pub returns : goal.returns
-returns g c = asked_all (g.T.Grounded.says c.args.task.now) c.loop-var.var c.loop-var.variables.items c.requires.layered.ranged (omega arith) c.loop-var.invariant
+returns g c = asked_all c.args.task.now c.loop-var.var c.loop-var.variables.items c.variables-var-end.ensures.well_ranged (omega arith) c.loop-var.invariant
 
 pub returns-in_err-push : goal.returns-in_err-push
 returns-in_err-push g c = IfOk-from_err c.from_residual.result _ c.from_residual.ensures.0

@@ -1,10 +1,10 @@
 -- The conditions so far.
 use Rattle.std.proofs.Common.{◌≡◌, ◌++◌, drop}
-use Rattle.sas_grounded.specs.Grounded.{rule_at}
+use Rattle.sas_core.specs.Grounded.{rule_at}
 use Rattle.sas_axioms.specs.Conditions.{entries}
 use Rattle.sas_axioms.proofs.conditions.push_conditions.Given as goal
 
 abbrev pub invariant-loop-condition : goal.invariant-loop-condition
 invariant-loop-condition g l =
-    let conditions = (rule_at (g.T.Grounded.says l.task) l.rule).conditions in
+    let conditions = (rule_at l.task l.rule).conditions in
     l.waiting.items ++ entries l.rule (drop l.condition-index conditions) ≡ l.fn.waiting.items ++ entries l.rule conditions

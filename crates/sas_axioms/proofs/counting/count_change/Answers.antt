@@ -1,5 +1,5 @@
 -- One more entry is counted.
-use Rattle.std.proofs.Common.{◌≡◌, ℕ, ◌+◌, ◌≤◌, ◌<◌, drop, get_or, set, refl, sym, ap, ◌∙◌, inl, inr, arith}
+use Rattle.std.proofs.Common.{refl, arith}
 use Rattle.sas_axioms.proofs.counting.count_change.Goals as goal
 
 pub loop-entry-init : goal.loop-entry-init

@@ -1,15 +1,17 @@
 -- The counters of the rules so far are set.
 use Rattle.std.proofs.Common.{◌≡◌, ℕ, ◌<◌, length, get_or}
 use Rattle.std.specs.Prelude.{slice_index}
-use Rattle.sas_grounded.specs.Grounded.{rule_at}
+use Rattle.sas_core.specs.Grounded.{rule_at}
 use Rattle.sas_axioms.specs.declared.layer_rules.LayerRule.{LayerRule}
 use Rattle.sas_axioms.specs.Conditions.{open_conditions}
 use Rattle.sas_axioms.proofs.firing.count_conditions.Given as goal
 
 abbrev pub invariant-loop-entry : goal.invariant-loop-entry
 invariant-loop-entry g l = record {
-  one_each : length l.counters ≡ length l.fn.counters;
+  layer : l.work.layer ≡ l.fn.work.layer;
+  stack : l.work.stack ≡ l.fn.work.stack;
+  one_each : length l.work.counters ≡ length l.fn.work.counters;
   so_far : (j : ℕ) (d : LayerRule) → j < l.entry-index
-      → get_or l.counters (get_or l.rules j d).rule 0
-      ≡ open_conditions (slice_index l.state) (rule_at (g.T.Grounded.says l.task) (get_or l.rules j d).rule).conditions;
+      → get_or l.work.counters (get_or l.rules j d).rule 0
+      ≡ open_conditions (slice_index l.state) (rule_at l.task (get_or l.rules j d).rule).conditions;
 }

@@ -6,17 +6,19 @@ use Rattle.sas_axioms.proofs.firing.count_down.Goals as goal
 
 pub fire-requires-clause-hold : goal.fire-requires-clause-hold
 fire-requires-clause-hold g c =
-    let p = g.T.Grounded.says c.args.task.now in
-    let within : c.args.rule < length c.args.counters.now = omega (arith, c.requires.room.one_each, c.requires.rule.exists) in
+    let p = c.args.task.now in
+    let w = c.args.work.now in
     let left = c.requires.waits.0 in
     let work = c.requires.waits.1 in
-    let n = get_or c.args.counters.now c.args.rule 0 - 1 in
-    ready p c.args.layer c.args.state.now c.args.stack.now.items (set c.args.counters.now c.args.rule n) left c.args.rule c.requires.layered.layered work.running
-    (counted_down p c.args.layer c.args.state.now c.args.stack.now.items c.args.counters.now left c.args.rule within work.counts) c.requires.rule
-    (get_or-set_same c.args.counters.now c.args.rule n 0 within ∙ (ap (λ (xs : List ℕ). get_or xs c.args.rule 0 - 1) (sym c.as_slice.ensures) ∙ c.if-open-eq0.true))
+    let within : c.args.rule < length w.counters = omega (arith, work.room.one_each, c.requires.rule.exists) in
+    let n = get_or w.counters c.args.rule 0 - 1 in
+    ready p w.layer c.args.state.now w.stack.items (set w.counters c.args.rule n) left c.args.rule c.task.ensures.layered work.running
+    (counted_down p w.layer c.args.state.now w.stack.items w.counters left c.args.rule within work.counts) c.requires.rule
+    (get_or-set_same w.counters c.args.rule n 0 within ∙ (ap (λ (xs : List ℕ). get_or xs c.args.rule 0 - 1) (sym c.as_slice.ensures) ∙ c.if-open-eq0.true))
 
 pub returns-then-open-eq0-clause-at_work : goal.returns-then-open-eq0-clause-at_work
 returns-then-open-eq0-clause-at_work g c left work =
-    let within : c.args.rule < length c.args.counters.now = omega (arith, c.requires.room.one_each, c.requires.rule.exists) in
-    let is : c.set.new.self ≡ set c.args.counters.now c.args.rule (get_or c.args.counters.now c.args.rule 0 - 1) = c.set.ensures ∙ ap (λ (xs : List ℕ). set c.args.counters.now c.args.rule (get_or xs c.args.rule 0 - 1)) c.as_slice.ensures in
-    rw is (at_work_fired (g.T.Grounded.says c.args.task.now) c.args.layer c.args.state.now c.args.stack.now.items c.fire.new.state c.fire.new.stack.items c.args.counters.now left c.args.rule within work c.fire.ensures.fires)
+    let w = c.args.work.now in
+    let within : c.args.rule < length w.counters = omega (arith, work.room.one_each, c.requires.rule.exists) in
+    let is : c.set.new.self ≡ set w.counters c.args.rule (get_or w.counters c.args.rule 0 - 1) = c.set.ensures ∙ ap (λ (xs : List ℕ). set w.counters c.args.rule (get_or xs c.args.rule 0 - 1)) c.as_slice.ensures in
+    at_work_fired c.args.task.now c.args.state.now w c.fire.new.state c.fire.new.work c.set.new.self left c.args.rule within work is c.fire.ensures

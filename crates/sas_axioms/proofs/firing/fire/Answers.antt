@@ -1,31 +1,34 @@
 -- The two writes.
-use Rattle.std.proofs.Common.{◌≡◌, true, [], ◌∷◌, ◌++◌, get_or, set, sym, ap, ◌∙◌, arith}
+use Rattle.std.proofs.Common.{◌≡◌, true, [], ◌∷◌, ◌++◌, get_or, set, refl, sym, ap, ◌∙◌, arith}
 use Rattle.std.specs.Result.{is_ok}
-use Rattle.sas_grounded.specs.declared.grounded.Change.{Change}
-use Rattle.sas_grounded.specs.Grounded.{rule_at}
+use Rattle.sas_core.specs.declared.grounded.Change.{Change}
+use Rattle.sas_core.specs.Grounded.{rule_at}
 use Rattle.sas_axioms.proofs.Counters.{Pushed, pushed, fires_by}
 use Rattle.sas_axioms.proofs.firing.fire.Goals as goal
 use Rattle.sas_axioms.proofs.firing.fire.Given.{Over}
 use Rattle.sas_axioms.proofs.firing.fire.Goals.{After-push}
 
 -- what the two writes do
-after : (g : Over) (c : After-push g) → Pushed (g.T.Grounded.says c.args.task.now) c.args.layer c.args.state.now c.args.stack.now.items (rule_at (g.T.Grounded.says c.args.task.now) c.args.rule)
+after : (g : Over) (c : After-push g) → Pushed c.args.task.now c.args.work.now.layer c.args.state.now c.args.work.now.stack.items (rule_at c.args.task.now c.args.rule)
 after g c =
-    let p = g.T.Grounded.says c.args.task.now in
+    let p = c.args.task.now in
+    let w = c.args.work.now in
     let e = c.rule_change-change.ensures in
-    pushed p c.args.layer c.args.state.now c.args.stack.now.items c.args.rule c.requires.layered.ranged c.requires.layered.layered c.requires.running c.requires.rule c.requires.hold
+    pushed p w.layer c.args.state.now w.stack.items c.args.rule c.task.ensures.well_ranged c.task.ensures.layered c.requires.running c.requires.rule c.requires.hold
     (λ same. c.if-value-change.true (c.value.ensures ∙ (ap (λ (x : Change). get_or c.args.state.now x.var 0) e ∙ (same ∙ sym (ap (λ (x : Change). x.new) e)))))
 
 succeeds : (g : Over) (c : After-push g) → is_ok c.push.result ≡ true
-succeeds g c = let p = after g c in let fewer = p.fewer in let room = c.requires.running.room in let len = c.requires.running.state.one_each in c.push.ensures.succeeds (omega (arith, c.requires.room, c.args.stack.now.ok.0))
+succeeds g c = let p = after g c in let fewer = p.fewer in let room = c.requires.running.room in let len = c.requires.running.state.one_each in c.push.ensures.succeeds (omega (arith, c.requires.room.variables, c.args.work.now.stack.ok.0))
 
 pub unwrap-requires : goal.unwrap-requires
 unwrap-requires g c = succeeds g c
 
-pub returns-then-value-change-clause-fires : goal.returns-then-value-change-clause-fires
-returns-then-value-change-clause-fires g c =
-    let a = (goal.at.returns-then-value-change-clause-fires g c).After-push in
+pub returns-then-value-change : goal.returns-then-value-change
+returns-then-value-change g c =
+    let a = (goal.at.returns-then-value-change g c).After-push in
+    let w = c.args.work.now in
     let e = c.rule_change-change.ensures in
-    fires_by (g.T.Grounded.says c.args.task.now) c.args.layer c.args.state.now c.args.stack.now.items _ _ c.args.rule c.requires.layered.ranged c.requires.running.state c.requires.rule (after g a)
+    fires_by c.args.task.now c.args.state.now w _ _ c.args.rule c.task.ensures.well_ranged c.requires.running.state c.requires.rule (after g a)
     (c.set.ensures ∙ ap (λ (x : Change). set c.args.state.now x.var x.new) e)
-    ((rw (succeeds g a) at c.push.ensures.items) ∙ ap (λ (x : Change). c.args.stack.now.items ++ x.var ∷ []) e)
+    ((rw (succeeds g a) at c.push.ensures.items) ∙ ap (λ (x : Change). w.stack.items ++ x.var ∷ []) e)
+    refl refl (omega arith)

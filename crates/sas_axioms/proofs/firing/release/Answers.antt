@@ -6,6 +6,7 @@ use Rattle.std.proofs.lemmas.List.{drop_more, at_drop_all}
 use Rattle.sas_axioms.specs.declared.waiting.Waiting.{Waiting}
 use Rattle.sas_axioms.specs.Waiting.{released}
 use Rattle.sas_axioms.specs.Worklist.{IsAtWork}
+use Rattle.sas_axioms.proofs.Counters.{goes_on_still, goes_on_more}
 use Rattle.sas_axioms.proofs.firing.release.Goals as goal
 use Rattle.sas_axioms.proofs.firing.release.Goals.{then-entry-value, else-entry-value}
 
@@ -28,16 +29,10 @@ passed_next : (value : ℕ) (ws : List Waiting) (i : ℕ) → i < length ws → 
 passed_next value ws i lt ne = ap (released value) (drop_more ws i no_entry lt) ∙ released_none value (get_or ws i no_entry) (drop (i + 1) ws) ne
 
 pub loop-entry-init : goal.loop-entry-init
-loop-entry-init g c = record { at_work = c.requires.at_work; room = c.requires.room; off = λ v off. refl; work = omega arith }
-
-pub count_down-requires-clause-layered : goal.count_down-requires-clause-layered
-count_down-requires-clause-layered g c = c.requires.layered
+loop-entry-init g c = record { at_work = c.requires.at_work; goes_on = goes_on_still c.args.task.now c.args.state.now c.args.work.now }
 
 pub count_down-requires-clause-rule : goal.count_down-requires-clause-rule
-count_down-requires-clause-rule g c = c.requires.waiting c.loop-entry.entry-index no_entry c.loop-entry-test.true
-
-pub count_down-requires-clause-room : goal.count_down-requires-clause-room
-count_down-requires-clause-room g c = c.loop-entry.invariant.room
+count_down-requires-clause-rule g c = rw c.loop-entry.invariant.goes_on.layer (c.requires.waiting c.loop-entry.entry-index no_entry c.loop-entry-test.true)
 
 pub count_down-requires-clause-waits : goal.count_down-requires-clause-waits
 count_down-requires-clause-waits g c =
@@ -45,46 +40,34 @@ count_down-requires-clause-waits g c =
     let ws = c.args.waiting.now in
     let i = c.loop-entry.entry-index in (
       released value (drop (i + 1) ws),
-      subst (λ (left : List ℕ). IsAtWork (g.T.Grounded.says c.args.task.now) c.args.layer c.loop-entry.state c.loop-entry.stack.items c.loop-entry.counters left)
+      subst (λ (left : List ℕ). IsAtWork c.args.task.now c.loop-entry.state c.loop-entry.work left)
           (released_next value ws i c.loop-entry-test.true c.if-entry-value.true) c.loop-entry.invariant.at_work,
     )
 
 pub loop-entry-preserved : goal.loop-entry-preserved
 loop-entry-preserved g c =
-    let p = g.T.Grounded.says c.args.task.now in
-    let layer = c.args.layer in
+    let p = c.args.task.now in
     let value = c.args.value in
     let ws = c.args.waiting.now in
     let i = c.loop-entry.entry-index in
     let s = c.loop-entry.state in
-    let stack = c.loop-entry.stack.items in
-    let counters = c.loop-entry.counters in
+    let work = c.loop-entry.work in
     let inv = c.loop-entry.invariant in
     elim c.if-entry-value.branch [
-      | then-entry-value w ↦ rw (w.counters-is, w.stack-is, w.state-is) record {
+      | then-entry-value w ↦ rw (w.work-is, w.state-is) record {
         at_work = w.count_down.ensures.at_work (released value (drop (i + 1) ws))
-            (subst (λ (left : List ℕ). IsAtWork p layer s stack counters left) (released_next value ws i c.loop-entry-test.true w.if-entry-value.true) inv.at_work);
-        room = w.count_down.ensures.room;
-        off = λ v off. inv.off v off ∙ w.count_down.ensures.off v off;
-        work = let a = inv.work in let b = w.count_down.ensures.work in omega arith;
+            (subst (λ (left : List ℕ). IsAtWork p s work left) (released_next value ws i c.loop-entry-test.true w.if-entry-value.true) inv.at_work);
+        goes_on = goes_on_more p c.args.state.now c.args.work.now s work w.count_down.new.state w.count_down.new.work inv.goes_on w.count_down.ensures.goes_on;
       }
-      | else-entry-value w ↦ rw (w.counters-is, w.stack-is, w.state-is) record {
-        at_work = subst (λ (left : List ℕ). IsAtWork p layer s stack counters left) (passed_next value ws i c.loop-entry-test.true w.if-entry-value.false) inv.at_work;
-        room = inv.room;
-        off = inv.off;
-        work = inv.work;
+      | else-entry-value w ↦ rw (w.work-is, w.state-is) record {
+        at_work = subst (λ (left : List ℕ). IsAtWork p s work left) (passed_next value ws i c.loop-entry-test.true w.if-entry-value.false) inv.at_work;
+        goes_on = inv.goes_on;
       }
     ]
 
 pub returns-clause-at_work : goal.returns-clause-at_work
-returns-clause-at_work g c = subst (λ (left : List ℕ). IsAtWork (g.T.Grounded.says c.args.task.now) c.args.layer c.loop-entry.state c.loop-entry.stack.items c.loop-entry.counters left)
+returns-clause-at_work g c = subst (λ (left : List ℕ). IsAtWork c.args.task.now c.loop-entry.state c.loop-entry.work left)
     (at_drop_all (released c.args.value) c.args.waiting.now c.loop-entry.entry-index (omega arith)) c.loop-entry.invariant.at_work
 
-pub returns-clause-room : goal.returns-clause-room
-returns-clause-room g c = c.loop-entry.invariant.room
-
-pub returns-clause-off : goal.returns-clause-off
-returns-clause-off g c = c.loop-entry.invariant.off
-
-pub returns-clause-work : goal.returns-clause-work
-returns-clause-work g c = c.loop-entry.invariant.work
+pub returns-clause-goes_on : goal.returns-clause-goes_on
+returns-clause-goes_on g c = c.loop-entry.invariant.goes_on

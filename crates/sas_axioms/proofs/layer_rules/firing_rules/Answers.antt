@@ -5,11 +5,11 @@ use Rattle.sas_axioms.proofs.layer_rules.firing_rules.Goals as goal
 use Rattle.sas_axioms.proofs.layer_rules.firing_rules.Goals.{in-Some+in_ok-push, in_default}
 
 pub loop-rule-init : goal.loop-rule-init
-loop-rule-init g c = rw c.new-rules.ensures.items (firing_none (g.T.Grounded.says c.args.task.now))
+loop-rule-init g c = rw c.new-rules.ensures.items (firing_none c.args.task.now)
 
 pub loop-rule-preserved : goal.loop-rule-preserved
 loop-rule-preserved g c =
-    let p = g.T.Grounded.says c.args.task.now in
+    let p = c.args.task.now in
     let rules = c.loop-rule.rules.items in
     elim c.match-firing_layer.branch [
       | in-Some+in_ok-push w ↦
@@ -19,4 +19,4 @@ loop-rule-preserved g c =
     ]
 
 pub returns : goal.returns
-returns g c = firing_all (g.T.Grounded.says c.args.task.now) c.loop-rule.rule c.loop-rule.rules.items (omega arith) c.loop-rule.invariant
+returns g c = firing_all c.args.task.now c.loop-rule.rule c.loop-rule.rules.items (omega arith) c.loop-rule.invariant

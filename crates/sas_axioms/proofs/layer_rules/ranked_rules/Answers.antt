@@ -7,7 +7,7 @@ use Rattle.sas_axioms.proofs.layer_rules.ranked_rules.Goals as goal
 
 pub returns : goal.returns
 returns g c =
-    let p = g.T.Grounded.says c.args.task.now in
+    let p = c.args.task.now in
     let before = c.in_ok-rules.rules.items in
     let after = c.sort_by_key.new.self.items in
     let moved = c.sort_by_key.ensures.permutation in

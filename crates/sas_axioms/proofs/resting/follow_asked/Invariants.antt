@@ -1,12 +1,12 @@
 -- The variables so far have the state's values.
 use Rattle.std.proofs.Common.{◌≡◌, ℕ, ◌<◌, get_or}
 use Rattle.sas_meaning.specs.Forced.{AtDefault}
-use Rattle.sas_axioms.specs.Conditions.{AreCounted}
+use Rattle.sas_axioms.specs.Conditions.{IsCounted}
 use Rattle.sas_axioms.proofs.resting.follow_asked.Given as goal
 
 abbrev pub invariant-loop-var : goal.invariant-loop-var
 invariant-loop-var g l = record {
-  counts : AreCounted (g.T.Grounded.says l.task) l.values l.counters;
-  default : (layer : ℕ) → AtDefault (g.T.Grounded.says l.task) layer l.values;
-  so_far : (j d : ℕ) → j < l.var-index → get_or l.state (get_or l.asked j d) 0 ≡ get_or l.values (get_or l.asked j d) 0;
+  counts : IsCounted l.task l.counted;
+  default : (layer : ℕ) → AtDefault l.task layer l.counted.values;
+  so_far : (j d : ℕ) → j < l.var-index → get_or l.state (get_or l.asked j d) 0 ≡ get_or l.counted.values (get_or l.asked j d) 0;
 }

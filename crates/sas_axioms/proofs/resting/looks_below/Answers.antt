@@ -4,13 +4,13 @@ use Rattle.std.proofs.lemmas.Bool.{cases_eq}
 use Rattle.std.proofs.lemmas.List.{get_or_default}
 use Rattle.sas_core.specs.declared.parts.Fact.{Fact}
 use Rattle.sas_core.specs.Variables.{layer_of}
-use Rattle.sas_grounded.specs.Grounded.{rule_at}
+use Rattle.sas_core.specs.Grounded.{rule_at}
 use Rattle.sas_axioms.proofs.resting.looks_below.Goals as goal
 use Rattle.sas_axioms.proofs.resting.looks_below.Goals.{in-Some+else-its-layer, in_default}
 
 pub loop-condition-preserved : goal.loop-condition-preserved
 loop-condition-preserved g c j d lt its on =
-    let p = g.T.Grounded.says c.args.task.now in
+    let p = c.args.task.now in
     let conditions = (rule_at p c.args.rule).conditions in
     let i = c.loop-condition.condition-index in
     let no_fact : Fact = record { var = 0; value = 0 } in
@@ -33,7 +33,7 @@ loop-condition-init g c j d lt its on = absurd (omega arith)
 
 pub returns-then-its-layer-clause-yes : goal.returns-then-its-layer-clause-yes
 returns-then-its-layer-clause-yes g c is stays =
-    let p = g.T.Grounded.says c.args.task.now in
+    let p = c.args.task.now in
     let conditions = (rule_at p c.args.rule).conditions in
     let i = c.loop-condition.condition-index in
     let no_fact : Fact = record { var = 0; value = 0 } in

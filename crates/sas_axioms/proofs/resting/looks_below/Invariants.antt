@@ -1,12 +1,12 @@
 -- The conditions so far don't look below.
 use Rattle.std.proofs.Common.{◌≡◌, ℕ, ◌<◌, get_or}
 use Rattle.sas_core.specs.declared.parts.Fact.{Fact}
-use Rattle.sas_grounded.specs.Grounded.{rule_at}
+use Rattle.sas_core.specs.Grounded.{rule_at}
 use Rattle.sas_meaning.specs.Layers.{IsOnLayer}
 use Rattle.sas_axioms.proofs.resting.looks_below.Given as goal
 
 abbrev pub invariant-loop-condition : goal.invariant-loop-condition
 invariant-loop-condition g l =
-    let p = g.T.Grounded.says l.task in
+    let p = l.task in
     let conditions = (rule_at p l.rule).conditions in
     (j : ℕ) (d : Fact) → j < l.condition-index → (its : ℕ) → IsOnLayer p its (get_or conditions j d).var → its ≡ l.layer

@@ -7,7 +7,7 @@ use Rattle.sas_axioms.proofs.resting.looks_of.Goals.{in-Some, in-None}
 
 pub loop-rule-preserved : goal.loop-rule-preserved
 loop-rule-preserved g c =
-    let p = g.T.Grounded.says c.args.task.now in
+    let p = c.args.task.now in
     let k = c.loop-rule.rule in
     let below = c.loop-rule.below.items in
     let pushed : c.push.new.self.items ≡ below ++ c.match-firing_layer.looks ∷ [] = c.in_ok-push.ensures.items in
@@ -18,4 +18,4 @@ loop-rule-preserved g c =
     ]) c.loop-rule.invariant)
 
 pub returns : goal.returns
-returns g c = looks_all (g.T.Grounded.says c.args.task.now) c.loop-rule.rule c.loop-rule.below.items (omega arith) c.loop-rule.invariant
+returns g c = looks_all c.args.task.now c.loop-rule.rule c.loop-rule.below.items (omega arith) c.loop-rule.invariant

@@ -3,4 +3,4 @@ use Rattle.sas_axioms.proofs.LayerStart.{LooksUpTo}
 use Rattle.sas_axioms.proofs.resting.looks_of.Given as goal
 
 abbrev pub invariant-loop-rule : goal.invariant-loop-rule
-invariant-loop-rule g l = LooksUpTo (g.T.Grounded.says l.task) l.rule l.below.items
+invariant-loop-rule g l = LooksUpTo l.task l.rule l.below.items

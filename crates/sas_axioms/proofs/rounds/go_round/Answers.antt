@@ -2,7 +2,7 @@ use Rattle.std.proofs.Common.{◌≡◌, ◌<◌, [], None, length, get_or, set,
 use Rattle.std.proofs.lemmas.Bool.{cases_eq}
 use Rattle.std.proofs.lemmas.List.{get_or_default}
 use Rattle.sas_core.specs.declared.parts.Rule.{Rule}
-use Rattle.sas_grounded.specs.Grounded.{rule_at}
+use Rattle.sas_core.specs.Grounded.{rule_at}
 use Rattle.sas_meaning.specs.Forced.{HasFired}
 use Rattle.sas_meaning.proofs.Forced.{Fired, fired_there}
 use Rattle.sas_axioms.proofs.rounds.go_round.Goals as goal
@@ -10,7 +10,7 @@ use Rattle.sas_axioms.proofs.rounds.go_round.Goals.{then-changes, else-changes}
 
 pub loop-rule-preserved : goal.loop-rule-preserved
 loop-rule-preserved g c =
-    let p = g.T.Grounded.says c.args.task.now in
+    let p = c.args.task.now in
     let layer = c.args.layer in
     let s = c.loop-rule.state in
     let k = c.loop-rule.rule in
@@ -19,7 +19,7 @@ loop-rule-preserved g c =
     let within : k < length p.rules = search rules in
     elim c.if-changes.branch [
       | then-changes w ↦
-          (let f : Fired p layer s (rule_at p k) = fired_there p layer s k behind c.requires.layered.ranged c.requires.layered.layered inv.state inv.forced within (c.changes.ensures.yes w.if-changes.true) in
+          (let f : Fired p layer s (rule_at p k) = fired_there p layer s k behind c.task.ensures.well_ranged c.task.ensures.layered inv.state inv.forced within (c.changes.ensures.yes w.if-changes.true) in
           let is : c.if-changes.state ≡ set s (rule_at p k).var (rule_at p k).new = search rules in
           let fewer = f.fewer in
           let was = inv.fewer in

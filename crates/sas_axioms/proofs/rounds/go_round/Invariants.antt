@@ -6,11 +6,11 @@ use Rattle.sas_axioms.proofs.rounds.go_round.Given as goal
 
 abbrev pub invariant-loop-rule : goal.invariant-loop-rule
 invariant-loop-rule g l = record {
-  state : IsState (g.T.Grounded.says l.task).variables l.state;
-  forced : OnlyForced (g.T.Grounded.says l.task) l.layer l.state;
-  off : SameOff (g.T.Grounded.says l.task) l.layer l.fn.state l.state;
-  fewer : equal_places l.state (g.T.Grounded.says l.task).init ≤ equal_places l.fn.state (g.T.Grounded.says l.task).init;
-  more : IsTrue l.changed → equal_places l.state (g.T.Grounded.says l.task).init < equal_places l.fn.state (g.T.Grounded.says l.task).init;
+  state : IsState l.task.variables l.state;
+  forced : OnlyForced l.task l.layer l.state;
+  off : SameOff l.task l.layer l.fn.state l.state;
+  fewer : equal_places l.state l.task.init ≤ equal_places l.fn.state l.task.init;
+  more : IsTrue l.changed → equal_places l.state l.task.init < equal_places l.fn.state l.task.init;
   done : IsFalse l.changed → (k : ℕ) (d : Rule) → k < l.rule
-      → HasFired (g.T.Grounded.says l.task) l.layer l.state (get_or (g.T.Grounded.says l.task).rules k d);
+      → HasFired l.task l.layer l.state (get_or l.task.rules k d);
 }

@@ -6,8 +6,8 @@ use Rattle.sas_axioms.proofs.rounds.set_defaults.Given as goal
 
 abbrev pub invariant-loop-var : goal.invariant-loop-var
 invariant-loop-var g l = record {
-  state : IsState (g.T.Grounded.says l.task).variables l.state;
-  basic : SameBasic (g.T.Grounded.says l.task) l.fn.state l.state;
-  default : (v layer : ℕ) → v < l.var → IsOnLayer (g.T.Grounded.says l.task) layer v
-      → slice_index l.state v ≡ default_of (g.T.Grounded.says l.task) v;
+  state : IsState l.task.variables l.state;
+  basic : SameBasic l.task l.fn.state l.state;
+  default : (v layer : ℕ) → v < l.var → IsOnLayer l.task layer v
+      → slice_index l.state v ≡ default_of l.task v;
 }

@@ -4,10 +4,10 @@ use Rattle.sas_axioms.proofs.rounds.settle_layer.Given as goal
 
 abbrev pub invariant-loop : goal.invariant-loop
 invariant-loop g l = record {
-  state : IsState (g.T.Grounded.says l.task).variables l.state;
-  forced : OnlyForced (g.T.Grounded.says l.task) l.layer l.state;
-  off : SameOff (g.T.Grounded.says l.task) l.layer l.fn.state l.state;
+  state : IsState l.task.variables l.state;
+  forced : OnlyForced l.task l.layer l.state;
+  off : SameOff l.task l.layer l.fn.state l.state;
 }
 
 abbrev pub decreases-loop : goal.decreases-loop
-decreases-loop g l = equal_places l.state (g.T.Grounded.says l.task).init
+decreases-loop g l = equal_places l.state l.task.init

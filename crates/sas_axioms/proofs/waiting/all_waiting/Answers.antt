@@ -5,11 +5,11 @@ use Rattle.sas_axioms.proofs.waiting.all_waiting.Goals as goal
 use Rattle.sas_axioms.proofs.waiting.all_waiting.Goals.{in-Some+in_ok-push_waiting, in_default}
 
 pub loop-rule-init : goal.loop-rule-init
-loop-rule-init g c = rw c.new-waiting.ensures.items (waiting_none (g.T.Grounded.says c.args.task.now))
+loop-rule-init g c = rw c.new-waiting.ensures.items (waiting_none c.args.task.now)
 
 pub loop-rule-preserved : goal.loop-rule-preserved
 loop-rule-preserved g c =
-    let p = g.T.Grounded.says c.args.task.now in
+    let p = c.args.task.now in
     let waiting = c.loop-rule.waiting.items in
     elim c.match-firing_layer.branch [
       | in-Some+in_ok-push_waiting w ↦
@@ -18,4 +18,4 @@ loop-rule-preserved g c =
     ]
 
 pub returns : goal.returns
-returns g c = waiting_all (g.T.Grounded.says c.args.task.now) c.loop-rule.rule c.loop-rule.waiting.items (omega arith) c.loop-rule.invariant
+returns g c = waiting_all c.args.task.now c.loop-rule.rule c.loop-rule.waiting.items (omega arith) c.loop-rule.invariant

@@ -8,12 +8,12 @@ use Rattle.sas_axioms.proofs.waiting.index_of_own_layers.Goals as goal
 
 pub by_key-requires : goal.by_key-requires
 by_key-requires g c =
-    let p = g.T.Grounded.says c.args.task.now in
+    let p = c.args.task.now in
     rw (c.as_slice.ensures.value, c.variables.ensures.count) (waiting_exist p c.in_ok-waiting.waiting.items c.in_ok-waiting.ensures.only)
 
 pub returns : goal.returns
 returns g c =
-    let p = g.T.Grounded.says c.args.task.now in
+    let p = c.args.task.now in
     let es = c.in_ok-waiting.waiting.items in
     IfOk-weaker c.by_key.result (λ lists. lists ≡ by_key c.as_slice.result.now c.variables.result) (IsIndex p)
     (λ lists is. subst (IsIndex p) (sym (is ∙ ap (λ l. by_key l c.variables.result) c.as_slice.ensures.value ∙ ap (λ n. by_key es n) c.variables.ensures.count))

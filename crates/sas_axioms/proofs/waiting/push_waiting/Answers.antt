@@ -3,7 +3,7 @@ use Rattle.std.proofs.Common.{◌≡◌, ◌<◌, ◌≤◌, ◌+◌, ◌==◌, 
 use Rattle.std.proofs.lemmas.List.{drop_more, drop_all}
 use Rattle.std.specs.Option.{option_eq}
 use Rattle.sas_core.specs.declared.parts.Fact.{Fact}
-use Rattle.sas_grounded.specs.Grounded.{rule_at}
+use Rattle.sas_core.specs.Grounded.{rule_at}
 use Rattle.sas_core.specs.Variables.{layer_of}
 use Rattle.sas_lists.specs.declared.by_key.Entry.{Entry}
 use Rattle.sas_meaning.specs.Layers.{IsOnLayer}
@@ -15,19 +15,19 @@ use Rattle.sas_axioms.proofs.waiting.push_waiting.Goals.{then-eq+in_ok-push, els
 
 pub loop-condition-init : goal.loop-condition-init
 loop-condition-init g c =
-    let p = g.T.Grounded.says c.args.task.now in
+    let p = c.args.task.now in
     adds_none p c.args.layer c.args.rule (rule_at p c.args.rule).conditions c.args.waiting.now.items
 
 pub layer-requires : goal.layer-requires
 layer-requires g c =
-    let p = g.T.Grounded.says c.args.task.now in
+    let p = c.args.task.now in
     let same : c.rule_conditions-condition-items.result.now ≡ (rule_at p c.args.rule).conditions = c.rule_conditions-condition-items.ensures in
-    rw same (condition_within p c.args.rule c.loop-condition.condition-index (record { var = 0; value = 0 }) c.requires.layered.ranged c.requires.rule.exists
+    rw same (condition_within p c.args.rule c.loop-condition.condition-index (record { var = 0; value = 0 }) c.task.ensures.well_ranged c.requires.rule.exists
     (let lt = c.loop-condition-test.true in omega (arith, ap length same)))
 
 pub loop-condition-preserved : goal.loop-condition-preserved
 loop-condition-preserved g c =
-    let p = g.T.Grounded.says c.args.task.now in
+    let p = c.args.task.now in
     let conditions = (rule_at p c.args.rule).conditions in
     let place = c.loop-condition.condition-index in
     let left = drop (place + 1) conditions in
@@ -61,7 +61,7 @@ loop-condition-preserved g c =
 
 pub returns : goal.returns
 returns g c =
-    let p = g.T.Grounded.says c.args.task.now in
+    let p = c.args.task.now in
     let conditions = (rule_at p c.args.rule).conditions in
     let before = c.args.waiting.now.items in
     let waiting = c.loop-condition.waiting.items in

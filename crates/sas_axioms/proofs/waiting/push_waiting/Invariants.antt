@@ -1,10 +1,10 @@
 -- What the rule waits for, as far as its first conditions.
 use Rattle.std.proofs.Common.{drop}
-use Rattle.sas_grounded.specs.Grounded.{rule_at}
+use Rattle.sas_core.specs.Grounded.{rule_at}
 use Rattle.sas_axioms.proofs.Entries.{AddsUpTo}
 use Rattle.sas_axioms.proofs.waiting.push_waiting.Given as goal
 
 abbrev pub invariant-loop-condition : goal.invariant-loop-condition
 invariant-loop-condition g l =
-    let p = g.T.Grounded.says l.task in
+    let p = l.task in
     AddsUpTo p l.layer l.rule (rule_at p l.rule).conditions (drop l.condition-index (rule_at p l.rule).conditions) l.fn.waiting.items l.waiting.items

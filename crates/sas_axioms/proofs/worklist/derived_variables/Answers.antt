@@ -8,11 +8,11 @@ use Rattle.sas_axioms.proofs.worklist.derived_variables.Goals as goal
 use Rattle.sas_axioms.proofs.worklist.derived_variables.Goals.{then-is_some+in_ok-push, else-is_some}
 
 pub loop-var-init : goal.loop-var-init
-loop-var-init g c = rw c.new-variables.ensures.items (derived_none (g.T.Grounded.says c.args.task.now))
+loop-var-init g c = rw c.new-variables.ensures.items (derived_none c.args.task.now)
 
 pub loop-var-preserved : goal.loop-var-preserved
 loop-var-preserved g c =
-    let p = g.T.Grounded.says c.args.task.now in
+    let p = c.args.task.now in
     let var = c.loop-var.var in
     let variables = c.loop-var.variables.items in
     elim c.if-is_some.branch [
@@ -25,7 +25,7 @@ loop-var-preserved g c =
     ]
 
 pub returns : goal.returns
-returns g c = derived_all (g.T.Grounded.says c.args.task.now) c.loop-var.var c.loop-var.variables.items (omega arith) c.loop-var.invariant
+returns g c = derived_all c.args.task.now c.loop-var.var c.loop-var.variables.items (omega arith) c.loop-var.invariant
 
 pub layer-requires : goal.layer-requires
 layer-requires g c = omega arith

@@ -7,7 +7,7 @@ use Rattle.sas_axioms.proofs.worklist.set_defaults.Given as goal
 
 abbrev pub invariant-loop-var : goal.invariant-loop-var
 invariant-loop-var g l = record {
-  state : IsState (g.T.Grounded.says l.task).variables l.state;
-  basic : SameBasic (g.T.Grounded.says l.task) l.fn.state l.state;
-  default : (j d : ℕ) → j < l.var-index → get_or l.state (get_or l.derived j d) 0 ≡ default_of (g.T.Grounded.says l.task) (get_or l.derived j d);
+  state : IsState l.task.variables l.state;
+  basic : SameBasic l.task l.fn.state l.state;
+  default : (j d : ℕ) → j < l.var-index → get_or l.state (get_or l.derived j d) 0 ≡ default_of l.task (get_or l.derived j d);
 }

@@ -11,35 +11,35 @@ returns-in_err-check_some c =
     let first : Some c.in_err-check_some.field-0.0 ≡ first_fault (checks c.args.parts.now) = search (rules, fails_before, c.in_err-check_some.ensures) depth 12 in
     same ∙ first
 
-pub returns-in_err-check_variables : goal.returns-in_err-check_variables
-returns-in_err-check_variables c =
-    let same : result_err c.from_residual-in_err-check_variables.result ≡ Some c.in_err-check_variables.field-0.0 = search rules in
-    let first : Some c.in_err-check_variables.field-0.0 ≡ first_fault (checks c.args.parts.now) = search (rules, fails_before, decides_after, c.in_ok-check_some.ensures, c.in_err-check_variables.ensures) depth 12 in
+pub returns-in_err-check_list : goal.returns-in_err-check_list
+returns-in_err-check_list c =
+    let same : result_err c.from_residual-in_err-check_list.result ≡ Some c.in_err-check_list.field-0.0 = search rules in
+    let first : Some c.in_err-check_list.field-0.0 ≡ first_fault (checks c.args.parts.now) = search (rules, fails_before, decides_after, c.in_ok-check_some.ensures, c.in_err-check_list.ensures) depth 12 in
     same ∙ first
 
-pub returns-in_err-check_groups : goal.returns-in_err-check_groups
-returns-in_err-check_groups c =
-    let same : result_err c.from_residual-in_err-check_groups.result ≡ Some c.in_err-check_groups.field-0.0 = search rules in
-    let first : Some c.in_err-check_groups.field-0.0 ≡ first_fault (checks c.args.parts.now) = search (rules, fails_before, decides_after, c.in_ok-check_some.ensures, c.in_ok-check_variables.ensures, c.in_err-check_groups.ensures) depth 12 in
+pub returns-in_err-check_list-2 : goal.returns-in_err-check_list-2
+returns-in_err-check_list-2 c =
+    let same : result_err c.from_residual-in_err-check_list-2.result ≡ Some c.in_err-check_list-2.field-0.0 = search rules in
+    let first : Some c.in_err-check_list-2.field-0.0 ≡ first_fault (checks c.args.parts.now) = search (rules, fails_before, decides_after, c.in_ok-check_some.ensures, c.in_ok-check_list.ensures, c.in_err-check_list-2.ensures) depth 12 in
     same ∙ first
 
 pub returns-in_err-check_state : goal.returns-in_err-check_state
 returns-in_err-check_state c =
     let same : result_err c.from_residual-in_err-check_state.result ≡ Some c.in_err-check_state.field-0.0 = search rules in
-    let first : Some c.in_err-check_state.field-0.0 ≡ first_fault (checks c.args.parts.now) = search (rules, fails_before, decides_after, c.in_ok-check_some.ensures, c.in_ok-check_variables.ensures, c.in_ok-check_groups.ensures, c.in_err-check_state.ensures) depth 12 in
+    let first : Some c.in_err-check_state.field-0.0 ≡ first_fault (checks c.args.parts.now) = search (rules, fails_before, decides_after, c.in_ok-check_some.ensures, c.in_ok-check_list.ensures, c.in_ok-check_list-2.ensures, c.in_err-check_state.ensures) depth 12 in
     same ∙ first
 
-pub returns-in_err-check_facts : goal.returns-in_err-check_facts
-returns-in_err-check_facts c =
-    let same : result_err c.from_residual-in_err-check_facts.result ≡ Some c.in_err-check_facts.field-0.0 = search rules in
-    let first : Some c.in_err-check_facts.field-0.0 ≡ first_fault (checks c.args.parts.now) = search (rules, fails_before, decides_after, c.in_ok-check_some.ensures, c.in_ok-check_variables.ensures, c.in_ok-check_groups.ensures, c.in_ok-check_state.ensures, c.in_err-check_facts.ensures) depth 12 in
+pub returns-in_err-check_list-3 : goal.returns-in_err-check_list-3
+returns-in_err-check_list-3 c =
+    let same : result_err c.from_residual-in_err-check_list-3.result ≡ Some c.in_err-check_list-3.field-0.0 = search rules in
+    let first : Some c.in_err-check_list-3.field-0.0 ≡ first_fault (checks c.args.parts.now) = search (rules, fails_before, decides_after, c.in_ok-check_some.ensures, c.in_ok-check_list.ensures, c.in_ok-check_list-2.ensures, c.in_ok-check_state.ensures, c.in_err-check_list-3.ensures) depth 12 in
     same ∙ first
 
-pub returns-in_err-check_operators : goal.returns-in_err-check_operators
-returns-in_err-check_operators c =
-    let same : result_err c.from_residual-in_err-check_operators.result ≡ Some c.in_err-check_operators.field-0.0 = search rules in
-    let first : Some c.in_err-check_operators.field-0.0 ≡ first_fault (checks c.args.parts.now) = search (rules, fails_before, decides_after, c.in_ok-check_some.ensures, c.in_ok-check_variables.ensures, c.in_ok-check_groups.ensures, c.in_ok-check_state.ensures, c.in_ok-check_facts.ensures, c.in_err-check_operators.ensures) depth 12 in
+pub returns-in_err-check_list-4 : goal.returns-in_err-check_list-4
+returns-in_err-check_list-4 c =
+    let same : result_err c.from_residual-in_err-check_list-4.result ≡ Some c.in_err-check_list-4.field-0.0 = search rules in
+    let first : Some c.in_err-check_list-4.field-0.0 ≡ first_fault (checks c.args.parts.now) = search (rules, fails_before, decides_after, c.in_ok-check_some.ensures, c.in_ok-check_list.ensures, c.in_ok-check_list-2.ensures, c.in_ok-check_state.ensures, c.in_ok-check_list-3.ensures, c.in_err-check_list-4.ensures) depth 12 in
     same ∙ first
 
 pub returns : goal.returns
-returns c = search (rules, decides_after, c.in_ok-check_some.ensures, c.in_ok-check_variables.ensures, c.in_ok-check_groups.ensures, c.in_ok-check_state.ensures, c.in_ok-check_facts.ensures, c.in_ok-check_operators.ensures, c.check_rules.ensures) depth 12
+returns c = search (rules, decides_after, c.in_ok-check_some.ensures, c.in_ok-check_list.ensures, c.in_ok-check_list-2.ensures, c.in_ok-check_state.ensures, c.in_ok-check_list-3.ensures, c.in_ok-check_list-4.ensures, c.check_list-5.ensures) depth 12

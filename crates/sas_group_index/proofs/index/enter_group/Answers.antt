@@ -2,14 +2,14 @@
 use Rattle.std.proofs.Common.{◌≡◌, ℕ, ◌<◌, ◌+◌, ◌++◌, ◌∷◌, [], List, length, get_or, ◌∙◌, ap, arith}
 use Rattle.std.proofs.lemmas.List.Elements.{Contains-get_or}
 use Rattle.sas_core.specs.declared.parts.Fact.{Fact}
-use Rattle.sas_grounded.specs.Grounded.{group_at}
+use Rattle.sas_core.specs.Grounded.{group_at}
 use Rattle.sas_lists.specs.declared.by_key.Entry.{Entry}
 use Rattle.sas_group_index.proofs.Entering.{entered_fact, group_fact_exists}
 use Rattle.sas_group_index.proofs.index.enter_group.Goals as goal
 
 pub loop-fact-preserved : goal.loop-fact-preserved
 loop-fact-preserved g c =
-    let p = g.T.Grounded.says c.args.task.now in
+    let p = c.args.task.now in
     let group = c.args.group in
     let facts = group_at p group in
     let firsts = c.args.firsts.now in
@@ -21,4 +21,4 @@ loop-fact-preserved g c =
     let pushed : c.push.new.self.items ≡ c.loop-fact.entries.items ++ entry facts ∷ [] =
     c.in_ok-push.ensures.items ∙ ap (λ (fs : List Fact). c.loop-fact.entries.items ++ entry fs ∷ []) same in
     pushed ∙ entered_fact p firsts group place d c.args.entries.now.items c.loop-fact.entries.items facts c.requires.firsts within
-    (group_fact_exists p group (get_or facts place d) c.requires.ranged c.requires.group (Contains-get_or facts place d within)) c.loop-fact.invariant
+    (group_fact_exists p group (get_or facts place d) c.task.ensures.well_ranged c.requires.group (Contains-get_or facts place d within)) c.loop-fact.invariant

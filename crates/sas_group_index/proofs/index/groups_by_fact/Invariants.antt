@@ -3,4 +3,4 @@ use Rattle.sas_group_index.proofs.Entering.{EnteredUpTo}
 use Rattle.sas_group_index.proofs.index.groups_by_fact.Given as goal
 
 abbrev pub invariant-loop-group : goal.invariant-loop-group
-invariant-loop-group g l = EnteredUpTo (g.T.Grounded.says l.task) l.group l.entries.items
+invariant-loop-group g l = EnteredUpTo l.task l.group l.entries.items

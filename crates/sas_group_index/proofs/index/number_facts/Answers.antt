@@ -7,7 +7,7 @@ use Rattle.sas_group_index.proofs.index.number_facts.Goals as goal
 
 pub overflow_add-facts : goal.overflow_add-facts
 overflow_add-facts g c =
-    let p = g.T.Grounded.says c.args.task.now in
+    let p = c.args.task.now in
     let var = c.loop-var.var in
     let count = c.variables-var-end.ensures.count in
     let more = below_more p var in
@@ -18,7 +18,7 @@ overflow_add-facts g c =
 
 pub returns-clause-low : goal.returns-clause-low
 returns-clause-low g c = λ k d lt.
-    let p = g.T.Grounded.says c.args.task.now in
+    let p = c.args.task.now in
     let inv = c.loop-var.invariant in
     let count = c.variables-var-end.ensures.count in
     let within : k < c.loop-var.var = omega (arith, inv.so_far) in

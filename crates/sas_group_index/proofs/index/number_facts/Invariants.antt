@@ -6,6 +6,6 @@ use Rattle.sas_group_index.proofs.index.number_facts.Given as goal
 abbrev pub invariant-loop-var : goal.invariant-loop-var
 invariant-loop-var g l = record {
   so_far : length l.firsts.items ≡ l.var;
-  are : (v : ℕ) → v < l.var → get_or l.firsts.items v 0 ≡ facts_below (g.T.Grounded.says l.task) v;
-  facts : l.facts ≡ facts_below (g.T.Grounded.says l.task) l.var;
+  are : (v : ℕ) → v < l.var → get_or l.firsts.items v 0 ≡ facts_below l.task v;
+  facts : l.facts ≡ facts_below l.task l.var;
 }

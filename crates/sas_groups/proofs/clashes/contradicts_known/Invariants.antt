@@ -1,14 +1,13 @@
 -- The fact contradicts none of those that came.
 use Rattle.std.proofs.Common.{◌≡◌, ◌++◌}
 use Rattle.std.specs.List.{All}
-use Rattle.sas_grounded.specs.Grounded.{operator_at}
 use Rattle.sas_groups.specs.Clashes.{Contradict}
 use Rattle.sas_groups.specs.Checks.{Alone}
-use Rattle.sas_groups.specs.Lists.{known, known_left}
+use Rattle.sas_groups.specs.Lists.{known_on, known_left}
 use Rattle.sas_groups.proofs.clashes.contradicts_known.Given as goal
 
 abbrev pub invariant-loop-g : goal.invariant-loop-g
 invariant-loop-g g l = record {
-  left : known (operator_at (g.T.Grounded.says l.task) l.operator) l.first l.second ≡ l.yielded ++ known_left g.T.Grounded.says l.g-iterator;
+  left : known_on l.task l.fn.premises ≡ l.yielded ++ known_left l.g-iterator;
   none : All (λ x. Contradict (Alone l.group) l.f x → ⊥) l.yielded;
 }

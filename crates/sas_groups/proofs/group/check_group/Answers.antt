@@ -1,12 +1,10 @@
--- What is found of the task is found of what it says.
-use Rattle.std.proofs.Common.{◌≡◌, List, refl, subst}
+-- The verdict on a group is what speaks against it first.
+use Rattle.std.proofs.Common.{◌≡◌, List, refl}
 use Rattle.sas_core.specs.declared.parts.Fact.{Fact}
 use Rattle.sas_core.specs.declared.parts.Parts.{Parts}
 use Rattle.sas_groups.specs.declared.verdict.Verdict.{Verdict}
 use Rattle.sas_groups.specs.declared.verdict.Verdict.TheVariants.{Exclusive, Derived, Initial, Broken}
-use Rattle.sas_groups.specs.Families.{AllKeep}
-use Rattle.sas_groups.specs.Verdicts.{IsFirstVerdict, IsVerdictAlone, IsFirstBreaking}
-use Rattle.sas_groups.specs.Checks.{Alone}
+use Rattle.sas_groups.specs.Verdicts.{IsFirstVerdict, IsVerdictAlone}
 use Rattle.sas_groups.proofs.group.check_group.Goals as goal
 
 -- what speaks against a group before operators are asked is the verdict on it
@@ -17,25 +15,11 @@ first_is_last p group Initial not h = h
 first_is_last p group (Broken operator) not h = elim h [ ]
 
 pub returns-in-Some : goal.returns-in-Some
-returns-in-Some g c =
-    let is = c.task-task.ensures.task in
-    let group = c.args.group.now in
-    let may = subst (λ (p : Parts). IsFirstVerdict p group Exclusive) is c.in-Exclusive.ensures in (
-      may.basic,
-      may.initial,
-      subst (λ (p : Parts). IsFirstBreaking p (Alone group) group c.in-Some.operator) is c.in-Some.ensures.some,
-    )
+returns-in-Some g c = (c.in-Exclusive.ensures.basic, c.in-Exclusive.ensures.initial, c.in-Some.ensures.some)
 
 pub returns-in-None : goal.returns-in-None
-returns-in-None g c =
-    let is = c.task-task.ensures.task in
-    let group = c.args.group.now in
-    let may = subst (λ (p : Parts). IsFirstVerdict p group Exclusive) is c.in-Exclusive.ensures in (
-      may.basic,
-      may.initial,
-      subst (λ (p : Parts). AllKeep p (Alone group) group) is c.in-None.ensures.none,
-    )
+returns-in-None g c = (c.in-Exclusive.ensures.basic, c.in-Exclusive.ensures.initial, c.in-None.ensures.none)
 
 pub returns-in_default : goal.returns-in_default
-returns-in_default g c = first_is_last c.args.layered.now c.args.group.now c.before_operators.result c.in_default.not-Exclusive
-    (subst (λ (p : Parts). IsFirstVerdict p c.args.group.now c.before_operators.result) c.task-task.ensures.task c.before_operators.ensures)
+returns-in_default g c = first_is_last c.args.layered.now c.args.group.now c.before_operators.result
+    c.in_default.not-Exclusive c.before_operators.ensures

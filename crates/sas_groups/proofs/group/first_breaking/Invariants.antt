@@ -1,9 +1,9 @@
 -- The operators so far keep the group.
 use Rattle.std.proofs.Common.{ℕ, ◌<◌}
-use Rattle.sas_grounded.specs.Grounded.{operator_at}
+use Rattle.sas_core.specs.Grounded.{operator_at}
 use Rattle.sas_groups.specs.Clashes.{Keeps}
 use Rattle.sas_groups.specs.Checks.{Alone}
 use Rattle.sas_groups.proofs.group.first_breaking.Given as goal
 
 abbrev pub invariant-loop-operator : goal.invariant-loop-operator
-invariant-loop-operator g l = (k : ℕ) → k < l.operator → Keeps (Alone l.group) (operator_at (g.T.Grounded.says l.task) k) l.group
+invariant-loop-operator g l = (k : ℕ) → k < l.operator → Keeps (Alone l.group) (operator_at l.task k) l.group

@@ -6,4 +6,4 @@ use Rattle.sas_meaning.specs.States.{Holds}
 use Rattle.sas_groups.proofs.group.first_holding.Given as goal
 
 abbrev pub invariant-loop-fact : goal.invariant-loop-fact
-invariant-loop-fact g l = (k : ℕ) (d : Fact) → k < l.fact-index → Holds (slice_index (g.T.Grounded.says l.task).init) (get_or l.group k d) → ⊥
+invariant-loop-fact g l = (k : ℕ) (d : Fact) → k < l.fact-index → Holds (slice_index l.task.init) (get_or l.group k d) → ⊥

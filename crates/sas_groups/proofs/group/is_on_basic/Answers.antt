@@ -19,7 +19,7 @@ loop-fact-init g c k d lt = absurd (omega arith)
 
 pub loop-fact-preserved : goal.loop-fact-preserved
 loop-fact-preserved g c k d lt =
-    let variables = (g.T.Grounded.says c.args.task.now).variables in
+    let variables = c.args.task.now.variables in
     let group = c.args.group.now in
     let i = c.loop-fact.fact-index in
     elim (cases_eq k i) [

@@ -5,4 +5,4 @@ use Rattle.sas_meaning.specs.Layers.{IsBasic}
 use Rattle.sas_groups.proofs.group.is_on_basic.Given as goal
 
 abbrev pub invariant-loop-fact : goal.invariant-loop-fact
-invariant-loop-fact g l = (k : ℕ) (d : Fact) → k < l.fact-index → IsBasic (g.T.Grounded.says l.task) (get_or l.group k d).var
+invariant-loop-fact g l = (k : ℕ) (d : Fact) → k < l.fact-index → IsBasic l.task (get_or l.group k d).var

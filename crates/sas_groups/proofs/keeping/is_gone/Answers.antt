@@ -1,8 +1,8 @@
 -- The fact would stay.
 use Rattle.std.proofs.Common.{List, sym, ◌∙◌, ap, subst, inl, inr}
-use Rattle.sas_grounded.specs.declared.grounded.Change.{Change}
+use Rattle.sas_core.specs.declared.grounded.Change.{Change}
 use Rattle.sas_core.specs.declared.parts.Fact.{Fact}
-use Rattle.sas_grounded.specs.Grounded.{operator_at, effect_at}
+use Rattle.sas_core.specs.Grounded.{operator_at, effect_at}
 use Rattle.sas_groups.specs.Clashes.{Clash, IsRemoved}
 use Rattle.sas_groups.specs.Checks.{Alone}
 use Rattle.sas_groups.proofs.Effects.{known_same}
@@ -10,12 +10,12 @@ use Rattle.sas_groups.proofs.keeping.is_gone.Goals as goal
 
 pub returns-else-clash-clause-no : goal.returns-else-clash-clause-no
 returns-else-clash-clause-no g c =
-    let o = operator_at (g.T.Grounded.says c.args.task.now) c.args.operator in
+    let o = operator_at c.args.task.now c.args.operator in
     let e = effect_at o c.args.effect in
     let is = c.effect_change-change.ensures in
     λ t gone. elim (gone (λ same. c.if-change-fact.false (ap (λ (change : Change). change.var) is ∙ same))) [
       | inl clash ↦ c.clash.ensures.no c.if-clash.false
-          (subst (Clash (Alone c.args.group.now)) (sym (known_same o _ _ _ _ c.effect_conditions-conditions.ensures c.as_slice.ensures)) clash)
+          (subst (Clash (Alone c.args.group.now)) (sym (known_same o _ _ _ _ c.effect_conditions.ensures c.as_slice.ensures)) clash)
       | inr removed ↦ c.is_removed.ensures.no t
-          (subst (λ (all : List Fact). IsRemoved o all c.args.fact) (sym (known_same o _ _ _ _ c.effect_conditions-conditions.ensures c.as_slice-else-clash.ensures)) removed)
+          (subst (λ (all : List Fact). IsRemoved o all c.args.fact) (sym (known_same o _ _ _ _ c.effect_conditions.ensures c.as_slice.ensures)) removed)
     ]

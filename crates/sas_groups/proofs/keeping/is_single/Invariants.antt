@@ -1,9 +1,9 @@
 -- None of the effects so far sets another fact of the group.
 use Rattle.std.proofs.Common.{ℕ, ◌<◌}
-use Rattle.sas_grounded.specs.Grounded.{operator_at, effect_at}
+use Rattle.sas_core.specs.Grounded.{operator_at, effect_at}
 use Rattle.sas_groups.specs.Checks.{Alone, NotBoth}
 use Rattle.sas_groups.proofs.keeping.is_single.Given as goal
 
 abbrev pub invariant-loop-other : goal.invariant-loop-other
 invariant-loop-other g l = (k : ℕ) → k < l.other
-    → NotBoth (Alone l.group) (operator_at (g.T.Grounded.says l.task) l.operator) l.group (effect_at (operator_at (g.T.Grounded.says l.task) l.operator) l.effect) (effect_at (operator_at (g.T.Grounded.says l.task) l.operator) k)
+    → NotBoth (Alone l.group) (operator_at l.task l.operator) l.group (effect_at (operator_at l.task l.operator) l.effect) (effect_at (operator_at l.task l.operator) k)

@@ -1,11 +1,11 @@
 -- One more fact is gone.
-use Rattle.sas_grounded.specs.Grounded.{operator_at, effect_at}
+use Rattle.sas_core.specs.Grounded.{operator_at, effect_at}
 use Rattle.sas_groups.specs.Checks.{Alone, IsGone}
 use Rattle.sas_groups.proofs.Turns.{each_more}
 use Rattle.sas_groups.proofs.keeping.removes_all.Goals as goal
 
 pub loop-fact-preserved : goal.loop-fact-preserved
 loop-fact-preserved g c =
-    let o = operator_at (g.T.Grounded.says c.args.task.now) c.args.operator in
+    let o = operator_at c.args.task.now c.args.operator in
     each_more (IsGone (Alone c.args.group.now) o (effect_at o c.args.effect)) c.args.group.now c.loop-fact.fact-index _ c.loop-fact-test.true c.loop-fact.invariant
     (c.is_gone.ensures.yes c.if-not-is_gone.false)

@@ -1,10 +1,10 @@
 -- The facts so far are gone.
 use Rattle.std.proofs.Common.{ℕ, ◌<◌, get_or}
 use Rattle.sas_core.specs.declared.parts.Fact.{Fact}
-use Rattle.sas_grounded.specs.Grounded.{operator_at, effect_at}
+use Rattle.sas_core.specs.Grounded.{operator_at, effect_at}
 use Rattle.sas_groups.specs.Checks.{Alone, IsGone}
 use Rattle.sas_groups.proofs.keeping.removes_all.Given as goal
 
 abbrev pub invariant-loop-fact : goal.invariant-loop-fact
 invariant-loop-fact g l = (k : ℕ) (d : Fact) → k < l.fact-index
-    → IsGone (Alone l.group) (operator_at (g.T.Grounded.says l.task) l.operator) (effect_at (operator_at (g.T.Grounded.says l.task) l.operator) l.effect) (get_or l.group k d)
+    → IsGone (Alone l.group) (operator_at l.task l.operator) (effect_at (operator_at l.task l.operator) l.effect) (get_or l.group k d)

@@ -1,12 +1,11 @@
 -- One more condition is known.
 use Rattle.std.specs.List.{Contains}
-use Rattle.sas_grounded.specs.Grounded.{operator_at}
-use Rattle.sas_groups.specs.Lists.{known}
+use Rattle.sas_groups.specs.Lists.{known_on}
 use Rattle.sas_groups.proofs.Turns.{each_more}
 use Rattle.sas_groups.proofs.removal.all_known.Goals as goal
 
 pub loop-condition-preserved : goal.loop-condition-preserved
 loop-condition-preserved g c =
-    let all = known (operator_at (g.T.Grounded.says c.args.task.now) c.args.operator) c.args.first.now c.args.second.now in
+    let all = known_on c.args.task.now c.args.premises.now in
     each_more (Contains all) c.args.conditions.now c.loop-condition.condition-index _ c.loop-condition-test.true c.loop-condition.invariant
     (c.is_known.ensures.yes c.if-not-is_known.false)

@@ -5,8 +5,7 @@ use Rattle.std.proofs.lemmas.Bool.{eq-eqb}
 use Rattle.std.proofs.lemmas.Bool.Decides.{eqb_tells}
 use Rattle.std.proofs.lemmas.List.Elements.{All-nil, All-contains}
 use Rattle.sas_core.specs.declared.parts.Fact.{Fact}
-use Rattle.sas_grounded.specs.Grounded.{operator_at}
-use Rattle.sas_groups.specs.Lists.{known, known_left}
+use Rattle.sas_groups.specs.Lists.{known_on, known_left}
 use Rattle.sas_groups.proofs.Turns.{turn_has, turn_left, turns_end, turn_more}
 use Rattle.sas_groups.proofs.removal.is_known.Goals as goal
 
@@ -28,33 +27,29 @@ other_fact a b e same =
 
 pub returns-then-eq-clause-yes : goal.returns-then-eq-clause-yes
 returns-then-eq-clause-yes g c =
-    let says = g.T.Grounded.says in
-    let all = known (operator_at (says c.args.task.now) c.args.operator) c.args.first.now c.args.second.now in
+    let all = known_on c.args.task.now c.args.premises.now in
     let same : c.in-Some.g ≡ c.args.fact = same_fact c.in-Some.g c.args.fact (sym c.eq.ensures ∙ c.if-eq.true) in
     λ t. subst (Contains all) same
-    (turn_has all c.loop-g.yielded (known_left says c.loop-g.g-iterator) c.loop-g.invariant.left c.in-Some.g _ c.in-Some.ensures.steps)
+    (turn_has all c.loop-g.yielded (known_left c.loop-g.g-iterator) c.loop-g.invariant.left c.in-Some.g _ c.in-Some.ensures.steps)
 
 pub loop-g-preserved : goal.loop-g-preserved
 loop-g-preserved g c =
-    let says = g.T.Grounded.says in
-    let all = known (operator_at (says c.args.task.now) c.args.operator) c.args.first.now c.args.second.now in
+    let all = known_on c.args.task.now c.args.premises.now in
     let differ : c.in-Some.g ≡ c.args.fact → ⊥ = other_fact c.in-Some.g c.args.fact (sym c.eq.ensures ∙ c.if-eq.false) in
     record {
-      left = turn_left all c.loop-g.yielded (known_left says c.loop-g.g-iterator) c.loop-g.invariant.left c.in-Some.g _ c.in-Some.ensures.steps;
+      left = turn_left all c.loop-g.yielded (known_left c.loop-g.g-iterator) c.loop-g.invariant.left c.in-Some.g _ c.in-Some.ensures.steps;
       none = turn_more (λ (x : Fact). x ≡ c.args.fact → ⊥) c.loop-g.yielded c.in-Some.g c.loop-g.invariant.none differ;
     }
 
 pub returns-clause-no : goal.returns-clause-no
 returns-clause-no g c =
-    let says = g.T.Grounded.says in
-    let all = known (operator_at (says c.args.task.now) c.args.operator) c.args.first.now c.args.second.now in
+    let all = known_on c.args.task.now c.args.premises.now in
     let P = λ (x : Fact). x ≡ c.args.fact → ⊥ in
-    let none = turns_end all c.loop-g.yielded (known_left says c.loop-g.g-iterator) c.loop-g.invariant.left P c.in-None.ensures.steps.0 c.loop-g.invariant.none in
+    let none = turns_end all c.loop-g.yielded (known_left c.loop-g.g-iterator) c.loop-g.invariant.left P c.in-None.ensures.steps.0 c.loop-g.invariant.none in
     λ t w. All-contains P all c.args.fact none w refl
 
 pub loop-g-init : goal.loop-g-init
 loop-g-init g c =
-    let says = g.T.Grounded.says in
     record {
       left = rw c.into_iter-g-iterator.ensures.into_iter_gives (sym c.new-g-items.ensures);
       none = All-nil (λ (x : Fact). x ≡ c.args.fact → ⊥);

@@ -4,7 +4,7 @@ use Rattle.std.specs.Result.{result_err}
 use Rattle.sas_core.specs.declared.parts.Fact.{Fact}
 use Rattle.sas_core.specs.declared.parts.Parts.{Parts}
 use Rattle.sas_core.specs.Checks.{Check, first_fault, check}
-use Rattle.sas_grounded.specs.Grounded.{rule_at}
+use Rattle.sas_core.specs.Grounded.{rule_at}
 use Rattle.sas_meaning.specs.declared.layered.LayerFault.{LayerFault}
 use Rattle.sas_meaning.specs.declared.layered.LayerFault.TheVariants.{LayerOrder}
 use Rattle.sas_meaning.specs.LayerChecks.{looks_down}

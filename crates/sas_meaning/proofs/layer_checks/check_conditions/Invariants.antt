@@ -1,6 +1,6 @@
 -- The conditions so far pass.
 use Rattle.sas_core.specs.Checks.{check}
-use Rattle.sas_grounded.specs.Grounded.{rule_at}
+use Rattle.sas_core.specs.Grounded.{rule_at}
 use Rattle.sas_meaning.specs.declared.layered.LayerFault.TheVariants.{LayerOrder}
 use Rattle.sas_meaning.specs.LayerChecks.{looks_down}
 use Rattle.sas_meaning.proofs.NumberedChecks.{PassBefore}

@@ -6,12 +6,12 @@ use Rattle.sas_mutex.proofs.family.find_greatest.Goals as goal
 
 pub look_again-requires-clause-exist : goal.look_again-requires-clause-exist
 look_again-requires-clause-exist g c =
-    let p = g.T.Grounded.says c.args.task.now in
+    let p = c.args.indexed.now in
     subst (All (λ (place : ℕ). place < length p.groups)) (newly_all p c.args.family.now c.look_at_all.new.family c.requires.none) c.look_at_all.ensures.falls.exist
 
 pub returns-clause-greatest : goal.returns-clause-greatest
 returns-clause-greatest g c =
-    let p = g.T.Grounded.says c.args.task.now in
+    let p = c.args.indexed.now in
     greatest_in_the_end p c.args.family.now c.look_again.new.family c.requires.candidates
     (falls_then p c.args.family.now c.look_at_all.new.family c.look_again.new.family c.look_at_all.ensures.falls c.look_again.ensures.falls)
     c.look_again.ensures.rest

@@ -5,5 +5,5 @@ use Rattle.sas_mutex.proofs.family.has_plain.Given as goal
 
 abbrev pub invariant-loop-effect : goal.invariant-loop-effect
 invariant-loop-effect g l = record {
-  none : (effect : ℕ) → effect < l.effect → IsPlain (g.T.Grounded.says l.task) l.operator effect → ⊥;
+  none : (effect : ℕ) → effect < l.effect → IsPlain l.task l.operator effect → ⊥;
 }

@@ -9,14 +9,14 @@ use Rattle.sas_mutex.proofs.family.look_again.Given as goal
 abbrev pub invariant-loop-next : goal.invariant-loop-next
 invariant-loop-next g l = record {
   within : l.next ≤ length l.family.fallen.items;
-  falls : Falls (g.T.Grounded.says l.task) l.fn.family l.family;
-  room : HasRoom (g.T.Grounded.says l.task) l.family;
-  exist : All (λ (place : ℕ). place < length (g.T.Grounded.says l.task).groups) l.family.fallen.items;
-  clean : IsClean (g.T.Grounded.says l.task) l.marks;
-  looked : AreLookedAt (g.T.Grounded.says l.task) l.family l.looked;
-  since : (operator place : ℕ) → place < l.next → MentionsGroup (g.T.Grounded.says l.task) operator (get_or l.family.fallen.items place 0)
+  falls : Falls l.indexed l.fn.family l.family;
+  room : HasRoom l.indexed l.family;
+  exist : All (λ (place : ℕ). place < length l.indexed.groups) l.family.fallen.items;
+  clean : IsClean l.indexed l.marks;
+  looked : AreLookedAt l.indexed l.family l.looked;
+  since : (operator place : ℕ) → place < l.next → MentionsGroup l.indexed operator (get_or l.family.fallen.items place 0)
       → place < looked_at l.looked operator;
 }
 
 abbrev pub decreases-loop-next : goal.decreases-loop-next
-decreases-loop-next g l = length (g.T.Grounded.says l.task).groups - l.next
+decreases-loop-next g l = length l.indexed.groups - l.next

@@ -1,5 +1,11 @@
 -- One more effect is at rest: one without conditions was before, and stays so while others fall.
-use Rattle.std.proofs.Common.{below_more, arith}
+use Rattle.std.proofs.Common.{◌≡◌, length, subst, below_more, arith}
+use Rattle.sas_core.specs.declared.parts.Parts.{Parts}
+use Rattle.sas_core.specs.Grounded.{operator_at}
+use Rattle.sas_mutex.specs.Alone.{EffectKeepsEachAlone}
+use Rattle.sas_mutex.specs.Effects.{IsPlain}
+use Rattle.sas_mutex.specs.Falling.{HasRoom, Falls, newly, IsEffectAtRest}
+use Rattle.sas_mutex.specs.Marks.{IsClean}
 use Rattle.std.proofs.lemmas.Bool.{and_parts}
 use Rattle.sas_mutex.proofs.FallingGroups.{falls_then, effect_since, effect_now, effect_alone_still}
 use Rattle.sas_mutex.proofs.family.look_at.Goals as goal
@@ -7,35 +13,41 @@ use Rattle.sas_mutex.proofs.family.look_at.Goals.{then-not-is_plain, else-not-is
 
 pub loop-effect-preserved : goal.loop-effect-preserved
 loop-effect-preserved g c =
-    let p = g.T.Grounded.says c.args.task.now in
+    let p = c.args.indexed.now in
     let start = c.args.family.now in
     let before = c.loop-effect.family in
     let inv = c.loop-effect.invariant in
+    let operator = c.args.operator in
+    let effect = c.loop-effect.effect in
+    let is = c.indexed.view_is in
+    let count = subst (λ (q : Parts). c.effects-effect-end.result ≡ length (operator_at q c.args.operator).effects) c.indexed.view_is c.effects-effect-end.ensures in
     elim c.if-not-is_plain.branch [
       | then-not-is_plain w ↦
           (let after = w.look_at_effect-alone.new.family in
           let turn = w.look_at_effect-alone.ensures in
+          let falls = subst (λ (q : Parts). Falls q before after) is turn.falls in
           let both = and_parts c.loop-effect.alone w.look_at_effect-alone.result in
           rw (w.family-is, w.marks-is, w.alone-is) record {
-            falls = falls_then p start before after inv.falls turn.falls;
-            room = turn.room;
-            clean = turn.clean;
-            plain = λ k lt without. effect_since p start before after c.args.operator k c.requires.operator lt inv.falls turn.falls (inv.plain k lt without);
+            falls = falls_then p start before after inv.falls falls;
+            room = subst (λ (q : Parts). HasRoom q after) is turn.room;
+            clean = subst (λ (q : Parts). IsClean q w.look_at_effect-alone.new.marks) is turn.clean;
+            plain = λ k lt without. effect_since p start before after c.args.operator k c.requires.operator lt inv.falls falls (inv.plain k lt without);
             rest = below_more _ _
-                (λ k lt. effect_since p start before after c.args.operator k c.requires.operator (omega arith) inv.falls turn.falls (inv.rest k lt))
-                (effect_now p start before after c.args.operator c.loop-effect.effect inv.falls turn.falls turn.rest);
-            plain_alone = λ t k lt without. effect_alone_still p before after c.args.operator k turn.falls (inv.plain_alone (both t).0 k lt without);
+                (λ k lt. effect_since p start before after c.args.operator k c.requires.operator (omega (arith, count)) inv.falls falls (inv.rest k lt))
+                (effect_now p start before after c.args.operator c.loop-effect.effect inv.falls falls
+                (subst (λ (q : Parts). IsEffectAtRest q after.kept (newly before after) operator effect) is turn.rest));
+            plain_alone = λ t k lt without. effect_alone_still p before after c.args.operator k falls (inv.plain_alone (both t).0 k lt without);
             alone = λ t. below_more _ _
-                (λ k lt. effect_alone_still p before after c.args.operator k turn.falls (inv.alone (both t).0 k lt))
-                (turn.alone (both t).1);
+                (λ k lt. effect_alone_still p before after c.args.operator k falls (inv.alone (both t).0 k lt))
+                (subst (λ (q : Parts). EffectKeepsEachAlone q after.kept operator effect) is (turn.alone (both t).1));
           })
       | else-not-is_plain w ↦ rw (w.family-is, w.marks-is, w.alone-is) record {
         falls = inv.falls;
         room = inv.room;
         clean = inv.clean;
         plain = inv.plain;
-        rest = below_more _ _ inv.rest (inv.plain c.loop-effect.effect (omega arith) (c.is_plain.ensures.yes w.if-not-is_plain.false));
+        rest = below_more _ _ inv.rest (inv.plain effect (omega (arith, count)) (subst (λ (q : Parts). IsPlain q operator effect) is (c.is_plain.ensures.yes w.if-not-is_plain.false)));
         plain_alone = inv.plain_alone;
-        alone = λ t. below_more _ _ (inv.alone t) (inv.plain_alone t c.loop-effect.effect (omega arith) (c.is_plain.ensures.yes w.if-not-is_plain.false));
+        alone = λ t. below_more _ _ (inv.alone t) (inv.plain_alone t effect (omega (arith, count)) (subst (λ (q : Parts). IsPlain q operator effect) is (c.is_plain.ensures.yes w.if-not-is_plain.false)));
       }
     ]

@@ -8,17 +8,17 @@ use Rattle.sas_mutex.proofs.family.look_at_each.Goals.{then-as_slice-operator, e
 
 pub loop-operator-preserved : goal.loop-operator-preserved
 loop-operator-preserved g c =
-    let p = g.T.Grounded.says c.args.task.now in
+    let p = c.args.indexed.now in
     let start = c.args.family.now in
     let before = c.loop-operator.family in
     let looked = c.loop-operator.looked in
-    let operator = get_or c.args.operators.now c.loop-operator.operator-index 0 in
+    let operator = get_or c.args.fallen.now.operators.now c.loop-operator.operator-index 0 in
     let inv = c.loop-operator.invariant in
     elim c.if-as_slice-operator.branch [
       | then-as_slice-operator w ↦
           (let after = w.look_once.new.family in
           let turn = w.look_once.ensures in
-          let exists = All-get_or (λ (o : ℕ). o < length p.operators) c.args.operators.now c.loop-operator.operator-index 0 c.loop-operator-test.true c.requires.exist in
+          let exists = All-get_or (λ (o : ℕ). o < length p.operators) c.args.fallen.now.operators.now c.loop-operator.operator-index 0 c.loop-operator-test.true c.requires.exist in
           let below : operator < length looked = (let each = inv.looked.one_each in omega arith) in
           let looked' = w.look_once.new.looked in
           let earlier : looked_at looked operator ≤ length before.fallen.items =
@@ -35,7 +35,7 @@ loop-operator-preserved g c =
             };
             later = λ other. (let first = inv.later other in let then = later other in omega arith);
             past = below_more _ _
-                (λ k lt. (let was = inv.past k lt in let still = later (get_or c.args.operators.now k 0) in omega arith))
+                (λ k lt. (let was = inv.past k lt in let still = later (get_or c.args.fallen.now.operators.now k 0) in omega arith))
                 (let here = noted_now p before after looked looked' operator turn.falls below turn.rest turn.looked in
                 let grown = fallen_grow p start before inv.falls in omega arith);
           })
@@ -51,5 +51,5 @@ loop-operator-preserved g c =
 
 pub returns-clause-past : goal.returns-clause-past
 returns-clause-past g c =
-    All-from_get_or (λ (operator : ℕ). c.args.place < looked_at c.loop-operator.looked operator) c.args.operators.now 0
+    All-from_get_or (λ (operator : ℕ). c.args.fallen.now.place < looked_at c.loop-operator.looked operator) c.args.fallen.now.operators.now 0
     (λ k lt. c.loop-operator.invariant.past k (omega arith))

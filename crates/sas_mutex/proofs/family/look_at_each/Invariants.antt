@@ -6,10 +6,10 @@ use Rattle.sas_mutex.proofs.family.look_at_each.Given as goal
 
 abbrev pub invariant-loop-operator : goal.invariant-loop-operator
 invariant-loop-operator g l = record {
-  falls : Falls (g.T.Grounded.says l.task) l.fn.family l.family;
-  room : HasRoom (g.T.Grounded.says l.task) l.family;
-  clean : IsClean (g.T.Grounded.says l.task) l.marks;
-  looked : AreLookedAt (g.T.Grounded.says l.task) l.family l.looked;
+  falls : Falls l.indexed l.fn.family l.family;
+  room : HasRoom l.indexed l.family;
+  clean : IsClean l.indexed l.marks;
+  looked : AreLookedAt l.indexed l.family l.looked;
   later : (operator : ℕ) → looked_at l.fn.looked operator ≤ looked_at l.looked operator;
-  past : (k : ℕ) → k < l.operator-index → l.place < looked_at l.looked (get_or l.operators k 0);
+  past : (k : ℕ) → k < l.operator-index → l.fallen.place < looked_at l.looked (get_or l.fallen.operators.now k 0);
 }

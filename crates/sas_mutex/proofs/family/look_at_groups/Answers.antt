@@ -1,11 +1,12 @@
 -- One more group rests, and so in the end all that have the fact.
-use Rattle.std.proofs.Common.{ℕ, below_more, arith}
+use Rattle.std.proofs.Common.{ℕ, ◌<◌, length, subst, below_more, arith}
 use Rattle.std.specs.List.{Contains}
 use Rattle.std.proofs.lemmas.Bool.{and_parts}
 use Rattle.std.specs.Prelude.{◌↔◌}
 use Rattle.std.proofs.lemmas.List.Elements.{Contains-get_or}
-use Rattle.sas_grounded.specs.Grounded.{operator_at, effect_at}
+use Rattle.sas_core.specs.Grounded.{operator_at, effect_at}
 use Rattle.sas_groups.specs.Clashes.{sets}
+use Rattle.sas_mutex.specs.Firing.{EffectPlace, operator_of}
 use Rattle.sas_mutex.specs.Falling.{newly, RestsAt}
 use Rattle.sas_mutex.specs.Alone.{KeptAlone}
 use Rattle.sas_group_index.specs.Index.{HasFact}
@@ -17,9 +18,9 @@ use Rattle.sas_mutex.proofs.family.look_at_groups.Goals.{After-groups_of-groups}
 
 -- the groups that have the fact
 setting : (g : Over) (c : After-groups_of-groups g) → (place : ℕ)
-    → Contains c.groups_of-groups.result.now place ↔ HasFact (g.T.Grounded.says c.args.task.now) place (sets (effect_at (operator_at (g.T.Grounded.says c.args.task.now) c.args.operator) c.args.effect))
-setting g c = groups_setting (g.T.Grounded.says c.args.task.now) c.requires.ranged c.args.index.now c.args.operator c.args.effect
-    c.requires.index c.requires.operator c.requires.effect c.groups_of-groups.result.now c.effect_change-change.result c.effect_change-change.ensures c.groups_of-groups.ensures
+    → Contains c.groups_of-groups.result.now place ↔ HasFact c.args.firing.now.task place (sets (effect_at (operator_at c.args.firing.now.task c.args.firing.now.operator) c.args.firing.now.effect))
+setting g c = rw (← c.firing.view_is) (groups_setting c.firing.inside.task.now c.firing.invariant.0 c.firing.inside.index.now c.firing.inside.operator c.firing.inside.effect
+    c.firing.invariant.1 c.firing.invariant.2 c.firing.invariant.3 c.groups_of-groups.result.now c.effect_change-change.result c.effect_change-change.ensures c.groups_of-groups.ensures)
 
 pub look_at_group-alone-requires-clause-group : goal.look_at_group-alone-requires-clause-group
 look_at_group-alone-requires-clause-group g c =
@@ -33,19 +34,21 @@ look_at_group-alone-requires-clause-has g c =
 
 pub loop-group-preserved : goal.loop-group-preserved
 loop-group-preserved g c =
-    let p = g.T.Grounded.says c.args.task.now in
+    let p = c.args.firing.now.task in
     let start = c.args.family.now in
     let before = c.loop-group.family in
     let after = c.look_at_group-alone.new.family in
     let inv = c.loop-group.invariant in
     let turn = c.look_at_group-alone.ensures in
+    let operator = (subst (λ (s : EffectPlace). s.operator < length s.task.operators) c.firing.view_is c.firing.invariant.2) in
+    let effect = (subst (λ (s : EffectPlace). s.effect < length (operator_of s).effects) c.firing.view_is c.firing.invariant.3) in
     record {
       falls = falls_then p start before after inv.falls turn.falls;
       room = turn.room;
-      noted = turn.noted;
+      notes = turn.notes;
       rest = below_more _ _
-          (λ k lt. rests_later p start before after c.args.operator c.args.effect _ c.requires.operator c.requires.effect inv.falls turn.falls (inv.rest k lt))
-          (rests_now p start before after c.args.operator c.args.effect _ inv.falls turn.falls turn.rest);
+          (λ k lt. rests_later p start before after c.args.firing.now.operator c.args.firing.now.effect _ operator effect inv.falls turn.falls (inv.rest k lt))
+          (rests_now p start before after c.args.firing.now.operator c.args.firing.now.effect _ inv.falls turn.falls turn.rest);
       alone = λ t. let both = and_parts c.loop-group.alone c.look_at_group-alone.result t in below_more _ _
           (λ k lt w. inv.alone both.0 k lt (turn.falls.less _ w))
           (turn.alone both.1);
@@ -53,15 +56,15 @@ loop-group-preserved g c =
 
 pub returns-clause-alone : goal.returns-clause-alone
 returns-clause-alone g c =
-    let p = g.T.Grounded.says c.args.task.now in
+    let p = c.args.firing.now.task in
     let at_end = (goal.at.returns-clause-alone g c).After-groups_of-groups in
-    λ t place w has. at_item (KeptAlone p c.loop-group.family.kept c.args.operator c.args.effect) c.groups_of-groups.result.now place
+    λ t place w has. at_item (KeptAlone p c.loop-group.family.kept c.args.firing.now.operator c.args.firing.now.effect) c.groups_of-groups.result.now place
     (λ k lt. c.loop-group.invariant.alone t k (omega arith)) ((setting g at_end place).1 (record { exists = w.exists; among = has })) w
 
 pub returns-clause-rest : goal.returns-clause-rest
 returns-clause-rest g c =
-    let p = g.T.Grounded.says c.args.task.now in
+    let p = c.args.firing.now.task in
     let at_end = (goal.at.returns-clause-rest g c).After-groups_of-groups in
-    λ none place w has. (at_item (RestsAt p c.loop-group.family.kept (newly c.args.family.now c.loop-group.family) c.args.operator c.args.effect)
+    λ none place w has. (at_item (RestsAt p c.loop-group.family.kept (newly c.args.family.now c.loop-group.family) c.args.firing.now.operator c.args.firing.now.effect)
     c.groups_of-groups.result.now place (λ k lt. c.loop-group.invariant.rest k (omega arith))
     ((setting g at_end place).1 (record { exists = w.exists; among = has }))).keeps none w

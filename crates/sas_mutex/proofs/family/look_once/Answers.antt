@@ -1,10 +1,11 @@
 -- It is noted how many had fallen, or more than can have fallen.
-use Rattle.std.proofs.Common.{inl, inr, arith}
+use Rattle.std.proofs.Common.{subst, inl, inr, arith}
+use Rattle.sas_core.specs.WellRanged.{WellRanged}
 use Rattle.sas_mutex.proofs.family.look_once.Goals as goal
 use Rattle.sas_mutex.proofs.family.look_once.Goals.{then-alone, else-alone}
 
 pub returns-clause-looked : goal.returns-clause-looked
-returns-clause-looked g c = let few = c.requires.room.few in let ranged = c.variables.ensures.well_ranged.groups.count in record {
+returns-clause-looked g c = let few = c.requires.room.few in let ranged = (subst WellRanged c.indexed.view_is c.task.ensures.well_ranged).groups.count in record {
   when = c.if-alone.set;
   noted = c.set.ensures;
   later = elim c.if-alone.branch [

@@ -10,8 +10,8 @@ use Rattle.sas_mutex.proofs.Counting.{count_within}
 use Rattle.sas_mutex.proofs.Telling.{candidates_from}
 use Rattle.sas_mutex.proofs.joint.check_groups.Goals as goal
 
-pub find_greatest-requires-clause-room : goal.find_greatest-requires-clause-room
-find_greatest-requires-clause-room g c =
+pub judge-requires-clause-room : goal.judge-requires-clause-room
+judge-requires-clause-room g c =
     let family = c.in_ok-family in
     let same = family.ensures.one_each ∙ ap length c.as_slice.ensures ∙ c.in_ok-verdicts.ensures.one_each in
     let fewer = count_within family.family.kept in
@@ -23,8 +23,8 @@ find_greatest-requires-clause-room g c =
       none = subst (λ (groups : ℕ). IsOfNone groups family.family.none) (ap length c.as_slice.ensures ∙ c.in_ok-verdicts.ensures.one_each) family.ensures.of_none;
     }
 
-pub find_greatest-requires-clause-candidates : goal.find_greatest-requires-clause-candidates
-find_greatest-requires-clause-candidates g c =
+pub judge-requires-clause-candidates : goal.judge-requires-clause-candidates
+judge-requires-clause-candidates g c =
     let family = c.in_ok-family in
     let kept = family.family.kept in
     candidates_from _ c.in_ok-verdicts.verdicts kept c.in_ok-verdicts.ensures

@@ -3,4 +3,4 @@ use Rattle.sas_mutex.proofs.Telling.{FirstUpTo}
 use Rattle.sas_mutex.proofs.joint.first_verdicts.Given as goal
 
 abbrev pub invariant-loop-group : goal.invariant-loop-group
-invariant-loop-group g l = FirstUpTo (g.T.Grounded.says l.task) l.group l.verdicts
+invariant-loop-group g l = FirstUpTo l.task l.group l.verdicts

@@ -6,7 +6,7 @@ use Rattle.sas_mutex.proofs.joint.tell_breaking.Given as goal
 
 abbrev pub invariant-loop-operator : goal.invariant-loop-operator
 invariant-loop-operator g l = record {
-  so_far : AreVerdictsSoFar (g.T.Grounded.says l.task) l.fn.kept l.operator 0 l.verdicts;
+  so_far : AreVerdictsSoFar l.indexed l.fn.kept l.operator 0 l.verdicts;
   kept : l.kept ≡ l.fn.kept;
-  clean : IsClean (g.T.Grounded.says l.task) l.marks;
+  clean : IsClean l.indexed l.marks;
 }

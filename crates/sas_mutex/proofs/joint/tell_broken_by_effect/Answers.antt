@@ -4,12 +4,14 @@ use Rattle.std.specs.List.{Contains}
 use Rattle.std.specs.Prelude.{◌↔◌}
 use Rattle.std.proofs.lemmas.List.Elements.{Contains-get_or, All-contains}
 use Rattle.sas_core.specs.declared.parts.Fact.{Fact}
-use Rattle.sas_grounded.specs.Grounded.{operator_at, effect_at}
+use Rattle.sas_core.specs.Grounded.{operator_at, effect_at}
 use Rattle.sas_groups.specs.declared.verdict.Verdict.{Verdict}
 use Rattle.sas_groups.specs.Clashes.{sets, Clash}
 use Rattle.sas_groups.specs.Lists.{known}
 use Rattle.sas_mutex.specs.Effects.{IsKept}
 use Rattle.sas_group_index.specs.Index.{HasFact}
+use Rattle.sas_mutex.specs.Marks.{IsNoted, IsNotedFrom}
+use Rattle.sas_mutex.specs.Firing.{EffectPlace, operator_of, effect_of}
 use Rattle.sas_mutex.specs.Joint.{verdict_at, IsUntold, IsVerdictSoFar}
 use Rattle.sas_mutex.proofs.SetFacts.{groups_setting}
 use Rattle.sas_mutex.proofs.Telling.{next_effect, one_effect_more, so_far_by, told_already, clash_never_fires}
@@ -19,13 +21,13 @@ use Rattle.sas_mutex.proofs.joint.tell_broken_by_effect.Goals.{After-groups_of-g
 
 -- the groups that have the fact
 setting : (g : Over) (c : After-groups_of-groups g) → (place : ℕ)
-    → Contains c.groups_of-groups.result.now place ↔ HasFact (g.T.Grounded.says c.args.task.now) place (sets (effect_at (operator_at (g.T.Grounded.says c.args.task.now) c.args.operator) c.args.effect))
-setting g c = groups_setting (g.T.Grounded.says c.args.task.now) c.variables.ensures.well_ranged c.args.index.now c.args.operator c.args.effect
-    c.requires.index c.requires.operator c.requires.effect c.groups_of-groups.result.now c.effect_change-change.result c.effect_change-change.ensures c.groups_of-groups.ensures
+    → Contains c.groups_of-groups.result.now place ↔ HasFact c.args.firing.now.task place (sets (effect_at (operator_at c.args.firing.now.task c.args.firing.now.operator) c.args.firing.now.effect))
+setting g c = rw (← c.firing.view_is) (groups_setting c.firing.inside.task.now c.firing.invariant.0 c.firing.inside.index.now c.firing.inside.operator c.firing.inside.effect
+    c.firing.invariant.1 c.firing.invariant.2 c.firing.invariant.3 c.groups_of-groups.result.now c.effect_change-change.result c.effect_change-change.ensures c.groups_of-groups.ensures)
 
 -- each of them is a group of the task
 exist : (g : Over) (c : After-groups_of-groups g) (k d : ℕ) → k < length c.groups_of-groups.result.now
-    → get_or c.groups_of-groups.result.now k d < length (g.T.Grounded.says c.args.task.now).groups
+    → get_or c.groups_of-groups.result.now k d < length c.args.firing.now.task.groups
 exist g c k d lt = ((setting g c _).0 (Contains-get_or c.groups_of-groups.result.now k d lt)).exists
 
 pub some_untold-requires-clause-kept : goal.some_untold-requires-clause-kept
@@ -40,12 +42,12 @@ some_untold-requires-clause-verdicts g c =
 
 pub returns-then-not-some_untold-clause-so_far : goal.returns-then-not-some_untold-clause-so_far
 returns-then-not-some_untold-clause-so_far g c =
-    let p = g.T.Grounded.says c.args.task.now in
+    let p = c.args.firing.now.task in
     let kept = c.args.kept.now in
     let verdicts = c.args.verdicts.now in
     let a = (goal.at.returns-then-not-some_untold-clause-so_far g c).After-groups_of-groups in
-    next_effect p kept c.args.operator c.args.effect verdicts
-    (λ place has. told_already p kept c.args.operator c.args.effect place verdicts has.exists
+    next_effect p kept c.args.firing.now.operator c.args.firing.now.effect verdicts
+    (λ place has. told_already p kept c.args.firing.now.operator c.args.firing.now.effect place verdicts has.exists
     (λ untold. All-contains (λ (n : ℕ). IsUntold c.as_slice.result.now c.as_slice-2.result.now n → ⊥) c.groups_of-groups.result.now place
     (c.some_untold.ensures c.if-not-some_untold.true) ((setting g a place).1 has)
     (subst (λ (xs : List Bool). IsUntold xs c.as_slice-2.result.now place) (sym c.as_slice.ensures)
@@ -57,13 +59,34 @@ tell_groups-requires-clause-have g c =
     let a = (goal.at.tell_groups-requires-clause-have g c).After-groups_of-groups in
     λ k d lt. (setting g a _).0 (Contains-get_or c.groups_of-groups.result.now k d lt)
 
+pub tell_groups-requires-clause-notes : goal.tell_groups-requires-clause-notes
+tell_groups-requires-clause-notes g c =
+    let one_each = rw (← c.firing.view_is) at c.requires.one_each in
+    let p = c.firing.inside.task.now in
+    let o = operator_at p c.firing.inside.operator in
+    let kept = c.args.kept.now in
+    let marks = c.note_known.new.marks in
+    let same = c.effect_conditions.ensures in
+    rw (← c.firing.view_is) (record {
+      one_each = one_each;
+      noted = record {
+        are = record {
+          noted = subst (λ (conditions : List Fact). IsNoted p (known o conditions []) marks) same (c.note_known.ensures.noted c.if-not-note_known.true);
+          apart = λ clash. c.note_known.ensures.no c.if-not-note_known.true
+              (subst (λ (xs : List Bool). Clash (IsKept p xs) (known o c.effect_conditions.result.now [])) (sym c.as_slice-3.ensures)
+              (subst (λ (conditions : List Fact). Clash (IsKept p kept) (known o conditions [])) (sym same) clash));
+        };
+        from = subst (λ (conditions : List Fact). IsNotedFrom p (known o conditions []) marks) same c.note_known.ensures.from;
+      };
+    })
+
 pub returns-clause-so_far : goal.returns-clause-so_far
 returns-clause-so_far g c =
-    let p = g.T.Grounded.says c.args.task.now in
-    let o = operator_at p c.args.operator in
+    let p = c.args.firing.now.task in
+    let o = operator_at p c.args.firing.now.operator in
     let kept = c.args.kept.now in
-    let operator = c.args.operator in
-    let effect = c.args.effect in
+    let operator = c.args.firing.now.operator in
+    let effect = c.args.firing.now.effect in
     let a = (goal.at.returns-clause-so_far g c).After-groups_of-groups in
     elim c.if-not-note_known.branch [
       | then-not-note_known w ↦
@@ -72,9 +95,12 @@ returns-clause-so_far g c =
           (λ place has. All-contains (λ (n : ℕ). IsVerdictSoFar p kept operator (effect + 1) n (verdict_at after n)) c.groups_of-groups.result.now place
           w.tell_groups.ensures.told ((setting g a place).1 has)) w.tell_groups.ensures.so_far))
       | else-not-note_known w ↦
-          (let clash = subst (λ (xs : List Bool). Clash (IsKept p xs) (known o (effect_at o effect).conditions [])) c.as_slice-3.ensures
-          (subst (λ (conditions : List Fact). Clash (IsKept p c.as_slice-3.result.now) (known o conditions [])) c.effect_conditions-conditions.ensures
+          (let q = c.firing.inside.task.now in
+          let b = operator_at q c.firing.inside.operator in
+          let told = subst (λ (xs : List Bool). Clash (IsKept q xs) (known b (effect_at b c.firing.inside.effect).conditions [])) c.as_slice-3.ensures
+          (subst (λ (conditions : List Fact). Clash (IsKept q c.as_slice-3.result.now) (known b conditions [])) c.effect_conditions.ensures
           (c.note_known.ensures.yes w.if-not-note_known.false)) in
+          let clash = subst (λ (s : EffectPlace). Clash (IsKept s.task kept) (known (operator_of s) (effect_of s).conditions [])) c.firing.view_is told in
           rw w.verdicts-is (next_effect p kept operator effect c.args.verdicts.now
           (λ place has. so_far_by p kept operator effect operator (effect + 1) place (verdict_at c.args.verdicts.now place)
           (λ out. one_effect_more p kept operator effect place (λ _. clash_never_fires p kept place has.exists c.requires.one_each operator effect clash))

@@ -1,54 +1,58 @@
 -- The group is broken here, or stands as before.
-use Rattle.std.proofs.Common.{◌+◌, Bool, List, get_or, sym, ap, ◌∙◌, subst, arith}
+use Rattle.std.proofs.Common.{ℕ, ◌+◌, ◌<◌, length, Bool, List, get_or, sym, ap, ◌∙◌, subst, arith}
 use Rattle.std.proofs.lemmas.Bool.{both_ways}
 use Rattle.std.proofs.lemmas.List.{get_or-set_same}
 use Rattle.sas_groups.specs.declared.verdict.Verdict.{Verdict}
 use Rattle.sas_groups.specs.declared.verdict.Verdict.TheVariants.{Exclusive, Broken}
 use Rattle.sas_groups.specs.Verdicts.{IsJointVerdict}
 use Rattle.sas_mutex.specs.Effects.{family_of}
+use Rattle.sas_mutex.specs.Firing.{EffectPlace, operator_of}
 use Rattle.sas_mutex.specs.Joint.{verdict_at, IsUntold, IsVerdictSoFar, AreVerdictsSoFar}
 use Rattle.sas_mutex.proofs.Telling.{broken_here, one_told, so_far_by, one_effect_more, told_already}
 use Rattle.sas_mutex.proofs.joint.tell_group.Goals as goal
 use Rattle.sas_mutex.proofs.joint.tell_group.Given.{Over}
 use Rattle.sas_mutex.proofs.joint.tell_group.Goals.{After-set, else-is_untold-via-then-is_untold+else-not-keeps_with_itself, else-is_untold-via-else-is_untold}
 
-broken : (g : Over) (c : After-set g) → IsJointVerdict (g.T.Grounded.says c.args.task.now) c.args.group (Broken c.args.operator)
+broken : (g : Over) (c : After-set g) → IsJointVerdict c.args.firing.now.task c.args.group (Broken c.firing.inside.operator)
 broken g c =
-    let p = g.T.Grounded.says c.args.task.now in
+    let p = c.args.firing.now.task in
     let kept = c.args.kept.now in
     let place = c.args.group in
     let untold : IsUntold kept c.args.verdicts.now place = subst (λ (xs : List Bool). IsUntold xs c.args.verdicts.now place) c.as_slice.ensures
     (subst (λ (xs : List Verdict). IsUntold c.as_slice.result.now xs place) c.as_slice-2.ensures (c.is_untold.ensures.yes c.if-is_untold.true)) in
-    broken_here p kept c.args.operator c.args.effect place c.requires.operator c.requires.effect c.requires.has.among c.requires.greatest
+    let operator = (subst (λ (s : EffectPlace). s.operator < length s.task.operators) c.firing.view_is c.firing.invariant.2) in
+    let effect = (subst (λ (s : EffectPlace). s.effect < length (operator_of s).effects) c.firing.view_is c.firing.invariant.3) in
+    let same = ap (λ (s : EffectPlace). s.operator) c.firing.view_is in
+    subst (λ (n : ℕ). IsJointVerdict p place (Broken n)) (sym same) (broken_here p kept c.args.firing.now.operator c.args.firing.now.effect place operator effect c.requires.has.among c.requires.greatest
     (λ w. both_ways (family_of kept place) untold.fell w.chosen)
-    (subst (IsVerdictSoFar p kept c.args.operator c.args.effect place) untold.nothing (c.requires.so_far.are place c.requires.has.exists))
-    (c.keeps_with_itself.ensures.no c.if-not-keeps_with_itself.true)
+    (subst (IsVerdictSoFar p kept c.args.firing.now.operator c.args.firing.now.effect place) untold.nothing (c.requires.so_far.are place c.requires.has.exists))
+    (c.keeps_with_itself.ensures.no c.if-not-keeps_with_itself.true))
 
 pub returns-then-not-keeps_with_itself-clause-so_far :
     goal.returns-then-not-keeps_with_itself-clause-so_far
 returns-then-not-keeps_with_itself-clause-so_far g c =
-    let p = g.T.Grounded.says c.args.task.now in
-    subst (AreVerdictsSoFar p c.args.kept.now c.args.operator c.args.effect) (sym c.set.ensures)
-    (one_told p c.args.kept.now c.args.operator c.args.effect c.args.group c.args.verdicts.now (Broken c.args.operator) c.requires.has.exists c.requires.so_far
+    let p = c.args.firing.now.task in
+    subst (AreVerdictsSoFar p c.args.kept.now c.args.firing.now.operator c.args.firing.now.effect) (sym c.set.ensures)
+    (one_told p c.args.kept.now c.args.firing.now.operator c.args.firing.now.effect c.args.group c.args.verdicts.now (Broken c.firing.inside.operator) c.requires.has.exists c.requires.so_far
     (broken g (goal.at.returns-then-not-keeps_with_itself-clause-so_far g c).After-set))
 
 pub returns-then-not-keeps_with_itself-clause-told :
     goal.returns-then-not-keeps_with_itself-clause-told
 returns-then-not-keeps_with_itself-clause-told g c =
-    let p = g.T.Grounded.says c.args.task.now in
+    let p = c.args.firing.now.task in
     let len = c.requires.so_far.one_each in
     let exists = c.requires.has.exists in
-    subst (IsVerdictSoFar p c.args.kept.now c.args.operator (c.args.effect + 1) c.args.group)
+    subst (IsVerdictSoFar p c.args.kept.now c.args.firing.now.operator (c.args.firing.now.effect + 1) c.args.group)
     (sym (ap (λ (xs : List Verdict). get_or xs c.args.group Exclusive) c.set.ensures
-    ∙ get_or-set_same c.args.verdicts.now c.args.group (Broken c.args.operator) Exclusive (omega arith)))
+    ∙ get_or-set_same c.args.verdicts.now c.args.group (Broken c.firing.inside.operator) Exclusive (omega arith)))
     (broken g (goal.at.returns-then-not-keeps_with_itself-clause-told g c).After-set)
 
 pub returns-else-is_untold-clause-told : goal.returns-else-is_untold-clause-told
 returns-else-is_untold-clause-told g c =
-    let p = g.T.Grounded.says c.args.task.now in
+    let p = c.args.firing.now.task in
     let kept = c.args.kept.now in
-    let operator = c.args.operator in
-    let effect = c.args.effect in
+    let operator = c.args.firing.now.operator in
+    let effect = c.args.firing.now.effect in
     let place = c.args.group in
     let was = c.requires.so_far.are place c.requires.has.exists in
     elim c.else-is_untold.branch [

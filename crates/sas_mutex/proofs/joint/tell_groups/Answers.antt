@@ -3,15 +3,15 @@ use Rattle.std.proofs.Common.{ℕ, ◌+◌, Bool, List, get_or, sym, ◌∙◌, 
 use Rattle.std.proofs.lemmas.Bool.{cases_eq}
 use Rattle.std.proofs.lemmas.List.Elements.{All-from_get_or}
 use Rattle.sas_mutex.specs.Joint.{verdict_at, IsVerdictSoFar, AreVerdictsSoFar}
-use Rattle.sas_mutex.specs.Noting.{IsNotedFor}
+use Rattle.sas_mutex.specs.Noting.{IsNotedAt}
 use Rattle.sas_mutex.proofs.joint.tell_groups.Goals as goal
 
 pub loop-group-preserved : goal.loop-group-preserved
 loop-group-preserved g c =
-    let p = g.T.Grounded.says c.args.task.now in
+    let p = c.args.firing.now.task in
     let kept = c.args.kept.now in
-    let operator = c.args.operator in
-    let effect = c.args.effect in
+    let operator = c.args.firing.now.operator in
+    let effect = c.args.firing.now.effect in
     let groups = c.args.groups.now in
     let place = get_or groups c.loop-group.group-index 0 in
     let after = c.tell_group.new.verdicts in
@@ -27,11 +27,11 @@ loop-group-preserved g c =
           ])
           told;
       kept = turn.kept ∙ inv.kept;
-      noted = subst (λ (xs : List Bool). IsNotedFor p xs operator effect c.tell_group.new.marks) inv.kept turn.noted;
+      notes = subst (λ (xs : List Bool). IsNotedAt c.args.firing.now xs c.tell_group.new.marks) inv.kept turn.notes;
     }
 
 pub returns-clause-told : goal.returns-clause-told
 returns-clause-told g c =
-    let p = g.T.Grounded.says c.args.task.now in
-    All-from_get_or (λ (place : ℕ). IsVerdictSoFar p c.args.kept.now c.args.operator (c.args.effect + 1) place (verdict_at c.loop-group.verdicts place)) c.args.groups.now 0
+    let p = c.args.firing.now.task in
+    All-from_get_or (λ (place : ℕ). IsVerdictSoFar p c.args.kept.now c.args.firing.now.operator (c.args.firing.now.effect + 1) place (verdict_at c.loop-group.verdicts place)) c.args.groups.now 0
     (λ k lt. c.loop-group.invariant.told k (omega arith))

@@ -1,9 +1,8 @@
 -- One more fact is forgotten.
 use Rattle.std.proofs.Common.{arith, length}
 use Rattle.std.proofs.lemmas.List.Elements.{All-contains, All-weaker}
-use Rattle.sas_grounded.specs.Grounded.{operator_at}
 use Rattle.sas_core.specs.Variables.{FactExists}
-use Rattle.sas_groups.specs.Lists.{known, known_left}
+use Rattle.sas_groups.specs.Lists.{known_on, known_left}
 use Rattle.sas_groups.proofs.Turns.{turn_has, turn_left, turn_more, turns_end}
 use Rattle.sas_mutex.specs.Noting.{IsForgotten}
 use Rattle.sas_mutex.proofs.TaskFacts.{known_exist, variable_below, groups_below}
@@ -12,38 +11,35 @@ use Rattle.sas_mutex.proofs.marks.forget_known.Goals as goal
 
 pub forget-requires-clause-value : goal.forget-requires-clause-value
 forget-requires-clause-value g c =
-    let says = g.T.Grounded.says in
-    let p = says c.args.task.now in
-    let all = known (operator_at p c.args.operator) c.args.first.now c.args.second.now in
-    let within = turn_has all c.loop-fact.yielded (known_left says c.loop-fact.fact-iterator) c.loop-fact.invariant.left c.in-Some.fact _ c.in-Some.ensures.steps in
+    let p = c.args.task.now in
+    let all = known_on p c.args.premises.now in
+    let within = turn_has all c.loop-fact.yielded (known_left c.loop-fact.fact-iterator) c.loop-fact.invariant.left c.in-Some.fact _ c.in-Some.ensures.steps in
     let below = variable_below p c.in-Some.fact (All-contains (FactExists p.variables) all c.in-Some.fact
-    (known_exist p c.requires.ranged c.args.operator c.requires.operator c.args.first.now c.args.second.now c.requires.first c.requires.second) within) in
+    (known_exist p c.task.ensures.well_ranged c.args.premises.now.operator c.requires.operator c.args.premises.now.first.now c.args.premises.now.second.now c.requires.first c.requires.second) within) in
     let wide = c.loop-fact.invariant.from.wide.variables in
     omega arith
 
 pub forget-requires-clause-groups : goal.forget-requires-clause-groups
 forget-requires-clause-groups g c =
-    let says = g.T.Grounded.says in
-    let p = says c.args.task.now in
-    let all = known (operator_at p c.args.operator) c.args.first.now c.args.second.now in
-    let within = turn_has all c.loop-fact.yielded (known_left says c.loop-fact.fact-iterator) c.loop-fact.invariant.left c.in-Some.fact _ c.in-Some.ensures.steps in
+    let p = c.args.task.now in
+    let all = known_on p c.args.premises.now in
+    let within = turn_has all c.loop-fact.yielded (known_left c.loop-fact.fact-iterator) c.loop-fact.invariant.left c.in-Some.fact _ c.in-Some.ensures.steps in
     groups_below p c.args.index.now c.in-Some.fact (length c.loop-fact.marks.groups) c.requires.index (All-contains (FactExists p.variables) all c.in-Some.fact
-    (known_exist p c.requires.ranged c.args.operator c.requires.operator c.args.first.now c.args.second.now c.requires.first c.requires.second) within)
+    (known_exist p c.task.ensures.well_ranged c.args.premises.now.operator c.requires.operator c.args.premises.now.first.now c.args.premises.now.second.now c.requires.first c.requires.second) within)
     c.loop-fact.invariant.from.wide.groups
 
 pub loop-fact-preserved : goal.loop-fact-preserved
 loop-fact-preserved g c =
-    let says = g.T.Grounded.says in
-    let p = says c.args.task.now in
-    let all = known (operator_at p c.args.operator) c.args.first.now c.args.second.now in
-    let left = known_left says c.loop-fact.fact-iterator in
+    let p = c.args.task.now in
+    let all = known_on p c.args.premises.now in
+    let left = known_left c.loop-fact.fact-iterator in
     let inv = c.loop-fact.invariant in
     let fact = c.in-Some.fact in
     let old = c.loop-fact.marks in
     let new = c.forget.new.marks in
     let within = turn_has all c.loop-fact.yielded left inv.left fact _ c.in-Some.ensures.steps in
     let exists = All-contains (FactExists p.variables) all fact
-    (known_exist p c.requires.ranged c.args.operator c.requires.operator c.args.first.now c.args.second.now c.requires.first c.requires.second) within in
+    (known_exist p c.task.ensures.well_ranged c.args.premises.now.operator c.requires.operator c.args.premises.now.first.now c.args.premises.now.second.now c.requires.first c.requires.second) within in
     record {
       left = turn_left all c.loop-fact.yielded left inv.left fact _ c.in-Some.ensures.steps;
       came = turn_more (IsForgotten p new) c.loop-fact.yielded fact
@@ -54,9 +50,8 @@ loop-fact-preserved g c =
 
 pub returns : goal.returns
 returns g c =
-    let says = g.T.Grounded.says in
-    let p = says c.args.task.now in
-    let all = known (operator_at p c.args.operator) c.args.first.now c.args.second.now in
+    let p = c.args.task.now in
+    let all = known_on p c.args.premises.now in
     let inv = c.loop-fact.invariant in
     clean_in_the_end p all c.loop-fact.marks inv.from
-    (turns_end all c.loop-fact.yielded (known_left says c.loop-fact.fact-iterator) inv.left (IsForgotten p c.loop-fact.marks) c.in-None.ensures.steps.0 inv.came)
+    (turns_end all c.loop-fact.yielded (known_left c.loop-fact.fact-iterator) inv.left (IsForgotten p c.loop-fact.marks) c.in-None.ensures.steps.0 inv.came)

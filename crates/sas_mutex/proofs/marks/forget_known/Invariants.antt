@@ -1,15 +1,14 @@
 -- Nothing is noted of those that came.
 use Rattle.std.proofs.Common.{◌≡◌, ◌++◌}
 use Rattle.std.specs.List.{All}
-use Rattle.sas_grounded.specs.Grounded.{operator_at}
-use Rattle.sas_groups.specs.Lists.{known, known_left}
+use Rattle.sas_groups.specs.Lists.{known_on, known_left}
 use Rattle.sas_mutex.specs.Marks.{IsNotedFrom}
 use Rattle.sas_mutex.specs.Noting.{IsForgotten}
 use Rattle.sas_mutex.proofs.marks.forget_known.Given as goal
 
 abbrev pub invariant-loop-fact : goal.invariant-loop-fact
 invariant-loop-fact g l = record {
-  left : known (operator_at (g.T.Grounded.says l.task) l.operator) l.first l.second ≡ l.yielded ++ known_left g.T.Grounded.says l.fact-iterator;
-  came : All (IsForgotten (g.T.Grounded.says l.task) l.marks) l.yielded;
-  from : IsNotedFrom (g.T.Grounded.says l.task) (known (operator_at (g.T.Grounded.says l.task) l.operator) l.first l.second) l.marks;
+  left : known_on l.task l.fn.premises ≡ l.yielded ++ known_left l.fact-iterator;
+  came : All (IsForgotten l.task l.marks) l.yielded;
+  from : IsNotedFrom l.task (known_on l.task l.fn.premises) l.marks;
 }

@@ -1,4 +1,4 @@
-use Rattle.std.proofs.Common.{refl, ◌≡◌, ◌≢◌, ◌≤◌, ◌+◌, ◌++◌, ℕ, List, length, ap, subst, ◌∙◌, sym, arith, ◌⊎◌, inl, inr, take, Result, Ok, Err, None, Some, Option}
+use Rattle.std.proofs.Common.{rules, refl, ◌≡◌, ◌≢◌, ◌≤◌, ◌+◌, ◌++◌, ℕ, List, length, ap, subst, ◌∙◌, sym, arith, ◌⊎◌, inl, inr, take, Result, Ok, Err, None, Some, Option}
 use Rattle.std.specs.Prelude.{IsTrue}
 use Rattle.std.specs.Io.KnownBytes.{Consumes, IsAtEnd}
 use Rattle.std.proofs.KnownBytes.{Consumes-trans, Consumes-kept}
@@ -67,18 +67,20 @@ returns-then-taken-eq0 g c =
     let whole : Consumes _ _ b = subst (Consumes _ _) (ap (λ (n : ℕ). b ++ take n c.take.new.buffer) c.if-taken-eq0.true ∙ append-nil b) (Consumes-trans _ _ _ b _ v.read.1 c.in-Ok.ensures.bytes.0) in
     ended_so g.M.Machine.led_by g.M.Machine.ended g.M.Machine.rejects g.R.Read.remaining c.args.limit _ _ b c.loop-n.reader c.finish.result c.finish.ensures v.read.2 v.fault v.limit whole (c.in-Ok.ensures.bytes.1 c.if-taken-eq0.true (omega (arith, c.take.auto.buffer))) (λ t. let e = c.in-Ok.ensures.note.1 t in cc)
 
-pub returns-in-Err-feed : goal.returns-in-Err-feed
-returns-in-Err-feed g c =
+pub returns-in_err-feed : goal.returns-in_err-feed
+returns-in_err-feed g c =
     let v = c.loop-n.invariant in
     let b = v.read.0 in
-    let f = c.in-Err-feed.fault in
+    let f = c.in_err-feed.field-0.0 in
     let piece = take c.in-Ok.n c.take.new.buffer in
-    let s = c.in-Err-feed.ensures.stands b v.read.2 in
-    let not_read : f.kind ≢ kinds.Read = λ e. (c.in-Err-feed.ensures.kind v.fault).1 e in
-    record {
+    let s = c.in_err-feed.ensures.stands b v.read.2 in
+    let not_read : f.kind ≢ kinds.Read = λ e. (c.in_err-feed.ensures.kind v.fault).1 e in
+    let same : c.from_residual.result ≡ Err f = search rules in
+    let was : c.feed.result ≡ Err f = search rules in
+    subst (FeedsMachine g.M.Machine.led_by g.M.Machine.ended g.M.Machine.rejects g.R.Read.remaining c.args.limit c.args.device.now _) (sym same) (record {
       at_end = tt;
       reached = tt;
-      fault = λ ne. (b ++ piece, Consumes-trans _ _ _ b piece v.read.1 c.in-Ok.ensures.bytes.0, faulty (subst (λ (l : ℕ). FaultIn g.M.Machine.led_by g.M.Machine.ended g.M.Machine.rejects l (b ++ piece) f) (c.feed.ensures.limit ∙ v.limit) (fault_of g.M.Machine.led_by g.M.Machine.ended g.M.Machine.rejects _ f (b ++ piece) (answer_err c.feed.new.self.fault f (sym c.feed.ensures.answer ∙ c.in-Err-feed.is)) s ne)) not_read);
-      memory = λ e. (b, piece, Consumes-trans _ _ _ b piece v.read.1 c.in-Ok.ensures.bytes.0, subst (λ (l : ℕ). LineIsDue g.M.Machine.led_by g.M.Machine.ended l b piece) v.limit (c.in-Err-feed.ensures.memory v.fault e b v.read.2));
+      fault = λ ne. (b ++ piece, Consumes-trans _ _ _ b piece v.read.1 c.in-Ok.ensures.bytes.0, faulty (subst (λ (l : ℕ). FaultIn g.M.Machine.led_by g.M.Machine.ended g.M.Machine.rejects l (b ++ piece) f) (c.feed.ensures.limit ∙ v.limit) (fault_of g.M.Machine.led_by g.M.Machine.ended g.M.Machine.rejects _ f (b ++ piece) (answer_err c.feed.new.self.fault f (sym c.feed.ensures.answer ∙ was)) s ne)) not_read);
+      memory = λ e. (b, piece, Consumes-trans _ _ _ b piece v.read.1 c.in-Ok.ensures.bytes.0, subst (λ (l : ℕ). LineIsDue g.M.Machine.led_by g.M.Machine.ended l b piece) v.limit (c.in_err-feed.ensures.memory v.fault e b v.read.2));
       note = (λ e. absurd (not_read e), λ t. let e = c.in-Ok.ensures.note.1 t in absurd cc);
-    }
+    })

@@ -5,6 +5,6 @@ use Rattle.sas_run.proofs.plan_check.cost_of.Given as goal
 
 abbrev pub invariant-loop-operator : goal.invariant-loop-operator
 invariant-loop-operator g l = record {
-  so_far : l.sum + cost_of_all (g.T.Grounded.says l.task) (drop l.operator-index l.operators) ≡ cost_of_all (g.T.Grounded.says l.task) l.operators;
+  so_far : l.sum + cost_of_all l.task (drop l.operator-index l.operators) ≡ cost_of_all l.task l.operators;
   small : l.sum ≤ l.operator-index * 2 ^ 32;
 }

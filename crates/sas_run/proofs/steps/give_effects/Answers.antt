@@ -1,47 +1,47 @@
 -- One more effect has given its value, if it fires.
 use Rattle.std.proofs.Common.{◌≡◌, ◌+◌, sym, subst, arith, rules}
 use Rattle.std.specs.Prelude.{slice_index}
-use Rattle.sas_grounded.specs.declared.grounded.Change.{Change}
-use Rattle.sas_grounded.specs.Grounded.{operator_at}
+use Rattle.sas_core.specs.declared.grounded.Change.{Change}
+use Rattle.sas_core.specs.Grounded.{operator_at}
 use Rattle.sas_meaning.specs.States.{AllHold}
 use Rattle.sas_run.specs.Given.{IsGiven, IsGivenTo, Gives}
 use Rattle.sas_run.proofs.Ranges.{effect_fits, effect_within}
 use Rattle.sas_run.proofs.Giving.{given_on_effects, gives_nothing, gives_one_more}
 use Rattle.sas_run.proofs.steps.give_effects.Goals as goal
-use Rattle.sas_run.proofs.steps.give_effects.Goals.{then-all_hold+else-not-give, else-all_hold}
+use Rattle.sas_run.proofs.steps.give_effects.Goals.{then-holds_all+else-not-give, else-holds_all}
 
 pub returns-then-not-give-clause-given_to : goal.returns-then-not-give-clause-given_to
 returns-then-not-give-clause-given_to g c =
-    let p = g.T.Grounded.says c.args.task.now in
+    let p = c.args.task.now in
     let o = operator_at p c.args.operator in
     let n = c.loop-effect.effect in
     let same : c.give.new.given ≡ c.loop-effect.given = search rules in
     subst (λ given. IsGivenTo p o given) (sym same)
-    (given_on_effects p c.args.state.now o n c.loop-effect.given c.loop-effect.invariant (omega arith) (effect_fits p c.requires.ranged c.args.operator c.requires.operator))
+    (given_on_effects p c.args.state.now o n c.loop-effect.given c.loop-effect.invariant (omega arith) (effect_fits p c.task.ensures.well_ranged c.args.operator c.requires.operator))
 
 pub loop-effect-preserved : goal.loop-effect-preserved
 loop-effect-preserved g c =
-    let p = g.T.Grounded.says c.args.task.now in
+    let p = c.args.task.now in
     let s = c.args.state.now in
     let o = operator_at p c.args.operator in
     let n = c.loop-effect.effect in
     let given = c.loop-effect.given in
     let inv = c.loop-effect.invariant in
-    elim c.if-all_hold.branch [
-      | then-all_hold+else-not-give w ↦ subst (λ after. IsGiven p s o (n + 1) after) (sym w.given-is)
-          (gives_one_more p s o n given inv (effect_within p c.requires.ranged c.args.operator c.requires.operator n (omega arith))
-          (subst (AllHold (slice_index s)) c.effect_conditions.ensures (c.all_hold.ensures.0 w.if-all_hold.true)) w.give.new.given
+    elim c.if-holds_all.branch [
+      | then-holds_all+else-not-give w ↦ subst (λ after. IsGiven p s o (n + 1) after) (sym w.given-is)
+          (gives_one_more p s o n given inv (effect_within p c.task.ensures.well_ranged c.args.operator c.requires.operator n (omega arith))
+          (subst (AllHold (slice_index s)) c.effect_conditions.ensures (c.holds_all.ensures.0 w.if-holds_all.true)) w.give.new.given
           (subst (λ (change : Change). Gives given change.var change.new w.give.new.given) w.effect_change-change.ensures (w.give.ensures.yes w.if-not-give.false)))
-      | else-all_hold w ↦ subst (λ after. IsGiven p s o (n + 1) after) (sym w.given-is)
+      | else-holds_all w ↦ subst (λ after. IsGiven p s o (n + 1) after) (sym w.given-is)
           (gives_nothing p s o n given inv (λ fires.
-          (let hold = c.all_hold.ensures.1 (subst (AllHold (slice_index s)) (sym c.effect_conditions.ensures) fires) in let not = w.if-all_hold.false in absurd cc)))
+          (let hold = c.holds_all.ensures.1 (subst (AllHold (slice_index s)) (sym c.effect_conditions.ensures) fires) in let not = w.if-holds_all.false in absurd cc)))
     ]
 
 pub returns-clause-given_to : goal.returns-clause-given_to
 returns-clause-given_to g c =
-    let p = g.T.Grounded.says c.args.task.now in
+    let p = c.args.task.now in
     let o = operator_at p c.args.operator in
-    given_on_effects p c.args.state.now o c.loop-effect.effect c.loop-effect.given c.loop-effect.invariant (omega arith) (effect_fits p c.requires.ranged c.args.operator c.requires.operator)
+    given_on_effects p c.args.state.now o c.loop-effect.effect c.loop-effect.given c.loop-effect.invariant (omega arith) (effect_fits p c.task.ensures.well_ranged c.args.operator c.requires.operator)
 
 pub returns-then-not-give-clause-some : goal.returns-then-not-give-clause-some
 returns-then-not-give-clause-some g c = search rules

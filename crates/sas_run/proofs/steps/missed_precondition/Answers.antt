@@ -4,7 +4,7 @@ use Rattle.std.specs.Prelude.{slice_index}
 use Rattle.std.specs.List.{All}
 use Rattle.std.proofs.lemmas.List.Elements.{All-nil, All-append, All-head, All-push, All-rest}
 use Rattle.sas_core.specs.declared.parts.Fact.{Fact}
-use Rattle.sas_grounded.specs.Grounded.{operator_at}
+use Rattle.sas_core.specs.Grounded.{operator_at}
 use Rattle.sas_meaning.specs.States.{Holds}
 use Rattle.sas_meaning.specs.Steps.{preconditions}
 use Rattle.sas_run.proofs.Ranges.{preconditions_within}
@@ -13,7 +13,7 @@ use Rattle.sas_run.proofs.steps.missed_precondition.Goals as goal
 
 pub loop-fact-init : goal.loop-fact-init
 loop-fact-init g c =
-    let p = g.T.Grounded.says c.args.task.now in
+    let p = c.args.task.now in
     let all = preconditions (operator_at p c.args.operator) in
     let is : c.into_iter-fact-iterator.result ≡ all = c.into_iter-fact-iterator.ensures.into_iter_gives ∙ c.new-fact-items.ensures in
     record {
@@ -21,7 +21,7 @@ loop-fact-init g c =
       hold = All-nil (Holds (slice_index c.args.state.now));
       within = subst (All (λ (f : Fact). f.var < length c.args.state.now)) (sym is)
           (subst (λ n. All (λ (f : Fact). f.var < n) all) (sym c.requires.state.one_each)
-          (preconditions_within p c.variables.ensures.well_ranged c.args.operator c.requires.operator));
+          (preconditions_within p c.task.ensures.well_ranged c.args.operator c.requires.operator));
     }
 
 pub value-requires : goal.value-requires
@@ -31,7 +31,7 @@ value-requires g c =
 
 pub returns-then-value-fact-clause-some : goal.returns-then-value-fact-clause-some
 returns-then-value-fact-clause-some g c =
-    missed_next (slice_index c.args.state.now) (preconditions (operator_at (g.T.Grounded.says c.args.task.now) c.args.operator))
+    missed_next (slice_index c.args.state.now) (preconditions (operator_at c.args.task.now c.args.operator))
     c.loop-fact.yielded c.loop-fact.fact-iterator _ c.in-Some.fact c.loop-fact.invariant.left c.loop-fact.invariant.hold c.in-Some.ensures.steps
     (λ e. c.if-value-fact.true (c.value.ensures ∙ e))
 

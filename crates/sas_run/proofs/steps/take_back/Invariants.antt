@@ -1,11 +1,11 @@
 -- What was given to the variables of the effects so far is taken back.
 use Rattle.std.proofs.Common.{◌≡◌, ℕ, ◌<◌, None}
-use Rattle.sas_grounded.specs.Grounded.{operator_at, effect_at}
+use Rattle.sas_core.specs.Grounded.{operator_at, effect_at}
 use Rattle.sas_run.specs.Given.{given_to, IsGivenTo}
 use Rattle.sas_run.proofs.steps.take_back.Given as goal
 
 abbrev pub invariant-loop-effect : goal.invariant-loop-effect
 invariant-loop-effect g l = record {
-  on_effects : IsGivenTo (g.T.Grounded.says l.task) (operator_at (g.T.Grounded.says l.task) l.operator) l.given;
-  taken : (k : ℕ) → k < l.effect → given_to l.given (effect_at (operator_at (g.T.Grounded.says l.task) l.operator) k).var ≡ None;
+  on_effects : IsGivenTo l.task (operator_at l.task l.operator) l.given;
+  taken : (k : ℕ) → k < l.effect → given_to l.given (effect_at (operator_at l.task l.operator) k).var ≡ None;
 }

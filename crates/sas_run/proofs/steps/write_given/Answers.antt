@@ -1,8 +1,8 @@
 -- What is given to one more variable is written and taken back.
 use Rattle.std.proofs.Common.{◌≡◌, ◌<◌, length, set, None, Some, sym, ap, subst, ◌∙◌, inl, inr, arith}
 use Rattle.std.proofs.lemmas.Bool.{cases_eq}
-use Rattle.sas_grounded.specs.declared.grounded.Change.{Change}
-use Rattle.sas_grounded.specs.Grounded.{operator_at, effect_at}
+use Rattle.sas_core.specs.declared.grounded.Change.{Change}
+use Rattle.sas_core.specs.Grounded.{operator_at, effect_at}
 use Rattle.sas_meaning.proofs.Forced.{state_set}
 use Rattle.sas_run.specs.Given.{given_to}
 use Rattle.sas_run.proofs.Ranges.{effect_within}
@@ -12,7 +12,7 @@ use Rattle.sas_run.proofs.steps.write_given.Goals.{in-Some, in_default}
 
 pub loop-effect-preserved : goal.loop-effect-preserved
 loop-effect-preserved g c =
-    let p = g.T.Grounded.says c.args.task.now in
+    let p = c.args.task.now in
     let o = operator_at p c.args.operator in
     let n = c.loop-effect.effect in
     let s = c.loop-effect.state in
@@ -20,7 +20,7 @@ loop-effect-preserved g c =
     let inv = c.loop-effect.invariant in
     let v = c.effect_change-var.result.var in
     let on : v ≡ (effect_at o n).var = ap (λ (change : Change). change.var) c.effect_change-var.ensures in
-    let exists : v < length p.variables = subst (λ x. x < length p.variables) (sym on) (effect_within p c.requires.ranged c.args.operator c.requires.operator n (omega arith)) in
+    let exists : v < length p.variables = subst (λ x. x < length p.variables) (sym on) (effect_within p c.task.ensures.well_ranged c.args.operator c.requires.operator n (omega arith)) in
     let read : given_to given v ≡ given_to c.as_slice.result.now v = ap (λ list. given_to list v) (sym c.as_slice.ensures) in
     elim c.match-as_slice-var.branch [
       | in-Some w ↦

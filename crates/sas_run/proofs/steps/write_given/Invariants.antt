@@ -1,14 +1,14 @@
 -- What was given to the variables of the effects so far is written and taken back.
 use Rattle.std.proofs.Common.{◌≡◌, ℕ, ◌<◌, None}
-use Rattle.sas_grounded.specs.Grounded.{operator_at, effect_at}
+use Rattle.sas_core.specs.Grounded.{operator_at, effect_at}
 use Rattle.sas_core.specs.Variables.{IsState}
 use Rattle.sas_run.specs.Given.{given_to, value_after, IsGivenTo}
 use Rattle.sas_run.proofs.steps.write_given.Given as goal
 
 abbrev pub invariant-loop-effect : goal.invariant-loop-effect
 invariant-loop-effect g l = record {
-  state : IsState (g.T.Grounded.says l.task).variables l.state;
-  on_effects : IsGivenTo (g.T.Grounded.says l.task) (operator_at (g.T.Grounded.says l.task) l.operator) l.given;
-  taken : (k : ℕ) → k < l.effect → given_to l.given (effect_at (operator_at (g.T.Grounded.says l.task) l.operator) k).var ≡ None;
+  state : IsState l.task.variables l.state;
+  on_effects : IsGivenTo l.task (operator_at l.task l.operator) l.given;
+  taken : (k : ℕ) → k < l.effect → given_to l.given (effect_at (operator_at l.task l.operator) k).var ≡ None;
   written : (var : ℕ) → value_after l.given l.state var ≡ value_after l.fn.given l.fn.state var;
 }

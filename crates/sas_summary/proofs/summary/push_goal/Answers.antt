@@ -1,6 +1,6 @@
 use Rattle.std.proofs.Common.{arith}
 use Rattle.std.proofs.lemmas.Result.{err_from_is_err_and}
-use Rattle.sas_summary.proofs.Putting.{item_puts, no_failure}
+use Rattle.sas_output.proofs.Putting.{item_puts, no_failure}
 use Rattle.sas_summary.proofs.Summaries.{goal_text, goal_whole, goal_breaks}
 use Rattle.sas_summary.proofs.summary.push_goal.Goals as goal
 

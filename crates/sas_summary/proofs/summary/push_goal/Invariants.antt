@@ -1,5 +1,5 @@
 use Rattle.std.proofs.Common.{◌≡◌, take, false, flat_map}
-use Rattle.sas_summary.specs.Pieces.{Puts}
+use Rattle.sas_output.specs.Pieces.{Puts}
 use Rattle.sas_summary.proofs.Summaries.{goal_text}
 use Rattle.sas_summary.proofs.summary.push_goal.Given as goal
 

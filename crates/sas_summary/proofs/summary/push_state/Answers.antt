@@ -1,6 +1,6 @@
 use Rattle.std.proofs.Common.{arith}
 use Rattle.std.proofs.lemmas.Result.{err_from_is_err_and}
-use Rattle.sas_summary.proofs.Putting.{no_failure}
+use Rattle.sas_output.proofs.Putting.{no_failure}
 use Rattle.sas_summary.proofs.Summaries.{initial_whole, initial_puts, initial_breaks}
 use Rattle.sas_summary.proofs.summary.push_state.Goals as goal
 

@@ -1,6 +1,6 @@
 use Rattle.std.proofs.Common.{◌≡◌, take, false, flat_map}
 use Rattle.std.specs.List.{enumerate_from}
-use Rattle.sas_summary.specs.Pieces.{Puts}
+use Rattle.sas_output.specs.Pieces.{Puts}
 use Rattle.sas_summary.proofs.Summaries.{initial_text}
 use Rattle.sas_summary.proofs.summary.push_state.Given as goal
 

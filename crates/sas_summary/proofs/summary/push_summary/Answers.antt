@@ -1,6 +1,6 @@
 use Rattle.std.proofs.Common.{[], append-nil}
 use Rattle.std.proofs.lemmas.Result.{err_from_is_err_and}
-use Rattle.sas_summary.proofs.Putting.{breaks_with_more, puts_then, puts_then_breaks, puts_then_either}
+use Rattle.sas_output.proofs.Putting.{breaks_with_more, puts_then, puts_then_breaks, puts_then_either}
 use Rattle.sas_summary.proofs.summary.push_summary.Goals as goal
 
 pub returns-in_err-push-clause-puts : goal.returns-in_err-push-clause-puts

@@ -1,15 +1,17 @@
-use Rattle.std.proofs.Common.{◌≡◌, ◌-◌, ◌^◌, List, ℕ, length, arith, ap, ◌∙◌}
+use Rattle.std.proofs.Common.{◌≡◌, ◌-◌, ◌^◌, List, ℕ, length, arith, ap, ◌∙◌, sym, subst, rules, Err}
 use Rattle.std.specs.Prelude.{min}
 use Rattle.sas_core.specs.Numbers.{IsNumber}
 use Rattle.sas_core.specs.WellRanged.{WellRanged}
 use Rattle.sas_task_reader.specs.declared.task_outline.Seen.{Seen}
-use Rattle.sas_task_reader.specs.Outline.{outline_of}
+use Rattle.sas_flat.specs.Outlines.{outline_of}
+use Rattle.sas_task_reader.specs.Outline.{OutlineOf}
 use Rattle.sas_task_reader.specs.TaskOutline.{outline_in, seen}
+use Rattle.sas_reader.specs.Devices.{ReadsAll}
 use Rattle.sas_reader.specs.declared.fault.Kind.{Kind}
-use Rattle.sas_task_events.specs.declared.so_far.SoFar.{SoFar}
-use Rattle.sas_task_machine.specs.declared.task_machine.TaskMachine.{TaskMachine}
+use Rattle.sas_task_line.specs.declared.so_far.SoFar.{SoFar}
+use Rattle.sas_task_judge.specs.declared.task_machine.TaskMachine.{TaskMachine}
 use Rattle.sas_task_judge.specs.TaskJudge.{HasEnded, RejectsLine}
-use Rattle.sas_task_machine.specs.TaskMachine.{LedBy}
+use Rattle.sas_task_judge.specs.TaskMachine.{LedBy}
 use Rattle.sas_task_reader.proofs.TaskStanding.{machine_follows, reads_so_far}
 use Rattle.sas_task_format.specs.Process.{process_node}
 use Rattle.sas_task_format.specs.TaskFormat.{task_format, TaskLineFits}
@@ -39,14 +41,17 @@ outline_is s w =
     ∙ ap (λ (n : ℕ). record (outline_in (seen s)) { groups = length s.parts.groups; operators = n }) (counted_number (length s.parts.operators) w.operators.count)
     ∙ ap (λ (n : ℕ). record (outline_of s.parts) { rules = n }) (counted_number (length s.parts.rules) w.rules.count)
 
-pub new-machine-requires : goal.new-machine-requires
-new-machine-requires g c = (c.args.alloc, c.new.ensures)
+pub new-start-requires : goal.new-start-requires
+new-start-requires g c = (c.args.alloc, c.new.ensures)
 
-pub returns-in-Ok : goal.returns-in-Ok
-returns-in-Ok g c =
-    reads_all task_format TaskLineFits process_node task_start task_grammar (LedBy Keeps) Ended Refused (machine_follows Keeps) g.R.Read.remaining _ _ _ _ _ c.in-Ok.ensures (λ b reached short.
-    let reads = reads_so_far Keeps c.in-Ok.machine b reached c.in-Ok.ensures.at_end in
+pub returns : goal.returns
+returns g c =
+    reads_all task_format TaskLineFits process_node task_start task_grammar (LedBy Keeps) Ended Refused (machine_follows Keeps) g.R.Read.remaining _ _ _ _ _ c.in_ok-machine.ensures (λ b reached short.
+    let reads = reads_so_far Keeps c.in_ok-machine.machine b reached c.in_ok-machine.ensures.at_end in
     (reached.led.so_far.parts, (reads, short), c.into_outline.ensures ∙ ap outline_in (c.into_kept.ensures ∙ reached.led.kept) ∙ outline_is reached.led.so_far reads.good))
 
-pub returns-in-Err : goal.returns-in-Err
-returns-in-Err g c = refuses_all task_format TaskLineFits process_node task_start task_grammar (LedBy Keeps) Ended Refused (machine_follows Keeps) g.R.Read.remaining _ _ _ c.in-Err.fault c.in-Err.ensures
+pub returns-in_err-machine : goal.returns-in_err-machine
+returns-in_err-machine g c =
+    let same : c.from_residual.result ≡ Err c.in_err-machine.field-0.0 = search rules in
+    subst (ReadsAll g.R.Read.remaining task_format OutlineOf c.args.reader.now _) (sym same)
+    (refuses_all task_format TaskLineFits process_node task_start task_grammar (LedBy Keeps) Ended Refused (machine_follows Keeps) g.R.Read.remaining _ _ _ c.in_err-machine.field-0.0 c.in_err-machine.ensures)

@@ -1,18 +1,16 @@
-use Rattle.std.proofs.Common.{◌≤◌, ℕ, sym, subst, arith, rules}
-use Rattle.sas_meaning.specs.Forced.{AtDefault, Occurs}
-use Rattle.sas_axioms.specs.ByLayers.{IsIdle, SettlesLayer}
+use Rattle.std.proofs.Common.{◌≤◌, ℕ, arith, rules}
+use Rattle.sas_axioms.specs.ByLayers.{IsIdle}
 use Rattle.sas_axioms.proofs.Layering.{idle_where_empty}
 use Rattle.sas_axioms.proofs.rounds.RoundsByLayers.settle_next.Goals as goal
 
 pub returns-in_err-layer-clause-idle : goal.returns-in_err-layer-clause-idle
 returns-in_err-layer-clause-idle g c =
     let idle : (m : ℕ) → c.args.from ≤ m → IsIdle c.args.layered.now m =
-    λ m le. idle_where_empty c.args.layered.now m (λ o. c.in_err-layer.ensures.none m le (subst (λ p. Occurs p m) (sym c.task.ensures.task) o)) in
+    λ m le. idle_where_empty c.args.layered.now m (λ o. c.in_err-layer.ensures.none m le o) in
     search rules
 
 pub settle_layer-requires-clause-default : goal.settle_layer-requires-clause-default
 settle_layer-requires-clause-default g c =
-    subst (λ p. AtDefault p c.in_ok-layer.layer c.args.state.now) (sym c.task-2.ensures.task)
     (c.requires.default c.in_ok-layer.layer c.in_ok-layer.ensures.some.0)
 
 pub returns-clause-settles : goal.returns-clause-settles
@@ -21,6 +19,6 @@ returns-clause-settles g c =
     record {
       from_on = next.0;
       idle = λ m le lt. idle_where_empty c.args.layered.now m
-          (λ o. let up : c.in_ok-layer.layer ≤ m = next.2 m le (subst (λ p. Occurs p m) (sym c.task.ensures.task) o) in omega arith);
-      settles = subst (λ p. SettlesLayer p c.in_ok-layer.layer c.args.state.now c.settle_layer.new.state) c.task-2.ensures.task c.settle_layer.ensures;
+          (λ o. let up : c.in_ok-layer.layer ≤ m = next.2 m le o in omega arith);
+      settles = c.settle_layer.ensures;
     }

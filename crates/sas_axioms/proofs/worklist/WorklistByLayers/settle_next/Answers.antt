@@ -1,7 +1,8 @@
 -- The next layer on which a rule can fire.
-use Rattle.std.proofs.Common.{rules, ◌≡◌, ◌+◌, ◌≤◌, ◌<◌, length, get_or, drop, refl, sym, subst, ◌∙◌, arith}
+use Rattle.std.proofs.Common.{rules, ◌≡◌, ◌+◌, ◌≤◌, ◌<◌, length, get_or, drop, refl, sym, subst, ap, ◌∙◌, arith}
 use Rattle.sas_meaning.proofs.Settling.{basic_off}
 use Rattle.sas_axioms.specs.declared.layer_rules.LayerSpan.{LayerSpan}
+use Rattle.sas_axioms.specs.declared.resting.Resting.{Resting}
 use Rattle.sas_axioms.specs.ByLayers.{SettlesLayer}
 use Rattle.sas_axioms.specs.LayerRules.{IsLayerSpan, AreSpans}
 use Rattle.sas_axioms.proofs.Spans.{next_span, no_span_left}
@@ -31,40 +32,36 @@ returns-in_default-clause-idle g c =
     let all = c.args.self.now.rules.items in
     let past : length c.args.self.now.spans.items ≤ c.args.self.now.next = search rules in
     let done = no_span_left all c.args.self.now.spans.items c.args.self.now.start c.args.self.now.next (length all) past c.requires.stands.left in
-    idle_in_the_end c.args.layered.now all c.args._from c.args.self.now.start c.requires.stands.ready.firing c.requires.stands.stands (omega (arith, done))
+    idle_in_the_end c.args.layered.now all c.args._from c.args.self.now.start c.requires.stands.ready.rules c.requires.stands.stands (omega (arith, done))
 
 pub settle_layer-requires-clause-rules : goal.settle_layer-requires-clause-rules
 settle_layer-requires-clause-rules g c =
     let some = (goal.at.settle_layer-requires-clause-rules g c).In-Some in
-    rw (c.task.ensures.task, c.as_slice-rules.ensures.value)
-    (rules_of_span c.args.layered.now c.args.self.now.rules.items c.args._from c.args.self.now.start c.requires.stands.ready.firing c.requires.stands.stands c.in-Some.span.now.layer c.in-Some.span.now.end (span g some))
+    rw c.as_slice-rules.ensures.value
+    (rules_of_span c.args.layered.now c.args.self.now.rules.items c.args._from c.args.self.now.start c.requires.stands.ready.rules c.requires.stands.stands c.in-Some.span.now.layer c.in-Some.span.now.end (span g some))
 
 pub settle_layer-requires-clause-default : goal.settle_layer-requires-clause-default
 settle_layer-requires-clause-default g c =
     let some = (goal.at.settle_layer-requires-clause-default g c).In-Some in
-    rw c.task.ensures.task
-    (c.requires.default c.in-Some.span.now.layer (from_on c.args.layered.now c.args.self.now.rules.items c.args._from c.args.self.now.start c.requires.stands.ready.firing c.requires.stands.stands c.in-Some.span.now.layer c.in-Some.span.now.end (span g some)))
+    (c.requires.default c.in-Some.span.now.layer (from_on c.args.layered.now c.args.self.now.rules.items c.args._from c.args.self.now.start c.requires.stands.ready.rules c.requires.stands.stands c.in-Some.span.now.layer c.in-Some.span.now.end (span g some)))
 
 pub returns-clause-stands : goal.returns-clause-stands
 returns-clause-stands g c =
     let some = (goal.at.returns-clause-stands g c).In-Some in
     let ready = c.requires.stands.ready in
     let layer = c.in-Some.span.now.layer in
-    let settles : SettlesLayer c.args.layered.now layer c.args.state.now c.settle_layer.new.state = rw c.task.ensures.task at c.settle_layer.ensures.settles in
+    let settles : SettlesLayer c.args.layered.now layer c.args.state.now c.settle_layer.new.state = c.settle_layer.ensures.settles in
     record {
       ready = record {
         variables = ready.variables;
-        firing = ready.firing;
+        rules = ready.rules;
         spans = ready.spans;
-        index = ready.index;
-        resting = ready.resting;
-        has_room = rw c.task.ensures.task at c.settle_layer.ensures.room;
-        empty = c.settle_layer.ensures.empty;
+        firing = c.settle_layer.ensures.prepared;
       };
-      stands = stands_behind c.args.layered.now c.args.self.now.rules.items c.args._from c.args.self.now.start ready.firing c.requires.stands.stands layer c.in-Some.span.now.end (span g some);
+      stands = stands_behind c.args.layered.now c.args.self.now.rules.items c.args._from c.args.self.now.start ready.rules c.requires.stands.stands layer c.in-Some.span.now.end (span g some);
       left = (both g some).1;
       follows = λ v basic asked. sym (basic_off c.args.layered.now layer c.args.state.now c.settle_layer.new.state c.task.ensures.layered settles.off v basic)
-          ∙ c.requires.stands.follows v basic asked;
+          ∙ (c.requires.stands.follows v basic asked ∙ ap (λ (r : Resting). get_or r.counted.values v 0) (sym c.settle_layer.ensures.same));
     }
 
 pub returns-clause-settles : goal.returns-clause-settles
@@ -73,9 +70,9 @@ returns-clause-settles g c =
     let all = c.args.self.now.rules.items in
     let layer = c.in-Some.span.now.layer in
     record {
-      from_on = from_on c.args.layered.now all c.args._from c.args.self.now.start c.requires.stands.ready.firing c.requires.stands.stands layer c.in-Some.span.now.end (span g some);
-      idle = idle_between c.args.layered.now all c.args._from c.args.self.now.start c.requires.stands.ready.firing c.requires.stands.stands layer c.in-Some.span.now.end (span g some);
-      settles = rw c.task.ensures.task at c.settle_layer.ensures.settles;
+      from_on = from_on c.args.layered.now all c.args._from c.args.self.now.start c.requires.stands.ready.rules c.requires.stands.stands layer c.in-Some.span.now.end (span g some);
+      idle = idle_between c.args.layered.now all c.args._from c.args.self.now.start c.requires.stands.ready.rules c.requires.stands.stands layer c.in-Some.span.now.end (span g some);
+      settles = c.settle_layer.ensures.settles;
     }
 
 pub returns-in_default-clause-stands : goal.returns-in_default-clause-stands
@@ -90,26 +87,11 @@ returns-in_default-clause-ready g c = c.requires.stands.ready
 pub returns-in_default-clause-same : goal.returns-in_default-clause-same
 returns-in_default-clause-same g c = refl
 
-pub settle_layer-requires-clause-layered : goal.settle_layer-requires-clause-layered
-settle_layer-requires-clause-layered g c = rw c.task.ensures.task record { ranged = c.task.ensures.well_ranged; layered = c.task.ensures.layered }
-
-pub settle_layer-requires-clause-index : goal.settle_layer-requires-clause-index
-settle_layer-requires-clause-index g c = rw c.task.ensures.task c.requires.stands.ready.index
-
-pub settle_layer-requires-clause-resting : goal.settle_layer-requires-clause-resting
-settle_layer-requires-clause-resting g c = rw c.task.ensures.task c.requires.stands.ready.resting
-
 pub settle_layer-requires-clause-follows : goal.settle_layer-requires-clause-follows
-settle_layer-requires-clause-follows g c = rw c.task.ensures.task c.requires.stands.follows
-
-pub settle_layer-requires-clause-room : goal.settle_layer-requires-clause-room
-settle_layer-requires-clause-room g c = rw c.task.ensures.task c.requires.stands.ready.has_room
-
-pub settle_layer-requires-clause-empty : goal.settle_layer-requires-clause-empty
-settle_layer-requires-clause-empty g c = c.requires.stands.ready.empty
+settle_layer-requires-clause-follows g c = c.requires.stands.follows
 
 pub settle_layer-requires-clause-state : goal.settle_layer-requires-clause-state
-settle_layer-requires-clause-state g c = rw c.task.ensures.task c.requires.state
+settle_layer-requires-clause-state g c = c.requires.state
 
 pub returns-clause-ready : goal.returns-clause-ready
 returns-clause-ready g c = tt

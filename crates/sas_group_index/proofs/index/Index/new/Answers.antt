@@ -6,7 +6,7 @@ use Rattle.sas_group_index.proofs.index.Index.new.Goals as goal
 
 pub returns : goal.returns
 returns g c =
-    let p = g.T.Grounded.says c.args.task.now in
+    let p = c.args.task.now in
     let index : Index = record { firsts = c.number_facts.new.firsts; groups = c.in_ok-groups.groups; runs = c.in_ok-runs.runs } in
     let firsts = c.in_ok-facts.ensures.firsts in
     let by_fact = c.in_ok-groups.ensures in

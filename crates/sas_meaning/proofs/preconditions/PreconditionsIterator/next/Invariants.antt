@@ -1,6 +1,6 @@
 -- The prevail conditions are given, and what is left is what was.
 use Rattle.std.proofs.Common.{◌≡◌, [], ◌-◌}
-use Rattle.sas_grounded.specs.Grounded.{operator_at}
+use Rattle.sas_core.specs.Grounded.{operator_at}
 use Rattle.sas_meaning.specs.Preconditions.{preconditions_left, IsAtOperator}
 use Rattle.sas_meaning.proofs.preconditions.PreconditionsIterator.next.Given as goal
 

@@ -7,12 +7,12 @@ on_ok : {X E : Type 0} (r : Result X E) (P Q : Type 0) → OnOk r P → (P → Q
 on_ok (Ok x) P Q h f = f h
 on_ok (Err e) P Q h f = tt
 
-pub returns-in-Ok-Cost-clause-led : goal.returns-in-Ok-Cost-clause-led
-returns-in-Ok-Cost-clause-led g c = λ before h.
-    let said = rw c.in-Ok-Cost.field-0-is at c.in-Ok-Cost.ensures in
-    cost_led before c.args.self.now (g.S.StepNames.names c.self.inside.steps) c.self.inside.cost c.in-Ok-Cost.cost c.in-Ok-Cost.kind c.args.line.now c.self.view_is c.requires h said.0 said.1
+pub returns-in-Cost-clause-led : goal.returns-in-Cost-clause-led
+returns-in-Cost-clause-led g c = λ before h.
+    let said = rw c.in-Cost.is at c.in_ok-cost.ensures in
+    cost_led before c.args.self.now (g.S.StepNames.names c.self.inside.steps) c.self.inside.cost c.in-Cost.cost c.in-Cost.kind c.args.line.now c.self.view_is c.requires h said.0 said.1
 
-pub returns-in-Ok-Step-clause-led : goal.returns-in-Ok-Step-clause-led
-returns-in-Ok-Step-clause-led g c =
-    let said = rw c.in-Ok-Step.field-0-is at c.in-Ok-Step.ensures in
-    on_ok c.add_step.result _ _ c.add_step.ensures.ok (λ n before h. step_led before c.args.self.now c.add_step.new.self c.in-Ok-Step.name.now c.args.line.now h said.0 said.1 n)
+pub returns-in-Step-clause-led : goal.returns-in-Step-clause-led
+returns-in-Step-clause-led g c =
+    let said = rw c.in-Step.is at c.in_ok-cost.ensures in
+    on_ok c.add_step.result _ _ c.add_step.ensures.ok (λ n before h. step_led before c.args.self.now c.add_step.new.self c.in-Step.name.now c.args.line.now h said.0 said.1 n)

@@ -1,24 +1,25 @@
-use Rattle.std.proofs.Common.{◌∙◌}
-use Rattle.sas_reader.proofs.Advancing.{took_behind, stopped_behind}
+use Rattle.std.proofs.Common.{◌≡◌, ◌∙◌, sym, rules, Err}
+use Rattle.sas_reader.proofs.Advancing.{advances_no_more, took_behind, stopped_behind}
 use Rattle.sas_reader.proofs.reader.Reader.advance.Goals as goal
 
-pub returns-in-Err-take_line-clause-advances : goal.returns-in-Err-take_line-clause-advances
-returns-in-Err-take_line-clause-advances g c =
-    let ahead = c.in-Ok.ensures in
-    let line = c.in-Err-take_line.ensures.advances in
-    record {
+pub returns-in_err-take_line-clause-advances : goal.returns-in_err-take_line-clause-advances
+returns-in_err-take_line-clause-advances g c =
+    let ahead = c.in_ok-ahead.ensures in
+    let line = c.in_err-take_line.ensures.advances in
+    let same : c.from_residual-in_err-take_line.result ≡ Err c.in_err-take_line.field-0.0 = search rules in
+    advances_no_more g.M.Machine.led_by g.M.Machine.ended g.M.Machine.rejects c.args.self.now _ c.args.piece.now _ _ same (record {
       took = tt;
-      stopped = stopped_behind g.M.Machine.led_by g.M.Machine.ended g.M.Machine.rejects c.args.self.now c.go_ahead.new.self c.take_line.new.self c.args.piece.now c.in-Ok.ahead c.in-Err-take_line.kind ahead.took ahead.limit line.stopped;
+      stopped = stopped_behind g.M.Machine.led_by g.M.Machine.ended g.M.Machine.rejects c.args.self.now c.go_ahead.new.self c.take_line.new.self c.args.piece.now c.in_ok-ahead.ahead c.in_err-take_line.field-0.0 ahead.took ahead.limit line.stopped;
       fault = line.fault ∙ ahead.fault;
       limit = line.limit ∙ ahead.limit;
-    }
+    })
 
-pub returns-in-Ok-take_line-clause-advances : goal.returns-in-Ok-take_line-clause-advances
-returns-in-Ok-take_line-clause-advances g c =
-    let ahead = c.in-Ok.ensures in
-    let line = c.in-Ok-take_line.ensures.advances in
+pub returns-clause-advances : goal.returns-clause-advances
+returns-clause-advances g c =
+    let ahead = c.in_ok-ahead.ensures in
+    let line = c.in_ok-take_line.ensures.advances in
     record {
-      took = took_behind g.M.Machine.led_by g.M.Machine.ended g.M.Machine.rejects c.args.self.now c.go_ahead.new.self c.take_line.new.self c.args.piece.now c.in-Ok.ahead c.in-Ok-take_line.taken ahead.took line.took;
+      took = took_behind g.M.Machine.led_by g.M.Machine.ended g.M.Machine.rejects c.args.self.now c.go_ahead.new.self c.take_line.new.self c.args.piece.now c.in_ok-ahead.ahead c.in_ok-take_line.field-0 ahead.took line.took;
       stopped = tt;
       fault = line.fault ∙ ahead.fault;
       limit = line.limit ∙ ahead.limit;

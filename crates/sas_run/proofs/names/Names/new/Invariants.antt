@@ -8,7 +8,7 @@ use Rattle.sas_run.proofs.names.Names.new.Given as goal
 abbrev pub invariant-loop-operator : goal.invariant-loop-operator
 invariant-loop-operator g l = record {
   within : l.operator ≤ l.operators;
-  are : AreNamesFrom (g.T.Grounded.says l.task) l.operator (λ name. get_by (is_called name) l.first) l.next.items;
+  are : AreNamesFrom l.task l.operator (λ name. get_by (is_called name) l.first) l.next.items;
 }
 
 abbrev pub decreases-loop-operator : goal.decreases-loop-operator

@@ -1,31 +1,35 @@
 -- One more step goes through, or stops.
 use Rattle.std.proofs.lemmas.Grind.{common_steps}
-use Rattle.std.proofs.Common.{rules, ◌≡◌, ℕ, ◌+◌, ◌<◌, List, [], ◌∷◌, ◌++◌, length, take, drop, get_or, sym, subst, ap, refl, ◌∙◌, arith}
+use Rattle.std.proofs.Common.{rules, Err, ◌≡◌, ℕ, ◌+◌, ◌<◌, List, [], ◌∷◌, ◌++◌, length, take, drop, get_or, sym, subst, ap, refl, ◌∙◌, arith}
 use Rattle.std.proofs.lemmas.List.{take_more}
 use Rattle.std.proofs.lemmas.List.Elements.{All-push}
 use Rattle.std.proofs.Math.ListN.{length-append}
+use Rattle.sas_core.specs.Grounded.{operator_at}
 use Rattle.sas_run.specs.Plans.{GoThrough}
-use Rattle.sas_run.specs.Running.{GoesOn, StopsAt}
+use Rattle.sas_run.specs.Running.{GoesOn, GoesThrough, StopsAt}
 use Rattle.sas_run.proofs.Going.{goes_one_more, around, length_of_take}
 use Rattle.sas_run.proofs.runner.Runner.go_through.Goals as goal
 
-pub returns-in-Err-clause-goes : goal.returns-in-Err-clause-goes
-returns-in-Err-clause-goes g c =
+pub returns-in_err-operator-clause-goes : goal.returns-in_err-operator-clause-goes
+returns-in_err-operator-clause-goes g c =
     let p = c.args.self.now in
     let steps = (g.P.Stepwise.says c.args.plan.now).steps in
     let n = c.loop-before.before in
     let inv = c.loop-before.invariant in
     let below : n < length steps = search rules in
-    let named : c.step.result.now ≡ get_or steps n [] = c.step.ensures in
-    let stops = rw inv.same at c.in-Err.ensures.err in
-    let goes = rw inv.same at inv.goes in (
+    let name = (operator_at p (get_or c.args.firsts.now n 0)).name in
+    let named : name ≡ get_or steps n [] = (c.requires.firsts.each n c.loop-before-test.true).of_name.named in
+    let stops = rw inv.same at c.in_err-operator.ensures.err in
+    let goes = rw inv.same at inv.goes in
+    let told : c.from_residual.result ≡ Err c.in_err-operator.field-0.0 = search rules in
+    subst (GoesThrough p c.args.state.now steps c.loop-before.operators.items c.go_on.new.state) (sym told) (
       take n steps,
       drop (n + 1) steps,
-      c.step.result.now,
+      name,
       c.loop-before.state,
-      around steps n [] below ∙ ap (λ (name : List ℕ). take n steps ++ name ∷ drop (n + 1) steps) (sym named),
+      around steps n [] below ∙ ap (λ (its : List ℕ). take n steps ++ its ∷ drop (n + 1) steps) (sym named),
       goes,
-      subst (λ m. StopsAt p c.loop-before.state c.step.result.now (m + 1) c.in-Err.fault) (sym (length_of_take steps n below)) stops,
+      subst (λ m. StopsAt p c.loop-before.state name (m + 1) c.in_err-operator.field-0.0) (sym (length_of_take steps n below)) stops,
     )
 
 pub loop-before-preserved : goal.loop-before-preserved
@@ -35,19 +39,20 @@ loop-before-preserved g c =
     let n = c.loop-before.before in
     let inv = c.loop-before.invariant in
     let below : n < length steps = search rules in
-    let named : c.step.result.now ≡ get_or steps n [] = c.step.ensures in
+    let name = (operator_at p (get_or c.args.firsts.now n 0)).name in
+    let named : name ≡ get_or steps n [] = (c.requires.firsts.each n c.loop-before-test.true).of_name.named in
     let items = rw c.unwrap.ensures at c.push.ensures.items in
-    let on : GoesOn p c.loop-before.state c.step.result.now c.in-Ok.operator c.go_on.new.state = rw inv.same at c.in-Ok.ensures.ok in
+    let on : GoesOn p c.loop-before.state name c.in_ok-operator.operator c.go_on.new.state = rw inv.same at c.in_ok-operator.ensures.ok in
     let goes : GoThrough p c.args.state.now (take n steps) c.loop-before.operators.items c.loop-before.state = rw inv.same at inv.goes in
     let exist = rw inv.same at inv.exist in
-    rw (c.in-Ok.ensures.same ∙ inv.same) record {
+    rw (c.in_ok-operator.ensures.same ∙ inv.same) record {
       same = refl;
-      goes = rw items (subst (λ (names : List (List ℕ)). GoThrough p c.args.state.now names (c.loop-before.operators.items ++ c.in-Ok.operator ∷ []) c.go_on.new.state)
-          (sym (take_more steps n [] below ∙ ap (λ (name : List ℕ). take n steps ++ name ∷ []) (sym named)))
-          (goes_one_more p c.args.state.now (take n steps) c.loop-before.operators.items c.loop-before.state c.step.result.now c.in-Ok.operator c.go_on.new.state goes on));
+      goes = rw items (subst (λ (names : List (List ℕ)). GoThrough p c.args.state.now names (c.loop-before.operators.items ++ c.in_ok-operator.operator ∷ []) c.go_on.new.state)
+          (sym (take_more steps n [] below ∙ ap (λ (its : List ℕ). take n steps ++ its ∷ []) (sym named)))
+          (goes_one_more p c.args.state.now (take n steps) c.loop-before.operators.items c.loop-before.state name c.in_ok-operator.operator c.go_on.new.state goes on));
       state = on.step.state;
-      exist = rw items (All-push (λ (o : ℕ). o < length p.operators) c.loop-before.operators.items c.in-Ok.operator exist on.chosen.of_name.exists);
-      one_each = rw items (let len = length-append c.loop-before.operators.items (c.in-Ok.operator ∷ []) in let one = inv.one_each in omega arith);
+      exist = rw items (All-push (λ (o : ℕ). o < length p.operators) c.loop-before.operators.items c.in_ok-operator.operator exist on.chosen.of_name.exists);
+      one_each = rw items (let len = length-append c.loop-before.operators.items (c.in_ok-operator.operator ∷ []) in let one = inv.one_each in omega arith);
       room = search rules;
     }
 

@@ -1,8 +1,8 @@
 use Rattle.std.proofs.Common.{◌<◌, ◌^◌, length, refl, ap, subst, ◌∙◌}
 use Rattle.sas_lines.specs.Lines.{text}
-use Rattle.sas_task_reader.specs.declared.outline.Outline.{Outline}
+use Rattle.sas_flat.specs.declared.outline.Outline.{Outline}
 use Rattle.sas_summary.specs.Summary.{summary_lines}
-use Rattle.sas_summary.proofs.Sent.{all_sent, first_sent}
+use Rattle.sas_output.proofs.Sent.{all_sent, first_sent}
 use Rattle.sas_summary.proofs.Summaries.{summary_is}
 use Rattle.sas_summary.proofs.summary.Summary.write.Goals as goal
 

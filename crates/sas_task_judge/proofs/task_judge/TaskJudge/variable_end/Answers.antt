@@ -6,10 +6,10 @@ use Rattle.sas_task_judge.proofs.TaskMoves.{on}
 use Rattle.sas_task_judge.proofs.TaskRanges.{ranges_push}
 use Rattle.sas_task_judge.proofs.task_judge.TaskJudge.variable_end.Goals as goal
 
-pub returns-in-Ok : goal.returns-in-Ok
-returns-in-Ok c = λ s f. (
+pub returns : goal.returns
+returns c = λ s f. (
   record {
-    ranges = c.in-Ok.ensures.ok ∙ ap (λ rs. rs ++ c.args.self.now.range ∷ []) f.ranges ∙ ap (λ n. ranges_of s.parts.variables ++ n ∷ []) (omega (arith, f.range c.requires.place, c.requires.all)) ∙ sym (ranges_push s.parts.variables (record { name = s.name; layer = s.layer; values = s.values }));
+    ranges = c.in_ok-push.ensures.ok ∙ ap (λ rs. rs ++ c.args.self.now.range ∷ []) f.ranges ∙ ap (λ n. ranges_of s.parts.variables ++ n ∷ []) (omega (arith, f.range c.requires.place, c.requires.all)) ∙ sym (ranges_push s.parts.variables (record { name = s.name; layer = s.layer; values = s.values }));
     valued = f.valued;
     range = λ h. absurd cc;
   },

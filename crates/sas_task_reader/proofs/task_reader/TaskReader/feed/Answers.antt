@@ -4,7 +4,7 @@ use Rattle.sas_task_format.specs.Process.{process_node}
 use Rattle.sas_task_format.specs.TaskFormat.{task_format, TaskLineFits}
 use Rattle.sas_task_format.specs.TaskProcess.{task_start}
 use Rattle.sas_task_format.proofs.TaskGrammar.{task_grammar}
-use Rattle.sas_task_machine.specs.TaskMachine.{LedTo, EndedAt, RejectsAt}
+use Rattle.sas_task_judge.specs.TaskMachine.{LedTo, EndedAt, RejectsAt}
 use Rattle.sas_reader.proofs.Reading.{feeds}
 use Rattle.sas_task_reader.proofs.TaskStanding.{reader_follows}
 use Rattle.sas_task_reader.proofs.task_reader.TaskReader.feed.Goals as goal

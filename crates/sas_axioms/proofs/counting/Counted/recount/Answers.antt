@@ -1,0 +1,48 @@
+-- What opens is counted up, and what closes down.
+use Rattle.std.proofs.Common.{◌<◌, length, sym, ◌∙◌, arith}
+use Rattle.sas_axioms.proofs.AllConditions.{counters_exist, small, enough, recounted, same_counts}
+use Rattle.sas_axioms.proofs.counting.Counted.recount.Goals as goal
+use Rattle.sas_axioms.proofs.counting.Counted.recount.Goals.{then-former-fact, else-former-fact}
+
+pub count_change-requires-clause-exist : goal.count_change-requires-clause-exist
+count_change-requires-clause-exist c =
+    let p = c.requires.counts.0 in
+    let was = c.requires.counts.1 in
+    let within : c.args.fact.var < length p.variables = omega (arith, c.requires.var, was.counts.known) in
+    rw c.get-waiting.ensures
+    (counters_exist p c.args.self.now.index c.args.fact.var was.ranged was.index within c.args.self.now.values c.args.self.now.counters was.counts)
+
+pub count_change-requires-clause-small : goal.count_change-requires-clause-small
+count_change-requires-clause-small c =
+    let p = c.requires.counts.0 in
+    let was = c.requires.counts.1 in
+    let within : c.args.fact.var < length p.variables = omega (arith, c.requires.var, was.counts.known) in
+    rw (c.get-waiting.ensures, c.value-former.ensures)
+    (small p c.args.self.now.index c.args.fact.var was.ranged was.index within c.args.self.now.values c.args.self.now.counters was.counts)
+
+pub count_change-requires-clause-enough : goal.count_change-requires-clause-enough
+count_change-requires-clause-enough c =
+    let p = c.requires.counts.0 in
+    let was = c.requires.counts.1 in
+    let within : c.args.fact.var < length p.variables = omega (arith, c.requires.var, was.counts.known) in
+    rw c.get-waiting.ensures
+    (enough p c.args.self.now.index c.args.fact.var was.ranged was.index within c.args.self.now.values c.args.self.now.counters was.counts
+    c.args.fact.value (λ e. c.if-former-fact.true (c.value-former.ensures ∙ e)))
+
+pub returns-clause-counts : goal.returns-clause-counts
+returns-clause-counts c p was =
+    let within : c.args.fact.var < length p.variables = omega (arith, c.requires.var, was.counts.known) in
+    elim c.if-former-fact.branch [
+      | then-former-fact w ↦ rw (c.set.ensures, w.self-is) record {
+        ranged = was.ranged;
+        index = was.index;
+        counts = recounted p c.args.self.now.index c.args.fact.var was.ranged was.index within c.args.self.now.values c.args.self.now.counters was.counts
+            c.args.fact.value w.count_change.new.counters w.count_change.ensures.one_each (rw (w.get-waiting.ensures, c.value-former.ensures) at w.count_change.ensures.counts);
+      }
+      | else-former-fact w ↦ rw (c.set.ensures, w.self-is) record {
+        ranged = was.ranged;
+        index = was.index;
+        counts = same_counts p c.args.self.now.index c.args.fact.var was.ranged was.index within c.args.self.now.values c.args.self.now.counters was.counts
+            c.args.fact.value (sym c.value-former.ensures ∙ w.if-former-fact.false);
+      }
+    ]

@@ -1,0 +1,34 @@
+-- What a task says, item by item, each named by its place, counted from 0.
+use Rattle.std.specs.Prelude.{ℕ, List, [], slice_index_or, None}
+use Rattle.sas_core.specs.declared.grounded.Change.{Change}
+use Rattle.sas_core.specs.declared.parts.Fact.{Fact}
+use Rattle.sas_core.specs.declared.parts.Effect.{Effect}
+use Rattle.sas_core.specs.declared.parts.Operator.{Operator}
+use Rattle.sas_core.specs.declared.parts.Rule.{Rule}
+use Rattle.sas_core.specs.declared.parts.Parts.{Parts}
+
+-- the operator at this place; behind the last one that of no name and no effect
+abbrev pub operator_at : Parts → ℕ → Operator
+operator_at p operator =
+    slice_index_or p.operators operator (record { name = []; prevail = []; effects = []; cost = 0 })
+
+-- the effect at this place; behind the last one that of variable 0 to value 0
+abbrev pub effect_at : Operator → ℕ → Effect
+effect_at o effect =
+    slice_index_or o.effects effect (record { conditions = []; var = 0; old = None; new = 0 })
+
+-- the rule at this place; behind the last one that of variable 0 to value 0
+abbrev pub rule_at : Parts → ℕ → Rule
+rule_at p rule =
+    slice_index_or p.rules rule (record { conditions = []; var = 0; old = None; new = 0 })
+
+-- the mutex group at this place; behind the last one the empty group
+abbrev pub group_at : Parts → ℕ → List Fact
+group_at p group = slice_index_or p.groups group []
+
+-- what an effect or a rule changes
+abbrev pub effect_change : Effect → Change
+effect_change e = record { var = e.var; old = e.old; new = e.new }
+
+abbrev pub rule_change : Rule → Change
+rule_change r = record { var = r.var; old = r.old; new = r.new }

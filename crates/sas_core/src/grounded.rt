@@ -1,0 +1,232 @@
+// What a grounded task says, however it is stored.
+ghost use Rattle.std.specs.Prelude.{◌≡◌, ◌<◌, length};
+ghost use Rattle.sas_core.specs.Grounded as spec;
+ghost use Rattle.sas_core.specs.WellRanged.{OperatorFits};
+
+use crate::{Effect, Fact, Operator, Rule, Task};
+
+/// What an effect or a rule changes: its variable gets the new value. The old value, if any, is asked of the variable
+/// before.
+#[derive(Clone, Copy, Debug, PartialEq, Eq)]
+pub struct Change {
+    pub var: u32,
+    pub old: Option<u32>,
+    pub new: u32,
+}
+
+impl Change {
+    /// The fact that it sets.
+    pub fn fact(self) -> Fact
+        ensures { result ≡ record { var = self.var; value = self.new } }
+    {
+        Fact {
+            var: self.var,
+            value: self.new,
+        }
+    }
+}
+
+/// A grounded task. All that gives a task meaning asks it through these calls; what it says is the value `says`, the
+/// parts of a task file. Variables, operators, effects, rules and groups are named by their place, counted from 0.
+pub trait Grounded {
+    ghost use Rattle.std.specs.Prelude.{◌≡◌, ◌<◌, length, slice_index};
+    ghost use Rattle.sas_core.specs.declared.parts.Parts.{Parts};
+    ghost use Rattle.sas_core.specs.Grounded.{operator_at, effect_at, rule_at};
+    ghost use Rattle.sas_core.specs.Grounded.{group_at, effect_change, rule_change};
+    ghost use Rattle.sas_core.specs.Tasks.{cost_of};
+    ghost use Rattle.sas_core.specs.Variables.{range_of, layer_of};
+    ghost use Rattle.sas_core.specs.WellRanged.{WellRanged};
+
+    /// What it says.
+    ghost says: { Self → Parts };
+
+    /// How many variables there are. What the task says is well ranged.
+    fn variables(&self) -> u32
+        ensures count { result ≡ length (says self.now).variables }
+        ensures well_ranged { WellRanged (says self.now) };
+
+    /// How many mutex groups there are.
+    fn groups(&self) -> u32
+        ensures { result ≡ length (says self.now).groups };
+
+    /// How many operators there are.
+    fn operators(&self) -> u32
+        ensures { result ≡ length (says self.now).operators };
+
+    /// How many rules there are.
+    fn rules(&self) -> u32
+        ensures { result ≡ length (says self.now).rules };
+
+    /// How many values the variable has.
+    fn range(&self, var: u32) -> u32
+        requires { var < length (says self.now).variables }
+        ensures { result ≡ range_of (says self.now).variables var };
+
+    /// The layer of a derived variable; a basic one has none.
+    fn layer(&self, var: u32) -> Option<u32>
+        requires { var < length (says self.now).variables }
+        ensures { result ≡ layer_of (says self.now).variables var };
+
+    /// The variable's value in the state section; that of a derived variable is its default.
+    fn initial_value(&self, var: u32) -> u32
+        requires { var < length (says self.now).variables }
+        ensures { result ≡ slice_index (says self.now).init var };
+
+    /// The facts of the goal.
+    fn goal(&self) -> &[Fact]
+        ensures { result.now ≡ (says self.now).goal };
+
+    /// The facts of the mutex group.
+    fn group(&self, group: u32) -> &[Fact]
+        requires { group < length (says self.now).groups }
+        ensures { result.now ≡ group_at (says self.now) group };
+
+    /// The operator's name.
+    fn name(&self, operator: u32) -> &[u8]
+        requires { operator < length (says self.now).operators }
+        ensures { result.now ≡ (operator_at (says self.now) operator).name };
+
+    /// What the operator costs: what its cost line says under metric 1, and 1 under metric 0.
+    fn cost(&self, operator: u32) -> u32
+        requires { operator < length (says self.now).operators }
+        ensures { result ≡ cost_of (says self.now) operator };
+
+    /// The operator's prevail conditions.
+    fn prevail(&self, operator: u32) -> &[Fact]
+        requires { operator < length (says self.now).operators }
+        ensures { result.now ≡ (operator_at (says self.now) operator).prevail };
+
+    /// How many effects the operator has.
+    fn effects(&self, operator: u32) -> u32
+        requires { operator < length (says self.now).operators }
+        ensures { result ≡ length (operator_at (says self.now) operator).effects };
+
+    /// The conditions of the operator's effect.
+    fn effect_conditions(&self, operator: u32, effect: u32) -> &[Fact]
+        requires operator { operator < length (says self.now).operators }
+        requires effect { effect < length (operator_at (says self.now) operator).effects }
+        ensures { result.now
+            ≡ (effect_at (operator_at (says self.now) operator) effect).conditions };
+
+    /// What the operator's effect changes.
+    fn effect_change(&self, operator: u32, effect: u32) -> Change
+        requires operator { operator < length (says self.now).operators }
+        requires effect { effect < length (operator_at (says self.now) operator).effects }
+        ensures { result
+            ≡ effect_change (effect_at (operator_at (says self.now) operator) effect) };
+
+    /// The conditions of the rule.
+    fn rule_conditions(&self, rule: u32) -> &[Fact]
+        requires { rule < length (says self.now).rules }
+        ensures { result.now ≡ (rule_at (says self.now) rule).conditions };
+
+    /// What the rule changes.
+    fn rule_change(&self, rule: u32) -> Change
+        requires { rule < length (says self.now).rules }
+        ensures { result ≡ rule_change (rule_at (says self.now) rule) };
+}
+
+impl Grounded for Task {
+    ghost says = { λ t. t };
+
+    fn variables(&self) -> u32 {
+        self.parts().variables.len() as u32
+    }
+
+    fn groups(&self) -> u32 {
+        self.parts().groups.len() as u32
+    }
+
+    fn operators(&self) -> u32 {
+        self.parts().operators.len() as u32
+    }
+
+    fn rules(&self) -> u32 {
+        self.parts().rules.len() as u32
+    }
+
+    fn range(&self, var: u32) -> u32 {
+        Task::range(self, var)
+    }
+
+    fn layer(&self, var: u32) -> Option<u32> {
+        self.parts().variables.as_slice()[var as usize].layer
+    }
+
+    fn initial_value(&self, var: u32) -> u32 {
+        self.parts().init.as_slice()[var as usize]
+    }
+
+    fn goal(&self) -> &[Fact] {
+        self.parts().goal.as_slice()
+    }
+
+    fn group(&self, group: u32) -> &[Fact] {
+        self.parts().groups.as_slice()[group as usize].as_slice()
+    }
+
+    fn name(&self, operator: u32) -> &[u8] {
+        operator_of(self, operator).name.as_slice()
+    }
+
+    fn cost(&self, operator: u32) -> u32 {
+        Task::cost(self, operator)
+    }
+
+    fn prevail(&self, operator: u32) -> &[Fact] {
+        operator_of(self, operator).prevail.as_slice()
+    }
+
+    fn effects(&self, operator: u32) -> u32 {
+        operator_of(self, operator).effects.len() as u32
+    }
+
+    fn effect_conditions(&self, operator: u32, effect: u32) -> &[Fact] {
+        effect_of(self, operator, effect).conditions.as_slice()
+    }
+
+    fn effect_change(&self, operator: u32, effect: u32) -> Change {
+        let effect = effect_of(self, operator, effect);
+        Change {
+            var: effect.var,
+            old: effect.old,
+            new: effect.new,
+        }
+    }
+
+    fn rule_conditions(&self, rule: u32) -> &[Fact] {
+        rule_of(self, rule).conditions.as_slice()
+    }
+
+    fn rule_change(&self, rule: u32) -> Change {
+        let rule = rule_of(self, rule);
+        Change {
+            var: rule.var,
+            old: rule.old,
+            new: rule.new,
+        }
+    }
+}
+
+fn operator_of(task: &Task, operator: u32) -> &Operator
+    requires { operator < length task.now.operators }
+    ensures at { result.now ≡ spec.operator_at task.now operator }
+    ensures fits { OperatorFits task.now.variables result.now }
+{
+    &task.parts().operators.as_slice()[operator as usize]
+}
+
+fn effect_of(task: &Task, operator: u32, effect: u32) -> &Effect
+    requires operator { operator < length task.now.operators }
+    requires effect { effect < length (spec.operator_at task.now operator).effects }
+    ensures { result.now ≡ spec.effect_at (spec.operator_at task.now operator) effect }
+{
+    &operator_of(task, operator).effects.as_slice()[effect as usize]
+}
+
+fn rule_of(task: &Task, rule: u32) -> &Rule
+    requires { rule < length task.now.rules }
+    ensures { result.now ≡ spec.rule_at task.now rule }
+{
+    &task.parts().rules.as_slice()[rule as usize]
+}

@@ -1,2 +1,0 @@
-pub mod Grounded
-pub mod Stepwise

@@ -1,0 +1,15 @@
+-- None of the effects so far sets another fact of the group.
+use Rattle.std.proofs.Common.{ℕ, ◌<◌}
+use Rattle.sas_core.specs.Grounded.{operator_at, effect_at, group_at}
+use Rattle.sas_groups.specs.Checks.{NotBoth}
+use Rattle.sas_mutex.specs.Effects.{IsKept}
+use Rattle.sas_mutex.specs.Noting.{IsNotedAt}
+use Rattle.sas_mutex.proofs.effects.Firing.is_single.Given as goal
+
+abbrev pub invariant-loop-other : goal.invariant-loop-other
+invariant-loop-other g l = record {
+  notes : IsNotedAt l.self l.kept l.marks;
+  single : (k : ℕ) → k < l.other → NotBoth (IsKept l.self.task l.kept) (operator_at l.self.task l.self.operator)
+      (group_at l.self.task l.group) (effect_at (operator_at l.self.task l.self.operator) l.self.effect)
+      (effect_at (operator_at l.self.task l.self.operator) k);
+}

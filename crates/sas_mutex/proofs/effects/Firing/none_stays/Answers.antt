@@ -1,0 +1,126 @@
+-- One more run is gone, or the fact that is known.
+use Rattle.std.proofs.Common.{◌≡◌, ◌<◌, ℕ, List, [], length, get_or, drop, sym, ap, subst, ◌∙◌, arith, refl}
+use Rattle.std.proofs.lemmas.List.{get_or_default, drop_all}
+use Rattle.std.proofs.lemmas.List.Elements.{All-contains}
+use Rattle.sas_core.specs.declared.parts.Fact.{Fact}
+use Rattle.sas_core.specs.Grounded.{operator_at, effect_at, group_at}
+use Rattle.sas_core.specs.Variables.{FactExists}
+use Rattle.sas_groups.specs.Checks.{IsGone}
+use Rattle.sas_groups.specs.Lists.{known}
+use Rattle.sas_core.specs.WellRanged.{WellRanged}
+use Rattle.sas_mutex.specs.Firing.{EffectPlace}
+use Rattle.sas_mutex.specs.Effects.{IsKept}
+use Rattle.sas_mutex.specs.declared.marks.Noted.TheVariants.{One}
+use Rattle.sas_mutex.specs.Marks.{group_note}
+use Rattle.sas_mutex.specs.Noting.{IsUnknown}
+use Rattle.sas_group_index.specs.Runs.{AreRuns}
+use Rattle.sas_group_index.proofs.Entering.{group_fact_exists}
+use Rattle.sas_mutex.proofs.GoneRuns.{SuchBefore, such_none, such_all, next_within, next_on_one, next_too, such_more}
+use Rattle.sas_mutex.proofs.NotesOfFacts.{one_note_tells, none_if_not_one}
+use Rattle.sas_mutex.proofs.ToldByNotes.{known_one_is_all}
+use Rattle.sas_mutex.proofs.effects.Firing.none_stays.Goals as goal
+
+pub is_gone-requires-clause-fact : goal.is_gone-requires-clause-fact
+is_gone-requires-clause-fact g c =
+    let p = c.args.self.now.task in
+    let o = operator_at p c.args.self.now.operator in
+    let e = effect_at o c.args.self.now.effect in
+    let place = c.args.group in
+    let notes = c.args.marks.now.groups in
+    let at : group_note notes place ≡ One c.in-Some.fact =
+    ap (λ list. group_note list place) (sym c.as_slice.ensures) ∙ c.only.ensures.some c.in-Some.fact c.in-Some.is in
+    let of = (one_note_tells p (known o e.conditions []) place c.in-Some.fact (group_note notes place)
+    (c.requires.notes.noted.are.noted.groups place c.requires.group.exists) at).0 in
+    group_fact_exists p place c.in-Some.fact (subst (λ (s : EffectPlace). WellRanged s.task) c.self.view_is c.self.invariant.0) c.requires.group.exists of.has.among
+
+pub returns-in-Some-clause-yes : goal.returns-in-Some-clause-yes
+returns-in-Some-clause-yes g c =
+    let p = c.args.self.now.task in
+    let o = operator_at p c.args.self.now.operator in
+    let e = effect_at o c.args.self.now.effect in
+    let place = c.args.group in
+    let notes = c.args.marks.now.groups in
+    let at : group_note notes place ≡ One c.in-Some.fact =
+    ap (λ list. group_note list place) (sym c.as_slice.ensures) ∙ c.only.ensures.some c.in-Some.fact c.in-Some.is in
+    let of = (one_note_tells p (known o e.conditions []) place c.in-Some.fact (group_note notes place)
+    (c.requires.notes.noted.are.noted.groups place c.requires.group.exists) at).0 in
+    λ t. known_one_is_all p c.args.kept.now o place e c.in-Some.fact c.requires.group of.among of.has.among (c.is_gone.ensures.yes t)
+
+pub loop-length-init : goal.loop-length-init
+loop-length-init g c =
+    let group = rw (← c.self.view_is) at c.requires.group in
+    let p = c.self.inside.task.now in
+    let o = operator_at p c.self.inside.operator in
+    let runs : List (List ℕ) = c.self.inside.index.now.runs in
+    let all = c.self.invariant.1.runs in
+    let below : c.args.group < length runs = let lt = group.exists in let each = all.one_each in omega arith in
+    let here = c.index-as_slice-group.result in
+    let same : get_or runs c.args.group [] ≡ c.as_slice-length-items.result.now =
+    get_or_default runs c.args.group [] here below ∙ (ap (λ (lists : List (List ℕ)). get_or lists c.args.group here) (sym c.as_slice-2.ensures)
+    ∙ (sym c.index-as_slice-group.is ∙ sym c.as_slice-length-items.ensures)) in
+    rw (← c.self.view_is) (such_none (IsGone (IsKept p c.args.kept.now) o (effect_at o c.self.inside.effect)) (group_at p c.args.group) c.group-left.result.now c.as_slice-length-items.result.now c.group-left.ensures
+    (subst (AreRuns (group_at p c.args.group)) same (all.are c.args.group group.exists)))
+
+pub split_at-requires : goal.split_at-requires
+split_at-requires g c =
+    let p = c.args.self.now.task in
+    let o = operator_at p c.args.self.now.operator in
+    next_within (IsGone (IsKept p c.args.kept.now) o (effect_at o c.args.self.now.effect)) (group_at p c.args.group) c.loop-length.left.now c.as_slice-length-items.result.now
+    c.loop-length.length-index c.loop-length-test.true c.loop-length.invariant
+
+pub run_is_gone-requires-clause-exist : goal.run_is_gone-requires-clause-exist
+run_is_gone-requires-clause-exist g c =
+    let p = c.args.self.now.task in
+    let o = operator_at p c.args.self.now.operator in
+    next_too (IsGone (IsKept p c.args.kept.now) o (effect_at o c.args.self.now.effect)) (group_at p c.args.group) c.loop-length.left.now c.as_slice-length-items.result.now
+    c.loop-length.length-index c.loop-length-test.true c.loop-length.invariant (FactExists p.variables) c.split_at.result.0.now c.split_at.ensures.front
+    (λ f among. group_fact_exists p c.args.group f (subst (λ (s : EffectPlace). WellRanged s.task) c.self.view_is c.self.invariant.0) c.requires.group.exists among)
+
+pub run_is_gone-requires-clause-one : goal.run_is_gone-requires-clause-one
+run_is_gone-requires-clause-one g c =
+    let p = c.args.self.now.task in
+    let o = operator_at p c.args.self.now.operator in
+    next_on_one (IsGone (IsKept p c.args.kept.now) o (effect_at o c.args.self.now.effect)) (group_at p c.args.group) c.loop-length.left.now c.as_slice-length-items.result.now
+    c.loop-length.length-index c.loop-length-test.true c.loop-length.invariant c.split_at.result.0.now c.split_at.ensures.front
+
+pub run_is_gone-requires-clause-unknown : goal.run_is_gone-requires-clause-unknown
+run_is_gone-requires-clause-unknown g c =
+    let p = c.args.self.now.task in
+    let o = operator_at p c.args.self.now.operator in
+    let e = effect_at o c.args.self.now.effect in
+    let place = c.args.group in
+    let notes = c.args.marks.now.groups in
+    let not_one = λ (f : Fact) (one : group_note notes place ≡ One f). c.only.ensures.none c.in_default.is f (ap (λ list. group_note list place) c.as_slice.ensures ∙ one) in
+    next_too (IsGone (IsKept p c.args.kept.now) o e) (group_at p place) c.loop-length.left.now c.as_slice-length-items.result.now
+    c.loop-length.length-index c.loop-length-test.true c.loop-length.invariant (IsUnknown o e) c.split_at.result.0.now c.split_at.ensures.front
+    (λ f among in_known. none_if_not_one p (known o e.conditions []) place (IsKept p c.args.kept.now) (place, c.requires.group, refl)
+    c.requires.notes.noted.are.apart (group_note notes place) (c.requires.notes.noted.are.noted.groups place c.requires.group.exists) not_one
+    f (record { among = in_known; has = record { exists = c.requires.group.exists; among = among } }))
+
+pub returns-then-not-run_is_gone-clause-no : goal.returns-then-not-run_is_gone-clause-no
+returns-then-not-run_is_gone-clause-no g c =
+    let p = c.args.self.now.task in
+    let o = operator_at p c.args.self.now.operator in
+    let Gone : Fact → Type 0 = IsGone (IsKept p c.args.kept.now) o (effect_at o c.args.self.now.effect) in
+    λ t gone. c.run_is_gone.ensures.no c.if-not-run_is_gone.true
+    (next_too Gone (group_at p c.args.group) c.loop-length.left.now c.as_slice-length-items.result.now
+    c.loop-length.length-index c.loop-length-test.true c.loop-length.invariant Gone c.split_at.result.0.now c.split_at.ensures.front gone)
+
+pub loop-length-preserved : goal.loop-length-preserved
+loop-length-preserved g c =
+    let p = c.args.self.now.task in
+    let o = operator_at p c.args.self.now.operator in
+    such_more (IsGone (IsKept p c.args.kept.now) o (effect_at o c.args.self.now.effect)) (group_at p c.args.group) c.loop-length.left.now c.as_slice-length-items.result.now
+    c.loop-length.length-index c.loop-length-test.true c.loop-length.invariant c.split_at.result.0.now c.split_at.result.1.now
+    c.split_at.ensures.front c.split_at.ensures.back (c.run_is_gone.ensures.yes c.if-not-run_is_gone.false)
+
+pub returns-clause-yes : goal.returns-clause-yes
+returns-clause-yes g c =
+    let p = c.args.self.now.task in
+    let o = operator_at p c.args.self.now.operator in
+    let Gone : Fact → Type 0 = IsGone (IsKept p c.args.kept.now) o (effect_at o c.args.self.now.effect) in
+    let group = group_at p c.args.group in
+    let items = c.as_slice-length-items.result.now in
+    let end : drop c.loop-length.length-index items ≡ [] = drop_all c.loop-length.length-index items c.loop-length-test.false in
+    λ t f in_group. All-contains Gone group f
+    (such_all Gone group c.loop-length.left.now (subst (SuchBefore Gone group c.loop-length.left.now) end c.loop-length.invariant)) in_group

@@ -1,0 +1,13 @@
+-- The facts before those that are left are gone.
+use Rattle.std.proofs.Common.{drop}
+use Rattle.sas_core.specs.Grounded.{operator_at, effect_at, group_at}
+use Rattle.sas_groups.specs.Checks.{IsGone}
+use Rattle.sas_mutex.specs.Effects.{IsKept}
+use Rattle.sas_mutex.proofs.GoneRuns.{SuchBefore}
+use Rattle.sas_mutex.proofs.effects.Firing.none_stays.Given as goal
+
+abbrev pub invariant-loop-length : goal.invariant-loop-length
+invariant-loop-length g l =
+    let p = l.self.task in
+    let o = operator_at p l.self.operator in
+    SuchBefore (IsGone (IsKept p l.kept) o (effect_at o l.self.effect)) (group_at p l.group) l.left (drop l.length-index l.length-items)

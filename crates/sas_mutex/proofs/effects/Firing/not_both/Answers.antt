@@ -1,0 +1,43 @@
+-- The other effect sets a fact of the group on another variable, or doesn't.
+use Rattle.std.proofs.Common.{◌≡◌, sym, ap, subst, ◌∙◌}
+use Rattle.std.specs.List.{Contains}
+use Rattle.sas_core.specs.declared.grounded.Change.{Change}
+use Rattle.sas_core.specs.declared.parts.Fact.{Fact}
+use Rattle.sas_core.specs.Grounded.{operator_at, effect_at}
+use Rattle.sas_groups.specs.Clashes.{sets}
+use Rattle.sas_groups.proofs.Effects.{set_is}
+use Rattle.sas_group_index.specs.Index.{HasFact, groups_of}
+use Rattle.sas_mutex.proofs.TaskFacts.{effect_fits}
+use Rattle.sas_mutex.proofs.effects.Firing.not_both.Goals as goal
+
+pub returns-then-not-has-clause-yes : goal.returns-then-not-has-clause-yes
+returns-then-not-has-clause-yes g c =
+    let group = rw (← c.self.view_is) at c.requires.group in
+    let other = rw (← c.self.view_is) at c.requires.other in
+    let p = c.self.inside.task.now in
+    let o = operator_at p c.self.inside.operator in
+    let fact : Fact = sets (effect_at o c.args.other) in
+    let is : c.fact.result ≡ fact = set_is (effect_at o c.args.other) c.effect_change-change.result c.fact.result c.effect_change-change.ensures c.fact.ensures in
+    let exists = (effect_fits p c.self.invariant.0 c.self.inside.operator c.self.invariant.2 c.args.other other).new in
+    rw (← c.self.view_is) (λ t has ne. (let among : Contains (groups_of c.self.inside.index.now c.fact.result) c.args.group =
+    subst (λ (f : Fact). Contains (groups_of c.self.inside.index.now f) c.args.group) (sym is)
+    ((c.self.invariant.1.groups fact exists c.args.group).1 (record { exists = group.exists; among = has })) in
+    let yes = c.has.ensures.1 among in
+    let no = c.if-not-has.true in
+    absurd cc))
+
+pub returns-clause-no : goal.returns-clause-no
+returns-clause-no g c =
+    let group = rw (← c.self.view_is) at c.requires.group in
+    let other = rw (← c.self.view_is) at c.requires.other in
+    let p = c.self.inside.task.now in
+    let o = operator_at p c.self.inside.operator in
+    let fact : Fact = sets (effect_at o c.args.other) in
+    let is : c.fact.result ≡ fact = set_is (effect_at o c.args.other) c.effect_change-change.result c.fact.result c.effect_change-change.ensures c.fact.ensures in
+    let exists = (effect_fits p c.self.invariant.0 c.self.inside.operator c.self.invariant.2 c.args.other other).new in
+    let among : Contains (groups_of c.self.inside.index.now fact) c.args.group =
+    subst (λ (f : Fact). Contains (groups_of c.self.inside.index.now f) c.args.group) is (c.has.ensures.0 c.if-not-has.false) in
+    let has : HasFact p c.args.group fact = (c.self.invariant.1.groups fact exists c.args.group).0 among in
+    let none = rw (← c.self.view_is) at c.both_clash.ensures.no in
+    rw (← c.self.view_is) (λ t clashes. none t (clashes has.among (λ same. c.if-effect_change-change.false
+    (ap (λ (change : Change). change.var) c.effect_change.ensures ∙ (same ∙ sym (ap (λ (change : Change). change.var) c.effect_change-change.ensures))))))

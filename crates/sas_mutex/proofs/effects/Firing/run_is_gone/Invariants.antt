@@ -1,0 +1,12 @@
+-- The facts so far are gone.
+use Rattle.std.proofs.Common.{ℕ, ◌<◌, get_or}
+use Rattle.sas_core.specs.declared.parts.Fact.{Fact}
+use Rattle.sas_core.specs.Grounded.{operator_at, effect_at}
+use Rattle.sas_groups.specs.Checks.{IsGone}
+use Rattle.sas_mutex.specs.Effects.{IsKept}
+use Rattle.sas_mutex.proofs.effects.Firing.run_is_gone.Given as goal
+
+abbrev pub invariant-loop-fact : goal.invariant-loop-fact
+invariant-loop-fact g l = (k : ℕ) (d : Fact) → k < l.fact-index
+    → IsGone (IsKept l.self.task l.kept) (operator_at l.self.task l.self.operator)
+    (effect_at (operator_at l.self.task l.self.operator) l.self.effect) (get_or l.run k d)

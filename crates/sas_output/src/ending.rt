@@ -1,0 +1,42 @@
+// How a run ends.
+ghost use Rattle.std.specs.Prelude.{◌≡◌};
+
+use std::alloc::AllocError;
+use thiserror::Error;
+
+/// The answer in one word.
+#[derive(Clone, Copy, Debug, PartialEq, Eq)]
+pub enum Status {
+    /// The file is a text of its format; the task is layered where that was asked, the plan valid, and all groups
+    /// exclusive. The answer was written.
+    Yes,
+    /// A file is refused, or the plan isn't valid, or a group isn't shown to be exclusive, and that was written.
+    No,
+}
+
+/// Why there is no answer, or not all of it was written.
+#[derive(Clone, Copy, Debug, PartialEq, Eq, Error)]
+pub enum ToolFault {
+    /// Memory was refused.
+    #[error("out of memory")]
+    Memory,
+    /// A read failed.
+    #[error("read failed")]
+    Read,
+    /// An input goes past the most bytes that are read.
+    #[error("input too long")]
+    TooLong,
+    /// A write failed, and the first `written` bytes of the answer had gone out.
+    #[error("write failed")]
+    Write { written: usize },
+}
+
+impl From<AllocError> for ToolFault {
+    ghost use Rattle.sas_output.specs.declared.ending.ToolFault.TheVariants.{Memory};
+
+    ghost from_gives = { λ _ e. e ≡ Memory };
+
+    fn from(_error: AllocError) -> ToolFault {
+        ToolFault::Memory
+    }
+}

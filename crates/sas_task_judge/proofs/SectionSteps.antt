@@ -1,0 +1,121 @@
+-- Behind a section that is kept whole the judge goes on, and so does the machine.
+use Rattle.std.proofs.Common.{◌≡◌, ℕ, suc, ◌<◌, ◌-◌, List, [], ◌∷◌, ◌++◌, length, refl, sym, ap, subst, ◌∙◌, IsTrue, arith, Ok}
+use Rattle.std.specs.List.{list_all}
+use Rattle.sas_core.specs.declared.parts.Fact.{Fact}
+use Rattle.sas_core.specs.declared.parts.Operator.{Operator}
+use Rattle.sas_core.specs.declared.parts.Rule.{Rule}
+use Rattle.sas_core.specs.declared.parts.Variable.{Variable}
+use Rattle.sas_reader.specs.declared.reader.Front.{Front}
+use Rattle.sas_reader.specs.Machine.{IsFront, AcceptsAhead}
+use Rattle.sas_reader.proofs.Paths.{map-append, after_append}
+use Rattle.sas_task_format.specs.Process.{process_node}
+use Rattle.sas_task_format.specs.TaskFormat.{TaskLine, task_line_bytes, task_format, TaskLineFits, variable_lines, group_lines, operator_lines, rule_lines}
+use Rattle.sas_task_format.specs.TaskProcess.{TaskProcess, task_start}
+use Rattle.sas_task_line.specs.Sections.{spelled, IsNamed, OperatorInRanges, RuleInRanges}
+use Rattle.sas_task_line.specs.TaskRanges.{ranges_of, fact_in_ranges}
+use Rattle.sas_task_line.specs.declared.so_far.SoFar.{SoFar}
+use Rattle.sas_task_judge.specs.declared.task_judge.Place.{Place}
+use Rattle.sas_task_judge.specs.declared.task_judge.Place.TheVariants as at
+use Rattle.sas_task_judge.specs.declared.task_judge.TaskJudge.{TaskJudge}
+use Rattle.sas_task_judge.specs.declared.task_judge.sections.Section.TheVariants as section
+use Rattle.sas_task_judge.specs.declared.task_machine.TaskMachine.{TaskMachine}
+use Rattle.sas_task_judge.specs.Sections.{behind_variable, behind_group, behind_operator, behind_rule}
+use Rattle.sas_task_judge.specs.TaskJudge.{state_at, state_of, KnownTo, SectionDue}
+use Rattle.sas_task_judge.specs.TaskMachine.{LedBy}
+use Rattle.sas_task_judge.proofs.TaskMoves.{next_of}
+use Rattle.sas_task_judge.proofs.TaskRanges.{ranges_push}
+use Rattle.sas_task_judge.proofs.SectionLines.{GoesOn, AllFit, variable_on, group_on, operator_items, operator_lines_are, operator_on, rule_items, rule_lines_are, rule_on}
+
+-- ---- the judge
+
+-- the judge behind the section that was due
+abbrev pub behind_section : TaskJudge → TaskJudge
+behind_section j = record j { left = j.left - 1 }
+
+-- the judge behind the variable that was due, which has so many values
+abbrev pub behind_values : TaskJudge → ℕ → TaskJudge
+behind_values j range = record j { ranges = j.ranges ++ range ∷ []; left = j.left - 1 }
+
+-- the state before the section that is due
+before_section : (j : TaskJudge) (s : SoFar) (place : Place) → j.place ≡ place → 0 < j.left → state_of j s ≡ state_at place (suc (j.left - 1)) j.more s
+before_section j s place here left = ap (λ (p : Place). state_at p j.left j.more s) here ∙ ap (λ (n : ℕ). state_at place n j.more s) (next_of j.left left)
+
+-- What has come leads on to that with a section more, all of whose lines have come. The judge knows of it what it needs.
+pub record SectionLeads (j k : TaskJudge) (s : SoFar) (items : List TaskLine) (t : SoFar) : Type 0 where
+  pub known : KnownTo t k
+  pub on : GoesOn (state_of j s) items (state_of k t)
+
+-- what the judge knows stays, where the place is that of a section
+known_behind : (j : TaskJudge) (s t : SoFar) → t.parts.variables ≡ s.parts.variables → t.parts.init ≡ s.parts.init → (j.place ≡ at.VariableValues → ⊥) → KnownTo s j → KnownTo t (behind_section j)
+known_behind j s t variables init apart f = record {
+  ranges = f.ranges ∙ ap ranges_of (sym variables);
+  valued = f.valued ∙ ap (λ (xs : List ℕ). length xs) (sym init);
+  range = λ h. absurd (apart h);
+}
+
+-- lines that lead behind the section at a place do where the judge is at that place, with a section left
+at_place : (j : TaskJudge) (s t : SoFar) (place : Place) (items is : List TaskLine) → j.place ≡ place → 0 < j.left → is ≡ items
+    → GoesOn (state_at place (suc (j.left - 1)) j.more s) items (state_at place (j.left - 1) j.more t) → GoesOn (state_of j s) is (state_of (behind_section j) t)
+at_place j s t place items is here left same on =
+    subst (λ (p : TaskProcess). GoesOn p is (state_of (behind_section j) t)) (sym (before_section j s place here left))
+    (subst (λ (l : List TaskLine). GoesOn (state_at place (suc (j.left - 1)) j.more s) l (state_of (behind_section j) t)) (sym same)
+    (subst (λ (p : Place). GoesOn (state_at place (suc (j.left - 1)) j.more s) items (state_at p (j.left - 1) j.more t)) (sym here) on))
+
+pub variable_leads : (j : TaskJudge) (s : SoFar) (v : Variable) (range : ℕ) → SectionDue j section.Variable → KnownTo s j → IsNamed v → range ≡ length v.values → AllFit (variable_lines v) → SectionLeads j (behind_values j range) s (variable_lines v) (behind_variable s v)
+variable_leads j s v range due f good many fits = record {
+  known = record {
+    ranges = ap (λ (rs : List ℕ). rs ++ range ∷ []) f.ranges ∙ ap (λ (n : ℕ). ranges_of s.parts.variables ++ n ∷ []) many ∙ sym (ranges_push s.parts.variables v);
+    valued = f.valued;
+    range = λ h. absurd (let other = sym due.0 ∙ h in cc);
+  };
+  on = at_place j s (behind_variable s v) at.Variables (variable_lines v) (variable_lines v) due.0 due.1 refl
+      (variable_on (λ a. state_at at.Variables (j.left - 1) j.more (behind_variable s a)) v good fits);
+}
+
+pub group_leads : (j : TaskJudge) (s : SoFar) (facts : List Fact) → SectionDue j section.Group → KnownTo s j → IsTrue (list_all (fact_in_ranges j.ranges) facts) → AllFit (group_lines facts) → SectionLeads j (behind_section j) s (group_lines facts) (behind_group s facts)
+group_leads j s facts due f good fits = record {
+  known = known_behind j s (behind_group s facts) refl refl (λ h. let other = sym due.0 ∙ h in cc) f;
+  on = at_place j s (behind_group s facts) at.Groups (group_lines facts) (group_lines facts) due.0 due.1 refl
+      (group_on s.parts.variables (λ a. state_at at.Groups (j.left - 1) j.more (behind_group s a)) facts (subst (λ (rs : List ℕ). IsTrue (list_all (fact_in_ranges rs) facts)) f.ranges good) fits);
+}
+
+pub operator_leads : (j : TaskJudge) (s : SoFar) (o : Operator) → SectionDue j section.Operator → KnownTo s j → OperatorInRanges j.ranges o → AllFit (operator_lines o) → SectionLeads j (behind_section j) s (operator_lines o) (behind_operator s o)
+operator_leads j s o due f good fits = record {
+  known = known_behind j s (behind_operator s o) refl refl (λ h. let other = sym due.0 ∙ h in cc) f;
+  on = at_place j s (behind_operator s o) at.Operators (operator_items o) (operator_lines o) due.0 due.1 (operator_lines_are o)
+      (operator_on s.parts.variables (λ a. state_at at.Operators (j.left - 1) j.more (behind_operator s a)) o (subst (λ (rs : List ℕ). OperatorInRanges rs o) f.ranges good) (subst AllFit (operator_lines_are o) fits));
+}
+
+pub rule_leads : (j : TaskJudge) (s : SoFar) (r : Rule) → SectionDue j section.Rule → KnownTo s j → RuleInRanges j.ranges r → AllFit (rule_lines r) → SectionLeads j (behind_section j) s (rule_lines r) (behind_rule s r)
+rule_leads j s r due f good fits = record {
+  known = known_behind j s (behind_rule s r) refl refl (λ h. let other = sym due.0 ∙ h in cc) f;
+  on = at_place j s (behind_rule s r) at.Rules (rule_items r) (rule_lines r) due.0 due.1 (rule_lines_are r)
+      (rule_on s.parts.variables (λ a. state_at at.Rules (j.left - 1) j.more (behind_rule s a)) r (subst (λ (rs : List ℕ). RuleInRanges rs r) f.ranges good) (subst AllFit (rule_lines_are r) fits));
+}
+
+-- ---- the machine
+
+module _ {K : Type 0} (keeps : List (List ℕ) → SoFar → K → Type 0) (m : TaskMachine K) (next : TaskJudge) (kept : K) (items : List TaskLine) (behind : SoFar → SoFar)
+    (leads : (s : SoFar) → KnownTo s m.judge → SectionLeads m.judge next s items (behind s)) (keeps_on : (lines : List (List ℕ)) (s : SoFar) → keeps lines s m.kept → keeps (lines ++ spelled items) (behind s) kept) where
+  -- where the keeper keeps the section, its lines lead the machine too
+  led_behind : (before : List (List ℕ)) → LedBy keeps before m → LedBy keeps (before ++ spelled items) (record { judge = next; kept = kept })
+  led_behind before h =
+      let led = leads h.so_far h.known in
+      record {
+        so_far = behind h.so_far;
+        leads = record {
+          items = h.leads.items ++ items;
+          after = after_append task_format TaskLineFits process_node task_start (state_of m.judge h.so_far) (state_of next (behind h.so_far)) h.leads.items items h.leads.after led.on;
+          spells = map-append task_line_bytes h.leads.items items ∙ ap (λ (l : List (List ℕ)). l ++ spelled items) h.leads.spells;
+        };
+        known = led.known;
+        kept = keeps_on before h.so_far h.kept;
+      }
+
+  -- and the machine accepts it
+  pub accepts : (j : TaskJudge) (bytes : List ℕ) (front : Front) → j ≡ next → 0 < front.bytes → IsFront (spelled items) bytes front → AcceptsAhead (LedBy keeps) m bytes (record { judge = j; kept = kept }) (Ok front)
+  accepts j bytes front is some stands = record {
+    took = λ _. (spelled items, stands, λ before h. subst (λ (x : TaskJudge). LedBy keeps (before ++ spelled items) (record { judge = x; kept = kept })) (sym is) (led_behind before h));
+    none = λ zero. absurd (omega (arith, zero, some));
+    memory = tt;
+  }

@@ -1,0 +1,16 @@
+use Rattle.std.proofs.Common.{refl, sym, ap, ◌∙◌, []}
+use Rattle.sas_task_line.specs.TaskEvents.{nothing_yet}
+use Rattle.sas_task_judge.specs.TaskJudge.{state_at}
+use Rattle.sas_task_judge.proofs.task_machine.TaskMachine.new.Goals as goal
+
+pub returns : goal.returns
+returns g c =
+    let so_far = nothing_yet c.requires.0 in
+    record {
+      led = record {
+        so_far = so_far;
+        leads = record { items = []; after = sym (ap (λ place. state_at place c.new.result.left c.new.result.more so_far) c.new.ensures.place); spells = refl };
+        known = record { ranges = c.new.ensures.ranges; valued = c.new.ensures.valued; range = λ h. absurd (let other = sym c.new.ensures.place ∙ h in cc) };
+        kept = c.requires.1;
+      };
+    }

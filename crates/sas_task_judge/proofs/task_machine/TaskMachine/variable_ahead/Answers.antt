@@ -1,0 +1,15 @@
+use Rattle.std.proofs.Common.{◌<◌, arith}
+use Rattle.sas_task_format.specs.TaskFormat.{variable_lines}
+use Rattle.sas_task_judge.specs.Sections.{behind_variable}
+use Rattle.sas_task_judge.proofs.SectionSteps.{variable_leads, accepts}
+use Rattle.sas_task_judge.proofs.task_machine.TaskMachine.variable_ahead.Goals as goal
+
+pub returns : goal.returns
+returns g c =
+    let judge = c.args.self.now.judge in
+    let some : 0 < c.in_ok-kept.kept.front.bytes = omega (arith, c.if-kept-eq0.false) in
+    let kept = c.in_ok-kept.ensures.took some in
+    let variable = kept.0 in
+    accepts _ c.args.self.now _ c.keep_variable.new.self (variable_lines variable) (λ s. behind_variable s variable)
+    (λ s f. variable_leads judge s variable c.in_ok-kept.kept.range c.requires f kept.1.0.0 kept.1.1 kept.1.0.1.fits) kept.2
+    c.pass_variable.new.self c.args.bytes.now c.in_ok-kept.kept.front c.in_ok-pass_variable.ensures.ok some kept.1.0.1.stands

@@ -1,0 +1,36 @@
+-- What the machine of task files stands for: lines that lead to what has come,
+-- and what is kept of it.
+use Rattle.std.specs.Prelude.{◌≡◌, ℕ, List, []}
+use Rattle.std.specs.Global.{Global}
+use Rattle.sas_reader.specs.declared.fault.Kind.{Kind}
+use Rattle.sas_task_line.specs.declared.so_far.SoFar.{SoFar}
+use Rattle.sas_task_judge.specs.declared.task_machine.TaskMachine.{TaskMachine}
+use Rattle.sas_task_format.specs.Process.{process_node}
+use Rattle.sas_reader.specs.System.{Leads}
+use Rattle.sas_task_format.specs.TaskFormat.{task_format, TaskLineFits}
+use Rattle.sas_task_format.specs.TaskProcess.{task_start}
+use Rattle.sas_task_line.specs.TaskEvents.{nothing_yet}
+use Rattle.sas_task_judge.specs.TaskJudge.{KnownTo, state_of, HasEnded, RejectsLine}
+
+module _ {K : Type 0} (keeps : List (List ℕ) → SoFar → K → Type 0) where
+  -- so much has come with these lines, the judge knows of it what it needs, and this is kept
+  pub record LedBy (lines : List (List ℕ)) (m : TaskMachine K) : Type 0 where
+    pub so_far : SoFar
+    pub leads : Leads task_format TaskLineFits process_node task_start lines
+        (state_of m.judge so_far)
+    pub known : KnownTo so_far m.judge
+    pub kept : keeps lines so_far m.kept
+
+  -- it keeps what is asked for where nothing has come
+  abbrev pub IsFresh : K → Type 0
+  IsFresh kept = (alloc : Global) × keeps [] (nothing_yet alloc) kept
+
+-- the machine of the reader keeps all that has come
+abbrev pub LedTo : List (List ℕ) → TaskMachine SoFar → Type 0
+LedTo = LedBy (λ lines s kept. kept ≡ s)
+
+abbrev pub EndedAt : TaskMachine SoFar → Type 0
+EndedAt m = HasEnded m.judge
+
+abbrev pub RejectsAt : TaskMachine SoFar → List ℕ → Kind → Type 0
+RejectsAt m line kind = RejectsLine m.judge line kind

@@ -1,0 +1,85 @@
+-- What each line of a task file adds to what has come.
+use Rattle.std.specs.Global.{Global}
+use Rattle.std.specs.Prelude.{ℕ, false, List, [], ◌∷◌, ◌++◌, ◌==◌, None}
+use Rattle.sas_core.specs.declared.parts.Fact.{Fact}
+use Rattle.sas_core.specs.declared.parts.Variable.{Variable}
+use Rattle.sas_core.specs.declared.parts.Operator.{Operator}
+use Rattle.sas_core.specs.declared.parts.Rule.{Rule}
+use Rattle.sas_core.specs.declared.parts.Parts.{Parts}
+use Rattle.sas_task_line.specs.declared.task_events.Event.{Event}
+use Rattle.sas_task_line.specs.declared.task_events.Event.TheVariants as event
+use Rattle.sas_task_line.specs.declared.task_events.Said.{Said}
+use Rattle.sas_task_line.specs.declared.so_far.SoFar.{SoFar}
+
+-- no parts have come
+abbrev pub no_parts : Parts
+no_parts = record {
+  metric = false;
+  variables = [];
+  groups = [];
+  init = [];
+  goal = [];
+  operators = [];
+  rules = [];
+}
+
+-- nothing has come
+abbrev pub nothing_yet : Global → SoFar
+nothing_yet alloc = record {
+  alloc = alloc;
+  parts = no_parts;
+  name = [];
+  layer = None;
+  values = [];
+  facts = [];
+  effects = [];
+}
+
+-- the variable, the operator and the rule that have come, of which the line says the rest
+abbrev pub variable_of : SoFar → Variable
+variable_of s = record { name = s.name; layer = s.layer; values = s.values }
+
+abbrev pub operator_of : SoFar → Said → Operator
+operator_of s said =
+    record { name = s.name; prevail = s.facts; effects = s.effects; cost = said.number }
+
+abbrev pub rule_of : SoFar → Said → Rule
+rule_of s said =
+    record { conditions = s.facts; var = said.head.var; old = said.head.old; new = said.head.new }
+
+-- parts with one variable, one group, one operator, one rule more
+abbrev pub with_variable : Parts → Variable → Parts
+with_variable p v = record p { variables = p.variables ++ v ∷ [] }
+
+abbrev pub with_group : Parts → List Fact → Parts
+with_group p g = record p { groups = p.groups ++ g ∷ [] }
+
+abbrev pub with_operator : Parts → Operator → Parts
+with_operator p o = record p { operators = p.operators ++ o ∷ [] }
+
+abbrev pub with_rule : Parts → Rule → Parts
+with_rule p r = record p { rules = p.rules ++ r ∷ [] }
+
+-- what has come behind a line that says this
+abbrev pub after : SoFar → Event → Said → List ℕ → SoFar
+after s event.Nothing said line = s
+after s event.Metric said line = record s { parts = record s.parts { metric = said.number == 1 } }
+after s event.Name said line = record s { name = line }
+after s event.Layer said line = record s { layer = said.layer }
+after s event.Values said line = record s { values = [] }
+after s event.Value said line = record s { values = s.values ++ line ∷ [] }
+after s event.Variable said line =
+    record s { parts = with_variable s.parts (variable_of s); name = []; values = [] }
+after s event.Facts said line = record s { facts = [] }
+after s event.Fact said line = record s { facts = s.facts ++ said.fact ∷ [] }
+after s event.Group said line = record s { parts = with_group s.parts s.facts; facts = [] }
+after s event.State said line =
+    record s { parts = record s.parts { init = s.parts.init ++ said.number ∷ [] } }
+after s event.Goal said line =
+    record s { parts = record s.parts { goal = s.parts.goal ++ said.fact ∷ [] } }
+after s event.Effects said line = record s { effects = [] }
+after s event.Effect said line = record s { effects = s.effects ++ said.effect ∷ [] }
+after s event.Operator said line =
+    let o = operator_of s said in
+    record s { parts = with_operator s.parts o; name = []; facts = []; effects = [] }
+after s event.Rule said line = record s { parts = with_rule s.parts (rule_of s said); facts = [] }

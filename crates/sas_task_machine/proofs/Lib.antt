@@ -1,3 +1,0 @@
-pub mod TaskSteps
-pub mod SectionLines
-pub mod SectionSteps

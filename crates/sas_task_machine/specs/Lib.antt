@@ -1,2 +1,0 @@
-pub mod TaskMachine
-pub mod Sections
