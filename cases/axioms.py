@@ -182,7 +182,8 @@ def layer_fault(task):
 
 
 def settled_tasks():
-    """Layered tasks, as texts, each with states and what they settle to."""
+    """Layered tasks, as texts, each with states and what they settle to. They could show a definition of settled states that
+    isn't theirs, where no one thought of the case."""
     chance = random.Random(SEED)
     for _ in range(TASKS):
         task = random_task(chance)
@@ -191,7 +192,8 @@ def settled_tasks():
 
 
 def spoiled_tasks():
-    """Tasks, as texts, each with what is wrong with its layers."""
+    """Tasks, as texts, each with what is wrong with its layers. They could show a definition of layered tasks that isn't
+    theirs, where no one thought of the case."""
     chance = random.Random(SEED)
     for _ in range(TASKS):
         task = spoiled_task(chance)

@@ -3,7 +3,7 @@
 
     python3 cases/calls.py PROGRAM ..
 
-The programs are those that the crates `core_calls`, `file_calls`, `verdict_calls` and `request_calls` are built to, and have
+The programs are those that the crates `test_core`, `test_files`, `test_verdicts` and `test_requests` are built to, and have
 their names.
 
 calls.json: for each program what its calls say, in groups of the same call.
@@ -14,8 +14,8 @@ calls.json: for each program what its calls say, in groups of the same call.
     rows         [INPUT, ANSWER]: the bytes that the call is about, and what the program prints
 
 The calls over the files of tasks.json, lines.json, plans.json, verdicts.json and groups.json are made here, and those over
-the tasks of axioms.py, walks.py and families.py. texts.py says what a text is. Each case that fails has a line, and the last
-line is 'N passed, M failed'. The exit status is 0 where none failed.
+the tasks of axioms.py, walks.py, families.py and large.py, and over devices that go on behind a failure. texts.py says what a
+text is. Each case that fails has a line, and the last line is 'N passed, M failed'. The exit status is 0 where none failed.
 """
 import os
 import subprocess
@@ -23,19 +23,23 @@ import sys
 from concurrent.futures import ThreadPoolExecutor
 
 import report
-from axioms import settled_tasks, spoiled_tasks
+from axioms import settled_tasks, spoiled_tasks, text_of
 from families import grouped_tasks
-from steps import state_line
-from texts import as_bytes, changed_lines, table
+from large import plan_text, wide_groups, wide_plans, wide_task
+from steps import initial, state_line, verdict
+from texts import as_bytes, changed_lines, early_end, table
 from walks import walked_calls, walked_plans
 
 SECONDS = 60
-# the program reads no more than 8,192 bytes
+# longer files are left to run.py: what tries each front of a file takes a time that grows as its square
 LONGEST = 8000
-CORE, FILES, VERDICTS, REQUESTS = "core_calls", "file_calls", "verdict_calls", "request_calls"
+MINIMAL, EMPTY = {"file": "cases/tasks/minimal.sas"}, "; cost = 0 (unit cost)\n"
+CORE, FILES, VERDICTS, REQUESTS = "test_core", "test_files", "test_verdicts", "test_requests"
 RIGHT = "right\n"
 LAYERED = "layered\nkept\n"
 EVALUATORS = ("rounds", "worklist")
+TASK_WAYS, TASK_REQUESTS = ("task", "task-text", "outline", "flat-task"), ("print", "show", "check", "mutex")
+PLAN_WAYS, PLAN_REQUESTS = ("plan", "plan-text", "flat-plan"), ("steps",)
 
 
 def case(program, call, given, answer, about=""):
@@ -49,7 +53,7 @@ def case(program, call, given, answer, about=""):
 
 
 def written_cases():
-    """The calls of calls.json."""
+    """The calls of calls.json. The comment at each call, in the program that makes it, says which mistake it could show."""
     for program, groups in table("calls.json").items():
         for group in groups:
             for given, answer in group["rows"]:
@@ -58,7 +62,8 @@ def written_cases():
 
 
 def task_cases():
-    """Each task file, as it stands and with CR LF: read in any way, in any pieces, cut off, and from a device that fails."""
+    """Each task file, as it stands and with CR LF: read in any way, in any pieces, cut off, and from a device that fails.
+    They could show a line that is judged otherwise where a piece ends in it, and parts that don't make a task again."""
     for task in table("tasks.json"):
         name, held = task["file"], as_bytes({"file": task["file"]})
         whole = ["whole\n", {"file": name}, "\n"]
@@ -71,16 +76,16 @@ def task_cases():
             for way in ("task", "task-text"):
                 yield case(FILES, f"read {way}", given, whole, about)
             yield case(FILES, "cut-task", given, RIGHT, about)
-            for way in ("task", "task-text", "outline"):
+            for way in TASK_WAYS:
                 yield case(FILES, f"read-fronts {way}", given, RIGHT, about)
         if len(held) < 600:
-            ways, requests = ("task", "task-text", "outline"), ("print", "show", "check", "mutex")
-            yield from device_cases("task", ways, requests, name, held)
+            yield from device_cases("task", TASK_WAYS, TASK_REQUESTS, name, held)
             yield case(REQUESTS, "run-broken-fronts plan", held, RIGHT, name)
 
 
 def device_cases(reader, ways, requests, name, held):
-    """A file that something follows, and devices that fail behind each front of it, or before all is written."""
+    """A file that something follows, and devices that fail behind each front of it, or before all is written. They could show
+    a failure that is taken for the end, and bytes that go out twice."""
     yield case(FILES, f"behind-{reader}", held, RIGHT, name)
     for way in ways:
         yield case(FILES, f"read-broken-fronts {way}", held, RIGHT, name)
@@ -89,8 +94,90 @@ def device_cases(reader, ways, requests, name, held):
         yield case(REQUESTS, f"run-narrow {request}", held, RIGHT, name)
 
 
+def told_cases():
+    """Files of devices that fail once, or end, and go on then. They could show a read that is tried again behind a failure, which
+    goes well then, or one that is made behind the end."""
+    plan = b"(go )\n(open door)\n; cost = 2 (unit cost)\n"
+    for what, ways, requests, held in (
+        ("task", TASK_WAYS, TASK_REQUESTS, as_bytes(MINIMAL)),
+        ("plan", PLAN_WAYS, PLAN_REQUESTS, plan),
+    ):
+        for length in (0, 1, len(held) // 2, len(held) - 1, len(held)):
+            front, rest, about = held[:length], held[length:], f"{length} bytes of a {what}"
+            for failure in (b"!", b"~"):
+                told = b"#".join(filter(None, [front, failure, rest]))
+                yield from told_calls(ways, requests, told, f"line {1 + front.count(10)}: read\nfailed\n", "Err(Read)\n\n", about)
+            if rest:
+                said, told = early_end(front), b"#".join([*filter(None, [front]), b"", b"!", rest])
+                answer = f"Ok(No)\n{what} refused: {said}\n\n"
+                yield from told_calls(ways, requests, told, f"{said}\nnot failed\n", answer, about)
+
+
+def told_calls(ways, requests, told, read, answer, about):
+    """The calls that read from a device that is told this, which read that, or are answered so."""
+    for way in ways:
+        yield case(FILES, f"read-told {way}", told, read, about)
+    for request in requests:
+        yield case(REQUESTS, f"run-told {request}", told, answer, about)
+
+
+def told_plan_cases():
+    """The same of `run` with a plan and its task. They could show a plan that is read before its task, too: the task's device
+    comes to its end or fails before that."""
+    for plan, task, answer in (
+        ("~#" + EMPTY, MINIMAL, "Err(Read)\n\n"),
+        (EMPTY + "#!", MINIMAL, "Err(Read)\n\n"),
+        (EMPTY + "##!", MINIMAL, "Ok(Yes)\nplan valid: 0 steps, cost 0\n\n"),
+        (EMPTY, ["~#", MINIMAL], "Err(Read)\n\n"),
+        ("!", [MINIMAL, "#~"], "Err(Read)\n\n"),
+        (EMPTY + "#", [MINIMAL, "##!"], "Ok(Yes)\nplan valid: 0 steps, cost 0\n\n"),
+        ("!", [MINIMAL, "#x#~"], "Ok(No)\ntask refused: line 25: trailing\n\n"),
+    ):
+        yield case(REQUESTS, "run-told plan", [plan, "|", task], answer, f"{plan!r}")
+
+
+def wide_cases():
+    """Wide tasks, through the calls that take a task or a plan as it is. They could show want of memory that no one was refused,
+    and a buffer that reads more at a time than is said."""
+    for width in (65, 130):
+        task, about = wide_task(width), f"{width} of everything"
+        text, plans = text_of(task), wide_plans(width)
+        yield from wide_file_cases("task", text, about)
+        yield from wide_file_cases("plan", plan_text(plans[0][0], 0), about)
+        yield from longest_cases(text, plan_text(plans[0][0], 0), about)
+        yield case(CORE, "new-task", ["|", text], f"kept\nwhole\n{text}\n", about)
+        yield case(CORE, "same-parts", ["|", text], "equal\nequal tasks\n", about)
+        yield case(VERDICTS, "layered", text, LAYERED, about)
+        joint = [said for _, said in wide_groups(width)]
+        said = "".join(f"{word} {it}\n" for word in ("joint", "alone") for it in joint)
+        yield case(VERDICTS, "check-groups", text, said, about)
+        for names, cost, _ in plans:
+            answer = f"{state_line(initial(task))}\n{verdict(task, names, cost)[1]}\n"
+            for way in EVALUATORS:
+                yield case(VERDICTS, f"plan {way}", [plan_text(names, cost), "|", text], answer, about)
+
+
+def wide_file_cases(what, text, about):
+    """The file of a wide task or of its plan, read and written again. They could show want of memory that no one was refused."""
+    whole = f"whole\n{text}\n"
+    yield case(FILES, f"read {what}", text, whole, about)
+    yield case(FILES, f"read {what}-text", text, whole, about)
+    yield case(FILES, f"feed-{what}", text, f"taken\n{whole}", about)
+
+
+def longest_cases(task, plan, about):
+    """How much is read at a time of a long task and of a long plan. They could show a reader with a buffer of more than 4,096
+    bytes."""
+    for ways, requests, file in ((TASK_WAYS, TASK_REQUESTS, task), (PLAN_WAYS, PLAN_REQUESTS, plan)):
+        for way in ways:
+            yield case(FILES, f"longest {way}", file, "read\nright\n", about)
+        for request in requests:
+            yield case(REQUESTS, f"run-longest {request}", file, "answered\nright\n", about)
+    yield case(REQUESTS, "run-longest plan", [plan, "|", task], "answered\nright\n", about)
+
+
 def line_cases():
-    """Each changed line of a task file that isn't too long."""
+    """Each changed line of a task file that isn't too long. They could show two ways to read a task that don't agree."""
     for changed in changed_lines():
         if len(as_bytes(changed["task"])) > LONGEST:
             continue
@@ -101,7 +188,8 @@ def line_cases():
 
 
 def plan_cases():
-    """Each plan file that isn't too long: read in any way, and in pieces."""
+    """Each plan file that isn't too long: read in any way, and in pieces. They could show two ways to read a plan that don't
+    agree."""
     for plan in table("plans.json"):
         held, output = as_bytes(plan["plan"]), as_bytes(plan["output"])
         if len(held) > LONGEST:
@@ -115,14 +203,15 @@ def plan_cases():
         if plan["status"] == 0:
             yield case(FILES, "cut-plan", held, RIGHT, plan["name"])
         if plan.get("cut_off"):
-            for way in ("plan", "plan-text"):
+            for way in PLAN_WAYS:
                 yield case(FILES, f"read-fronts {way}", held, RIGHT, plan["name"])
-            yield from device_cases("plan", ("plan", "plan-text"), ("steps",), plan["name"], held)
+            yield from device_cases("plan", PLAN_WAYS, PLAN_REQUESTS, plan["name"], held)
 
 
 def verdict_cases():
     """Each plan that isn't too long, of a task of verdicts.json or one made at random, through each evaluator: the initial
-    state, and what is said of the plan. Where a file is refused there is none of that."""
+    state, and what is said of the plan. Where a file is refused there is none of that. They could show a definition of valid
+    plans that isn't theirs, and evaluators that don't agree."""
     for made in (*table("verdicts.json"), *walked_plans()):
         if "call" not in made:
             continue
@@ -132,14 +221,16 @@ def verdict_cases():
 
 
 def step_cases():
-    """Calls of runners on tasks made at random, through each evaluator."""
+    """Calls of runners on tasks made at random, through each evaluator. They could show a definition of steps that isn't
+    theirs."""
     for made in walked_calls():
         for way in EVALUATORS:
             yield case(VERDICTS, f"steps {way}", [made["calls"], "|", made["task"]], made["answers"], made["name"])
 
 
 def group_cases():
-    """The groups of each task that isn't too long, and of those made at random: the joint verdicts, and each by itself."""
+    """The groups of each task that isn't too long, and of those made at random: the joint verdicts, and each by itself. They
+    could show a definition of kept groups by which too few are shown."""
     for made in (*table("groups.json"), *grouped_tasks()):
         if len(as_bytes(made["task"])) <= LONGEST:
             yield case(VERDICTS, "check-groups", made["task"], made["call"], made["name"])
@@ -151,7 +242,8 @@ def numbers(values):
 
 
 def settled_cases():
-    """States of tasks made at random, settled in turn by each evaluator."""
+    """States of tasks made at random, settled in turn by each evaluator. They could show a definition of settled states that
+    isn't theirs, and a state that rests on the one before it."""
     for number, made in enumerate(settled_tasks()):
         given = [";".join(map(numbers, made["states"])), "|", made["task"]]
         answer = "".join(f"state {numbers(values)}\n" for values in made["settled"])
@@ -160,7 +252,8 @@ def settled_cases():
 
 
 def layer_cases():
-    """The layers of tasks made at random."""
+    """The layers of tasks made at random. They could show a definition of layered tasks that isn't theirs, and faults in
+    another order."""
     for number, made in enumerate(spoiled_tasks()):
         answer = f"kept\n{made['fault']}\n" if made["fault"] else LAYERED
         yield case(VERDICTS, "layered", made["task"], answer, f"random task {number}")
@@ -169,7 +262,8 @@ def layer_cases():
 def cases():
     """All calls."""
     files = (*task_cases(), *line_cases(), *plan_cases(), *verdict_cases())
-    return [*written_cases(), *files, *settled_cases(), *layer_cases(), *step_cases(), *group_cases()]
+    devices = (*told_cases(), *told_plan_cases(), *wide_cases())
+    return [*written_cases(), *files, *devices, *settled_cases(), *layer_cases(), *step_cases(), *group_cases()]
 
 
 def faults(programs, call):

@@ -257,7 +257,8 @@ def judged(name, task, joint, alone):
 
 
 def grouped_tasks():
-    """Tasks with groups made at random, as texts, each with what is said of the groups."""
+    """Tasks with groups made at random, as texts, each with what is said of the groups. They could show a definition of kept
+    groups by which too few are shown, where no one thought of the case."""
     chance = random.Random(SEED)
     for number in range(TASKS):
         task = grouped_task(chance)

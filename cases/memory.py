@@ -9,8 +9,9 @@ what they are given is made by so many, which are left alone. Then a program mak
 after another, and answer `wanting`, where the call wants memory and all stands that has to stand then; and the last one
 refuses nothing and gives the answer of the call. A reader that wants memory answers that to each piece behind it, too.
 
-SAS is the program itself: with each allocation of it refused in turn, it says `sas: out of memory`, writes nothing and ends
-with status 3, or does without and answers as ever, until a run meets no refusal.
+SAS is the program itself, with requests over a task of the examples and over one that has several of everything: with each
+allocation of it refused in turn, it says `sas: out of memory`, writes nothing and ends with status 3, or does without and
+answers as ever, until a run meets no refusal.
 
 The library that refuses is made of refuse.c, with $CC or cc. Each call that fails has a line, and the last line is
 'N passed, M failed'. The exit status is 0 where none failed.
@@ -25,20 +26,16 @@ import tempfile
 from concurrent.futures import ThreadPoolExecutor
 
 import report
+from axioms import text_of
+from large import plan_text, wide_plans, wide_task
 from texts import CASES, TOP, as_bytes, table
 
 # no run of these makes more allocations
 MOST = 1000
 WANTING = re.compile(rb"(taken\n)*(wanting\n)+")
 OUT_OF_MEMORY = (3, b"", b"sas: out of memory\n")
-REQUESTS = (
-    ["show", "examples/fuses.sas"],
-    ["check", "examples/fuses.sas"],
-    ["print", "examples/fuses.sas"],
-    ["mutex", "examples/fuses.sas"],
-    ["plan", "examples/fuses.sas", "examples/fuses.plan"],
-    ["steps", "examples/fuses.plan"],
-)
+# how many of everything a task has that is refused memory for
+SEVERAL = 65
 
 
 def refusing(folder):
@@ -83,7 +80,8 @@ def runs(library, command, given, first):
 
 
 def refused_calls(programs):
-    """Each call that is to be refused memory, with the program that makes it and the first allocation that is refused."""
+    """Each call that is to be refused memory, with the program that makes it and the first allocation that is refused. It
+    could show what is lost then, and a refusal that comes where none was."""
     for name, groups in table("calls.json").items():
         for group in groups:
             for given, answer in group["rows"] if "refused" in group else ():
@@ -96,10 +94,20 @@ def refused_calls(programs):
                 }
 
 
-def refused_requests(sas):
-    """Each request to the program itself."""
-    for words in REQUESTS:
-        yield {"command": [sas, *words], "name": " ".join(words), "given": b"", "first": 1}
+def refused_requests(sas, folder):
+    """Each request to the program itself. It could show a call that goes on without the memory that it was refused, or that says
+    so behind a part of its answer."""
+    names, cost, _ = wide_plans(SEVERAL)[0]
+    files = {"several.sas": text_of(wide_task(SEVERAL)), "several.plan": plan_text(names, cost)}
+    for name, text in files.items():
+        with open(os.path.join(folder, name), "w", encoding="utf-8") as file:
+            file.write(text)
+    for front, exclusive in (("examples/fuses", True), (os.path.join(folder, "several"), False)):
+        task, plan = f"{front}.sas", f"{front}.plan"
+        requests = [[request, task] for request in ("show", "check", "print", "mutex")]
+        for words in (*requests, ["plan", task, plan], ["steps", plan]):
+            status = 1 if words[0] == "mutex" and not exclusive else 0
+            yield {"command": [sas, *words], "name": " ".join(words), "given": b"", "first": 1, "status": status}
 
 
 def letter(end, was_refused, answer):
@@ -122,15 +130,16 @@ def wrong_with_call(library, call):
 def wrong_with_request(library, call):
     """What is wrong with a request to the program itself."""
     *refused, (last, was_refused) = runs(library, call["command"], call["given"], call["first"])
-    answered = not was_refused and last[0] == 0 and last[1] and not last[2]
+    answered = not was_refused and last[0] == call["status"] and last[1] and not last[2]
     wrong = [f"allocation {number}: {end}" for number, (end, _) in enumerate(refused, 1) if end not in (OUT_OF_MEMORY, last)]
     return wrong if answered and OUT_OF_MEMORY in [end for end, _ in refused] else [*wrong, f"nothing refused: {last}"]
 
 
 def main(sas, *paths):
     programs = {os.path.basename(path): os.path.abspath(path) for path in paths}
-    calls, requests = list(refused_calls(programs)), list(refused_requests(os.path.abspath(sas)))
+    calls = list(refused_calls(programs))
     with tempfile.TemporaryDirectory() as folder, ThreadPoolExecutor(os.cpu_count()) as pool:
+        requests = list(refused_requests(os.path.abspath(sas), folder))
         library = itertools.repeat(refusing(folder))
         wrong = [*pool.map(wrong_with_call, library, calls), *pool.map(wrong_with_request, library, requests)]
     report.end(calls + requests, wrong)

@@ -29,6 +29,8 @@ standard input; those that walks.py makes at random as two files.
     initial      the initial state, and
     call         what the call `check_plan` answers; both for calls.py, and left out where a file is refused or too long
 
+large.py makes large tasks and plans, as cases of program.json.
+
 groups.json: tasks. Each is given to `mutex` as a file and as standard input, and there with CR LF at the end of each line
 too; those that families.py makes at random, and its larger ones, as standard input.
 
@@ -42,8 +44,13 @@ program.json: words and devices, by these names.
     words        the words behind the program's name, each character a byte; FOLDER in one stands for an empty folder
     files        files by their names: the program runs in a folder that has these alone
     input        standard input, empty where it is left out
+    streamed     pairs [TEXT, TIMES] that come before it, and aren't held in memory as a whole; left out: nothing
     input_ends   false: standard input stays open until the program has ended
     memory       how many bytes of memory the program may have; left out: as many as there are
+    stack        how many bytes its stack may have, with no environment, which would take some of them; left out: as many as
+                 there are
+    file         how many bytes the file may have that standard output is; left out: it is a pipe
+    closed       which of "input", "output" and "error" aren't open when the program starts; left out: none
     output_to    where standard output goes: "full device", "closed pipe"; left out: to be compared with `output`
     output       standard output, exactly
     status       the exit status
@@ -56,14 +63,19 @@ import os
 import subprocess
 import sys
 import tempfile
+import threading
 from concurrent.futures import ThreadPoolExecutor
 
 import report
 from families import grouped_tasks, long_chains
+from large import large_cases
 from texts import TOP, as_bytes, changed_lines, early_end, table
 from walks import walked_plans
 
 SECONDS = 60
+# what a case may limit, in bytes: how many of them a unit of it is, and what the shell sets it by
+LIMITS = (("memory", 1024, "ulimit -v {}"), ("stack", 1024, "ulimit -s {}"), ("file", 512, "trap '' XFSZ; ulimit -f {}"))
+CLOSING = {"input": "exec <&-", "output": "exec >&-", "error": "exec 2>&-"}
 
 
 def over_task(name, request, task, output, status, **more):
@@ -87,7 +99,8 @@ def lines_of(lines):
 
 
 def task_cases():
-    """Each task file: as it stands, with other ends of lines, and cut off."""
+    """Each task file: as it stands, with other ends of lines, and cut off. They could show a definition of files that isn't
+    theirs, and want of memory that no one was refused."""
     for task in table("tasks.json"):
         name, held = task["file"], as_bytes({"file": task["file"]})
         returns = held.replace(b"\n", b"\r\n")
@@ -110,7 +123,8 @@ def task_cases():
 
 
 def line_cases():
-    """Each changed line of a task file."""
+    """Each changed line of a task file. They could show a rule of the format that its definition lacks, or an order of faults
+    that isn't that of the file."""
     for case in changed_lines():
         name, task = case["name"], case["task"]
         more = {"memory": case["memory"]} if case["memory"] else {}
@@ -125,7 +139,8 @@ def line_cases():
 
 
 def plan_cases(folder):
-    """Each plan file, through a file and through standard input, and cut off."""
+    """Each plan file, through a file and through standard input, and cut off. They could show a definition of plan files that
+    isn't theirs, and an input that is taken for the other one."""
     for number, plan in enumerate(table("plans.json")):
         path, held = os.path.join(folder, f"{number}.plan"), as_bytes(plan["plan"])
         with open(path, "wb") as file:
@@ -146,7 +161,8 @@ def verdict_case(made, words, **inputs):
 
 
 def verdict_cases():
-    """Each plan of a task, from files, and with either of the two from standard input."""
+    """Each plan of a task, from files, and with either of the two from standard input. They could show a definition of valid
+    plans that isn't theirs, and two inputs that are exchanged."""
     for made in table("verdicts.json"):
         task, plan = {"t.sas": made["task"]}, {"p.txt": made["plan"]}
         yield verdict_case(made, ["t.sas", "p.txt"], files={**task, **plan})
@@ -157,7 +173,8 @@ def verdict_cases():
 
 
 def group_cases():
-    """The groups of each task, from a file, and from standard input with either end of lines."""
+    """The groups of each task, from a file, and from standard input with either end of lines. They could show a definition of
+    kept groups by which too few are shown, or an answer that comes too late."""
     for made in table("groups.json"):
         name, held, answer = made["name"], as_bytes(made["task"]), {"output": made["output"], "status": made["status"]}
         yield {"name": f"{name}, mutex of a file", "words": ["mutex", "t.sas"], "files": {"t.sas": held}, **answer}
@@ -178,8 +195,12 @@ def closed_pipe():
 CLOSED_PIPE = closed_pipe()
 
 
-def output_device(case):
+def output_device(case, folder):
     """What standard output is: a pipe to be read, unless the case says where it goes."""
+    if "file" in case:
+        file, path = tempfile.mkstemp(dir=folder)
+        os.unlink(path)
+        return file
     if "output_to" not in case:
         return subprocess.PIPE
     if case["output_to"] == "full device":
@@ -188,11 +209,11 @@ def output_device(case):
 
 
 def command_of(program, case, folder):
-    """The program with its words, and what sets its limit of memory before it, where there is one."""
+    """The program with its words, and what sets its limits and closes its streams before it, where there is any of that."""
     words = [program, *(as_bytes(word.replace("FOLDER", folder)) for word in case["words"])]
-    if "memory" not in case:
-        return words
-    return ["sh", "-c", f'ulimit -v {case["memory"] // 1024}; exec "$@"', "", *words]
+    before = [line.format(case[name] // size) for name, size, line in LIMITS if name in case]
+    before += [CLOSING[name] for name in case.get("closed", ())]
+    return ["sh", "-c", "; ".join([*before, 'exec "$@"']), "", *words] if before else words
 
 
 def leave_open(process, given):
@@ -205,18 +226,37 @@ def leave_open(process, given):
     process.wait(SECONDS)
 
 
+def stream(process, parts):
+    """Gives each of these texts so many times. A program that doesn't take them is ended, or this would wait for it."""
+    timer = threading.Timer(SECONDS, process.kill)
+    timer.start()
+    try:
+        for text, times in parts:
+            piece = as_bytes(text)
+            for _ in range(times):
+                process.stdin.write(piece)
+    except BrokenPipeError:
+        pass
+    timer.cancel()
+
+
 def answer_of(program, case, folder, place):
     """Runs the program on a case: its exit status, standard output and standard error."""
     given = as_bytes(case.get("input", ""))
-    output = output_device(case)
+    output = output_device(case, place)
     pipe = subprocess.PIPE
     command = command_of(program, case, folder)
-    process = subprocess.Popen(command, stdin=pipe, stdout=output, stderr=pipe, cwd=place)
+    environment = {} if "stack" in case else None
+    process = subprocess.Popen(command, stdin=pipe, stdout=output, stderr=pipe, cwd=place, env=environment)
     try:
         if not case.get("input_ends", True):
             leave_open(process, given)
             given = b""
+        if "streamed" in case:
+            stream(process, case["streamed"])
         written, said = process.communicate(given, SECONDS)
+        if "file" in case:
+            written = os.pread(output, 2 * case["file"], 0)
     finally:
         process.kill()
         process.wait()
@@ -264,7 +304,7 @@ def main():
     program = os.path.abspath(sys.argv[1])
     with tempfile.TemporaryDirectory() as plans, tempfile.TemporaryDirectory() as folder:
         files = (*task_cases(), *line_cases(), *plan_cases(plans), *verdict_cases(), *group_cases())
-        cases = [*files, *table("program.json")]
+        cases = [*large_cases(), *files, *table("program.json")]
         with ThreadPoolExecutor(os.cpu_count()) as pool:
             wrong = list(pool.map(lambda case: faults(program, case, folder), cases))
     report.end(cases, wrong)

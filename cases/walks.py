@@ -122,7 +122,8 @@ def plan_text(names, cost):
 
 
 def walked_plans():
-    """Plans of tasks, as texts, each with the initial state, what the program says of it, and what `check_plan` answers."""
+    """Plans of tasks, as texts, each with the initial state, what the program says of it, and what `check_plan` answers. They
+    could show a definition of valid plans that isn't theirs, where no one thought of the case."""
     chance = random.Random(SEED)
     for number in range(TASKS):
         task, plans = walked_task(chance)
@@ -151,7 +152,7 @@ def random_calls(chance, task):
 
 def walked_calls():
     """Tasks, as texts, each with calls of a runner, and what comes of them: the initial state, and behind each call its answer
-    and the state."""
+    and the state. They could show a definition of steps that isn't theirs, where no one thought of the case."""
     chance = random.Random(SEED)
     for number in range(TASKS):
         task, _ = walked_task(chance)

@@ -1,0 +1,148 @@
+// Calls of `sas_lines` on devices.
+use sas_lines::trial::{Breaks, Narrow};
+use sas_lines::{Opened, Short, Watched, write_out};
+use std::alloc::{AllocError, Global};
+use std::io::Read;
+use test_words::{Asked, ToldReader, ToldWriter, cut, say, say_bytes, say_number, say_right};
+
+/// Makes the call, if it is one of these: whether it is.
+pub fn call_of_devices<R: AllocGlobal + Print>(
+    rt: &R,
+    asked: &Asked<'_>,
+) -> Result<bool, AllocError> {
+    match asked.call {
+        "take" => {
+            let device = Breaks::new(asked.bytes, asked.kind == "interrupted");
+            say_taken(rt, device, &mut [0; 2], asked.bytes.len());
+        }
+        "take-told" => take_told(rt, asked.kind, asked.bytes),
+        "give-told" => give_told(rt, asked.bytes),
+        "write-out" => say_right(rt, wrong_room(rt.alloc(), asked.bytes)?),
+        "write-out-told" => write_out_told(rt, asked.bytes),
+        _ => return Ok(false),
+    }
+    Ok(true)
+}
+
+/// `Watched::take` of a reader that is told what to do, or of an input that was opened, which reads from one. It could show
+/// a read that is tried again behind a failure, which goes well then.
+fn take_told<P: Print>(out: &P, kind: &str, text: &[u8]) {
+    let device = ToldReader::new(text);
+    match kind {
+        "1" => say_taken(out, device, &mut [0; 1], text.len()),
+        "2" => say_taken(out, device, &mut [0; 2], text.len()),
+        _ => say_taken(out, opened(kind, device), &mut [0; 2], text.len()),
+    }
+}
+
+/// An input of this kind, which reads from the device.
+fn opened<'a>(kind: &str, device: ToldReader<'a>) -> Opened<ToldReader<'a>, ToldReader<'a>> {
+    match kind {
+        "file" => Opened::File(device),
+        "standard" => Opened::Standard(device),
+        _ => Opened::Nothing,
+    }
+}
+
+/// `Watched::take` of a reader, until it ends or has failed. It could show a failure that isn't noted, or one that is noted at
+/// an end.
+fn say_taken<P: Print, D: Read + Drop>(out: &P, device: D, buffer: &mut [u8], most: usize) {
+    let mut input = Watched::new(device);
+    for _ in 0..=most {
+        if input.failed() {
+            return say(out, "noted");
+        }
+        match input.take(buffer) {
+            Ok(0) => return say(out, "ended"),
+            Ok(count) => {
+                say_number(out, "taken", count as u64);
+                say_bytes(out, buffer);
+                say(out, "");
+            }
+            Err(_) => say(out, "failed"),
+        }
+    }
+}
+
+/// `Watched::give`, of what is left of some bytes each time, to a writer that is told what to do: `TURNS|BYTES`. It could show
+/// a write that is tried again where it failed or took none, which goes well then.
+fn give_told<R: AllocGlobal + Print>(rt: &R, words: &[u8]) {
+    let (turns, bytes) = cut(words, b'|');
+    let mut out = Watched::new(ToldWriter::new(rt.alloc(), turns));
+    say_given(rt, &mut out, bytes);
+    let device = out.into_device();
+    say_bytes(rt, device.kept());
+    say(rt, "");
+}
+
+/// The same, to a writer that may have failed.
+fn say_given<P: Print>(rt: &P, out: &mut Watched<ToldWriter<'_>>, bytes: &[u8]) {
+    let mut left = bytes;
+    for _ in 0..=bytes.len() {
+        if out.failed() {
+            return say(rt, "noted");
+        }
+        match out.give(left) {
+            Ok(count) => {
+                say_number(rt, "given", count as u64);
+                left = &left[count..];
+                if left.is_empty() {
+                    return;
+                }
+            }
+            Err(_) => say(rt, "failed"),
+        }
+    }
+}
+
+/// `write_out`, likewise: `TURNS|BYTES`. It could show the same, and a count of bytes that didn't go out.
+fn write_out_told<R: AllocGlobal + Print>(rt: &R, words: &[u8]) {
+    let (turns, bytes) = cut(words, b'|');
+    let mut out = Watched::new(ToldWriter::new(rt.alloc(), turns));
+    match write_out(&mut out, bytes) {
+        Ok(()) => say(rt, "written"),
+        Err(Short { written }) => say_number(rt, "short", written as u64),
+    }
+    if out.failed() {
+        say(rt, "noted");
+    }
+    let device = out.into_device();
+    say_bytes(rt, device.kept());
+    say(rt, "");
+}
+
+/// Whether a writer of this room, which takes so much at a time and then fails or takes none, gets as much of the text
+/// as there is room.
+fn is_written_out(
+    alloc: Global,
+    piece: usize,
+    room: usize,
+    fails: bool,
+    text: &[u8],
+) -> Result<bool, AllocError> {
+    let mut out = Watched::new(Narrow::new(alloc, piece, room, fails)?);
+    let answer = write_out(&mut out, text);
+    let short = room < text.len();
+    let told = match answer {
+        Ok(()) => !short,
+        Err(Short { written }) => short && written == room,
+    };
+    let stands = told && out.failed() == short;
+    let written = out.into_device();
+    Ok(stands && text.starts_with(written.kept()) && written.kept().len() == room)
+}
+
+/// `write_out`, to writers of each room up to that of the text: the least with another answer. It could show bytes that
+/// go out twice or not at all.
+fn wrong_room(alloc: Global, text: &[u8]) -> Result<Option<usize>, AllocError> {
+    for room in 0..=text.len() {
+        for piece in [1, 3] {
+            let right = is_written_out(alloc, piece, room, false, text)?
+                && is_written_out(alloc, piece, room, true, text)?;
+            if !right {
+                return Ok(Some(room));
+            }
+        }
+    }
+    Ok(None)
+}

@@ -1,0 +1,42 @@
+// Readers that take fewer bytes than those of files do, through the parts that they are made of.
+use crate::fault_words::say_fault;
+use sas_plan_file::PlanMachine;
+use sas_reader::{Fault, Machine, Reader};
+use sas_task_judge::TaskMachine;
+use sas_task_line::SoFar;
+use test_words::{Asked, say};
+
+/// Makes the call, if it is one of these: whether it is. Its kind is the limit.
+pub fn call_within_limits<R: AllocGlobal + Print>(rt: &R, asked: &Asked<'_>) -> bool {
+    let limit = u64::from(asked.kind.parse::<u32>().unwrap_or(0));
+    let alloc = rt.alloc();
+    match asked.call {
+        "plan-within" => {
+            let machine = PlanMachine::new(alloc);
+            say_end(rt, Reader::new(alloc, machine, limit), asked.bytes);
+        }
+        "task-within" => {
+            let machine = TaskMachine::new(alloc, SoFar::new(alloc));
+            say_end(rt, Reader::new(alloc, machine, limit), asked.bytes);
+        }
+        _ => return false,
+    }
+    true
+}
+
+/// Says how a reader ends that is given the bytes. It could show a definition by which a text is too long that isn't.
+fn say_end<P: Print, M: Machine>(out: &P, reader: Reader<M>, bytes: &[u8]) {
+    match fault_of(reader, bytes) {
+        Some(fault) => say_fault(out, fault),
+        None => say(out, "read"),
+    }
+}
+
+/// The fault of the bytes, if they have one.
+fn fault_of<M: Machine>(reader: Reader<M>, bytes: &[u8]) -> Option<Fault> {
+    let mut reader = reader;
+    if let Err(fault) = reader.feed(bytes) {
+        return Some(fault);
+    }
+    reader.finish().err()
+}

@@ -1,0 +1,310 @@
+// Calls of `sas_requests`: `run`, over devices that give all of a file, or fail.
+use sas_lines::Watched;
+use sas_lines::trial::{Breaks, Narrow};
+use sas_requests::{Request, Status, ToolFault, run, run_laws};
+use std::alloc::{AllocError, Global};
+use std::cell::Cell;
+use std::io::{Read, Write};
+use test_words::{
+    Asked, NotingReader, ToldReader, ToldWriter, cut, longer_than, say, say_bytes, say_either,
+    say_right, spend,
+};
+
+/// More bytes than any answer here has.
+const ROOM: usize = 131_072;
+
+/// Makes the call, if it is one of these: whether it is.
+pub fn call_of_tool<R: AllocGlobal + Print>(rt: &R, asked: &Asked<'_>) -> Result<bool, AllocError> {
+    let request = request_of(asked.kind);
+    match asked.call {
+        "run" => run_whole(rt, asked.number, request, asked.bytes, ROOM)?,
+        "run-without-room" => run_whole(rt, asked.number, request, asked.bytes, 0)?,
+        "run-broken" => run_broken(rt, request, asked.bytes)?,
+        "run-broken-plan" => run_broken_plan(rt, request, asked.bytes)?,
+        "run-broken-plan-fronts" => {
+            say_right(rt, wrong_plan_front(rt.alloc(), request, asked.bytes)?)
+        }
+        "run-broken-fronts" => say_right(rt, wrong_front(rt.alloc(), request, asked.bytes)?),
+        "run-told" => run_told(rt, request, asked.bytes)?,
+        "run-into" => run_into(rt, request, asked.bytes),
+        "run-longest" => run_longest(rt, request, asked.bytes)?,
+        "run-narrow" => say_right(rt, wrong_room(rt.alloc(), request, asked.bytes)?),
+        "messages" => say_messages(rt),
+        "laws" => say_laws(rt),
+        _ => return Ok(false),
+    }
+    Ok(true)
+}
+
+/// The request of this name.
+fn request_of(name: &str) -> Request {
+    match name {
+        "print" => Request::Print,
+        "show" => Request::Show,
+        "check" => Request::Check,
+        "plan" => Request::Plan,
+        "mutex" => Request::Mutex,
+        _ => Request::Steps,
+    }
+}
+
+/// The task and the plan that bytes are: a plan, a `|` and a task where a plan is to solve a task, else both are the
+/// same file.
+fn inputs(request: Request, bytes: &[u8]) -> (&[u8], &[u8]) {
+    if request == Request::Plan {
+        let (plan, task) = cut(bytes, b'|');
+        (task, plan)
+    } else {
+        (bytes, bytes)
+    }
+}
+
+/// The messages of `ToolFault`. It could show other words than those that are promised.
+fn say_messages<P: Print>(out: &P) {
+    let faults = [
+        ToolFault::Memory,
+        ToolFault::Read,
+        ToolFault::TooLong,
+        ToolFault::Write { written: 7 },
+    ];
+    for fault in &faults {
+        let _ = println!(out; "{fault}");
+    }
+}
+
+/// The laws of outputs. It could show that they can't be called.
+fn say_laws<P: Print>(out: &P) {
+    run_laws();
+    say(out, "laws");
+}
+
+/// The answer to a request, over these devices, and the writer.
+fn answer_over<T: Read + Drop, P: Read + Drop, W: Write>(
+    alloc: Global,
+    request: Request,
+    task: T,
+    plan: P,
+    out: W,
+) -> (Result<Status, ToolFault>, W) {
+    let mut task = Watched::new(task);
+    let mut plan = Watched::new(plan);
+    let mut out = Watched::new(out);
+    let result = run(alloc, request, &mut task, &mut plan, &mut out);
+    (result, out.into_device())
+}
+
+/// Says the answer and what was written.
+fn say_answer<P: Print>(out: &P, answer: &Result<Status, ToolFault>, written: &[u8]) {
+    match answer {
+        Ok(Status::Yes) => say(out, "yes"),
+        Ok(Status::No) => say(out, "no"),
+        Err(ToolFault::Memory) => say(out, "wanting"),
+        Err(_) => say(out, "fault"),
+    }
+    if !written.is_empty() {
+        say_bytes(out, written);
+        say(out, "");
+    }
+}
+
+/// Says the answer as it is derived, and what was written.
+fn say_exactly<P: Print>(out: &P, answer: &Result<Status, ToolFault>, written: &[u8]) {
+    let _ = println!(out; "{answer:?}");
+    say_bytes(out, written);
+    say(out, "");
+}
+
+/// `run` over these inputs, and a writer that then fails behind so many bytes. It could show that it always wants
+/// memory, writes before its answer is whole, or writes where the answer is empty.
+fn run_whole<R: AllocGlobal + Print>(
+    rt: &R,
+    count: usize,
+    request: Request,
+    bytes: &[u8],
+    room: usize,
+) -> Result<(), AllocError> {
+    let (task, plan) = inputs(request, bytes);
+    let out = Narrow::new(rt.alloc(), ROOM, room, true)?;
+    spend(rt.alloc(), count)?;
+    let (result, written) = answer_over(rt.alloc(), request, task, plan, out);
+    say_answer(rt, &result, written.kept());
+    Ok(())
+}
+
+/// The same, of devices that give the bytes and then fail. It could show a fault that waits for a further read.
+fn run_broken<R: AllocGlobal + Print>(
+    rt: &R,
+    request: Request,
+    bytes: &[u8],
+) -> Result<(), AllocError> {
+    let out = Narrow::new(rt.alloc(), ROOM, ROOM, true)?;
+    let (task, plan) = (Breaks::new(bytes, false), Breaks::new(bytes, false));
+    let (result, written) = answer_over(rt.alloc(), request, task, plan, out);
+    say_answer(rt, &result, written.kept());
+    Ok(())
+}
+
+/// The same, where the task comes whole, and only the plan's device fails. It could show a plan that is read before the
+/// task was found to be layered.
+fn run_broken_plan<R: AllocGlobal + Print>(
+    rt: &R,
+    request: Request,
+    bytes: &[u8],
+) -> Result<(), AllocError> {
+    let (task, plan) = inputs(request, bytes);
+    let out = Narrow::new(rt.alloc(), ROOM, ROOM, true)?;
+    let plan = Breaks::new(plan, false);
+    let (result, written) = answer_over(rt.alloc(), request, task, plan, out);
+    say_answer(rt, &result, written.kept());
+    Ok(())
+}
+
+/// The same, of devices that are told what to do. It could show a read that is tried again behind a failure, or a further read
+/// behind the end.
+fn run_told<R: AllocGlobal + Print>(
+    rt: &R,
+    request: Request,
+    bytes: &[u8],
+) -> Result<(), AllocError> {
+    let (task, plan) = inputs(request, bytes);
+    let out = Narrow::new(rt.alloc(), ROOM, ROOM, true)?;
+    let (task, plan) = (ToldReader::new(task), ToldReader::new(plan));
+    let (result, written) = answer_over(rt.alloc(), request, task, plan, out);
+    say_exactly(rt, &result, written.kept());
+    Ok(())
+}
+
+/// `run`, to a writer that is told what to do: `TURNS|` before the inputs. It could show a write that is tried again where it
+/// failed or took none, and a count of bytes that didn't go out.
+fn run_into<R: AllocGlobal + Print>(rt: &R, request: Request, bytes: &[u8]) {
+    let (turns, bytes) = cut(bytes, b'|');
+    let (task, plan) = inputs(request, bytes);
+    let out = ToldWriter::new(rt.alloc(), turns);
+    let (result, written) = answer_over(rt.alloc(), request, task, plan, out);
+    say_exactly(rt, &result, written.kept());
+}
+
+/// Whether no more than 4,096 bytes of the inputs are asked for at a time. It could show a reader with a larger buffer.
+fn run_longest<R: AllocGlobal + Print>(
+    rt: &R,
+    request: Request,
+    bytes: &[u8],
+) -> Result<(), AllocError> {
+    let longest = Cell::new(0usize);
+    let (task, plan) = inputs(request, bytes);
+    let (task, plan) = (
+        NotingReader::new(task, &longest),
+        NotingReader::new(plan, &longest),
+    );
+    let out = Narrow::new(rt.alloc(), ROOM, ROOM, true)?;
+    let (result, _) = answer_over(rt.alloc(), request, task, plan, out);
+    say_either(rt, result.is_ok(), "answered", "WRONG: no answer");
+    say_right(rt, longer_than(longest.get(), 4096));
+    Ok(())
+}
+
+/// Whether a failure of the devices behind these bytes is answered so, and nothing is written.
+fn is_failure(
+    alloc: Global,
+    request: Request,
+    bytes: &[u8],
+    interrupted: bool,
+) -> Result<bool, AllocError> {
+    let out = Narrow::new(alloc, ROOM, ROOM, true)?;
+    let task = Breaks::new(bytes, interrupted);
+    let plan = Breaks::new(bytes, interrupted);
+    let (result, written) = answer_over(alloc, request, task, plan, out);
+    Ok(result == Err(ToolFault::Read) && written.kept().is_empty())
+}
+
+/// Whether a failure of the plan's device alone behind these bytes is answered so.
+fn is_plan_failure(
+    alloc: Global,
+    request: Request,
+    task: &[u8],
+    bytes: &[u8],
+    interrupted: bool,
+) -> Result<bool, AllocError> {
+    let out = Narrow::new(alloc, ROOM, ROOM, true)?;
+    let plan = Breaks::new(bytes, interrupted);
+    let (result, written) = answer_over(alloc, request, task, plan, out);
+    Ok(result == Err(ToolFault::Read) && written.kept().is_empty())
+}
+
+/// The length of the first front of a plan with another answer where its device then fails. It could show a failure
+/// that is passed over where the verdict is known before, or is told of the task.
+fn wrong_plan_front(
+    alloc: Global,
+    request: Request,
+    bytes: &[u8],
+) -> Result<Option<usize>, AllocError> {
+    let (task, plan) = inputs(request, bytes);
+    for length in 0..=plan.len() {
+        let front = &plan[..length];
+        let right = is_plan_failure(alloc, request, task, front, false)?
+            && is_plan_failure(alloc, request, task, front, true)?;
+        if !right {
+            return Ok(Some(length));
+        }
+    }
+    Ok(None)
+}
+
+/// The length of the first front of a file with another answer where the devices then fail. It could show a failure
+/// that is taken for the end.
+fn wrong_front(alloc: Global, request: Request, file: &[u8]) -> Result<Option<usize>, AllocError> {
+    for length in 0..=file.len() {
+        let front = &file[..length];
+        let right = is_failure(alloc, request, front, false)?
+            && is_failure(alloc, request, front, true)?;
+        if !right {
+            return Ok(Some(length));
+        }
+    }
+    Ok(None)
+}
+
+/// Whether a writer with this room gets as much of the text as there is room, and the answer says so.
+fn is_cut_off(text: &[u8], room: usize, answer: (Result<Status, ToolFault>, Narrow)) -> bool {
+    let (result, written) = answer;
+    let told = match result {
+        Ok(_) => room == text.len(),
+        Err(fault) => room < text.len() && fault == ToolFault::Write { written: room },
+    };
+    told && written.kept().len() == room && text.starts_with(written.kept())
+}
+
+/// Whether that is so of a writer that takes so much at a time and so much in all, whether it then fails or takes none.
+fn is_right_room(
+    alloc: Global,
+    request: Request,
+    files: (&[u8], &[u8]),
+    text: &[u8],
+    sizes: (usize, usize),
+) -> Result<bool, AllocError> {
+    let (task, plan) = files;
+    let (piece, room) = sizes;
+    let fails = Narrow::new(alloc, piece, room, true)?;
+    let stops = Narrow::new(alloc, piece, room, false)?;
+    Ok(
+        is_cut_off(text, room, answer_over(alloc, request, task, plan, fails))
+            && is_cut_off(text, room, answer_over(alloc, request, task, plan, stops)),
+    )
+}
+
+/// The least room, up to that of the answer, with which a writer doesn't get so much of it, or the answer isn't that.
+/// It could show bytes that go out twice or not at all.
+fn wrong_room(alloc: Global, request: Request, bytes: &[u8]) -> Result<Option<usize>, AllocError> {
+    let files = inputs(request, bytes);
+    let ample = Narrow::new(alloc, ROOM, ROOM, true)?;
+    let (_, whole) = answer_over(alloc, request, files.0, files.1, ample);
+    let text = whole.kept();
+    for room in 0..=text.len() {
+        let right = is_right_room(alloc, request, files, text, (1, room))?
+            && is_right_room(alloc, request, files, text, (1000, room))?;
+        if !right {
+            return Ok(Some(room));
+        }
+    }
+    Ok(None)
+}

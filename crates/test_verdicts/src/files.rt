@@ -1,0 +1,29 @@
+// What a call is about: words, and the file of a task.
+use sas_axioms::Layered;
+use sas_core::Task;
+use std::alloc::{AllocError, Global};
+use test_words::{Asked, cut, task_of};
+
+/// What stands before a `|`, and the file behind it. Of some calls the bytes are the file, and nothing else is asked.
+pub fn words_and_file<'a>(asked: &Asked<'a>) -> (&'a [u8], &'a [u8]) {
+    match asked.call {
+        "layered" | "check-groups" | "counted-steps" | "new-runner" | "initial" => {
+            (asked.bytes, asked.bytes)
+        }
+        _ => cut(asked.bytes, b'|'),
+    }
+}
+
+/// The pieces that have `;` between them.
+pub fn pieces_of(alloc: Global, bytes: &[u8]) -> Result<Vec<&[u8]>, AllocError> {
+    let mut pieces = Vec::new(alloc);
+    for piece in bytes.split(|&byte| byte == b';') {
+        pieces.push(piece)?;
+    }
+    Ok(pieces)
+}
+
+/// The task of a file, made layered: none where it isn't.
+pub fn layered_of(alloc: Global, file: &[u8]) -> Option<Layered<Task>> {
+    Layered::new(alloc, task_of(alloc, file)?).ok()
+}

@@ -1,0 +1,123 @@
+// Devices that do in turn what a text tells them. No contract says what they give or take, nor how often they are asked.
+use crate::asked::cut;
+use std::alloc::Global;
+use std::cell::Cell;
+use std::io;
+use std::io::{Error, ErrorKind, Read, Write};
+
+/// A reader that gives the parts of a text, which have `#` between them, one at each read. Of an empty part it gives 0
+/// bytes, at `!` it fails, and at `~` it fails as interrupted; behind each of these it goes on. A part that is longer than
+/// the buffer takes further reads. Behind the last part it gives 0 bytes.
+#[derive(Drop)]
+pub struct ToldReader<'a> {
+    part: &'a [u8],
+    rest: &'a [u8],
+}
+
+impl<'a> ToldReader<'a> {
+    /// It is told this.
+    pub fn new(text: &'a [u8]) -> ToldReader<'a> {
+        let (part, rest) = cut(text, b'#');
+        ToldReader { part, rest }
+    }
+
+    /// Goes on to the next part.
+    fn go_on(&mut self) {
+        let (part, rest) = cut(self.rest, b'#');
+        self.part = part;
+        self.rest = rest;
+    }
+}
+
+impl<'a> Read for ToldReader<'a> {
+    fn read(&mut self, buf: &mut [u8]) -> io::Result<usize> {
+        if let Some(kind) = failure(self.part) {
+            self.go_on();
+            return Err(Error::from(kind));
+        }
+        let count = self.part.read(buf)?;
+        if self.part.is_empty() {
+            self.go_on();
+        }
+        Ok(count)
+    }
+}
+
+/// The failure that these bytes tell, if they tell one.
+fn failure(told: &[u8]) -> Option<ErrorKind> {
+    match told {
+        [b'!'] => Some(ErrorKind::Other),
+        [b'~'] => Some(ErrorKind::Interrupted),
+        _ => None,
+    }
+}
+
+/// A writer that is told by the bytes of a text what to do at each write. At a digit it takes at most so many bytes, at `!`
+/// it fails, and at `~` it fails as interrupted; behind each of these it goes on. Behind the text it takes all.
+#[derive(Drop)]
+pub struct ToldWriter<'a> {
+    kept: Vec<u8>,
+    turns: &'a [u8],
+}
+
+impl<'a> ToldWriter<'a> {
+    /// It is told this.
+    pub fn new(alloc: Global, turns: &'a [u8]) -> ToldWriter<'a> {
+        ToldWriter {
+            kept: Vec::new(alloc),
+            turns,
+        }
+    }
+
+    /// What it took.
+    pub fn kept(&self) -> &[u8] {
+        self.kept.as_slice()
+    }
+}
+
+impl<'a> Write for ToldWriter<'a> {
+    fn write(&mut self, buf: &[u8]) -> io::Result<usize> {
+        let (turn, rest) = self.turns.split_at(self.turns.len().min(1));
+        self.turns = rest;
+        if let Some(kind) = failure(turn) {
+            return Err(Error::from(kind));
+        }
+        let most = match turn {
+            [digit] => usize::from(digit.saturating_sub(b'0')),
+            _ => buf.len(),
+        };
+        let taken = buf.len().min(most);
+        self.kept.extend_from_slice(&buf[..taken])?;
+        Ok(taken)
+    }
+
+    fn flush(&mut self) -> io::Result<()> {
+        Ok(())
+    }
+}
+
+/// A reader that gives its bytes, and notes how long the longest buffer is that it is lent.
+#[derive(Drop)]
+pub struct NotingReader<'a> {
+    bytes: &'a [u8],
+    longest: &'a Cell<usize>,
+}
+
+impl<'a> NotingReader<'a> {
+    /// It gives these bytes, and notes that in this cell.
+    pub fn new(bytes: &'a [u8], longest: &'a Cell<usize>) -> NotingReader<'a> {
+        NotingReader { bytes, longest }
+    }
+}
+
+impl<'a> Read for NotingReader<'a> {
+    fn read(&mut self, buf: &mut [u8]) -> io::Result<usize> {
+        self.longest.set(self.longest.get().max(buf.len()));
+        self.bytes.read(buf)
+    }
+}
+
+/// The length of a buffer that is longer than so many bytes.
+pub fn longer_than(length: usize, most: usize) -> Option<usize> {
+    if length > most { Some(length) } else { None }
+}

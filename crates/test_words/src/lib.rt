@@ -1,0 +1,22 @@
+//! What the programs share that make calls of the libraries for tests: what standard input asks for, and how an answer
+//! is said. `sas` uses none of it.
+//!
+//! The first line of the input is the name of a call, for some calls a word that says of which kind, and a number.
+//! Behind it stand the bytes that the call is about. The program makes so many allocations before the call: where a
+//! certain allocation of the process is refused, the number so says which one of the call that is. The answer is
+//! `before` where an allocation before the call was refused, `wanting` where the call wants memory and all stands that
+//! has to stand then, and begins with `WRONG` where something isn't as it has to be. The comment at each call says
+//! which mistake it could show that a proof can't.
+#![tactic(auto)]
+
+mod asked;
+mod devices;
+mod given;
+mod saying;
+
+pub use asked::{Asked, LONGEST, asked_by, cut, number_in, spend, text_of};
+pub use devices::{NotingReader, ToldReader, ToldWriter, longer_than};
+pub use given::{fact_of, is_same_task, plan_of, task_of};
+pub use saying::{
+    say, say_bytes, say_either, say_made, say_number, say_right, say_text, say_want, say_whole,
+};
