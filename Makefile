@@ -1,19 +1,19 @@
-# make        proves what the program needs, as much as can be side by side, and builds it: the executable is ./sas
+# make        proves what the program needs and builds it: the executable is ./sas. A line for each crate; build.log has the rest
 # make test   the whole gate: every proof from nothing, the edits that must fail, and the cases over the programs that the
 #             gate built; the last line is 'N passed, M failed', and the exit status is 0 exactly if M is 0
 # make bench  measures ./sas over inputs of a fiftieth of the size, in a minute; docs/BENCHMARK.md says how to measure in full
 # make clean  removes what was built, and the inputs of `make bench`
 #
 # `rt`, the command of the toolchain, has to be on the PATH, and python3; `make test` wants a C compiler, $CC or cc, too. JOBS is
-# how many crates are proved at a time.
+# how many crates are begun at a time. One that waits for others counts too, so it is more than there are processors; each that is
+# proved takes one to four GB.
 
-JOBS ?= $(shell nproc)
+JOBS ?= $(shell expr $(shell nproc) + 4)
 
 .PHONY: program test bench clean
 
 program:
-	cd crates/sas && rt all check --jobs $(JOBS) && rt run < stdin > /dev/null
-	cp crates/sas/out/sas sas
+	@python3 build.py $(JOBS)
 
 test:
 	@python3 cases/gate.py
@@ -23,4 +23,4 @@ bench:
 	@python3 bench/run.py ./sas bench/out --scale 0.02 --rounds 3
 
 clean:
-	rm -rf crates/*/out bench/out sas
+	rm -rf crates/*/out bench/out sas build.log
