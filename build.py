@@ -3,7 +3,8 @@
 
     python3 build.py JOBS
 
-JOBS is how many crates are proved at a time.
+JOBS is how many crates are begun at a time. A check can use several processors, but under `rt all` each has one. So the lowest crates, for
+which all others wait, are proved first by themselves, and so are those at the top, which wait for all others.
 """
 import os
 import re
@@ -13,48 +14,100 @@ import sys
 import time
 
 TOP = os.path.dirname(os.path.abspath(__file__))
-PROGRAM = f"{TOP}/crates/sas"
+CRATES = f"{TOP}/crates"
+PROGRAM = "sas"
+# what the program stands on, and what it has beside its words
+REQUESTS = "sas_requests"
+PROCESSORS = str(os.cpu_count())
+BEGAN = time.monotonic()
 
 
-def crates_below(name):
-    """The crates of the repository that a crate stands on, and itself."""
+def libraries():
+    """The crates of the repository that each crate of it uses."""
     with open(f"{TOP}/crates.txt", encoding="utf-8") as file:
         lines = [line.split(":") for line in file if line.strip() and not line.startswith("#")]
-    used = {crate: libraries.split() for crate, libraries in lines}
+    names = [name for name, _ in lines]
+    return {name: [it for it in used.split() if it in names] for name, used in lines}
+
+
+def with_those_below(name, used):
+    """A crate and those that it stands on."""
     found = [name]
     for crate in found:
-        found += [it for it in used[crate] if it in used and it not in found]
+        found += [it for it in used[crate] if it not in found]
     return found
 
 
-def prove(jobs, log):
-    """Proves the crates, and says of each as soon as it is done how it went. It gives whether all are proved."""
-    number, done, began = len(crates_below("sas")), 0, time.monotonic()
-    command = ["rt", "all", "check", "--jobs", jobs]
-    crate, told = None, ""
-    with subprocess.Popen(command, cwd=PROGRAM, stdout=subprocess.PIPE, stderr=subprocess.STDOUT, encoding="utf-8", errors="replace") as process:
+class Progress:
+    """How many crates are proved, and of how many."""
+
+    def __init__(self, names):
+        self.names, self.done = names, set()
+
+    def tell(self, crate, is_proved):
+        """Says of a crate whether it is proved, once."""
+        if crate in self.done or crate not in self.names:
+            return
+        self.done.add(crate)
+        told = "proved" if is_proved else "not proved"
+        print(f"{crate} ({len(self.done)} of {len(self.names)}): {told}, {time.monotonic() - BEGAN:.0f} s after the start", flush=True)
+
+
+def begin(command, crate, given=subprocess.DEVNULL):
+    """A command that has begun in a crate's folder."""
+    streams = {"stdin": given, "stdout": subprocess.PIPE, "stderr": subprocess.STDOUT}
+    return subprocess.Popen(command, cwd=f"{CRATES}/{crate}", encoding="utf-8", errors="replace", **streams)
+
+
+def prove_lowest(used, progress, log):
+    """Proves the crates that stand on no other, the largest by more processors. It gives whether all are proved."""
+    lowest = sorted((it for it in progress.names if not used[it]), key=size_of)
+    jobs = {it: "1" for it in lowest} | {lowest[-1]: str(max(1, os.cpu_count() - len(lowest) + 1))}
+    begun = {it: begin(["rt", "lib", "--jobs", jobs[it]], it) for it in lowest}
+    for crate, process in begun.items():
+        log.write(f"== {crate}\n{process.communicate()[0]}")
+        progress.tell(crate, process.returncode == 0)
+    return all(it.returncode == 0 for it in begun.values())
+
+
+def size_of(crate):
+    """How many bytes of code a crate has."""
+    folder = f"{CRATES}/{crate}/src"
+    return sum(os.path.getsize(f"{folder}/{it}") for it in os.listdir(folder))
+
+
+def prove_all(jobs, progress, log):
+    """Proves the crates that read and judge, and says of each how it went as soon as it is done. It gives whether all are proved."""
+    crate = None
+    with begin(["rt", "all", "check", "--jobs", jobs], REQUESTS) as process:
         for line in process.stdout:
             log.write(line)
             begins = re.match(r"== (\w+)$", line)
-            if begins:
-                crate, told, done = begins[1], "not proved", done + 1
+            crate = begins[1] if begins else crate
             if crate and line.startswith("logic="):
-                told = "proved" if line.startswith("logic=proved ") else "not proved"
-                print(f"{crate} ({done} of {number}): {told}, {time.monotonic() - began:.0f} s after the start", flush=True)
-                crate = None
+                progress.tell(crate, line.startswith("logic=proved "))
+    return process.returncode == 0
+
+
+def build(progress, log):
+    """Proves what is above, builds the program and runs it once. It gives whether that went well."""
+    with open(f"{CRATES}/{PROGRAM}/stdin", "rb") as given:
+        process = begin(["rt", "run", "--jobs", PROCESSORS], PROGRAM, given)
+        log.write(process.communicate()[0])
+    for crate in reversed(progress.names) if process.returncode == 0 else ():
+        progress.tell(crate, True)
     return process.returncode == 0
 
 
 def main():
+    used = libraries()
+    progress = Progress(with_those_below(PROGRAM, used))
     with open(f"{TOP}/build.log", "w", encoding="utf-8") as log:
-        well = prove(sys.argv[1], log)
-        if well:
-            with open(f"{PROGRAM}/stdin", "rb") as given:
-                well = subprocess.run(["rt", "run"], cwd=PROGRAM, stdin=given, stdout=log, stderr=log, check=False).returncode == 0
+        well = prove_lowest(used, progress, log) and prove_all(sys.argv[1], progress, log) and build(progress, log)
     if not well:
         sys.exit("not built; build.log says why")
-    shutil.copy(f"{PROGRAM}/out/sas", f"{TOP}/sas")
-    print("built: ./sas")
+    shutil.copy(f"{CRATES}/{PROGRAM}/out/{PROGRAM}", f"{TOP}/{PROGRAM}")
+    print(f"built ./{PROGRAM}")
 
 
 main()
