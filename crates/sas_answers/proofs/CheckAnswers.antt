@@ -7,7 +7,7 @@ use Rattle.sas_core.specs.declared.parts.Parts.{Parts}
 use Rattle.sas_core.specs.Checks.{Check, first_fault, check}
 use Rattle.sas_meaning.specs.declared.layered.LayerFault.{LayerFault}
 use Rattle.sas_meaning.specs.Layers.{can_fire, IsLayered}
-use Rattle.sas_meaning.specs.LayerChecks.{effect_checks, operator_checks, firing_checks, rule_checks, layer_checks}
+use Rattle.sas_meaning.specs.LayerChecks.{effect_layer_checks, operator_layer_checks, firing_checks, rule_layer_checks, layer_checks}
 use Rattle.sas_meaning.proofs.LayerChecksAreRules.{checks_are_rules}
 use Rattle.sas_output.specs.declared.ending.Status.TheVariants.{Yes}
 use Rattle.sas_answers.specs.Answers.{layers_refusal, layers_verdict, CheckAnswer}
@@ -57,17 +57,17 @@ told_numbered checks_of each n [] = told_none
 told_numbered checks_of each n (item ∷ items) = told_both (checks_of n item) _ (each n item) (told_numbered checks_of each (n + 1) items)
 
 module _ (p : Parts) where
-  told_operator : (place : ℕ) (o : Operator) → IsToldOf (operator_checks p place o)
-  told_operator place o = told_numbered (effect_checks p place) (λ effect e. told_check _ _ _ refl) 0 o.effects
+  told_operator : (place : ℕ) (o : Operator) → IsToldOf (operator_layer_checks p place o)
+  told_operator place o = told_numbered (effect_layer_checks p place) (λ effect e. told_check _ _ _ refl) 0 o.effects
 
   told_firing : (place : ℕ) (rule : Rule) → IsToldOf (firing_checks p place rule)
   told_firing place rule = told_both _ _ (told_check _ _ _ refl) (told_both _ _ (told_check _ _ _ refl) (told_numbered _ (λ condition c. told_check _ _ _ refl) 0 rule.conditions))
 
-  told_rule : (place : ℕ) (rule : Rule) → IsToldOf (rule_checks p place rule)
+  told_rule : (place : ℕ) (rule : Rule) → IsToldOf (rule_layer_checks p place rule)
   told_rule place rule = told_both _ _ (told_check _ _ _ refl) (told_if (can_fire p rule) _ (told_firing place rule))
 
   told_layers : IsToldOf (layer_checks p)
-  told_layers = told_both _ _ (told_numbered (operator_checks p) told_operator 0 p.operators) (told_numbered (rule_checks p) told_rule 0 p.rules)
+  told_layers = told_both _ _ (told_numbered (operator_layer_checks p) told_operator 0 p.operators) (told_numbered (rule_layer_checks p) told_rule 0 p.rules)
 
 pub some_check_answer : SomeAnswer CheckAnswer
 some_check_answer p none = let told = (told_layers p).told in none told.output told.is

@@ -13,7 +13,7 @@ use Rattle.sas_groups.specs.declared.verdict.Verdict.{Verdict}
 use Rattle.sas_groups.specs.declared.verdict.Verdict.TheVariants.{Exclusive, Derived, Initial, Broken}
 use Rattle.sas_mutex.proofs.JointLists.{one_list, some_list}
 use Rattle.sas_output.specs.declared.ending.Status.TheVariants.{No}
-use Rattle.sas_answers.specs.GroupWords.{group_line, group_lines_from, group_lines, groups_status}
+use Rattle.sas_answers.specs.GroupWords.{group_line, verdict_lines_from, verdict_lines, groups_status}
 use Rattle.sas_answers.specs.Answers.{GroupsAnswer, LayeredGroupsAnswer, MutexAnswer}
 use Rattle.sas_output.specs.Ending.{Output}
 use Rattle.sas_answers.proofs.AnswerLaws.{OneAnswer, SomeAnswer}
@@ -21,25 +21,25 @@ use Rattle.sas_answers.proofs.CheckAnswers.{some_check_answer}
 
 -- ---- the lines of more verdicts
 
-lines_more : (n : ℕ) (verdicts : List Verdict) (verdict : Verdict) → group_lines_from n (verdicts ++ verdict ∷ []) ≡ group_lines_from n verdicts ++ group_line (n + length verdicts) verdict ∷ []
+lines_more : (n : ℕ) (verdicts : List Verdict) (verdict : Verdict) → verdict_lines_from n (verdicts ++ verdict ∷ []) ≡ verdict_lines_from n verdicts ++ group_line (n + length verdicts) verdict ∷ []
 lines_more n [] verdict = ap (λ (k : ℕ). group_line k verdict ∷ []) (omega arith)
 lines_more n (v ∷ verdicts) verdict =
     let index : (n + 1) + length verdicts ≡ n + length (v ∷ verdicts) = omega arith in
-    ap (λ (l : List (List ℕ)). group_line n v ∷ l) (lines_more (n + 1) verdicts verdict ∙ ap (λ (k : ℕ). group_lines_from (n + 1) verdicts ++ group_line k verdict ∷ []) index)
+    ap (λ (l : List (List ℕ)). group_line n v ∷ l) (lines_more (n + 1) verdicts verdict ∙ ap (λ (k : ℕ). verdict_lines_from (n + 1) verdicts ++ group_line k verdict ∷ []) index)
 
 lines_next : (verdicts : List Verdict) (place : ℕ) (otherwise : Verdict) → place < length verdicts
-    → group_lines (take (place + 1) verdicts) ≡ group_lines (take place verdicts) ++ group_line place (get_or verdicts place otherwise) ∷ []
+    → verdict_lines (take (place + 1) verdicts) ≡ verdict_lines (take place verdicts) ++ group_line place (get_or verdicts place otherwise) ∷ []
 lines_next verdicts place otherwise h =
     let taken : 0 + length (take place verdicts) ≡ place = simp length-take (omega arith) in
-    ap group_lines (take_more verdicts place otherwise h) ∙ lines_more 0 (take place verdicts) (get_or verdicts place otherwise) ∙ ap (λ (k : ℕ). group_lines (take place verdicts) ++ group_line k (get_or verdicts place otherwise) ∷ []) taken
+    ap verdict_lines (take_more verdicts place otherwise h) ∙ lines_more 0 (take place verdicts) (get_or verdicts place otherwise) ∙ ap (λ (k : ℕ). verdict_lines (take place verdicts) ++ group_line k (get_or verdicts place otherwise) ∷ []) taken
 
 pub lines_behind : (before after : List ℕ) (verdicts : List Verdict) (place : ℕ) (otherwise : Verdict) → place < length verdicts
-    → before ≡ text (group_lines (take place verdicts)) → after ≡ before ++ (group_line place (get_or verdicts place otherwise) ++ 10 ∷ [])
-    → after ≡ text (group_lines (take (place + 1) verdicts))
+    → before ≡ text (verdict_lines (take place verdicts)) → after ≡ before ++ (group_line place (get_or verdicts place otherwise) ++ 10 ∷ [])
+    → after ≡ text (verdict_lines (take (place + 1) verdicts))
 lines_behind before after verdicts place otherwise h e f =
     f ∙ ap (λ (x : List ℕ). x ++ (group_line place (get_or verdicts place otherwise) ++ 10 ∷ [])) e
-    ∙ sym (ap text (lines_next verdicts place otherwise h) ∙ flat_map-append (λ (line : List ℕ). line ++ 10 ∷ []) (group_lines (take place verdicts)) (group_line place (get_or verdicts place otherwise) ∷ [])
-    ∙ ap (λ (x : List ℕ). text (group_lines (take place verdicts)) ++ x) (append-nil (group_line place (get_or verdicts place otherwise) ++ 10 ∷ [])))
+    ∙ sym (ap text (lines_next verdicts place otherwise h) ∙ flat_map-append (λ (line : List ℕ). line ++ 10 ∷ []) (verdict_lines (take place verdicts)) (group_line place (get_or verdicts place otherwise) ∷ [])
+    ∙ ap (λ (x : List ℕ). text (verdict_lines (take place verdicts)) ++ x) (append-nil (group_line place (get_or verdicts place otherwise) ++ 10 ∷ [])))
 
 -- ---- the status of verdicts
 
@@ -59,7 +59,7 @@ status_on (Broken operator) verdicts is = absurd cc
 
 one_of : (p : Parts) (first : Option LayerFault) (a b : Output) → LayeredGroupsAnswer p first a → LayeredGroupsAnswer p first b → a ≡ b
 one_of p (Some fault) a b is_a is_b = cc
-one_of p None a b is_a is_b = is_a.2 ∙ ap (λ (verdicts : List Verdict). record { text = text (group_lines verdicts); status = groups_status verdicts }) (one_list p is_a.0 is_b.0 is_a.1 is_b.1) ∙ sym is_b.2
+one_of p None a b is_a is_b = is_a.2 ∙ ap (λ (verdicts : List Verdict). record { text = text (verdict_lines verdicts); status = groups_status verdicts }) (one_list p is_a.0 is_b.0 is_a.1 is_b.1) ∙ sym is_b.2
 
 pub one_mutex_answer : OneAnswer MutexAnswer
 one_mutex_answer p a b = one_of p (first_fault (layer_checks p)) a b

@@ -13,7 +13,7 @@ use Rattle.sas_run.specs.Plans.{IsValid}
 use Rattle.sas_run.specs.Verdicts.{IsFaultOf}
 use Rattle.sas_output.specs.declared.ending.Status.TheVariants.{Yes, No}
 use Rattle.sas_output.specs.Ending.{Output}
-use Rattle.sas_answers.specs.GroupWords.{group_lines, groups_status}
+use Rattle.sas_answers.specs.GroupWords.{verdict_lines, groups_status}
 use Rattle.sas_answers.specs.LayerWords.{layer_words, layers_line}
 use Rattle.sas_answers.specs.PlanWords.{valid_line, fault_words, invalid_line}
 
@@ -39,7 +39,7 @@ CheckAnswer p output = layers_verdict (first_fault (layer_checks p)) ≡ Some ou
 abbrev pub GroupsAnswer : Parts → Output → Type 0
 GroupsAnswer p output = (verdicts : List Verdict)
     × AreJointVerdicts p verdicts
-    × (output ≡ record { text = text (group_lines verdicts); status = groups_status verdicts })
+    × (output ≡ record { text = text (verdict_lines verdicts); status = groups_status verdicts })
 
 -- so those of a layered task; another is refused for the first fault of its layers
 abbrev pub LayeredGroupsAnswer : Parts → Option LayerFault → Output → Type 0

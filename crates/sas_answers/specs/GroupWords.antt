@@ -17,14 +17,14 @@ abbrev pub group_line : ℕ → Verdict → List ℕ
 group_line place verdict = codes "group " ++ decimal place ++ codes " " ++ verdict_words verdict
 
 -- a line for each group, the first of which has this place
-abbrev pub group_lines_from : ℕ → List Verdict → List (List ℕ)
-group_lines_from place [] = []
-group_lines_from place (verdict ∷ verdicts) =
-    group_line place verdict ∷ group_lines_from (place + 1) verdicts
+abbrev pub verdict_lines_from : ℕ → List Verdict → List (List ℕ)
+verdict_lines_from place [] = []
+verdict_lines_from place (verdict ∷ verdicts) =
+    group_line place verdict ∷ verdict_lines_from (place + 1) verdicts
 
 -- a line for each group of a task
-abbrev pub group_lines : List Verdict → List (List ℕ)
-group_lines verdicts = group_lines_from 0 verdicts
+abbrev pub verdict_lines : List Verdict → List (List ℕ)
+verdict_lines verdicts = verdict_lines_from 0 verdicts
 
 -- yes if all groups are exclusive, also if there is none
 abbrev pub groups_status : List Verdict → Status

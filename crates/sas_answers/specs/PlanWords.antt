@@ -18,8 +18,8 @@ abbrev pub goal_words : ℕ → List ℕ
 goal_words index = codes "goal fact " ++ decimal index ++ codes " not reached"
 
 -- `cost is SUM, not COST`
-abbrev pub cost_words : ℕ → ℕ → List ℕ
-cost_words sum cost = codes "cost is " ++ decimal sum ++ codes ", not " ++ decimal cost
+abbrev pub sum_words : ℕ → ℕ → List ℕ
+sum_words sum cost = codes "cost is " ++ decimal sum ++ codes ", not " ++ decimal cost
 
 -- the words for a fault of a plan that says this cost; want of memory is no fault of the plan
 abbrev pub fault_words : ℕ → PlanFault → Option (List ℕ)
@@ -27,7 +27,7 @@ fault_words cost (NoOperator step) = Some (step_words step (codes "no operator o
 fault_words cost (NotApplicable step) = Some (step_words step (codes "not applicable"))
 fault_words cost (Conflict step operator) = Some (step_words step (codes "conflicting effects"))
 fault_words cost (GoalMissed index) = Some (goal_words index)
-fault_words cost (CostDiffers sum) = Some (cost_words sum cost)
+fault_words cost (CostDiffers sum) = Some (sum_words sum cost)
 fault_words cost Memory = None
 
 -- the line that says why a plan isn't valid

@@ -4,7 +4,7 @@ ghost use Rattle.sas_lines.specs.Lines.{text};
 ghost use Rattle.sas_answers.specs.Answers.{GroupsAnswer, MutexAnswer};
 ghost use Rattle.sas_output.specs.Ending.{output_told};
 ghost use Rattle.sas_answers.specs.GroupWords as spec;
-ghost use Rattle.sas_answers.specs.GroupWords.{group_lines};
+ghost use Rattle.sas_answers.specs.GroupWords.{verdict_lines};
 
 use crate::layers::refuse_layers;
 use sas_flat::FlatTask;
@@ -44,7 +44,7 @@ fn verdicts_answer(alloc: Global, layered: &Layered<FlatTask>) -> Result<Told, A
 
 /// The lines of the verdicts, each ended by LF.
 fn groups_text(alloc: Global, verdicts: &[Verdict]) -> Result<Vec<u8>, AllocError>
-    ensures { IfOk result (λ t. t.items ≡ text (group_lines verdicts.now)) }
+    ensures { IfOk result (λ t. t.items ≡ text (verdict_lines verdicts.now)) }
 {
     let mut out = Vec::new(alloc);
     for (place, verdict) in verdicts.iter().enumerate() {

@@ -5,7 +5,7 @@ ghost use Rattle.sas_run.specs.Verdicts.{IsFaultOf};
 ghost use Rattle.sas_answers.specs.Answers.{VerdictAnswer, invalid_answer};
 ghost use Rattle.sas_output.specs.Ending.{output_told};
 ghost use Rattle.sas_answers.specs.PlanWords.{valid_line, fault_words, step_words};
-ghost use Rattle.sas_answers.specs.PlanWords.{goal_words, cost_words, invalid_line};
+ghost use Rattle.sas_answers.specs.PlanWords.{goal_words, sum_words, invalid_line};
 
 use sas_axioms::Worklist;
 use sas_core::Stepwise;
@@ -113,7 +113,7 @@ fn goal_text(alloc: Global, index: u32) -> Result<Vec<u8>, AllocError>
 
 /// The line that says what the operators cost, and what the plan says.
 fn cost_text(alloc: Global, sum: u128, cost: u64) -> Result<Vec<u8>, AllocError>
-    ensures { IfOk result (λ t. t.items ≡ invalid_line (cost_words sum cost)) }
+    ensures { IfOk result (λ t. t.items ≡ invalid_line (sum_words sum cost)) }
 {
     let mut text = Vec::from_slice(alloc, b"plan invalid: cost is ")?;
     push_number(&mut text, sum)?;

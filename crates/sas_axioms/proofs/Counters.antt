@@ -19,7 +19,7 @@ use Rattle.sas_axioms.specs.LayerRules.{IsRuleOn}
 use Rattle.sas_axioms.specs.Waiting.{occurrences, asking}
 use Rattle.sas_axioms.specs.Conditions.{open_conditions}
 use Rattle.sas_axioms.specs.declared.firing.Work.{Work}
-use Rattle.sas_axioms.specs.Worklist.{seen, IsRunning, Counts, HaveFired, IsAtWork, GoesOn, FiresRule}
+use Rattle.sas_axioms.specs.Worklist.{value_seen, IsRunning, AreCounted, HaveFired, IsAtWork, WorkGoesOn, FiresRule}
 use Rattle.std.specs.List.{All}
 use Rattle.std.proofs.lemmas.List.Elements.{All-nil, All-cons, All-head, All-tail}
 use Rattle.sas_meaning.proofs.Forced.{Fired, fired_there, rule_new, differs_true, differs_not, fact_within}
@@ -38,7 +38,7 @@ occurrences_pushed n v xs = elim (eqb_tells v n) [
   | inr w ↦ inr (w.1, occurrences-append n xs (v ∷ []) ∙ rw w.0 (omega arith))
 ]
 
-pub seen_tells : (t : Parts) (s stack : List ℕ) (v : ℕ) → ((occurrences v stack ≡ 0) × (seen t s stack v ≡ get_or s v 0)) ⊎ ((0 < occurrences v stack) × (seen t s stack v ≡ default_of t v))
+pub seen_tells : (t : Parts) (s stack : List ℕ) (v : ℕ) → ((occurrences v stack ≡ 0) × (value_seen t s stack v ≡ get_or s v 0)) ⊎ ((0 < occurrences v stack) × (value_seen t s stack v ≡ default_of t v))
 seen_tells t s stack v = elim (eqb_tells (occurrences v stack) 0) [
   | inl w ↦ inl (w.1, rw w.0 refl)
   | inr w ↦ (let ne : occurrences v stack ≢ 0 = w.1 in inr (omega arith, rw w.0 refl))
@@ -47,7 +47,7 @@ seen_tells t s stack v = elim (eqb_tells (occurrences v stack) 0) [
 -- a rule that changes its variable's value, with the variable put on the stack
 pub record Pushed (t : Parts) (layer : ℕ) (s stack : List ℕ) (rule : Rule) : Type 0 where
   pub running : IsRunning t layer (set s rule.var rule.new) (stack ++ rule.var ∷ [])
-  pub seen : (v : ℕ) → seen t (set s rule.var rule.new) (stack ++ rule.var ∷ []) v ≡ seen t s stack v
+  pub seen : (v : ℕ) → value_seen t (set s rule.var rule.new) (stack ++ rule.var ∷ []) v ≡ value_seen t s stack v
   pub kept : (v : ℕ) → differs t s v ≡ true → get_or (set s rule.var rule.new) v 0 ≡ get_or s v 0
   pub off : SameOff t layer s (set s rule.var rule.new)
   pub fewer : equal_places (set s rule.var rule.new) t.init < equal_places s t.init
@@ -118,11 +118,11 @@ pushed t layer s stack k ranged layered run on_k hold changes = record {
     room : length (stack ++ (rule_at t k).var ∷ []) + equal_places (set s (rule_at t k).var (rule_at t k).new) t.init ≤ length (set s (rule_at t k).var (rule_at t k).new)
     room = let a = length-append stack ((rule_at t k).var ∷ []) in let b = length-set s (rule_at t k).var (rule_at t k).new in let le = run.room in let lt = f.fewer in omega arith
 
-    seen_same : (v : ℕ) → seen t (set s (rule_at t k).var (rule_at t k).new) (stack ++ (rule_at t k).var ∷ []) v ≡ seen t s stack v
+    seen_same : (v : ℕ) → value_seen t (set s (rule_at t k).var (rule_at t k).new) (stack ++ (rule_at t k).var ∷ []) v ≡ value_seen t s stack v
     seen_same v = elim (occurrences_pushed v (rule_at t k).var stack) [
       | inl w ↦ elim (seen_tells t (set s (rule_at t k).var (rule_at t k).new) (stack ++ (rule_at t k).var ∷ []) v) [
         | inl a ↦ (let x = w.1 in let y = a.0 in absurd (omega arith))
-        | inr a ↦ a.1 ∙ (subst (λ x. default_of t x ≡ seen t s stack x) w.0
+        | inr a ↦ a.1 ∙ (subst (λ x. default_of t x ≡ value_seen t s stack x) w.0
             (elim (seen_tells t s stack (rule_at t k).var) [ inl b ↦ sym (b.1 ∙ default) | inr b ↦ sym b.1 ]))
       ]
       | inr w ↦ ap (λ n. cond (n == 0) (get_or (set s (rule_at t k).var (rule_at t k).new) v 0) (default_of t v)) w.1
@@ -149,10 +149,10 @@ fires_by t s w s' w' k ranged state on p s-is stack-is layer counters room = rec
 
 -- ---- one piece of work after another
 
-pub goes_on_still : (t : Parts) (s : List ℕ) (w : Work) → GoesOn t s w s w
+pub goes_on_still : (t : Parts) (s : List ℕ) (w : Work) → WorkGoesOn t s w s w
 goes_on_still t s w = record { layer = refl; off = λ v off. refl; left = omega arith }
 
-pub goes_on_more : (t : Parts) (s : List ℕ) (w : Work) (s' : List ℕ) (w' : Work) (s'' : List ℕ) (w'' : Work) → GoesOn t s w s' w' → GoesOn t s' w' s'' w'' → GoesOn t s w s'' w''
+pub goes_on_more : (t : Parts) (s : List ℕ) (w : Work) (s' : List ℕ) (w' : Work) (s'' : List ℕ) (w'' : Work) → WorkGoesOn t s w s' w' → WorkGoesOn t s' w' s'' w'' → WorkGoesOn t s w s'' w''
 goes_on_more t s w s' w' s'' w'' so_far more = record {
   layer = more.layer ∙ so_far.layer;
   off = λ v off. so_far.off v off ∙ more.off v (subst (λ n. IsOnLayer t n v → ⊥) (sym so_far.layer) off);
@@ -204,7 +204,7 @@ open_popped value value' v x (c ∷ cs) same new asks = by_cases (open_popped va
 -- ---- the counters of a layer
 
 -- a rule whose counter is at zero has conditions that hold
-pub ready : (t : Parts) (layer : ℕ) (s stack counters left : List ℕ) (k : ℕ) → IsLayered t → IsRunning t layer s stack → Counts t layer s stack counters left → IsRuleOn t layer k
+pub ready : (t : Parts) (layer : ℕ) (s stack counters left : List ℕ) (k : ℕ) → IsLayered t → IsRunning t layer s stack → AreCounted t layer s stack counters left → IsRuleOn t layer k
     → get_or counters k 0 ≡ 0 → AllHold (λ v. get_or s v 0) (rule_at t k).conditions
 ready t layer s stack counters left k layered run counts on nil j e lt' =
     elim (seen_tells t s stack (get_or (rule_at t k).conditions j e).var) [
@@ -213,31 +213,31 @@ ready t layer s stack counters left k layered run counts on nil j e lt' =
           let z : layer < layer = (down layer layer on.on (run.fired (get_or (rule_at t k).conditions j e).var w.0).0).1 (sym holds ∙ w.1) in absurd (omega arith))
     ]
   where
-    holds : seen t s stack (get_or (rule_at t k).conditions j e).var ≡ (get_or (rule_at t k).conditions j e).value
-    holds = all_hold_when_none_open (seen t s stack) (rule_at t k).conditions (let n = counts k on in omega arith) j e lt'
+    holds : value_seen t s stack (get_or (rule_at t k).conditions j e).var ≡ (get_or (rule_at t k).conditions j e).value
+    holds = all_hold_when_none_open (value_seen t s stack) (rule_at t k).conditions (let n = counts k on in omega arith) j e lt'
 
-pub counts_seen : (t : Parts) (layer : ℕ) (s s' stack stack' counters left : List ℕ) → ((v : ℕ) → seen t s' stack' v ≡ seen t s stack v) → Counts t layer s stack counters left → Counts t layer s' stack' counters left
+pub counts_seen : (t : Parts) (layer : ℕ) (s s' stack stack' counters left : List ℕ) → ((v : ℕ) → value_seen t s' stack' v ≡ value_seen t s stack v) → AreCounted t layer s stack counters left → AreCounted t layer s' stack' counters left
 counts_seen t layer s s' stack stack' counters left same counts k on =
-    let e = open_same (seen t s' stack') (seen t s stack) (rule_at t k).conditions same in
+    let e = open_same (value_seen t s' stack') (value_seen t s stack) (rule_at t k).conditions same in
     let f = counts k on in omega arith
 
 pub fired_kept : (t : Parts) (layer : ℕ) (s s' counters : List ℕ) → ((v : ℕ) → differs t s v ≡ true → get_or s' v 0 ≡ get_or s v 0) → HaveFired t layer s counters → HaveFired t layer s' counters
 fired_kept t layer s s' counters kept fired k on nil =
     let e = fired k on nil in kept (rule_at t k).var (differs_true t s (rule_at t k).var (λ f. on.can (sym e ∙ f))) ∙ e
 
-pub counted_down : (t : Parts) (layer : ℕ) (s stack counters left : List ℕ) (k : ℕ) → k < length counters → Counts t layer s stack counters (k ∷ left) → Counts t layer s stack (set counters k (get_or counters k 0 - 1)) left
+pub counted_down : (t : Parts) (layer : ℕ) (s stack counters left : List ℕ) (k : ℕ) → k < length counters → AreCounted t layer s stack counters (k ∷ left) → AreCounted t layer s stack (set counters k (get_or counters k 0 - 1)) left
 counted_down t layer s stack counters left k within counts j on = elim (eqb_tells k j) [
-  | inl w ↦ subst (λ i. get_or (set counters k (get_or counters k 0 - 1)) i 0 ≡ open_conditions (seen t s stack) (rule_at t j).conditions + occurrences j left) w.1
+  | inl w ↦ subst (λ i. get_or (set counters k (get_or counters k 0 - 1)) i 0 ≡ open_conditions (value_seen t s stack) (rule_at t j).conditions + occurrences j left) w.1
       (get_or-set_same counters k (get_or counters k 0 - 1) 0 within
-      ∙ (let n : get_or counters j 0 ≡ open_conditions (seen t s stack) (rule_at t j).conditions + (1 + occurrences j left) = rw w.0 at (counts j on) in
+      ∙ (let n : get_or counters j 0 ≡ open_conditions (value_seen t s stack) (rule_at t j).conditions + (1 + occurrences j left) = rw w.0 at (counts j on) in
       let e : get_or counters k 0 ≡ get_or counters j 0 = ap (λ i. get_or counters i 0) w.1 in omega arith))
   | inr w ↦ get_or-set_other counters k j (get_or counters k 0 - 1) 0 (λ e. w.1 (sym e))
-      ∙ (let n : get_or counters j 0 ≡ open_conditions (seen t s stack) (rule_at t j).conditions + (0 + occurrences j left) = rw w.0 at (counts j on) in omega arith)
+      ∙ (let n : get_or counters j 0 ≡ open_conditions (value_seen t s stack) (rule_at t j).conditions + (0 + occurrences j left) = rw w.0 at (counts j on) in omega arith)
 ]
 
-pub waits : (t : Parts) (layer : ℕ) (s stack counters left : List ℕ) (k : ℕ) → IsRuleOn t layer k → Counts t layer s stack counters (k ∷ left) → 1 ≤ get_or counters k 0
+pub waits : (t : Parts) (layer : ℕ) (s stack counters left : List ℕ) (k : ℕ) → IsRuleOn t layer k → AreCounted t layer s stack counters (k ∷ left) → 1 ≤ get_or counters k 0
 waits t layer s stack counters left k on counts =
-    let n : get_or counters k 0 ≡ open_conditions (seen t s stack) (rule_at t k).conditions + (1 + occurrences k left) = rw (eq-eqb k k refl) at (counts k on) in omega arith
+    let n : get_or counters k 0 ≡ open_conditions (value_seen t s stack) (rule_at t k).conditions + (1 + occurrences k left) = rw (eq-eqb k k refl) at (counts k on) in omega arith
 
 pub fired_set : (t : Parts) (layer : ℕ) (s counters : List ℕ) (k n : ℕ) → k < length counters → (n ≡ 0 → get_or s (rule_at t k).var 0 ≡ (rule_at t k).new)
     → HaveFired t layer s counters → HaveFired t layer s (set counters k n)
@@ -266,10 +266,10 @@ top_is t layer s rest v run = elim (occurrences_pushed v v rest) [
 
 pub popped_counts : (t : Parts) (layer : ℕ) (s rest counters left : List ℕ) (v : ℕ) → IsLayered t → IsRunning t layer s (rest ++ v ∷ [])
     → ((k : ℕ) → IsRuleOn t layer k → occurrences k left ≡ asking v (get_or s v 0) (rule_at t k).conditions)
-    → Counts t layer s (rest ++ v ∷ []) counters [] → Counts t layer s rest counters left
+    → AreCounted t layer s (rest ++ v ∷ []) counters [] → AreCounted t layer s rest counters left
 popped_counts t layer s rest counters left v layered run each counts k on =
     let a = counts k on in
-    let b = open_popped (seen t s (rest ++ v ∷ [])) (seen t s rest) v (get_or s v 0) (rule_at t k).conditions others now asks in
+    let b = open_popped (value_seen t s (rest ++ v ∷ [])) (value_seen t s rest) v (get_or s v 0) (rule_at t k).conditions others now asks in
     let c = each k on in
     omega arith
   where
@@ -279,25 +279,25 @@ popped_counts t layer s rest counters left v layered run each counts k on =
     gone : occurrences v rest ≡ 0
     gone = elim (occurrences_pushed v v rest) [ inl w ↦ (let e = w.1 in let le = run.once v in omega arith) | inr w ↦ absurd (w.0 refl) ]
 
-    now : seen t s rest v ≡ get_or s v 0
+    now : value_seen t s rest v ≡ get_or s v 0
     now = elim (seen_tells t s rest v) [ inl w ↦ w.1 | inr w ↦ (let z = gone in let p = w.0 in absurd (omega arith)) ]
 
-    default : seen t s (rest ++ v ∷ []) v ≡ default_of t v
+    default : value_seen t s (rest ++ v ∷ []) v ≡ default_of t v
     default = elim (seen_tells t s (rest ++ v ∷ []) v) [ inl w ↦ (let z = w.0 in let e = occurrences_pushed v v rest in absurd (elim e [ inl p ↦ (let q = p.1 in omega arith) | inr p ↦ p.0 refl ])) | inr w ↦ w.1 ]
 
-    others : (u : ℕ) → u ≢ v → seen t s (rest ++ v ∷ []) u ≡ seen t s rest u
+    others : (u : ℕ) → u ≢ v → value_seen t s (rest ++ v ∷ []) u ≡ value_seen t s rest u
     others u ne = elim (occurrences_pushed u v rest) [
       | inl w ↦ absurd (ne (sym w.0))
       | inr w ↦ ap (λ n. cond (n == 0) (get_or s u 0) (default_of t u)) w.1
     ]
 
-    asks : All (λ (c : Fact). c.var ≡ v → c.value ≢ seen t s (rest ++ v ∷ []) v) (rule_at t k).conditions
+    asks : All (λ (c : Fact). c.var ≡ v → c.value ≢ value_seen t s (rest ++ v ∷ []) v) (rule_at t k).conditions
     asks j e lt' is_v is_default =
         let down = (layered.rules k no_rule on.exists on.can).order j e lt' in
         let z : layer < layer = (down layer layer on.on (subst (λ u. IsOnLayer t layer u) (sym is_v) v_on)).1 (is_default ∙ (default ∙ ap (default_of t) (sym is_v))) in absurd (omega arith)
 
 -- with nothing left on the stack the layer is settled
-pub settled_when_empty : (t : Parts) (layer : ℕ) (s counters : List ℕ) → IsRunning t layer s [] → Counts t layer s [] counters [] → HaveFired t layer s counters → IsSettledAt t layer s
+pub settled_when_empty : (t : Parts) (layer : ℕ) (s counters : List ℕ) → IsRunning t layer s [] → AreCounted t layer s [] counters [] → HaveFired t layer s counters → IsSettledAt t layer s
 settled_when_empty t layer s counters run counts fired = settled_when_fired t layer s run.forced (λ k d lt.
     subst (λ (r : Rule). HasFired t layer s r) (get_or_default t.rules k no_rule d lt) (has k lt))
   where

@@ -16,8 +16,8 @@ use Rattle.sas_axioms.specs.Conditions.{open_conditions, SameAsked}
 use Rattle.sas_axioms.specs.Resting.{IsResting}
 
 -- a variable on the stack still counts with its default
-abbrev pub seen : Parts → List ℕ → List ℕ → ℕ → ℕ
-seen p s stack var = if occurrences var stack == 0 then slice_index s var else default_of p var
+abbrev pub value_seen : Parts → List ℕ → List ℕ → ℕ → ℕ
+value_seen p s stack var = if occurrences var stack == 0 then slice_index s var else default_of p var
 
 -- the stack has variables of the layer that have been given their rules' value, each once
 pub record IsRunning (p : Parts) (layer : ℕ) (s stack : List ℕ) : Type 0 where
@@ -30,10 +30,10 @@ pub record IsRunning (p : Parts) (layer : ℕ) (s stack : List ℕ) : Type 0 whe
 
 -- each counter is the number of its rule's conditions that don't hold yet, and of its places in
 -- `left`
-abbrev pub Counts : Parts → ℕ → List ℕ → List ℕ → List ℕ → List ℕ → Type 0
-Counts p layer s stack counters left = (rule : ℕ) → IsRuleOn p layer rule
+abbrev pub AreCounted : Parts → ℕ → List ℕ → List ℕ → List ℕ → List ℕ → Type 0
+AreCounted p layer s stack counters left = (rule : ℕ) → IsRuleOn p layer rule
     → slice_index counters rule
-    ≡ open_conditions (seen p s stack) (rule_at p rule).conditions + occurrences rule left
+    ≡ open_conditions (value_seen p s stack) (rule_at p rule).conditions + occurrences rule left
 
 -- each rule with no open condition has given its variable its value
 abbrev pub HaveFired : Parts → ℕ → List ℕ → List ℕ → Type 0
@@ -53,11 +53,11 @@ pub record HasRoom (p : Parts) (w : Work) : Type 0 where
 pub record IsAtWork (p : Parts) (s : List ℕ) (w : Work) (left : List ℕ) : Type 0 where
   pub room : HasRoom p w
   pub running : IsRunning p w.layer s w.stack.items
-  pub counts : Counts p w.layer s w.stack.items w.counters left
+  pub counts : AreCounted p w.layer s w.stack.items w.counters left
   pub fired : HaveFired p w.layer s w.counters
 
 -- the work goes on, on its layer alone, and no more is left to do than before
-pub record GoesOn (p : Parts) (s : List ℕ) (w : Work) (s' : List ℕ) (w' : Work) : Type 0 where
+pub record WorkGoesOn (p : Parts) (s : List ℕ) (w : Work) (s' : List ℕ) (w' : Work) : Type 0 where
   pub layer : w'.layer ≡ w.layer
   pub off : SameOff p w.layer s s'
   pub left : left_to_do p s' w'.stack.items ≤ left_to_do p s w.stack.items
@@ -65,11 +65,11 @@ pub record GoesOn (p : Parts) (s : List ℕ) (w : Work) (s' : List ℕ) (w' : Wo
 -- one rule fired, or had
 pub record FiresRule (p : Parts) (rule : ℕ) (s : List ℕ) (w : Work) (s' : List ℕ) (w' : Work)
     : Type 0 where
-  pub goes_on : GoesOn p s w s' w'
+  pub goes_on : WorkGoesOn p s w s' w'
   pub counters : w'.counters ≡ w.counters
   pub room : vec_capacity w.stack ≤ vec_capacity w'.stack
   pub running : IsRunning p w.layer s' w'.stack.items
-  pub seen : (var : ℕ) → seen p s' w'.stack.items var ≡ seen p s w.stack.items var
+  pub seen : (var : ℕ) → value_seen p s' w'.stack.items var ≡ value_seen p s w.stack.items var
   pub fired : slice_index s' (rule_at p rule).var ≡ (rule_at p rule).new
   pub kept : (var : ℕ) → IsTrue (differs p s var) → slice_index s' var ≡ slice_index s var
 

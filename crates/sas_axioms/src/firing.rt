@@ -10,7 +10,7 @@ ghost use Rattle.sas_axioms.specs.LayerRules.{IsRuleOn, AreRulesOn};
 ghost use Rattle.sas_axioms.specs.Waiting.{IsIndex, released};
 ghost use Rattle.sas_axioms.specs.Conditions.{open_conditions, SameAsked};
 ghost use Rattle.sas_axioms.specs.Resting.{IsResting};
-ghost use Rattle.sas_axioms.specs.Worklist.{IsRunning, Counts, HasRoom, IsAtWork, GoesOn, FiresRule, IsPrepared};
+ghost use Rattle.sas_axioms.specs.Worklist.{IsRunning, AreCounted, HasRoom, IsAtWork, WorkGoesOn, FiresRule, IsPrepared};
 
 use crate::layer_rules::LayerRule;
 use crate::resting::Resting;
@@ -100,7 +100,7 @@ fn count_conditions<T: Grounded>(
     ensures layer { work.new.layer ≡ work.old.layer }
     ensures stack { work.new.stack ≡ work.old.stack }
     ensures room { HasRoom task.now work.new }
-    ensures counts { Counts task.now work.old.layer state.now [] work.new.counters [] }
+    ensures counts { AreCounted task.now work.old.layer state.now [] work.new.counters [] }
 {
     let layer = work.layer;
     for entry in rules {
@@ -134,10 +134,10 @@ fn fire_ready<T: Grounded>(
     requires rules { AreRulesOn task.now work.old.layer rules.now }
     requires room { HasRoom task.now work.old }
     requires running { IsRunning task.now work.old.layer state.old work.old.stack.items }
-    requires counts { Counts task.now work.old.layer state.old work.old.stack.items
+    requires counts { AreCounted task.now work.old.layer state.old work.old.stack.items
         work.old.counters [] }
     ensures at_work { IsAtWork task.now state.new work.new [] }
-    ensures goes_on { GoesOn task.now state.old work.old state.new work.new }
+    ensures goes_on { WorkGoesOn task.now state.old work.old state.new work.new }
 {
     // By its contract the task is well ranged and layered.
     let _ = task.task();
@@ -200,7 +200,7 @@ fn release<T: Grounded>(
     requires waiting { All (λ (w : Waiting). IsRuleOn task.now work.old.layer w.rule) waiting.now }
     requires at_work { IsAtWork task.now state.old work.old (released value waiting.now) }
     ensures at_work { IsAtWork task.now state.new work.new [] }
-    ensures goes_on { GoesOn task.now state.old work.old state.new work.new }
+    ensures goes_on { WorkGoesOn task.now state.old work.old state.new work.new }
 {
     for entry in waiting {
         if entry.value == value {
@@ -215,7 +215,7 @@ fn count_down<T: Grounded>(task: &Layered<T>, rule: u32, work: &mut Work, state:
     requires waits { (left : List ℕ) × IsAtWork task.now state.old work.old (rule ∷ left) }
     ensures at_work { (left : List ℕ) → IsAtWork task.now state.old work.old (rule ∷ left)
         → IsAtWork task.now state.new work.new left }
-    ensures goes_on { GoesOn task.now state.old work.old state.new work.new }
+    ensures goes_on { WorkGoesOn task.now state.old work.old state.new work.new }
 {
     // By its contract the task is well ranged and layered.
     let _ = task.task();

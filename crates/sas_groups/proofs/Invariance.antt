@@ -16,7 +16,7 @@ use Rattle.sas_meaning.proofs.Facts.{SetBy, Untouched, set_or_kept}
 use Rattle.sas_groups.specs.Clashes.{Clash, sets, Keeps}
 use Rattle.sas_groups.specs.Groups.{IsExclusiveIn, MayBeExclusive}
 use Rattle.sas_groups.specs.Families.{IsGroupOf, AllKeep, IsKeptJointly}
-use Rattle.sas_groups.specs.Laws.{JointlyKeptIsExclusive, ExclusiveAloneIsInvariant, ExclusiveJointlyIsInvariant}
+use Rattle.sas_groups.specs.Laws.{JointlyKeptIsInvariant, ExclusiveAloneIsInvariant, ExclusiveJointlyIsInvariant}
 
 fact : ℕ → ℕ → Fact
 fact var value = record { var = var; value = value }
@@ -116,14 +116,14 @@ group_is_kept p group may kept = record {
   kept = λ g is. subst (AllKeep p (λ x. x ≡ group)) (sym is) kept;
 }
 
-pub jointly_kept_is_exclusive : JointlyKeptIsExclusive
-jointly_kept_is_exclusive p family place s layered jointly among reach =
+pub jointly_kept_is_invariant : JointlyKeptIsInvariant
+jointly_kept_is_invariant p family place jointly among s reach =
     always p (IsGroupOf p family) (family_is_kept p family jointly) reach (group_at p place) (place, among, refl)
 
 pub exclusive_alone_is_invariant : ExclusiveAloneIsInvariant
-exclusive_alone_is_invariant p group s layered verdict reach =
+exclusive_alone_is_invariant p group verdict s reach =
     always p (λ g. g ≡ group) (group_is_kept p group (record { basic = verdict.0; initial = verdict.1 }) verdict.2) reach group refl
 
 pub exclusive_jointly_is_invariant : ExclusiveJointlyIsInvariant
-exclusive_jointly_is_invariant p place s layered verdict reach =
-    jointly_kept_is_exclusive p verdict.0 place s layered verdict.1.jointly verdict.2 reach
+exclusive_jointly_is_invariant p place verdict =
+    jointly_kept_is_invariant p verdict.0 place verdict.1.jointly verdict.2

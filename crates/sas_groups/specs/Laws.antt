@@ -3,29 +3,25 @@ use Rattle.std.specs.Prelude.{◌≡◌, ◌||◌, ℕ, ◌<◌, Bool, List, len
 use Rattle.sas_core.specs.declared.parts.Fact.{Fact}
 use Rattle.sas_core.specs.declared.parts.Parts.{Parts}
 use Rattle.sas_core.specs.Grounded.{group_at}
-use Rattle.sas_meaning.specs.Layers.{IsLayered}
-use Rattle.sas_meaning.specs.Reachable.{Reachable}
 use Rattle.sas_groups.specs.declared.verdict.Verdict.{Verdict}
 use Rattle.sas_groups.specs.declared.verdict.Verdict.TheVariants.{Exclusive}
-use Rattle.sas_groups.specs.Groups.{IsExclusiveIn, MayBeExclusive}
+use Rattle.sas_groups.specs.Groups.{IsInvariant, MayBeExclusive}
 use Rattle.sas_groups.specs.Families.{IsIn, IsGroupOfOr, AllKeep, IsKeptJointly, IsGreatest}
 use Rattle.sas_groups.specs.Verdicts.{IsVerdictAlone, IsJointVerdict}
 
--- Invariance: in a reachable state of a layered task no group of a family that is kept jointly has
--- two different facts
-abbrev pub JointlyKeptIsExclusive : Type 0
-JointlyKeptIsExclusive = (p : Parts) (family : ℕ → Bool) (place : ℕ) (s : List ℕ) → IsLayered p
-    → IsKeptJointly p family → IsIn p family place → Reachable p s
-    → IsExclusiveIn s (group_at p place)
+-- Invariance: each group of a family that is kept jointly is an invariant
+abbrev pub JointlyKeptIsInvariant : Type 0
+JointlyKeptIsInvariant = (p : Parts) (family : ℕ → Bool) (place : ℕ) → IsKeptJointly p family
+    → IsIn p family place → IsInvariant p (group_at p place)
 
--- and so of a group that is exclusive alone, or jointly
+-- and so is a group that is exclusive alone, or jointly
 abbrev pub ExclusiveAloneIsInvariant : Type 0
-ExclusiveAloneIsInvariant = (p : Parts) (group : List Fact) (s : List ℕ) → IsLayered p
-    → IsVerdictAlone p group Exclusive → Reachable p s → IsExclusiveIn s group
+ExclusiveAloneIsInvariant = (p : Parts) (group : List Fact) → IsVerdictAlone p group Exclusive
+    → IsInvariant p group
 
 abbrev pub ExclusiveJointlyIsInvariant : Type 0
-ExclusiveJointlyIsInvariant = (p : Parts) (place : ℕ) (s : List ℕ) → IsLayered p
-    → IsJointVerdict p place Exclusive → Reachable p s → IsExclusiveIn s (group_at p place)
+ExclusiveJointlyIsInvariant = (p : Parts) (place : ℕ) → IsJointVerdict p place Exclusive
+    → IsInvariant p (group_at p place)
 
 -- two families that are kept jointly are one together
 abbrev pub FamiliesUnite : Type 0

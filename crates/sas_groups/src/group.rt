@@ -1,8 +1,8 @@
 // The check of one group by itself.
-ghost use Rattle.std.specs.Prelude.{◌<◌, ◌↔◌, length, All, Contains, IsTrue, IsFalse, IfSome, IfNone, slice_index};
+ghost use Rattle.std.specs.Prelude.{◌≡◌, ◌<◌, ◌↔◌, length, All, Contains, IsTrue, IsFalse, IfSome, IfNone, slice_index};
 ghost use Rattle.sas_core.specs.Variables.{FactExists};
 ghost use Rattle.sas_meaning.specs.States.{Holds};
-ghost use Rattle.sas_groups.specs.Groups.{IsExclusiveIn, IsOnBasic};
+ghost use Rattle.sas_groups.specs.Groups.{IsExclusiveIn, IsInvariant, IsOnBasic};
 ghost use Rattle.sas_groups.specs.Families.{AllKeep};
 ghost use Rattle.sas_groups.specs.Verdicts.{IsFirstVerdict, IsVerdictAlone, IsFirstBreaking};
 ghost use Rattle.sas_groups.specs.Checks.{Alone, IsOnlyOne};
@@ -18,7 +18,9 @@ use sas_meaning::Layered;
 /// that doesn't keep the group.
 pub fn check_group<T: Grounded>(layered: &Layered<T>, group: &[Fact]) -> Verdict
     requires { All (FactExists layered.now.variables) group.now }
-    ensures { IsVerdictAlone layered.now group.now result }
+    ensures verdict { IsVerdictAlone layered.now group.now result }
+    // Of an exclusive group no reachable state holds two different facts.
+    ensures invariant { result ≡ Verdict.Exclusive → IsInvariant layered.now group.now }
 {
     match before_operators(layered, group) {
         Verdict::Exclusive => match first_breaking(layered, group) {

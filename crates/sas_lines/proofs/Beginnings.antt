@@ -2,7 +2,8 @@
 use Rattle.std.proofs.Common.{◌≡◌, ℕ, ◌+◌, List, [], ◌∷◌, ◌++◌, length, length-append, take, refl, sym, ap, ◌∙◌, append_assoc, arith}
 use Rattle.std.proofs.lemmas.List.{take_at, length_push}
 use Rattle.std.specs.List.{AllByRecursion}
-use Rattle.sas_lines.specs.Lines.{lines, unfinished, text, LineStandsFirst, LinesStandFirst}
+use Rattle.sas_lines.specs.Lines.{lines, unfinished, text}
+use Rattle.sas_lines.specs.FirstLines.{LineStandsFirst, LinesStandFirst}
 use Rattle.sas_lines.proofs.Splitting.{Plain, lines-one, unfinished-one, lines-text, unfinished-text}
 
 -- a line, its end and the rest

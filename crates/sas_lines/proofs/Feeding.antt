@@ -2,7 +2,8 @@
 use Rattle.std.proofs.Common.{◌≡◌, ℕ, ◌+◌, ◌≤◌, Bool, true, false, List, [], ◌∷◌, ◌++◌, length, take, drop, sym, arith, ap, subst, ◌∙◌, append_assoc, if◌then◌else◌}
 use Rattle.std.proofs.lemmas.List.{take_all, length-take}
 use Rattle.sas_lines.specs.Parts.{StandsFirst}
-use Rattle.sas_lines.specs.Lines.{without_return, lines, unfinished, NoEnd, TakesLine}
+use Rattle.sas_lines.specs.Lines.{without_return, lines, unfinished, NoEnd}
+use Rattle.sas_lines.specs.FirstLines.{TakesLine}
 use Rattle.sas_lines.specs.Progress.{Progress}
 use Rattle.sas_lines.proofs.Separated.{Without-append}
 use Rattle.sas_lines.proofs.Found.{up_to, in_two_at, Without-return}

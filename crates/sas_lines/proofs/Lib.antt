@@ -4,5 +4,6 @@ mod Found
 mod Feeding
 mod Digits
 pub mod Splitting
+pub mod EndedLines
 pub mod Words
 pub mod Beginnings

@@ -1,10 +1,11 @@
 -- The parts between single spaces, as the inverse of joining; decimals hold no space.
-use Rattle.std.proofs.Common.{◌≡◌, ℕ, ◌<◌, ◌^◌, ◌≢◌, Bool, true, false, cond, eqb, List, [], ◌∷◌, ◌++◌, refl, sym, ap, ◌∙◌, arith, Option, Some, None}
+use Rattle.std.proofs.Common.{◌≡◌, ℕ, zero, suc, ◌+◌, ◌<◌, ◌≤◌, ◌^◌, ◌≢◌, Bool, true, false, cond, eqb, List, [], ◌∷◌, ◌++◌, length, refl, sym, ap, ◌∙◌, arith, Option, Some, None, inl, inr}
 use Rattle.std.specs.List.{AllByRecursion}
-use Rattle.std.specs.Fmt.{decimal}
-use Rattle.std.specs.Str.Parse.{AllDigits}
-use Rattle.std.proofs.lemmas.Bool.{eqb-true}
-use Rattle.std.proofs.lemmas.Fmt.{digits_decimal, decimal_injective}
+use Rattle.std.specs.Prelude.{◌/◌, ◌%◌, nat_lt}
+use Rattle.std.specs.Fmt.{decimal, digits, digits_onto, digit_glyph}
+use Rattle.std.specs.Str.Parse.{AllDigits, digits_value}
+use Rattle.std.proofs.lemmas.Bool.{eqb-true, ne_eqb, cases_lt}
+use Rattle.std.proofs.lemmas.Fmt.{digits_decimal, decimal_injective, decimal_is_IsNumeral, decimal_is_IsNumeral_wide, length-decimal-le}
 use Rattle.std.proofs.lemmas.Str.Parse.{digit_from_value}
 use Rattle.sas_lines.specs.Parts.{Without, onto_first, parts}
 use Rattle.sas_lines.specs.Lines.{NoEnd}
@@ -53,25 +54,37 @@ joined-words (b ∷ bytes) =
 
 -- ---- numbers
 
-Without-digits : (separator : ℕ) (ds : List ℕ) → separator < 48 → AllDigits 10 ds → Without separator ds
-Without-digits separator [] l h = tt
-Without-digits separator (d ∷ ds) l h = let r = digit_from_value d h.0 in let ne : d ≢ separator = omega (arith, r.0) in (ne, Without-digits separator ds l h.1)
+glyph_above : (separator d : ℕ) (below_ten : Bool) → separator < 48 → cond below_ten (48 + d) (87 + d) ≢ separator
+glyph_above separator d true l = omega arith
+glyph_above separator d false l = omega arith
+
+without_either : (separator : ℕ) (here : Bool) (a b : List ℕ) → Without separator a → Without separator b → Without separator (cond here a b)
+without_either separator true a b h g = h
+without_either separator false a b h g = g
+
+without_onto : (separator k n : ℕ) (acc : List ℕ) → separator < 48 → Without separator acc → Without separator (digits_onto k 10 false n acc)
+without_onto separator zero n acc l h = h
+without_onto separator (suc k) n acc l h =
+    let more : Without separator (digit_glyph false (n % 10) ∷ acc) = (glyph_above separator (n % 10) (nat_lt (n % 10) 10) l, h) in
+    without_either separator (eqb (n / 10) 0) (digit_glyph false (n % 10) ∷ acc) (digits_onto k 10 false (n / 10) (digit_glyph false (n % 10) ∷ acc))
+    more (without_onto separator k (n / 10) (digit_glyph false (n % 10) ∷ acc) l more)
 
 -- a decimal holds no byte below the digits
-pub Without-decimal : (separator n : ℕ) → separator < 48 → n < 2 ^ 64 → Without separator (decimal n)
-Without-decimal separator n l h = Without-digits separator (decimal n) l (digits_decimal own n h)
+pub Without-decimal : (separator n : ℕ) → separator < 48 → Without separator (decimal n)
+unfolding digits
+Without-decimal separator n l = without_onto separator 64 n [] l tt
 
-pub NoSpace-decimal : (n : ℕ) → n < 2 ^ 64 → NoSpace (decimal n)
-NoSpace-decimal n h = Without-decimal 32 n (omega arith) h
+pub NoSpace-decimal : (n : ℕ) → NoSpace (decimal n)
+NoSpace-decimal n = Without-decimal 32 n (omega arith)
 
-pub NoEnd-decimal : (n : ℕ) → n < 2 ^ 64 → NoEnd (decimal n)
-NoEnd-decimal n h = Without-decimal 10 n (omega arith) h
+pub NoEnd-decimal : (n : ℕ) → NoEnd (decimal n)
+NoEnd-decimal n = Without-decimal 10 n (omega arith)
 
-pub Plain-decimal : (n : ℕ) → n < 2 ^ 64 → Plain (decimal n)
-Plain-decimal n h = record { no_end = NoEnd-decimal n h; no_return = without_return-none (decimal n) (Without-decimal 13 n (omega arith) h) }
+pub Plain-decimal : (n : ℕ) → Plain (decimal n)
+Plain-decimal n = record { no_end = NoEnd-decimal n; no_return = without_return-none (decimal n) (Without-decimal 13 n (omega arith)) }
 
 pub NoSpace-number : (n : ℕ) → n < 2 ^ 31 → NoSpace (decimal n)
-NoSpace-number n h = NoSpace-decimal n (omega arith)
+NoSpace-number n h = NoSpace-decimal n
 
 pub NoSpace-signed : (n : Option ℕ) → IfSome n (λ k. k < 2 ^ 31) → NoSpace (signed_decimal n)
 NoSpace-signed None h = (omega arith, (omega arith, tt))
@@ -79,6 +92,32 @@ NoSpace-signed (Some n) h = NoSpace-number n h
 
 pub same_number : (m n : ℕ) → m < 2 ^ 64 → n < 2 ^ 64 → decimal m ≡ decimal n → m ≡ n
 same_number m n f g e = decimal_injective m n f g e
+
+-- a number of more than 64 digits has its last 64 as its decimal
+ten_pos : (k : ℕ) → 0 < 10 ^ k
+ten_pos zero = omega arith
+ten_pos (suc k) = let h = ten_pos k in omega (arith, h)
+
+long_onto : (k n : ℕ) (acc : List ℕ) → 10 ^ k ≤ n → length (digits_onto k 10 false n acc) ≡ k + length acc
+long_onto zero n acc l = refl
+long_onto (suc k) n acc l =
+    let power = ten_pos k in
+    let more : 10 ^ k ≤ n / 10 = omega arith in
+    let some : eqb (n / 10) 0 ≡ false = ne_eqb (n / 10) 0 (omega (arith, power)) in
+    let rest = long_onto k (n / 10) (digit_glyph false (n % 10) ∷ acc) more in
+    ap (λ (here : Bool). length (cond here (digit_glyph false (n % 10) ∷ acc) (digits_onto k 10 false (n / 10) (digit_glyph false (n % 10) ∷ acc)))) some
+    ∙ rest ∙ (let e : k + suc (length acc) ≡ suc k + length acc = omega arith in e)
+
+long_decimal : (n : ℕ) → 10 ^ 64 ≤ n → length (decimal n) ≡ 64
+unfolding digits
+long_decimal n l = long_onto 64 n [] l
+
+-- so a number that a u64 holds has a decimal of its own among all numbers
+pub own_decimal : (m n : ℕ) → m < 2 ^ 64 → decimal m ≡ decimal n → m ≡ n
+own_decimal m n f e = elim (cases_lt n (10 ^ 64)) [
+  | inr long ↦ absurd (let short = length-decimal-le 20 m (omega arith) (omega arith) f in omega (arith, short, long_decimal n long, ap length e))
+  | inl below ↦ sym (decimal_is_IsNumeral m f).1 ∙ ap (digits_value 10) e ∙ (decimal_is_IsNumeral_wide n below).1
+]
 
 no_minus : (ds more : List ℕ) → AllDigits 10 ds → ds ≡ 45 ∷ more → ⊥
 no_minus [] more h e = absurd cc

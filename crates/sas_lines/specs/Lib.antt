@@ -1,5 +1,6 @@
 pub mod Parts
 pub mod Lines
+pub mod FirstLines
 pub mod Spelling
 pub mod Progress
 pub mod Device

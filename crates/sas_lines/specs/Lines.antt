@@ -1,6 +1,6 @@
--- Lines: every byte list is some complete lines, each with its line end, and a rest without LF.
-use Rattle.std.specs.Prelude.{◌≡◌, ◌≢◌, ℕ, ◌+◌, ◌≤◌, Bool, true, false, ◌==◌, if◌then◌else◌}
-use Rattle.std.specs.Prelude.{List, [], ◌∷◌, ◌++◌, length, take}
+-- Lines: every byte list is some complete lines, each with its line end, and a rest without LF. The
+-- bytes `one LF two CR LF three` are the lines `one` and `two` and the rest `three`.
+use Rattle.std.specs.Prelude.{◌≡◌, ◌≢◌, ◌⊎◌, ℕ, ◌==◌, if◌then◌else◌, List, [], ◌∷◌, ◌++◌}
 use Rattle.std.specs.List.{flat_map, AllByRecursion}
 use Rattle.sas_lines.specs.Parts.{parts}
 
@@ -39,22 +39,14 @@ text lines = flat_map (λ line. line ++ 10 ∷ []) lines
 abbrev pub NoEnd : List ℕ → Type 0
 NoEnd bytes = AllByRecursion (λ b. b ≢ 10) bytes
 
--- a feed takes its piece up to and with the first LF, or all of it where there is none
-abbrev pub TakesLine : List ℕ → ℕ → Bool → Type 0
-TakesLine piece taken true = (front rest : List ℕ)
-    × NoEnd front × (piece ≡ front ++ 10 ∷ rest) × (taken ≡ length front + 1)
-TakesLine piece taken false = NoEnd piece × (taken ≡ length piece)
+-- the bytes are these lines, each ended by LF or by CR LF, and then the rest
+abbrev pub EndedLines : List (List ℕ) → List ℕ → List ℕ → Type 0
+EndedLines [] rest bytes = bytes ≡ rest
+EndedLines (line ∷ more) rest bytes = (behind : List ℕ)
+    × ((bytes ≡ line ++ 10 ∷ behind) ⊎ (bytes ≡ line ++ 13 ∷ 10 ∷ behind))
+    × EndedLines more rest behind
 
--- a line stands first in the bytes, and takes n of them with its end
-pub record LineStandsFirst (bytes first : List ℕ) (n : ℕ) : Type 0 where
-  -- these are the bytes up to and with the first LF
-  pub taken : TakesLine bytes n true
-  -- and they are this line and its end
-  pub line : lines (take n bytes) ≡ first ∷ []
-  pub rest : unfinished (take n bytes) ≡ []
-
--- these lines stand first in the bytes, and take n of them with their ends
-pub record LinesStandFirst (bytes : List ℕ) (first : List (List ℕ)) (n : ℕ) : Type 0 where
-  pub within : n ≤ length bytes
-  pub lines : lines (take n bytes) ≡ first
-  pub rest : unfinished (take n bytes) ≡ []
+-- a law: any bytes are their complete lines, each with its end, and then their rest, without LF
+abbrev pub BytesAreEndedLines : Type 0
+BytesAreEndedLines = (bytes : List ℕ) → EndedLines (lines bytes) (unfinished bytes) bytes
+    × NoEnd (unfinished bytes)

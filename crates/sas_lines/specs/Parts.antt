@@ -20,7 +20,7 @@ onto_first byte [] = (byte ∷ []) ∷ []
 onto_first byte (part ∷ parts) = (byte ∷ part) ∷ parts
 
 -- the parts of the bytes before, between and behind the separators, in order: k separators give
--- k + 1 parts, some perhaps empty
+-- k + 1 parts, some perhaps empty. Between spaces `a  b` has the parts `a`, the empty one and `b`.
 unfoldable pub parts : ℕ → List ℕ → List (List ℕ)
 parts separator [] = [] ∷ []
 parts separator (byte ∷ bytes) =

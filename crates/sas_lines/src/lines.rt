@@ -1,7 +1,9 @@
 // The lines of a stream, however it is cut into pieces.
 ghost use Rattle.std.specs.Prelude.{◌≡◌, ◌<◌, [], ◌∷◌, ◌++◌, take, false, true};
 ghost use Rattle.std.specs.Prelude.{IfOk, OnErr, IfSome, IfNone, if◌then◌else◌};
-ghost use Rattle.sas_lines.specs.Lines.{lines, unfinished, without_return, NoEnd, TakesLine, LineStandsFirst};
+ghost use Rattle.sas_lines.specs.Lines.{lines, unfinished, without_return, NoEnd};
+ghost use Rattle.sas_lines.specs.FirstLines.{TakesLine, LineStandsFirst};
+ghost use Rattle.sas_lines.specs.Lines.{BytesAreEndedLines};
 ghost use Rattle.sas_lines.specs.Progress.{completed};
 
 use crate::separators::first_place;
@@ -148,3 +150,8 @@ impl Lines {
         if self.complete { &[] } else { pending }
     }
 }
+
+/// What holds of lines: any bytes are their complete lines, each ended by LF or by CR LF, and then the rest, which has no LF.
+pub fn lines_law()
+    ensures { BytesAreEndedLines }
+{}

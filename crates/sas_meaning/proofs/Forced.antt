@@ -14,7 +14,7 @@ use Rattle.sas_core.specs.WellRanged.{WellRanged, RuleFits}
 use Rattle.sas_core.proofs.Places.{holds_at}
 use Rattle.sas_meaning.specs.States.{AllHold}
 use Rattle.sas_meaning.specs.Layers.{IsOnLayer, default_of, CanFire, LooksDown, IsLayered}
-use Rattle.sas_meaning.specs.Settled.{new_value_of, given, IsClosed, differs}
+use Rattle.sas_meaning.specs.Settled.{new_value_of, value_with, IsClosed, differs}
 use Rattle.sas_meaning.specs.Forced.{OnlyForced, HasFired, Changes, SameOff, equal_places}
 use Rattle.sas_meaning.proofs.Layers.{AgreeBelow, agree_sym, closed_agrees, layer_tells, given_on, given_off}
 use Rattle.sas_meaning.proofs.Rules.{new_value_is}
@@ -37,7 +37,7 @@ module _ (t : Parts) (layer : ℕ) (layered : IsLayered t) (k : ℕ) (d : Rule) 
   -- a condition that holds where all is forced holds under each closed set
   condition_given : (s : List ℕ) (set : ℕ → Bool) (c : Fact) → OnlyForced t layer s → IsClosed t layer s set
       → IsOnLayer t layer (get_or t.rules k d).var → LooksDown t (get_or t.rules k d).var c
-      → get_or s c.var 0 ≡ c.value → given t layer s set c.var ≡ c.value
+      → get_or s c.var 0 ≡ c.value → value_with t layer s set c.var ≡ c.value
   condition_given s set c forced closed on down hold = elim (layer_tells t layer c.var) [
     | inr w ↦ given_off t layer s set c.var w.0 ∙ hold
     | inl w ↦ (let ne : c.value ≢ default_of t c.var = λ e. (let z : layer < layer = (down layer layer on w.0).1 e in omega arith) in
@@ -85,7 +85,7 @@ pub closed_when_fired : (t : Parts) (layer : ℕ) (s : List ℕ) → OnlyForced 
 closed_when_fired t layer s forced done k d lt on fire hold =
     differs_true t s (get_or t.rules k d).var (λ e. fire (sym (done k d lt on fire (λ j f lt'. sym (is_value (get_or (get_or t.rules k d).conditions j f).var) ∙ hold j f lt')) ∙ e))
   where
-    is_value : (v : ℕ) → given t layer s (differs t s) v ≡ get_or s v 0
+    is_value : (v : ℕ) → value_with t layer s (differs t s) v ≡ get_or s v 0
     is_value v = elim (layer_tells t layer v) [
       | inr w ↦ given_off t layer s (differs t s) v w.0
       | inl w ↦ given_on t layer s (differs t s) v w.0 ∙ elim (differs_tells t s v) [

@@ -8,7 +8,7 @@ use Rattle.sas_core.specs.declared.parts.Parts.{Parts}
 use Rattle.sas_core.specs.Grounded.{rule_at}
 use Rattle.sas_meaning.specs.Layers.{CanFire}
 use Rattle.sas_meaning.specs.LayerChecks.{agrees_with}
-use Rattle.sas_meaning.specs.NewValues.{Gives, NewValues}
+use Rattle.sas_meaning.specs.NewValues.{IsGiverBefore, NewValues}
 use Rattle.sas_meaning.proofs.RuleTests.{agrees_with_earlier}
 
 same_or_other : (a b : ℕ) (same : Bool) → (a == b) ≡ same → (a ≡ b) ⊎ (a ≢ b)
@@ -51,7 +51,7 @@ module _ (p : Parts) (place : ℕ) (values : List (Option ℕ)) (known : NewValu
     pub agrees_by_value : agrees_with p (take place p.rules) rule ≡ option_map_or (λ its. its == rule.new) (slice_index_or values rule.var None) true
     agrees_by_value = agrees_by (slice_index_or values rule.var None) refl
 
-  later : {rule var value : ℕ} → Gives p place rule var value → Gives p (place + 1) rule var value
+  later : {rule var value : ℕ} → IsGiverBefore p place rule var value → IsGiverBefore p (place + 1) rule var value
   later gives = record {
     before = let before = gives.before in omega arith;
     can_fire = gives.can_fire;
@@ -75,7 +75,7 @@ module _ (p : Parts) (place : ℕ) (values : List (Option ℕ)) (known : NewValu
         ∙ same_value _ (rule_at p k).new agrees (value_of (rule_at p place).var _ refl k before can_too same)
     still k before can_too (inr other) = get_or-set_other values _ _ _ None other ∙ known.all k before can_too
 
-    only_known : (var value : ℕ) → slice_index_or written var None ≡ Some value → (var ≡ (rule_at p place).var) ⊎ (var ≢ (rule_at p place).var) → (k : ℕ) × Gives p (place + 1) k var value
+    only_known : (var value : ℕ) → slice_index_or written var None ≡ Some value → (var ≡ (rule_at p place).var) ⊎ (var ≢ (rule_at p place).var) → (k : ℕ) × IsGiverBefore p (place + 1) k var value
     only_known var value is (inl same) =
         let new : slice_index_or written (rule_at p place).var None ≡ Some (rule_at p place).new = get_or-set_same values (rule_at p place).var _ None below in
         let moved : slice_index_or written (rule_at p place).var None ≡ Some value = ap (λ v. slice_index_or written v None) (sym same) ∙ is in (

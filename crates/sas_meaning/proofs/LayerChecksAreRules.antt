@@ -15,7 +15,7 @@ use Rattle.sas_core.specs.Variables.{layer_of, IsDerived}
 use Rattle.sas_meaning.specs.declared.layered.LayerFault.{LayerFault}
 use Rattle.sas_meaning.specs.declared.layered.LayerFault.TheVariants.{EffectOnDerived, RuleOnBasic, OldValue, TwoValues, LayerOrder}
 use Rattle.sas_meaning.specs.Layers.{IsBasic, default_of, CanFire, can_fire, LooksDown, IsLayeredRule, IsLayered}
-use Rattle.sas_meaning.specs.LayerChecks.{numbered, effect_checks, operator_checks, agrees_with, looks_down, firing_checks, rule_checks, layer_checks, LayerChecksAreTheRules}
+use Rattle.sas_meaning.specs.LayerChecks.{numbered, effect_layer_checks, operator_layer_checks, agrees_with, looks_down, firing_checks, rule_layer_checks, layer_checks, LayerChecksAreTheRules}
 use Rattle.sas_meaning.proofs.RuleTests.{fires, agrees_with_earlier}
 
 -- checks that are made only where a test says so
@@ -70,13 +70,13 @@ no_layer : (layer : Option ℕ) → (not (is_some layer) ≡ true) ↔ (layer �
 no_layer None = (λ test. refl, λ none. refl)
 no_layer (Some n) = (λ test. absurd (cc), λ none. absurd (cc))
 
-effect_follows : (p : Parts) (operator effect : ℕ) (e : Effect) → Pass (effect_checks p operator effect e) ↔ IsBasic p e.var
+effect_follows : (p : Parts) (operator effect : ℕ) (e : Effect) → Pass (effect_layer_checks p operator effect e) ↔ IsBasic p e.var
 effect_follows p operator effect e =
     by_test (not (is_some (layer_of p.variables e.var))) (EffectOnDerived operator effect) (IsBasic p e.var) (no_layer (layer_of p.variables e.var))
 
-operator_follows : (p : Parts) (operator : ℕ) (o : Operator) → Pass (operator_checks p operator o) ↔ All (λ (e : Effect). IsBasic p e.var) o.effects
+operator_follows : (p : Parts) (operator : ℕ) (o : Operator) → Pass (operator_layer_checks p operator o) ↔ All (λ (e : Effect). IsBasic p e.var) o.effects
 operator_follows p operator o =
-    all_follow (effect_checks p operator) (λ (e : Effect). IsBasic p e.var) o.effects (effect_follows p operator)
+    all_follow (effect_layer_checks p operator) (λ (e : Effect). IsBasic p e.var) o.effects (effect_follows p operator)
 
 -- ---- rules
 
@@ -132,7 +132,7 @@ module _ (p : Parts) where
       let both = and_then (check test_of_old (OldValue place)) (check test_of_others (TwoValues place)) _ _ old others in
       and_then (check test_of_old (OldValue place) ++ check test_of_others (TwoValues place)) _ _ _ both (conditions_follow place rule)
 
-  rule_follows : (place : ℕ) (rule : Rule) → place ≤ length p.rules → Pass (rule_checks p place rule) ↔ (IsDerived p.variables rule.var × (CanFire p rule → Firing place rule))
+  rule_follows : (place : ℕ) (rule : Rule) → place ≤ length p.rules → Pass (rule_layer_checks p place rule) ↔ (IsDerived p.variables rule.var × (CanFire p rule → Firing place rule))
   rule_follows place rule within =
       let derived = by_test (is_some (layer_of p.variables rule.var)) (RuleOnBasic place) (IsDerived p.variables rule.var) (λ is. is, λ is. is) in
       let firing = where_so (can_fire p rule) (firing_checks p place rule) _ _ (fires p rule) (firing_follows place rule within) in
@@ -145,11 +145,11 @@ module _ (p : Parts) where
   abbrev Followed : Type 0
   Followed = (place : ℕ) → place < length p.rules → IsDerived p.variables (rule_at p place).var × (CanFire p (rule_at p place) → Firing place (rule_at p place))
 
-  rules_follow : Pass (numbered (rule_checks p) p.rules) ↔ Followed
+  rules_follow : Pass (numbered (rule_layer_checks p) p.rules) ↔ Followed
   rules_follow = (
     λ pass place below.
-        (rule_follows place (rule_at p place) (omega arith)).0 ((numbered_pass (rule_checks p) p.rules).0 pass place _ below),
-    λ each. (numbered_pass (rule_checks p) p.rules).1 (λ place d below.
+        (rule_follows place (rule_at p place) (omega arith)).0 ((numbered_pass (rule_layer_checks p) p.rules).0 pass place _ below),
+    λ each. (numbered_pass (rule_layer_checks p) p.rules).1 (λ place d below.
         (rule_follows place (get_or p.rules place d) (omega arith)).1 (subst (λ (rule : Rule). IsDerived p.variables rule.var × (CanFire p rule → Firing place rule)) (get_or_default p.rules place _ d below) (each place below))),
   )
 
@@ -178,8 +178,8 @@ module _ (p : Parts) where
 
   sections : Pass (layer_checks p) ↔ IsLayered p
   sections =
-      let operators = all_follow (operator_checks p) (λ (o : Operator). All (λ (e : Effect). IsBasic p e.var) o.effects) p.operators (operator_follows p) in
-      let both = and_then (numbered (operator_checks p) p.operators) (numbered (rule_checks p) p.rules) _ _ operators rules_follow in (
+      let operators = all_follow (operator_layer_checks p) (λ (o : Operator). All (λ (e : Effect). IsBasic p e.var) o.effects) p.operators (operator_follows p) in
+      let both = and_then (numbered (operator_layer_checks p) p.operators) (numbered (rule_layer_checks p) p.rules) _ _ operators rules_follow in (
         λ pass.
             let q = both.0 pass in
             record {

@@ -9,7 +9,7 @@ use Rattle.sas_core.specs.declared.parts.Rule.{Rule}
 use Rattle.sas_core.specs.declared.parts.Parts.{Parts}
 use Rattle.sas_core.specs.Variables.{layer_of}
 use Rattle.sas_meaning.specs.Layers.{IsBasic, IsOnLayer, default_of, LooksDown, IsLayered}
-use Rattle.sas_meaning.specs.Settled.{is_on_layer, new_value_of, given, IsClosed, SameBasic}
+use Rattle.sas_meaning.specs.Settled.{is_on_layer, new_value_of, value_with, IsClosed, SameBasic}
 
 -- a variable is on the layer or off it, and the test tells which
 option_tells : (o : Option ℕ) (layer : ℕ) → ((o ≡ Some layer) × (option_map_or (λ m. m == layer) o false ≡ true)) ⊎ ((o ≢ Some layer) × (option_map_or (λ m. m == layer) o false ≡ false))
@@ -19,10 +19,10 @@ option_tells (Some m) layer = elim (eqb_tells m layer) [ inl w ↦ inl (ap Some 
 pub layer_tells : (t : Parts) (layer v : ℕ) → (IsOnLayer t layer v × (is_on_layer t layer v ≡ true)) ⊎ ((IsOnLayer t layer v → ⊥) × (is_on_layer t layer v ≡ false))
 layer_tells t layer v = option_tells (layer_of t.variables v) layer
 
-pub given_on : (t : Parts) (layer : ℕ) (s : List ℕ) (set : ℕ → Bool) (v : ℕ) → IsOnLayer t layer v → given t layer s set v ≡ cond (set v) (new_value_of t v) (default_of t v)
+pub given_on : (t : Parts) (layer : ℕ) (s : List ℕ) (set : ℕ → Bool) (v : ℕ) → IsOnLayer t layer v → value_with t layer s set v ≡ cond (set v) (new_value_of t v) (default_of t v)
 given_on t layer s set v on = elim (layer_tells t layer v) [ inl w ↦ rw w.1 | inr w ↦ absurd (w.0 on) ]
 
-pub given_off : (t : Parts) (layer : ℕ) (s : List ℕ) (set : ℕ → Bool) (v : ℕ) → (IsOnLayer t layer v → ⊥) → given t layer s set v ≡ get_or s v 0
+pub given_off : (t : Parts) (layer : ℕ) (s : List ℕ) (set : ℕ → Bool) (v : ℕ) → (IsOnLayer t layer v → ⊥) → value_with t layer s set v ≡ get_or s v 0
 given_off t layer s set v off = elim (layer_tells t layer v) [ inl w ↦ absurd (off w.0) | inr w ↦ rw w.1 ]
 
 -- a variable is basic or on some layer
@@ -44,7 +44,7 @@ looks_down t rule c below here h b r = (h here below r b).0
 
 -- what a set gives to the conditions of a rule on the layer depends on the basic variables and the layers below alone
 given_agrees : (t : Parts) (layer : ℕ) (s s' : List ℕ) (set : ℕ → Bool) (rule : Rule) (c : Fact) → AgreeBelow t layer s s' → IsOnLayer t layer rule.var → LooksDown t rule.var c
-    → given t layer s set c.var ≡ given t layer s' set c.var
+    → value_with t layer s set c.var ≡ value_with t layer s' set c.var
 given_agrees t layer s s' set rule c agree on down = elim (layer_tells t layer c.var) [
   | inl w ↦ given_on t layer s set c.var w.0 ∙ sym (given_on t layer s' set c.var w.0)
   | inr w ↦ given_off t layer s set c.var w.0 ∙ (same w.0 ∙ sym (given_off t layer s' set c.var w.0))

@@ -22,12 +22,12 @@ numbered checks_of items = flat_map (λ (place, item). checks_of place item) (en
 
 -- ---- operators
 
-abbrev pub effect_checks : Parts → ℕ → ℕ → Effect → List (Check LayerFault)
-effect_checks p operator effect e =
+abbrev pub effect_layer_checks : Parts → ℕ → ℕ → Effect → List (Check LayerFault)
+effect_layer_checks p operator effect e =
     check (not (is_some (layer_of p.variables e.var))) (EffectOnDerived operator effect)
 
-abbrev pub operator_checks : Parts → ℕ → Operator → List (Check LayerFault)
-operator_checks p operator o = numbered (effect_checks p operator) o.effects
+abbrev pub operator_layer_checks : Parts → ℕ → Operator → List (Check LayerFault)
+operator_layer_checks p operator o = numbered (effect_layer_checks p operator) o.effects
 
 -- ---- rules
 
@@ -54,14 +54,14 @@ firing_checks p place rule =
     ++ numbered (λ condition c. check (looks_down p rule.var c) (LayerOrder place condition))
     rule.conditions
 
-abbrev pub rule_checks : Parts → ℕ → Rule → List (Check LayerFault)
-rule_checks p place rule =
+abbrev pub rule_layer_checks : Parts → ℕ → Rule → List (Check LayerFault)
+rule_layer_checks p place rule =
     check (is_some (layer_of p.variables rule.var)) (RuleOnBasic place)
     ++ (if can_fire p rule then firing_checks p place rule else [])
 
 -- all the checks of some parts: the operators first, then the rules
 abbrev pub layer_checks : Parts → List (Check LayerFault)
-layer_checks p = numbered (operator_checks p) p.operators ++ numbered (rule_checks p) p.rules
+layer_checks p = numbered (operator_layer_checks p) p.operators ++ numbered (rule_layer_checks p) p.rules
 
 -- no check fails exactly where the task is layered
 abbrev pub LayerChecksAreTheRules : Type 0

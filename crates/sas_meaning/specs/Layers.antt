@@ -8,7 +8,8 @@ use Rattle.sas_core.specs.declared.parts.Rule.{Rule}
 use Rattle.sas_core.specs.declared.parts.Parts.{Parts}
 use Rattle.sas_core.specs.Variables.{layer_of, IsDerived}
 
--- a variable that has no layer is basic
+-- a variable that has no layer is basic; so is one that doesn't exist, but no effect and no fact of
+-- a task is on such a one
 abbrev pub IsBasic : Parts → ℕ → Type 0
 IsBasic p var = layer_of p.variables var ≡ None
 

@@ -5,7 +5,7 @@ use Rattle.sas_core.specs.Grounded.{rule_at}
 use Rattle.sas_meaning.specs.Layers.{CanFire}
 
 -- the rule is before this place, can fire, and gives the variable the value
-pub record Gives (p : Parts) (place rule var value : ℕ) : Type 0 where
+pub record IsGiverBefore (p : Parts) (place rule var value : ℕ) : Type 0 where
   pub before : rule < place
   pub can_fire : CanFire p (rule_at p rule)
   pub its_var : (rule_at p rule).var ≡ var
@@ -19,4 +19,4 @@ pub record NewValues (p : Parts) (place : ℕ) (values : List (Option ℕ)) : Ty
       → slice_index_or values (rule_at p rule).var None ≡ Some (rule_at p rule).new
   -- and a value is that of a rule that can fire
   pub only : (var value : ℕ) → slice_index_or values var None ≡ Some value → (rule : ℕ)
-      × Gives p place rule var value
+      × IsGiverBefore p place rule var value

@@ -1,5 +1,9 @@
 -- Settled states: those in which the rules have given each derived variable its value, layer after
 -- layer.
+--
+-- On each layer the variables that get their rules' new value are the least set that is closed
+-- under the rules of the layer. So two rules that feed each other, b from c and c from b, don't
+-- hold each other up: where nothing else gives b or c its new value, both keep their default.
 use Rattle.std.specs.Prelude.{◌≡◌, ℕ, ◌==◌, ◌&&◌, Bool, false, not, if◌then◌else◌, IsTrue, List, All, slice_index, find}
 use Rattle.std.specs.Option.{option_map_or}
 use Rattle.sas_core.specs.declared.parts.Rule.{Rule}
@@ -18,19 +22,20 @@ abbrev pub new_value_of : Parts → ℕ → ℕ
 new_value_of p var = option_map_or (λ (rule : Rule). rule.new)
     (find (λ (rule : Rule). (rule.var == var) && can_fire p rule) p.rules) (default_of p var)
 
--- a variable's value where of this layer just the variables of the set get their rules' new value:
--- the others of the layer have their default, and all others their value in the state s
-abbrev pub given : Parts → ℕ → List ℕ → (ℕ → Bool) → ℕ → ℕ
-given p layer s set var =
+-- A variable's value with these members of the layer: they have their rules' new value, the others
+-- of the layer their default, and all other variables their value in the state s. Members off the
+-- layer count for nothing, and so do those without a rule that can fire.
+abbrev pub value_with : Parts → ℕ → List ℕ → (ℕ → Bool) → ℕ → ℕ
+value_with p layer s members var =
     if is_on_layer p layer var
-    then (if set var then new_value_of p var else default_of p var)
+    then (if members var then new_value_of p var else default_of p var)
     else slice_index s var
 
--- a set of variables is closed under the rules of the layer: where the conditions of one that can
--- fire then hold, its variable is in the set
+-- the members are closed under the rules of the layer: where the conditions of one that can fire
+-- hold with them, its variable is a member
 abbrev pub IsClosed : Parts → ℕ → List ℕ → (ℕ → Bool) → Type 0
-IsClosed p layer s set = All (λ (rule : Rule). IsOnLayer p layer rule.var → CanFire p rule
-    → AllHold (given p layer s set) rule.conditions → IsTrue (set rule.var)) p.rules
+IsClosed p layer s members = All (λ (rule : Rule). IsOnLayer p layer rule.var → CanFire p rule
+    → AllHold (value_with p layer s members) rule.conditions → IsTrue (members rule.var)) p.rules
 
 -- whether the variable differs from its default
 abbrev pub differs : Parts → List ℕ → ℕ → Bool
@@ -42,8 +47,8 @@ pub record IsSettledAt (p : Parts) (layer : ℕ) (s : List ℕ) : Type 0 where
   pub new : (var : ℕ) → IsOnLayer p layer var → IsTrue (differs p s var)
       → slice_index s var ≡ new_value_of p var
   pub closed : IsClosed p layer s (differs p s)
-  pub least : (set : ℕ → Bool) → IsClosed p layer s set
-      → (var : ℕ) → IsOnLayer p layer var → IsTrue (differs p s var) → IsTrue (set var)
+  pub least : (members : ℕ → Bool) → IsClosed p layer s members
+      → (var : ℕ) → IsOnLayer p layer var → IsTrue (differs p s var) → IsTrue (members var)
 
 -- a state is settled if it is on every layer
 abbrev pub IsSettled : Parts → List ℕ → Type 0

@@ -21,13 +21,17 @@ preconditions o = o.prevail ++ filter_map old_fact o.effects
 abbrev pub Fires : List ℕ → Effect → Type 0
 Fires s e = AllHold (slice_index s) e.conditions
 
+-- no two effects that fire set one variable to different values
+abbrev pub Agree : List ℕ → List Effect → Type 0
+Agree s effects = All (λ (e : Effect). All (λ (f : Effect). Fires s e → Fires s f
+    → e.var ≡ f.var → e.new ≡ f.new) effects) effects
+
 -- the operator leads from s to s'
 pub record Step (p : Parts) (s : List ℕ) (o : Operator) (s' : List ℕ) : Type 0 where
   -- its preconditions hold in s
   pub applicable : AllHold (slice_index s) (preconditions o)
-  -- no two effects that fire in s set one variable to different values
-  pub agree : All (λ (e : Effect). All (λ (f : Effect). Fires s e → Fires s f
-      → e.var ≡ f.var → e.new ≡ f.new) o.effects) o.effects
+  -- and its effects that fire in s agree
+  pub agree : Agree s o.effects
   -- s' is a settled state of the task
   pub state : IsState p.variables s'
   pub settled : IsSettled p s'

@@ -1,9 +1,9 @@
 // States of a task.
-ghost use Rattle.std.specs.Prelude.{◌≡◌, ◌<◌, ◌↔◌, Some, List, ℕ, length, All};
-ghost use Rattle.std.specs.Prelude.{slice_get, slice_index, slice_set, IfOk, IsErrOf, IsTrue, IsFalse};
+ghost use Rattle.std.specs.Prelude.{◌≡◌, ◌<◌, ◌↔◌, List, ℕ, length, All};
+ghost use Rattle.std.specs.Prelude.{slice_index, slice_set, IfOk, IsErrOf, IsTrue, IsFalse};
 ghost use Rattle.sas_core.specs.declared.parts.Fact.{Fact};
 ghost use Rattle.sas_core.specs.Variables.{IsState};
-ghost use Rattle.sas_meaning.specs.States.{AllHold};
+ghost use Rattle.sas_meaning.specs.States.{Holds, AllHold};
 
 use sas_core::{Fact, Grounded, Items};
 use std::alloc::{AllocError, Global};
@@ -85,9 +85,10 @@ impl State {
         self.values.as_slice()[var as usize]
     }
 
-    /// Whether the fact's variable has its value.
+    /// Whether the fact holds: whether its variable exists and has its value.
     pub fn holds(&self, fact: Fact) -> bool
-        ensures { IsTrue result ↔ (slice_get self.now fact.var ≡ Some fact.value) }
+        ensures { IsTrue result
+            ↔ (fact.var < length self.now) × Holds (slice_index self.now) fact }
     {
         match self.values.get(fact.var as usize) {
             Some(value) => *value == fact.value,

@@ -16,7 +16,7 @@ use Rattle.sas_mutex.specs.declared.marks.Marks.{Marks}
 use Rattle.sas_mutex.specs.Effects.{IsKept}
 use Rattle.sas_group_index.specs.Index.{IsIndexOf}
 use Rattle.sas_mutex.specs.Marks.{value_note}
-use Rattle.sas_mutex.specs.Noting.{AreKnown, IsUnknown, IsSettled}
+use Rattle.sas_mutex.specs.Noting.{AreKnown, IsUnknown, IsDecidedByFirst}
 use Rattle.sas_group_index.specs.Runs.{AreOnOne, AreRuns}
 use Rattle.sas_mutex.proofs.TaskFacts.{variable_below}
 use Rattle.sas_mutex.proofs.NotesOfFacts.{a_note, value_note_tells}
@@ -25,7 +25,7 @@ use Rattle.sas_mutex.proofs.ToldByNotes.{against_clashes}
 -- of the facts of a run that is settled none is known, so that what is noted for their variable is another value
 pub settled_are_gone : (p : Parts) (index : Index) (kept : List Bool) (marks : Marks) (o : Operator) (e : Effect) (run : List Fact)
     → IsIndexOf p index → AreKnown p kept (known o e.conditions []) marks → All (FactExists p.variables) run → AreOnOne run
-    → All (IsUnknown o e) run → IsSettled e run marks → All (IsGone (IsKept p kept) o e) run
+    → All (IsUnknown o e) run → IsDecidedByFirst e run marks → All (IsGone (IsKept p kept) o e) run
 settled_are_gone p index kept marks o e run indexed are exist (var, on_it) unknown settled k d below on_other =
     let fact = get_or run k d in
     let some : 0 < length run = omega arith in

@@ -1,19 +1,16 @@
--- A task has exactly one list of joint verdicts on its groups; that there is one is said doubly negated. A group that it calls
--- exclusive is so in each reachable state.
+-- A task has exactly one list of joint verdicts on its groups; that there is one is said doubly negated. The groups that it calls
+-- exclusive are invariants.
 use Rattle.std.proofs.Common.{◌≡◌, ℕ, zero, suc, ◌<◌, ◌≤◌, List, [], ◌∷◌, ◌++◌, length, refl, sym, ◌∙◌, subst, inl, inr, arith}
 use Rattle.std.proofs.lemmas.Bool.{cases_eq}
 use Rattle.std.proofs.lemmas.List.{ext_get_or, length_push, get_or_push, get_or_append_left}
 use Rattle.sas_core.specs.declared.parts.Parts.{Parts}
 use Rattle.sas_core.specs.Grounded.{group_at}
-use Rattle.sas_meaning.specs.Layers.{IsLayered}
-use Rattle.sas_meaning.specs.Reachable.{Reachable}
 use Rattle.sas_groups.specs.declared.verdict.Verdict.{Verdict}
 use Rattle.sas_groups.specs.declared.verdict.Verdict.TheVariants.{Exclusive}
-use Rattle.sas_groups.specs.Groups.{IsExclusiveIn}
 use Rattle.sas_groups.specs.Verdicts.{IsJointVerdict}
 use Rattle.sas_groups.proofs.Invariance.{exclusive_jointly_is_invariant}
 use Rattle.sas_groups.proofs.JointVerdicts.{joint_verdict_is_one, some_joint_verdict}
-use Rattle.sas_mutex.specs.Joint.{verdict_at, AreJointVerdicts}
+use Rattle.sas_mutex.specs.Joint.{verdict_at, AreJointVerdicts, AreInvariants}
 
 pub one_list : (p : Parts) (a b : List Verdict) → AreJointVerdicts p a → AreJointVerdicts p b → a ≡ b
 one_list p a b are are' = ext_get_or Exclusive a b (are.one_each ∙ sym are'.one_each) (λ place lt.
@@ -50,7 +47,6 @@ pub some_list : (p : Parts) → ((verdicts : List Verdict) → AreJointVerdicts 
 some_list p none = some_below p (length p.groups) (omega arith) (λ verdicts below.
     none verdicts (record { one_each = below.one_each; are = below.are }))
 
-pub listed_exclusive : (p : Parts) (verdicts : List Verdict) (place : ℕ) (s : List ℕ) → AreJointVerdicts p verdicts
-    → place < length p.groups → verdict_at verdicts place ≡ Exclusive → IsLayered p → Reachable p s → IsExclusiveIn s (group_at p place)
-listed_exclusive p verdicts place s are exists is layered reach =
-    exclusive_jointly_is_invariant p place s layered (subst (IsJointVerdict p place) is (are.are place exists)) reach
+pub listed_invariants : (p : Parts) (verdicts : List Verdict) → AreJointVerdicts p verdicts → AreInvariants p verdicts
+listed_invariants p verdicts are place exists is =
+    exclusive_jointly_is_invariant p place (subst (IsJointVerdict p place) is (are.are place exists))

@@ -21,7 +21,8 @@ use Rattle.sas_mutex.specs.declared.marks.Noted.TheVariants.{Several}
 use Rattle.sas_mutex.specs.Effects.{family_of, IsKept, EffectKeeps, KeepsWithItself}
 use Rattle.sas_mutex.specs.Falling.{AreCandidates}
 use Rattle.sas_group_index.specs.Index.{HasFact}
-use Rattle.sas_mutex.specs.Joint.{verdict_at, AreJointVerdicts, AreFirstVerdicts, IsUntold, KeptSoFar, IsVerdictSoFar, AreVerdictsSoFar}
+use Rattle.sas_mutex.specs.Joint.{verdict_at, AreJointVerdicts}
+use Rattle.sas_mutex.specs.Judging.{AreFirstVerdicts, IsUntold, KeptSoFar, IsVerdictSoFar, AreVerdictsSoFar}
 use Rattle.sas_mutex.specs.Marks.{group_note, IsGroupNote}
 use Rattle.sas_mutex.specs.Noting.{IsNotedFor, known_at}
 use Rattle.sas_mutex.proofs.Keeping.{effect_keeps_more, keeps_from_effects, effect_of_keeps}

@@ -6,6 +6,7 @@ pub use Rattle.sas_groups.specs.Verdicts
 pub use Rattle.sas_groups.specs.Laws
 pub use Rattle.sas_groups.specs.Lists
 pub mod Joint
+pub mod Judging
 pub mod Marks
 pub mod Firing
 pub mod Effects

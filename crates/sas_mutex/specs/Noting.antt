@@ -170,8 +170,8 @@ IsUnknown o e fact = Contains (known o e.conditions []) fact → ⊥
 
 -- the first of the facts, if there is one, is on the effect's variable, or a value is noted for its
 -- variable
-abbrev pub IsSettled : Effect → List Fact → Marks → Type 0
-IsSettled e facts marks = (first : Fact) (d : Fact) → 0 < length facts
+abbrev pub IsDecidedByFirst : Effect → List Fact → Marks → Type 0
+IsDecidedByFirst e facts marks = (first : Fact) (d : Fact) → 0 < length facts
     → slice_index_or facts 0 d ≡ first
     → (e.var ≡ first.var) ⊎ (value_note marks.values first.var ≢ None)
 

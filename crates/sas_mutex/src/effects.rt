@@ -10,7 +10,7 @@ ghost use Rattle.sas_mutex.specs.Firing.{operator_of, effect_of};
 ghost use Rattle.sas_mutex.specs.Marks.{IsWide};
 ghost use Rattle.sas_mutex.specs.Noting.{AreBelow, HasNotedGroup, IsAgainst, IsMet, SomeRemoves, Removes};
 ghost use Rattle.sas_mutex.specs.Noting.{IsNotedAt, KeepsGroup, KeepsGroupItself, BothClashAt, NotBothAt};
-ghost use Rattle.sas_mutex.specs.Noting.{IsSingleAt, IsGoneAt, AreGoneAt, IsUnknownAt, IsSettled};
+ghost use Rattle.sas_mutex.specs.Noting.{IsSingleAt, IsGoneAt, AreGoneAt, IsUnknownAt, IsDecidedByFirst};
 
 use crate::marks::{Marks, Noted, forget_known, note_known};
 use sas_core::{Fact, Grounded, Items};
@@ -224,7 +224,7 @@ impl<'a, 'b, T: Grounded> Firing<'a, 'b, T> {
     /// Whether the first of the facts is on the effect's variable, or a value of its variable is known.
     fn is_settled(&self, run: &[Fact], marks: &Marks) -> bool
         requires values { All (λ (f : Fact). f.var < length marks.now.values) run.now }
-        ensures { IsTrue result → IsSettled (effect_of self.now) run.now marks.now }
+        ensures { IsTrue result → IsDecidedByFirst (effect_of self.now) run.now marks.now }
     {
         match run.first() {
             Some(first) => {

@@ -9,8 +9,9 @@ ghost use Rattle.sas_mutex.specs.Firing.{effect_of};
 ghost use Rattle.sas_group_index.specs.Index.{HasFact};
 ghost use Rattle.sas_mutex.specs.Marks.{IsClean};
 ghost use Rattle.sas_mutex.specs.Noting.{AreBelow, IsNotedAt};
-ghost use Rattle.sas_mutex.specs.Joint.{verdict_at, AreJointVerdicts, AreFirstVerdicts};
-ghost use Rattle.sas_mutex.specs.Joint.{IsUntold, IsVerdictSoFar, AreVerdictsSoFar};
+ghost use Rattle.sas_mutex.specs.Joint.{verdict_at, AreJointVerdicts, AreInvariants};
+ghost use Rattle.sas_mutex.specs.Judging.{AreFirstVerdicts};
+ghost use Rattle.sas_mutex.specs.Judging.{IsUntold, IsVerdictSoFar, AreVerdictsSoFar};
 ghost use Rattle.sas_mutex.specs.Alone.{IsOfNone};
 
 use crate::effects::Firing;
@@ -29,7 +30,9 @@ pub fn check_groups<T: Grounded>(
     alloc: Global,
     layered: &Layered<T>,
 ) -> Result<Vec<Verdict>, AllocError>
-    ensures { IfOk result (λ verdicts. AreJointVerdicts layered.now verdicts.items) }
+    ensures verdicts { IfOk result (λ verdicts. AreJointVerdicts layered.now verdicts.items) }
+    // Of an exclusive group no reachable state holds two different facts.
+    ensures invariants { IfOk result (λ verdicts. AreInvariants layered.now verdicts.items) }
 {
     // The contract of this call tells that the task is well ranged.
     let _ = layered.task();

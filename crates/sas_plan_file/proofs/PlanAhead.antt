@@ -9,7 +9,7 @@ use Rattle.std.proofs.Math.ListN.{get_or-append}
 use Rattle.memchr.specs.Find.{Nowhere, NoneBefore, Passes, is_byte2}
 use Rattle.sas_core.specs.Names.{is_plain}
 use Rattle.sas_core.proofs.PlainBytes.{is_none-search}
-use Rattle.sas_lines.specs.Lines.{LineStandsFirst}
+use Rattle.sas_lines.specs.FirstLines.{LineStandsFirst}
 use Rattle.sas_lines.proofs.Beginnings.{stands_first, one_stands_first}
 use Rattle.sas_lines.proofs.Splitting.{Plain}
 use Rattle.sas_reader.specs.Machine.{AcceptsAhead}

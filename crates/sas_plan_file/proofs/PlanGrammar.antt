@@ -67,7 +67,7 @@ pub plain-step : (name : List ℕ) → IsName name → IsPlain (plan_line_bytes 
 plain-step name h = plain-append (codes "(") (name ++ codes ")") (plain_bytes (codes "(") refl) (plain-append name (codes ")") (plain-name name h) (plain_bytes (codes ")") refl))
 
 plain-cost_line : (n : ℕ) (k : CostKind) → IsPlanCost n → IsPlain (plan_line_bytes (cost n k))
-plain-cost_line n k h = plain-append cost_front (decimal n ++ cost_words k) (plain_bytes cost_front refl) (plain-append (decimal n) (cost_words k) (plain-decimal n h) (plain-words k))
+plain-cost_line n k h = plain-append cost_front (decimal n ++ cost_words k) (plain_bytes cost_front refl) (plain-append (decimal n) (cost_words k) (plain-decimal n) (plain-words k))
 
 plain-lines : (steps : List (List ℕ)) (n : ℕ) (k : CostKind) → AllByRecursion IsName steps → IsPlanCost n → AllByRecursion IsPlain (map plan_line_bytes (map step steps ++ cost n k ∷ []))
 plain-lines [] n k g f = (plain-cost_line n k f, tt)

@@ -10,7 +10,7 @@ use Rattle.sas_reader.specs.declared.fault.Kind.{Kind}
 use Rattle.sas_plan_file.specs.declared.plan_text.PlanText.{PlanText}
 use Rattle.sas_reader.specs.Format.{lines_of, Reads}
 use Rattle.sas_plan_file.specs.PlanFormat.{step, cost, plan_line_bytes, plan_format, PlanLineFits}
-use Rattle.sas_plan_file.specs.PlanMachine.{PlanState, going, closed, plan_node, plan_next, plan_start, plan_line_ok, IsClosed}
+use Rattle.sas_plan_file.specs.PlanMachine.{PlanState, going, closed, plan_node, plan_next, plan_start, plan_line_ok, HasCost}
 use Rattle.sas_plan_file.specs.PlanText.{KeepsLines}
 use Rattle.sas_reader.specs.System.{Takes, Judged, Leads, Rejects}
 use Rattle.sas_reader.proofs.Conversion.{Follows}
@@ -25,7 +25,7 @@ kept_text ls line old new o n = n ∙ ap (λ (x : List ℕ). x ++ (line ++ 10 �
 
 -- ---- one line more
 
-step_kept : (ls : List (List ℕ)) (p : PlanState) (m n : PlanText) (name line : List ℕ) → Leads plan_format PlanLineFits plan_node plan_start ls p → m.text.items ≡ text ls → (IsTrue m.closed ↔ IsClosed p) → (IsTrue m.closed → ⊥) → Takes plan_format PlanLineFits tt plan_line_ok (step name) → plan_line_bytes (step name) ≡ line
+step_kept : (ls : List (List ℕ)) (p : PlanState) (m n : PlanText) (name line : List ℕ) → Leads plan_format PlanLineFits plan_node plan_start ls p → m.text.items ≡ text ls → (IsTrue m.closed ↔ HasCost p) → (IsTrue m.closed → ⊥) → Takes plan_format PlanLineFits tt plan_line_ok (step name) → plan_line_bytes (step name) ≡ line
     → n.text.items ≡ m.text.items ++ (line ++ 10 ∷ []) → n.closed ≡ m.closed → KeepsLines (ls ++ line ∷ []) n
 step_kept ls (going steps) m n name line h k c going_on t e same_text same_closed = record {
   state = going (steps ++ name ∷ []);
@@ -35,7 +35,7 @@ step_kept ls (going steps) m n name line h k c going_on t e same_text same_close
 }
 step_kept ls (closed p) m n name line h k c going_on t e same_text same_closed = absurd (going_on (c.1 tt))
 
-cost_kept : (ls : List (List ℕ)) (p : PlanState) (m n : PlanText) (amount : ℕ) (kind : CostKind) (line : List ℕ) → Leads plan_format PlanLineFits plan_node plan_start ls p → m.text.items ≡ text ls → (IsTrue m.closed ↔ IsClosed p) → (IsTrue m.closed → ⊥) → Takes plan_format PlanLineFits tt plan_line_ok (cost amount kind) → plan_line_bytes (cost amount kind) ≡ line
+cost_kept : (ls : List (List ℕ)) (p : PlanState) (m n : PlanText) (amount : ℕ) (kind : CostKind) (line : List ℕ) → Leads plan_format PlanLineFits plan_node plan_start ls p → m.text.items ≡ text ls → (IsTrue m.closed ↔ HasCost p) → (IsTrue m.closed → ⊥) → Takes plan_format PlanLineFits tt plan_line_ok (cost amount kind) → plan_line_bytes (cost amount kind) ≡ line
     → n.text.items ≡ m.text.items ++ (line ++ 10 ∷ []) → n.closed ≡ true → KeepsLines (ls ++ line ∷ []) n
 cost_kept ls (going steps) m n amount kind line h k c going_on t e same_text now_closed = record {
   state = plan_next steps (cost amount kind);
@@ -59,7 +59,7 @@ text_ended m = IsTrue m.closed
 abbrev pub text_rejects : PlanText → List ℕ → Kind → Type 0
 text_rejects m line k = Judged plan_format PlanLineFits tt plan_line_ok line k
 
-refused : (p : PlanState) (line : List ℕ) (k : Kind) → (IsClosed p → ⊥) → Judged plan_format PlanLineFits tt plan_line_ok line k → Rejects plan_format PlanLineFits (plan_node p) line k
+refused : (p : PlanState) (line : List ℕ) (k : Kind) → (HasCost p → ⊥) → Judged plan_format PlanLineFits tt plan_line_ok line k → Rejects plan_format PlanLineFits (plan_node p) line k
 refused (going steps) line k going_on j = j
 refused (closed p) line k going_on j = absurd (going_on tt)
 

@@ -34,10 +34,10 @@ cost_number : (m n : ℕ) → IsPlanCost m → IsPlanCost n → decimal m ≡ de
 cost_number m n f g e = decimal_injective m n (omega arith) (omega arith) e
 
 same_cost_end : (m n : ℕ) (k l : CostKind) → IsPlanCost m → IsPlanCost n → decimal m ++ cost_words k ≡ decimal n ++ cost_words l → cost m k ≡ cost n l
-same_cost_end m n costs.Unit costs.Unit f g e = ap (λ (x : ℕ). cost x costs.Unit) (cost_number m n f g ((same_first (decimal m) (decimal n) _ _ (NoSpace-decimal m f) (NoSpace-decimal n g) e).0))
-same_cost_end m n costs.Unit costs.General f g e = absurd (let h = (same_first (decimal m) (decimal n) _ _ (NoSpace-decimal m f) (NoSpace-decimal n g) e).1 in cc)
-same_cost_end m n costs.General costs.Unit f g e = absurd (let h = (same_first (decimal m) (decimal n) _ _ (NoSpace-decimal m f) (NoSpace-decimal n g) e).1 in cc)
-same_cost_end m n costs.General costs.General f g e = ap (λ (x : ℕ). cost x costs.General) (cost_number m n f g ((same_first (decimal m) (decimal n) _ _ (NoSpace-decimal m f) (NoSpace-decimal n g) e).0))
+same_cost_end m n costs.Unit costs.Unit f g e = ap (λ (x : ℕ). cost x costs.Unit) (cost_number m n f g ((same_first (decimal m) (decimal n) _ _ (NoSpace-decimal m) (NoSpace-decimal n) e).0))
+same_cost_end m n costs.Unit costs.General f g e = absurd (let h = (same_first (decimal m) (decimal n) _ _ (NoSpace-decimal m) (NoSpace-decimal n) e).1 in cc)
+same_cost_end m n costs.General costs.Unit f g e = absurd (let h = (same_first (decimal m) (decimal n) _ _ (NoSpace-decimal m) (NoSpace-decimal n) e).1 in cc)
+same_cost_end m n costs.General costs.General f g e = ap (λ (x : ℕ). cost x costs.General) (cost_number m n f g ((same_first (decimal m) (decimal n) _ _ (NoSpace-decimal m) (NoSpace-decimal n) e).0))
 
 same_cost : (m n : ℕ) (k l : CostKind) → IsPlanCost m → IsPlanCost n → plan_line_bytes (cost m k) ≡ plan_line_bytes (cost n l) → cost m k ≡ cost n l
 same_cost m n k l f g e = same_cost_end m n k l f g (append_cancel_left cost_front (decimal m ++ cost_words k) (decimal n ++ cost_words l) e)

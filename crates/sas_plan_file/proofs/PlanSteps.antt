@@ -3,7 +3,7 @@ use Rattle.std.proofs.Common.{◌≡◌, ℕ, List, [], ◌∷◌, ◌++◌, ref
 use Rattle.sas_core.specs.declared.plan.CostKind.{CostKind}
 use Rattle.sas_reader.specs.System.{Takes, Leads}
 use Rattle.sas_plan_file.specs.PlanFormat.{PlanLine, step, cost, plan_line_bytes, plan_format, PlanLineFits}
-use Rattle.sas_plan_file.specs.PlanMachine.{PlanState, going, closed, plan_node, plan_next, plan_line_ok, plan_start, plan_state, IsClosed, StepsOn}
+use Rattle.sas_plan_file.specs.PlanMachine.{PlanState, going, closed, plan_node, plan_next, plan_line_ok, plan_start, plan_state, HasCost, StepsOn}
 use Rattle.sas_reader.proofs.Live.{leads_line}
 
 abbrev Led : List (List ℕ) → PlanState → Type 0
@@ -17,11 +17,11 @@ pub step_led : (before : List (List ℕ)) (p q : PlanState) (name line : List �
 step_led before (going steps) q name line h t e n = led_on before steps q (step name) line h t e (sym n)
 step_led before (closed p) q name line h t e n = absurd n
 
-open_steps : (steps : List (List ℕ)) (c : Option (ℕ × CostKind)) → (IsClosed (plan_state steps c) → ⊥) → plan_state steps c ≡ going steps
+open_steps : (steps : List (List ℕ)) (c : Option (ℕ × CostKind)) → (HasCost (plan_state steps c) → ⊥) → plan_state steps c ≡ going steps
 open_steps steps None h = refl
 open_steps steps (Some c) h = absurd (h tt)
 
-pub cost_led : (before : List (List ℕ)) (p : PlanState) (steps : List (List ℕ)) (c : Option (ℕ × CostKind)) (n : ℕ) (kind : CostKind) (line : List ℕ) → plan_state steps c ≡ p → (IsClosed p → ⊥) → Leads plan_format PlanLineFits plan_node plan_start before p → Takes plan_format PlanLineFits tt plan_line_ok (cost n kind) → plan_line_bytes (cost n kind) ≡ line → Leads plan_format PlanLineFits plan_node plan_start (before ++ line ∷ []) (plan_state steps (Some (n, kind)))
+pub cost_led : (before : List (List ℕ)) (p : PlanState) (steps : List (List ℕ)) (c : Option (ℕ × CostKind)) (n : ℕ) (kind : CostKind) (line : List ℕ) → plan_state steps c ≡ p → (HasCost p → ⊥) → Leads plan_format PlanLineFits plan_node plan_start before p → Takes plan_format PlanLineFits tt plan_line_ok (cost n kind) → plan_line_bytes (cost n kind) ≡ line → Leads plan_format PlanLineFits plan_node plan_start (before ++ line ∷ []) (plan_state steps (Some (n, kind)))
 cost_led before p steps c n kind line v going_on h t e =
-    let is : p ≡ going steps = sym v ∙ open_steps steps c (λ d. going_on (subst IsClosed v d)) in
+    let is : p ≡ going steps = sym v ∙ open_steps steps c (λ d. going_on (subst HasCost v d)) in
     led_on before steps _ (cost n kind) line (subst (Led before) is h) t e refl

@@ -33,9 +33,9 @@ plan_state steps None = going steps
 plan_state steps (Some c) = closed (record { steps = steps; cost = c.0; kind = c.1 })
 
 -- the cost came
-abbrev pub IsClosed : PlanState → Type 0
-IsClosed (going steps) = ⊥
-IsClosed (closed p) = Unit {0}
+abbrev pub HasCost : PlanState → Type 0
+HasCost (going steps) = ⊥
+HasCost (closed p) = Unit {0}
 
 -- the name is one step more
 abbrev pub StepsOn : PlanState → List ℕ → PlanState → Type 0

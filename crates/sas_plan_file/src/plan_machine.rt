@@ -33,7 +33,7 @@ impl<S: StepNames> Model for PlanMachine<S> {
 
 impl<S: StepNames> PlanMachine<S> {
     ghost use Rattle.sas_core.specs.Names.{IsName};
-    ghost use Rattle.sas_plan_file.specs.PlanMachine.{closed, plan_start, IsClosed, StepsOn};
+    ghost use Rattle.sas_plan_file.specs.PlanMachine.{closed, plan_start, HasCost, StepsOn};
 
     /// Nothing has come: there are no steps yet.
     fn of_none(alloc: Global, steps: S) -> Self
@@ -49,7 +49,7 @@ impl<S: StepNames> PlanMachine<S> {
 
     /// One step more.
     fn add_step(&mut self, name: &[u8]) -> Result<(), Kind>
-        requires open_still { IsClosed self.old → ⊥ }
+        requires open_still { HasCost self.old → ⊥ }
         requires name { IsName name.now }
         ensures ok { OnOk result (StepsOn self.old name.now self.new) }
         ensures err { IfErr result (λ k. k ≡ Kind.Memory) }
@@ -60,7 +60,7 @@ impl<S: StepNames> PlanMachine<S> {
 
     /// The steps, the cost and its words, once all lines have come.
     fn into_parts(self) -> (S, u64, CostKind)
-        requires { IsClosed self }
+        requires { HasCost self }
         ensures names { AllByRecursion IsName (S.names result.0) }
         ensures parts { self ≡ closed
             (record { steps = S.names result.0; cost = result.1; kind = result.2 }) }
@@ -74,7 +74,7 @@ impl<S: StepNames> PlanMachine<S> {
 }
 
 impl PlanMachine<Items<Items<u8>>> {
-    ghost use Rattle.sas_plan_file.specs.PlanMachine.{closed, plan_start, IsClosed};
+    ghost use Rattle.sas_plan_file.specs.PlanMachine.{closed, plan_start, HasCost};
 
     /// Nothing has come.
     pub fn new(alloc: Global) -> Self
@@ -85,7 +85,7 @@ impl PlanMachine<Items<Items<u8>>> {
 
     /// The plan whose lines have all come.
     pub fn into_plan(self) -> Plan
-        requires { IsClosed self }
+        requires { HasCost self }
         ensures { self ≡ closed result }
     {
         let (steps, cost, kind) = self.into_parts();
@@ -94,7 +94,7 @@ impl PlanMachine<Items<Items<u8>>> {
 }
 
 impl PlanMachine<Lists<u8>> {
-    ghost use Rattle.sas_plan_file.specs.PlanMachine.{closed, plan_start, IsClosed};
+    ghost use Rattle.sas_plan_file.specs.PlanMachine.{closed, plan_start, HasCost};
 
     /// Nothing has come, and the names will stand in one block of memory.
     pub fn new_flat(alloc: Global) -> Self
@@ -105,7 +105,7 @@ impl PlanMachine<Lists<u8>> {
 
     /// The plan whose lines have all come.
     pub fn into_flat_plan(self) -> FlatPlan
-        requires { IsClosed self }
+        requires { HasCost self }
         ensures { self ≡ closed result }
     {
         let (steps, cost, kind) = self.into_parts();
@@ -115,12 +115,12 @@ impl PlanMachine<Lists<u8>> {
 
 impl<S: StepNames> Machine for PlanMachine<S> {
     ghost use Rattle.sas_plan_file.specs.PlanFormat.{plan_format, PlanLineFits};
-    ghost use Rattle.sas_plan_file.specs.PlanMachine.{plan_node, plan_start, IsClosed};
+    ghost use Rattle.sas_plan_file.specs.PlanMachine.{plan_node, plan_start, HasCost};
     ghost use Rattle.sas_reader.specs.System.{Leads, Rejects};
 
     ghost led_by = { λ lines m. Leads plan_format PlanLineFits plan_node plan_start lines m };
 
-    ghost ended = { IsClosed };
+    ghost ended = { HasCost };
 
     ghost rejects = { λ m line k. Rejects plan_format PlanLineFits (plan_node m) line k };
 

@@ -2,7 +2,8 @@
 use Rattle.std.proofs.Common.{◌≡◌, ◌≢◌, ℕ, ◌+◌, ◌-◌, ◌≤◌, ◌<◌, Bool, true, false, not, List, [], ◌∷◌, ◌++◌, length, take, drop, refl, sym, ap, subst, ◌∙◌, append_assoc, arith, length-append, length-drop, Result, Ok, Err}
 use Rattle.std.proofs.lemmas.List.{append-nil, length-take, take_all, take-append-drop}
 use Rattle.std.proofs.Math.Seq.{take-add}
-use Rattle.sas_lines.specs.Lines.{lines, unfinished, TakesLine, LineStandsFirst, LinesStandFirst}
+use Rattle.sas_lines.specs.Lines.{lines, unfinished}
+use Rattle.sas_lines.specs.FirstLines.{TakesLine, LineStandsFirst, LinesStandFirst}
 use Rattle.sas_lines.proofs.Splitting.{lines-append, unfinished-append, lines-few}
 use Rattle.sas_lines.specs.Progress.{Progress, completed}
 use Rattle.sas_reader.specs.declared.fault.Fault.{Fault}

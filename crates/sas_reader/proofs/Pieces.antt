@@ -2,7 +2,8 @@
 use Rattle.std.proofs.Common.{◌≡◌, ℕ, ◌+◌, ◌<◌, ◌≤◌, Bool, true, false, List, [], ◌∷◌, ◌++◌, length, take, drop, refl, sym, ap, subst, ◌∙◌, append_assoc, arith, length-append, length-drop}
 use Rattle.std.proofs.lemmas.List.{append-nil, length-take, take-append-drop, take-append-le}
 use Rattle.std.proofs.Math.Seq.{take-add, take-append-add}
-use Rattle.sas_lines.specs.Lines.{without_return, lines, unfinished, NoEnd, TakesLine}
+use Rattle.sas_lines.specs.Lines.{without_return, lines, unfinished, NoEnd}
+use Rattle.sas_lines.specs.FirstLines.{TakesLine}
 use Rattle.sas_lines.specs.Progress.{completed}
 use Rattle.sas_lines.proofs.Splitting.{lines-none, unfinished-none, lines-append, unfinished-append, lines-part, lines-end, unfinished-plain_all, lines-without}
 use Rattle.sas_reader.specs.declared.fault.Fault.{Fault}

@@ -3,30 +3,22 @@ use Rattle.std.proofs.Common.{◌≡◌, ◌≢◌, ℕ, ◌<◌, ◌^◌, Bool,
 use Rattle.std.specs.Prelude.{◌==◌, ◌&&◌, length}
 use Rattle.std.specs.List.{list_all}
 use Rattle.std.specs.Fmt.{decimal}
-use Rattle.std.specs.Str.Parse.{AllDigits, digits_value}
 use Rattle.std.proofs.lemmas.Bool.{eq-eqb, ne_eqb}
-use Rattle.std.proofs.lemmas.Fmt.{digits_decimal}
-use Rattle.std.proofs.lemmas.Str.Parse.{IsNumeralModel, numerals_by_value, tells_digits, digit_from_value}
 use Rattle.sas_core.specs.Names.{is_plain, IsName}
+use Rattle.sas_lines.specs.Parts.{Without}
 use Rattle.sas_lines.specs.Lines.{NoEnd, without_return}
+use Rattle.sas_lines.proofs.Words.{Without-decimal}
 use Rattle.sas_lines.proofs.Splitting.{Plain}
 use Rattle.sas_reader.specs.System.{IsPlain}
 
 -- ---- the digits of a number
 
-own : IsNumeralModel (AllDigits 10) (digits_value 10)
-own = numerals_by_value (AllDigits 10) tells_digits
+plain_without : (bytes : List ℕ) → Without 10 bytes → Without 13 bytes → IsPlain bytes
+plain_without [] h g = tt
+plain_without (b ∷ bytes) h g = ((h.0, g.0), plain_without bytes h.1 g.1)
 
-plain_digits : (ds : List ℕ) → AllDigits 10 ds → IsPlain ds
-plain_digits [] h = tt
-plain_digits (d ∷ ds) h =
-    let r = digit_from_value d h.0 in
-    let a : d ≢ 10 = omega (arith, r.0) in
-    let b : d ≢ 13 = omega (arith, r.0) in
-    ((a, b), plain_digits ds h.1)
-
-pub plain-decimal : (n : ℕ) → n < 2 ^ 64 → IsPlain (decimal n)
-plain-decimal n h = plain_digits (decimal n) (digits_decimal own n (omega arith))
+pub plain-decimal : (n : ℕ) → IsPlain (decimal n)
+plain-decimal n = plain_without (decimal n) (Without-decimal 10 n (omega arith)) (Without-decimal 13 n (omega arith))
 
 -- ---- names, and other bytes
 

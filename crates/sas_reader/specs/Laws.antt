@@ -1,16 +1,9 @@
 -- Laws over the definitions of a format.
-use Rattle.std.specs.Prelude.{◌≡◌, ◌≢◌, ℕ, ◌≤◌, ◌⊎◌, List, [], ◌∷◌, ◌++◌, length, Result, ◌↔◌}
-use Rattle.sas_lines.specs.Lines.{text}
+use Rattle.std.specs.Prelude.{◌≡◌, ◌≢◌, ℕ, ◌≤◌, List, [], ◌++◌, length, Result, ◌↔◌}
+use Rattle.sas_lines.specs.Lines.{text, EndedLines}
 use Rattle.sas_reader.specs.declared.fault.Fault.{Fault}
 use Rattle.sas_reader.specs.declared.fault.Kind.TheVariants.{TooLong}
 use Rattle.sas_reader.specs.Format.{Format, lines_of, Reads, Live, Next, FaultOf, ReadsAs}
-
--- the bytes are these lines, each ended by LF or by CR LF
-abbrev pub EndedLines : List (List ℕ) → List ℕ → Type 0
-EndedLines [] bytes = bytes ≡ []
-EndedLines (line ∷ more) bytes = (rest : List ℕ)
-    × ((bytes ≡ line ++ 10 ∷ rest) ⊎ (bytes ≡ line ++ 13 ∷ 10 ∷ rest))
-    × EndedLines more rest
 
 module _ {V I S : Type 0} (F : Format V I S) where
   -- no byte list is a text of two values
@@ -20,7 +13,7 @@ module _ {V I S : Type 0} (F : Format V I S) where
   -- the texts of a good value are its lines, each ended by LF or by CR LF
   abbrev pub TextsAreEndedLines : Type 0
   TextsAreEndedLines = (bytes : List ℕ) (v : V) → F.Good v
-      → Reads F bytes v ↔ EndedLines (lines_of F v) bytes
+      → Reads F bytes v ↔ EndedLines (lines_of F v) [] bytes
 
   -- so its lines ended by LF are one
   abbrev pub TextIsRead : Type 0

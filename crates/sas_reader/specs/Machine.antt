@@ -1,6 +1,6 @@
 -- What a machine says that judges the lines of a text.
 use Rattle.std.specs.Prelude.{◌≡◌, ℕ, ◌<◌, List, ◌++◌, length, Result, IfOk, IfErr}
-use Rattle.sas_lines.specs.Lines.{LinesStandFirst}
+use Rattle.sas_lines.specs.FirstLines.{LinesStandFirst}
 use Rattle.sas_reader.specs.declared.fault.Kind.{Kind}
 use Rattle.sas_reader.specs.declared.fault.Kind.TheVariants as kinds
 use Rattle.sas_reader.specs.declared.reader.Front.{Front}

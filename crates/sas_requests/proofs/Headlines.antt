@@ -20,7 +20,6 @@ use Rattle.sas_plan_file.specs.PlanFormat.{plan_format}
 use Rattle.sas_plan_file.proofs.PlanLaws.{plan_laws_hold}
 use Rattle.sas_task_format.specs.TaskFormat.{task_format}
 use Rattle.sas_task_format.proofs.TaskLaws.{task_laws_hold}
-use Rattle.sas_run.specs.Plans.{cost_of_all}
 use Rattle.sas_output.specs.declared.ending.Status.{Status}
 use Rattle.sas_output.specs.declared.ending.Status.TheVariants.{Yes, No}
 use Rattle.sas_requests.specs.Headline.{Solves, Headline}
@@ -79,7 +78,7 @@ module _ (b c : List ℕ) (o : Output) where
       layered = layered;
       is_plan = is_plan;
       valid = x.0.1;
-      printed = ap (λ (y : Output). y.text) x.1 ∙ ap (valid_line (length plan.steps)) (sym x.0.1.cost);
+      printed = ap (λ (y : Output). y.text) x.1;
     };
   })
   verdict_told p plan is_task layered is_plan (inr x) = inr (other_words (fault_words plan.cost x.0) invalid_line o (λ w steps cost. invalid_line_apart steps cost w) x.2)
@@ -136,7 +135,7 @@ module _ (b c line : List ℕ) (o : Output) (s : Solves b c line) where
   solved_status out = ap (λ (x : Output). x.status) (solved_answered out)
 
   solved_text : PlanOut b c (Some o) → o.text ≡ line
-  solved_text out = ap (λ (x : Output). x.text) (solved_answered out) ∙ ap (valid_line (length s.plan.steps)) (sym s.valid.cost) ∙ sym s.printed
+  solved_text out = ap (λ (x : Output). x.text) (solved_answered out) ∙ sym s.printed
 
 -- ---- both
 
@@ -153,7 +152,7 @@ module _ (b c : List ℕ) (o : Output) (out : PlanOut b c (Some o)) where
 
   yes_solves : o.status ≡ Yes → IsSolved b c o ⊎ IsOther o → (steps cost : ℕ) × Solves b c (valid_line steps cost)
   yes_solves e (inl solved) =
-      (length solved.solves.plan.steps, cost_of_all solved.solves.task solved.solves.operators, subst (λ (x : List ℕ). Solves b c x) solved.solves.printed solved.solves)
+      (length solved.solves.plan.steps, solved.solves.plan.cost, subst (λ (x : List ℕ). Solves b c x) solved.solves.printed solved.solves)
   yes_solves e (inr other) = let apart : Yes ≡ No = sym e ∙ other.status in absurd cc
 
   pub headline_of : (old new : Option (List ℕ)) (before : List ℕ) (status : Status) → old ≡ Some before → status ≡ o.status → Appends old new o.text → Headline b c (Appends old new) status

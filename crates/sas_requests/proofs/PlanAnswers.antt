@@ -26,7 +26,8 @@ use Rattle.sas_output.specs.declared.ending.ToolFault.TheVariants as tool_fault
 use Rattle.sas_requests.specs.Answering.{Answers, AnswersFile, AnswersFiles, output_of}
 use Rattle.sas_answers.specs.Answers.{layers_refusal, layers_verdict, VerdictAnswer}
 use Rattle.sas_output.specs.Ending.{Output}
-use Rattle.sas_requests.specs.Output.{IsAnswerOrRefusal, FileOut, VerdictOut, LayersOut, JudgedOut, PlanOut}
+use Rattle.sas_requests.specs.Output.{IsAnswerOrRefusal, FileOut, VerdictOut, LayersOut, JudgedOut, PlanOut, IsLong}
+use Rattle.sas_requests.specs.declared.Request.TheVariants.{Plan}
 use Rattle.sas_requests.proofs.Outputs.{takes_nothing, one_file_output, some_file_output, no_file_output, plan_worded, task_worded}
 use Rattle.sas_answers.proofs.CheckAnswers.{some_check_answer}
 use Rattle.sas_answers.proofs.VerdictAnswers.{one_verdict_answer, some_verdict_answer}
@@ -64,15 +65,17 @@ NoAnswer p output = ⊥
 
 -- ---- and none only where one of them is too long
 
-long_layers : (p : Parts) (first : Option LayerFault) (c : List ℕ) → (((o : Output) → layers_verdict first ≡ Some o → ⊥) → ⊥) → LayersOut p first c None → most_bytes < length c
-long_layers p (Some fault) c told out = absurd (told (λ o is. none-some o (out ∙ is)))
-long_layers p None c told out = no_file_output plan_format (codes "plan") (VerdictAnswer p) c (λ s line k. plan_worded line k) out
+long_layers : (p : Parts) (first : Option LayerFault) (c : List ℕ) → (first ≡ None → IsLayered p) → (((o : Output) → layers_verdict first ≡ Some o → ⊥) → ⊥) → LayersOut p first c None → IsLayered p × (most_bytes < length c)
+long_layers p (Some fault) c layered told out = absurd (told (λ o is. none-some o (out ∙ is)))
+long_layers p None c layered told out = (layered refl, no_file_output plan_format (codes "plan") (VerdictAnswer p) c (λ s line k. plan_worded line k) out)
 
-long_judged : (r : Result Parts Fault) (b c : List ℕ) → ReadsAs task_format most_bytes b r → JudgedOut r c None → (most_bytes < length b) ⊎ (most_bytes < length c)
+long_judged : (r : Result Parts Fault) (b c : List ℕ) → ReadsAs task_format most_bytes b r → JudgedOut r c None → IsLong Plan b c
 long_judged (Err fault) b c reads out = inl (no_file_output task_format (codes "task") NoAnswer b task_worded (Err fault, reads, out))
-long_judged (Ok p) b c reads out = inr (long_layers p (first_fault (layer_checks p)) c (some_check_answer p) out)
+long_judged (Ok p) b c reads out =
+    let long = long_layers p (first_fault (layer_checks p)) c (checks_are_rules p).0 (some_check_answer p) out in
+    inr ((p, reads, long.0), long.1)
 
-pub no_plan_output : (b c : List ℕ) → PlanOut b c None → (most_bytes < length b) ⊎ (most_bytes < length c)
+pub no_plan_output : (b c : List ℕ) → PlanOut b c None → IsLong Plan b c
 no_plan_output b c out = long_judged out.0 b c out.1 out.2
 
 -- ---- how the answer comes about

@@ -22,7 +22,7 @@ use Rattle.sas_flat.specs.declared.outline.Outline.{Outline}
 use Rattle.sas_task_reader.specs.Outline.{OutlineOf}
 use Rattle.sas_flat.specs.Outlines.{outline_of}
 use Rattle.sas_core.specs.Variables.{value_name}
-use Rattle.sas_summary.specs.Summary.{fact_line, fact_lines, derived_count, number_line, number_lines, initial_lines, goal_lines, summary_lines}
+use Rattle.sas_summary.specs.Summary.{fact_line, fact_lines, derived_count, number_line, number_lines, initial_lines, goal_fact_lines, summary_lines}
 use Rattle.sas_requests.proofs.Lengths.{text_short}
 use Rattle.sas_summary.proofs.Summaries.{goal_text, initial_text, goal_is, initial_is, summary_is}
 
@@ -209,7 +209,7 @@ length_of_summary : (o : Outline) → length (text (summary_lines o)) ≡ length
 length_of_summary o =
     let numbers = text (number_lines o) in
     let initial = text (initial_lines o.variables o.init) in
-    let goal = text (goal_lines o.variables o.goal) in
+    let goal = text (goal_fact_lines o.variables o.goal) in
     ap length (sym (summary_is o numbers refl)) ∙ length-append (numbers ++ initial) goal ∙ ap (λ (k : ℕ). k + length goal) (length-append numbers initial)
     ∙ ap (λ (l : List ℕ). length numbers + length initial + length l) (goal_is o.variables o.goal)
     ∙ ap (λ (l : List ℕ). length numbers + length l + length (flat_map (goal_text o.variables) o.goal)) (initial_is o.variables o.init)

@@ -144,11 +144,15 @@ abbrev pub AreInputs : Request → Option (List ℕ) → Option (List ℕ) → L
 AreInputs request task plan b c =
     (IsTrue (reads_task request) → task ≡ Some b) × (IsTrue (reads_plan request) → plan ≡ Some c)
 
--- one of them passes the limit
+-- an input passes the limit: the one that the request reads, or of `plan` the task, or the plan for
+-- a task that is layered
 abbrev pub IsLong : Request → List ℕ → List ℕ → Type 0
-IsLong request b c =
-    (IsTrue (reads_task request) × (most_bytes < length b))
-    ⊎ (IsTrue (reads_plan request) × (most_bytes < length c))
+IsLong Show b c = most_bytes < length b
+IsLong Print b c = most_bytes < length b
+IsLong Steps b c = most_bytes < length c
+IsLong Check b c = most_bytes < length b
+IsLong Plan b c = (most_bytes < length b) ⊎ (IsLayeredText b × (most_bytes < length c))
+IsLong Mutex b c = most_bytes < length b
 
 -- ---- laws
 
@@ -161,6 +165,6 @@ OneOutput = (request : Request) (b c : List ℕ) (o p : Option Output) → Out r
 abbrev pub SomeOutput : Type 0
 SomeOutput = (request : Request) (b c : List ℕ) → ((o : Option Output) → Out request b c o → ⊥) → ⊥
 
--- there is none only where an input that the request reads passes the limit
+-- there is none only where an input passes the limit
 abbrev pub NoneIsLong : Type 0
 NoneIsLong = (request : Request) (b c : List ℕ) → Out request b c None → IsLong request b c

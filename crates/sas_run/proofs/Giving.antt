@@ -11,7 +11,7 @@ use Rattle.sas_core.specs.Variables.{HasValue, IsState}
 use Rattle.sas_core.specs.WellRanged.{EffectFits}
 use Rattle.sas_meaning.specs.States.{AllHold}
 use Rattle.sas_meaning.specs.Steps.{preconditions, Fires}
-use Rattle.sas_run.specs.Given.{given_to, value_after, IsGiven, IsGivenTo, Gives}
+use Rattle.sas_run.specs.Given.{given_to, value_after, IsGiven, IsGivenTo, GivesValue}
 use Rattle.sas_run.specs.Running.{IsApplied}
 use Rattle.sas_run.proofs.Ranges.{no_effect}
 
@@ -43,7 +43,7 @@ module _ (p : Parts) (s : List ℕ) (o : Operator) (n : ℕ) (given : List (Opti
   }
 
   -- one more effect that fires gives its new value
-  pub gives_one_more : (effect_at o n).var < length p.variables → Fires s (effect_at o n) → (given' : List (Option ℕ)) → Gives given (effect_at o n).var (effect_at o n).new given'
+  pub gives_one_more : (effect_at o n).var < length p.variables → Fires s (effect_at o n) → (given' : List (Option ℕ)) → GivesValue given (effect_at o n).var (effect_at o n).new given'
       → IsGiven p s o (n + 1) given'
   gives_one_more within fires given' new = subst (λ g. IsGiven p s o (n + 1) g) (sym new.now) record {
     one_each = length-set given (effect_at o n).var (Some (effect_at o n).new) ∙ is.one_each;

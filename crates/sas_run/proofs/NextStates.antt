@@ -20,7 +20,7 @@ use Rattle.sas_meaning.proofs.Exists.{settled_exists}
 use Rattle.sas_run.specs.Plans.{IsApplicable}
 use Rattle.sas_run.specs.declared.steps.StepFault.{StepFault}
 use Rattle.sas_run.specs.declared.steps.StepFault.TheVariants.{NotApplicable, Conflict}
-use Rattle.sas_run.specs.Running.{Agree, IsApplied, IsStepFault}
+use Rattle.sas_run.specs.Running.{IsApplied, IsStepFault}
 use Rattle.sas_run.proofs.Choosing.{no_fact}
 
 -- where it can be told of each item, it can be told of all

@@ -8,7 +8,7 @@ use Rattle.sas_core.specs.declared.parts.Parts.{Parts}
 use Rattle.sas_core.specs.Grounded.{operator_at, effect_at}
 use Rattle.sas_core.specs.Variables.{IsState}
 use Rattle.sas_meaning.specs.States.{AllHold}
-use Rattle.sas_meaning.specs.Steps.{preconditions, Fires, Step}
+use Rattle.sas_meaning.specs.Steps.{preconditions, Fires, Agree, Step}
 use Rattle.sas_run.specs.declared.plan_check.PlanFault.{PlanFault}
 use Rattle.sas_run.specs.declared.plan_check.PlanFault.TheVariants as plan_fault
 use Rattle.sas_run.specs.declared.runner.Choice.{Choice}
@@ -40,11 +40,6 @@ IsFirstChosen p s first (Some operator) = (first ≤ operator)
 pub record Contradicts (e f : Effect) : Type 0 where
   pub var : e.var ≡ f.var
   pub new : e.new ≢ f.new
-
--- no two effects that fire contradict each other
-abbrev pub Agree : List ℕ → List Effect → Type 0
-Agree s effects = All (λ (e : Effect). All (λ (f : Effect). Fires s e → Fires s f
-    → e.var ≡ f.var → e.new ≡ f.new) effects) effects
 
 -- the first effect that fires and contradicts an earlier one that fires
 pub record IsFirstConflict (s : List ℕ) (o : Operator) (effect : ℕ) : Type 0 where

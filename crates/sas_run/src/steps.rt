@@ -4,7 +4,7 @@ ghost use Rattle.sas_core.specs.Grounded.{operator_at};
 ghost use Rattle.sas_core.specs.Variables.{IsState};
 ghost use Rattle.sas_run.specs.Plans.{IsApplicable};
 ghost use Rattle.sas_run.specs.Running.{IsFirstConflict, IsStepFault, Applies};
-ghost use Rattle.sas_run.specs.Given.{IsClean, IsGiven, IsGivenTo, value_after, Gives, GivesOther};
+ghost use Rattle.sas_run.specs.Given.{IsClean, IsGiven, IsGivenTo, value_after, GivesValue, GivesOther};
 
 use sas_core::{Fact, Grounded, Items};
 use sas_meaning::{Layered, Preconditions, State};
@@ -96,7 +96,7 @@ fn give_effects<T: Grounded>(
 /// Gives the variable the value, unless another one was given to it before. Says whether it was not.
 fn give(given: &mut Items<Option<u32>>, var: u32, value: u32) -> bool
     requires { var < length given.old }
-    ensures yes { IsTrue result → Gives given.old var value given.new }
+    ensures yes { IsTrue result → GivesValue given.old var value given.new }
     ensures no { IsFalse result → GivesOther given.old var value given.new }
 {
     match given.as_slice()[var as usize] {

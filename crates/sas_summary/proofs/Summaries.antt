@@ -10,7 +10,7 @@ use Rattle.sas_lines.specs.Lines.{text}
 use Rattle.sas_lines.specs.declared.devices.Short.{Short}
 use Rattle.sas_flat.specs.declared.outline.Outline.{Outline}
 use Rattle.sas_output.specs.Pieces.{Piece, Puts, Breaks}
-use Rattle.sas_summary.specs.Summary.{number_lines, fact_lines, initial_lines, goal_lines, summary_lines}
+use Rattle.sas_summary.specs.Summary.{number_lines, fact_lines, initial_lines, goal_fact_lines, summary_lines}
 use Rattle.sas_output.proofs.Putting.{item_puts, item_breaks}
 
 -- lines in a row
@@ -22,11 +22,11 @@ text_of_each lines_of [] = refl
 text_of_each lines_of (x ∷ items) = text_of_both (lines_of x) (flat_map lines_of items) ∙ ap (λ (l : List ℕ). text (lines_of x) ++ l) (text_of_each lines_of items)
 
 -- the summary, part by part
-pub summary_is : (o : Outline) (numbers : List ℕ) → numbers ≡ text (number_lines o) → numbers ++ text (initial_lines o.variables o.init) ++ text (goal_lines o.variables o.goal) ≡ text (summary_lines o)
+pub summary_is : (o : Outline) (numbers : List ℕ) → numbers ≡ text (number_lines o) → numbers ++ text (initial_lines o.variables o.init) ++ text (goal_fact_lines o.variables o.goal) ≡ text (summary_lines o)
 summary_is o numbers is =
-    ap (λ (l : List ℕ). l ++ text (initial_lines o.variables o.init) ++ text (goal_lines o.variables o.goal)) is
-    ∙ ap (λ (l : List ℕ). l ++ text (goal_lines o.variables o.goal)) (sym (text_of_both (number_lines o) (initial_lines o.variables o.init)))
-    ∙ sym (text_of_both (number_lines o ++ initial_lines o.variables o.init) (goal_lines o.variables o.goal))
+    ap (λ (l : List ℕ). l ++ text (initial_lines o.variables o.init) ++ text (goal_fact_lines o.variables o.goal)) is
+    ∙ ap (λ (l : List ℕ). l ++ text (goal_fact_lines o.variables o.goal)) (sym (text_of_both (number_lines o) (initial_lines o.variables o.init)))
+    ∙ sym (text_of_both (number_lines o ++ initial_lines o.variables o.init) (goal_fact_lines o.variables o.goal))
 
 module _ (variables : List Variable) where
   -- the line of a fact of the goal, and that of a variable in the state section
@@ -36,17 +36,17 @@ module _ (variables : List Variable) where
   abbrev pub initial_text : ℕ × ℕ → List ℕ
   initial_text (var, value) = text (fact_lines (codes "initial") variables var value)
 
-  pub goal_is : (facts : List Fact) → text (goal_lines variables facts) ≡ flat_map goal_text facts
+  pub goal_is : (facts : List Fact) → text (goal_fact_lines variables facts) ≡ flat_map goal_text facts
   goal_is facts = text_of_each (λ (f : Fact). fact_lines (codes "goal") variables f.var f.value) facts
 
   pub initial_is : (values : List ℕ) → text (initial_lines variables values) ≡ flat_map initial_text (enumerate_from 0 values)
   initial_is values = text_of_each (λ (var, value). fact_lines (codes "initial") variables var value) (enumerate_from 0 values)
 
-  pub goal_whole : (a b : Option (List ℕ)) (p q : Piece) (facts : List Fact) (n : ℕ) → length facts ≤ n → Puts a b p q (flat_map goal_text (take n facts)) → Puts a b p q (text (goal_lines variables facts))
+  pub goal_whole : (a b : Option (List ℕ)) (p q : Piece) (facts : List Fact) (n : ℕ) → length facts ≤ n → Puts a b p q (flat_map goal_text (take n facts)) → Puts a b p q (text (goal_fact_lines variables facts))
   goal_whole a b p q facts n h puts =
       subst (λ (l : List ℕ). Puts a b p q l) (ap (flat_map goal_text) (take_all n facts h) ∙ sym (goal_is facts)) puts
 
-  pub goal_breaks : (a b c : Option (List ℕ)) (p q r : Piece) (facts : List Fact) (i : ℕ) (d : Fact) (short : Short) → i < length facts → Puts a b p q (flat_map goal_text (take i facts)) → Breaks b c q (goal_text (get_or facts i d)) short → Breaks a c p (text (goal_lines variables facts)) short
+  pub goal_breaks : (a b c : Option (List ℕ)) (p q r : Piece) (facts : List Fact) (i : ℕ) (d : Fact) (short : Short) → i < length facts → Puts a b p q (flat_map goal_text (take i facts)) → Breaks b c q (goal_text (get_or facts i d)) short → Breaks a c p (text (goal_fact_lines variables facts)) short
   goal_breaks a b c p q r facts i d short h first second =
       subst (λ (l : List ℕ). Breaks a c p l short) (sym (goal_is facts)) (item_breaks goal_text a b c p q r facts i d short h first second)
 

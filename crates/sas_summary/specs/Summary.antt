@@ -51,11 +51,11 @@ initial_lines variables values =
     (enumerate_from 0 values)
 
 -- `goal VAR VALUE NAME` for each fact of the goal
-abbrev pub goal_lines : List Variable → List Fact → List (List ℕ)
-goal_lines variables facts =
+abbrev pub goal_fact_lines : List Variable → List Fact → List (List ℕ)
+goal_fact_lines variables facts =
     flat_map (λ (f : Fact). fact_lines (codes "goal") variables f.var f.value) facts
 
 -- the lines of the summary of a task with this outline, in order
 abbrev pub summary_lines : Outline → List (List ℕ)
 summary_lines o =
-    number_lines o ++ initial_lines o.variables o.init ++ goal_lines o.variables o.goal
+    number_lines o ++ initial_lines o.variables o.init ++ goal_fact_lines o.variables o.goal

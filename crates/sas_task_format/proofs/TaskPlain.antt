@@ -23,7 +23,7 @@ use Rattle.sas_task_format.proofs.TaskSections.{Known, known, Ranged, InRange, s
 -- ---- one line
 
 plain-number : (n : ℕ) → IsNumber n → IsPlain (decimal n)
-plain-number n h = plain-decimal n (omega arith)
+plain-number n h = plain-decimal n
 
 plain-signed : (n : Option ℕ) → IsSigned n → IsPlain (signed_decimal n)
 plain-signed None h = plain_bytes (codes "-1") refl

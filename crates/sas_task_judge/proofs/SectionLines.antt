@@ -14,7 +14,7 @@ use Rattle.sas_task_format.specs.TaskProcess.{TaskProcess, name_in, fact_in, eff
 use Rattle.sas_task_format.proofs.TaskSections.{less, and_both, and_parts}
 use Rattle.sas_core.specs.Names.{IsName, is_name}
 use Rattle.sas_core.specs.Variables.{fact_exists}
-use Rattle.sas_task_line.specs.Sections.{IsNamed, OperatorInRanges, RuleInRanges}
+use Rattle.sas_task_line.specs.Sections.{HasNames, OperatorInRanges, RuleInRanges}
 use Rattle.sas_task_line.specs.TaskRanges.{ranges_of, fact_in_ranges, effect_in_ranges}
 use Rattle.sas_task_judge.proofs.TaskRanges.{facts_are, effects_are, change_is}
 
@@ -61,7 +61,7 @@ module _ (vs : List Variable) where
 
 -- ---- a variable, a mutex group
 
-pub variable_on : (k : Variable → TaskProcess) (v : Variable) → IsNamed v → AllFit (variable_lines v) → GoesOn (a_variable k) (variable_lines v) (k v)
+pub variable_on : (k : Variable → TaskProcess) (v : Variable) → HasNames v → AllFit (variable_lines v) → GoesOn (a_variable k) (variable_lines v) (k v)
 variable_on k v good fits =
     let fits_layer = fits.1.1 in (
       record { slot = refl; fits = tt; good = refl },

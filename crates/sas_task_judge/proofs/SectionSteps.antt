@@ -11,7 +11,7 @@ use Rattle.sas_reader.proofs.Paths.{map-append, after_append}
 use Rattle.sas_task_format.specs.Process.{process_node}
 use Rattle.sas_task_format.specs.TaskFormat.{TaskLine, task_line_bytes, task_format, TaskLineFits, variable_lines, group_lines, operator_lines, rule_lines}
 use Rattle.sas_task_format.specs.TaskProcess.{TaskProcess, task_start}
-use Rattle.sas_task_line.specs.Sections.{spelled, IsNamed, OperatorInRanges, RuleInRanges}
+use Rattle.sas_task_line.specs.Sections.{spelled, HasNames, OperatorInRanges, RuleInRanges}
 use Rattle.sas_task_line.specs.TaskRanges.{ranges_of, fact_in_ranges}
 use Rattle.sas_task_line.specs.declared.so_far.SoFar.{SoFar}
 use Rattle.sas_task_judge.specs.declared.task_judge.Place.{Place}
@@ -61,7 +61,7 @@ at_place j s t place items is here left same on =
     (subst (λ (l : List TaskLine). GoesOn (state_at place (suc (j.left - 1)) j.more s) l (state_of (behind_section j) t)) (sym same)
     (subst (λ (p : Place). GoesOn (state_at place (suc (j.left - 1)) j.more s) items (state_at p (j.left - 1) j.more t)) (sym here) on))
 
-pub variable_leads : (j : TaskJudge) (s : SoFar) (v : Variable) (range : ℕ) → SectionDue j section.Variable → KnownTo s j → IsNamed v → range ≡ length v.values → AllFit (variable_lines v) → SectionLeads j (behind_values j range) s (variable_lines v) (behind_variable s v)
+pub variable_leads : (j : TaskJudge) (s : SoFar) (v : Variable) (range : ℕ) → SectionDue j section.Variable → KnownTo s j → HasNames v → range ≡ length v.values → AllFit (variable_lines v) → SectionLeads j (behind_values j range) s (variable_lines v) (behind_variable s v)
 variable_leads j s v range due f good many fits = record {
   known = record {
     ranges = ap (λ (rs : List ℕ). rs ++ range ∷ []) f.ranges ∙ ap (λ (n : ℕ). ranges_of s.parts.variables ++ n ∷ []) many ∙ sym (ranges_push s.parts.variables v);

@@ -21,7 +21,7 @@ use Rattle.sas_task_judge.specs.declared.task_judge.TaskJudge.{TaskJudge}
 use Rattle.sas_task_judge.specs.TaskPlaces.{state_values, state_values_of, goal_begin}
 use Rattle.sas_task_judge.specs.TaskJudge.{state_at, state_of, KnownTo, LeadsOn, RejectsLine, TakesMemory, Moves, MovesBy, MovesAhead}
 use Rattle.sas_core.specs.declared.parts.Effect.{Effect}
-use Rattle.sas_lines.specs.Lines.{LineStandsFirst}
+use Rattle.sas_lines.specs.FirstLines.{LineStandsFirst}
 use Rattle.sas_core.specs.declared.grounded.Change.{Change}
 use Rattle.sas_flat.specs.Effects.{plain_effect}
 use Rattle.sas_task_line.specs.Ahead.{SpellsAhead}

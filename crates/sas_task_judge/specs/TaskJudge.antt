@@ -1,7 +1,7 @@
 -- What judges the lines of a task file stands for: what may still come, by what has come.
 use Rattle.std.specs.Prelude.{◌≡◌, ◌≢◌, ◌⊎◌, ◌<◌, ℕ, ◌+◌, ◌-◌, Bool, List, length, take, Result, Ok, Err, codes}
 use Rattle.sas_core.specs.declared.parts.Variable.{Variable}
-use Rattle.sas_lines.specs.Lines.{LineStandsFirst}
+use Rattle.sas_lines.specs.FirstLines.{LineStandsFirst}
 use Rattle.sas_reader.specs.declared.fault.Kind.{Kind}
 use Rattle.sas_reader.specs.declared.fault.Kind.TheVariants as kinds
 use Rattle.sas_task_line.specs.declared.task_events.Event.{Event}

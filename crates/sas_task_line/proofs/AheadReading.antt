@@ -9,7 +9,7 @@ use Rattle.sas_core.specs.Names.{is_plain, IsName}
 use Rattle.sas_core.proofs.PlainBytes.{is_none-search}
 use Rattle.std.proofs.lemmas.Bool.{ne_eqb}
 use Rattle.sas_core.specs.declared.parts.Fact.{Fact}
-use Rattle.sas_lines.specs.Lines.{LineStandsFirst}
+use Rattle.sas_lines.specs.FirstLines.{LineStandsFirst}
 use Rattle.sas_lines.proofs.Beginnings.{stands_first}
 use Rattle.sas_lines.proofs.Splitting.{Plain}
 use Rattle.sas_reader.proofs.Plain.{plain}

@@ -8,7 +8,8 @@ use Rattle.std.proofs.lemmas.List.Folds.{list_all-append}
 use Rattle.sas_core.specs.declared.parts.Fact.{Fact}
 use Rattle.sas_core.specs.Names.{is_name, IsName}
 use Rattle.sas_core.specs.declared.grounded.Change.{Change}
-use Rattle.sas_lines.specs.Lines.{LinesStandFirst, text}
+use Rattle.sas_lines.specs.Lines.{text}
+use Rattle.sas_lines.specs.FirstLines.{LinesStandFirst}
 use Rattle.sas_lines.proofs.Beginnings.{lines_stand_first}
 use Rattle.sas_lines.proofs.Splitting.{Plain}
 use Rattle.sas_reader.specs.declared.reader.Front.{Front}

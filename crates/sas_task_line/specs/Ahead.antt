@@ -2,7 +2,7 @@
 use Rattle.std.specs.Prelude.{◌≡◌, ℕ, ◌-◌, List, take, ◌∷◌, ◌++◌, Option}
 use Rattle.std.specs.Fmt.{decimal}
 use Rattle.sas_core.specs.Numbers.{IsNumber, IsSigned}
-use Rattle.sas_lines.specs.Lines.{LineStandsFirst}
+use Rattle.sas_lines.specs.FirstLines.{LineStandsFirst}
 use Rattle.sas_lines.specs.Spelling.{signed_decimal, joined}
 use Rattle.sas_reader.specs.System.{IsPlain}
 use Rattle.sas_task_format.specs.TaskFormat.{TaskLine, task_line_bytes, TaskLineFits, head_words, HeadNumbers}

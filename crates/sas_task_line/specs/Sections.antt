@@ -27,7 +27,7 @@ pub record LinesAhead (items : List TaskLine) (bytes : List ℕ) (front : Front)
   pub whole : take front.bytes bytes ≡ text (spelled items)
 
 -- the variable has a name and at least one value, each of which has a name
-pub record IsNamed (v : Variable) : Type 0 where
+pub record HasNames (v : Variable) : Type 0 where
   pub name : IsName v.name
   pub values : AllByRecursion IsName v.values
   pub some : 0 < length v.values
@@ -45,7 +45,7 @@ pub record RuleInRanges (ranges : List ℕ) (r : Rule) : Type 0 where
 
 -- the variable stands first in the bytes
 abbrev pub VariableAhead : List ℕ → Variable → Front → Type 0
-VariableAhead bytes v front = IsNamed v × LinesAhead (variable_lines v) bytes front
+VariableAhead bytes v front = HasNames v × LinesAhead (variable_lines v) bytes front
 
 -- the mutex group stands first in the bytes, and its facts exist
 abbrev pub GroupAhead : List ℕ → List ℕ → List Fact → Front → Type 0

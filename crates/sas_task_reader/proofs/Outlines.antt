@@ -8,7 +8,7 @@ use Rattle.sas_task_line.specs.declared.so_far.SoFar.{SoFar}
 use Rattle.sas_task_line.specs.TaskEvents.{after}
 use Rattle.sas_task_judge.specs.Sections.{behind_variable}
 use Rattle.sas_task_reader.specs.declared.task_outline.Seen.{Seen}
-use Rattle.sas_task_reader.specs.TaskOutline.{seen}
+use Rattle.sas_task_reader.specs.TaskOutline.{kept_of}
 
 -- a line about none of what is only counted changes the rest alone
 pub record IsOfRest (e : Event) : Type 0 where
@@ -20,7 +20,7 @@ pub record IsOfRest (e : Event) : Type 0 where
   pub operator : e ≡ event.Operator → ⊥
   pub rule : e ≡ event.Rule → ⊥
 
-rest_after : (s : SoFar) (e : Event) (said : Said) (line : List ℕ) → IsOfRest e → record (seen s) { rest = after (seen s).rest e said line } ≡ seen (after s e said line)
+rest_after : (s : SoFar) (e : Event) (said : Said) (line : List ℕ) → IsOfRest e → record (kept_of s) { rest = after (kept_of s).rest e said line } ≡ kept_of (after s e said line)
 rest_after s event.Nothing said line of = refl
 rest_after s event.Metric said line of = refl
 rest_after s event.Name said line of = refl
@@ -39,12 +39,12 @@ rest_after s event.Operator said line of = absurd (of.operator refl)
 rest_after s event.Rule said line of = absurd (of.rule refl)
 
 -- what is kept, where the rest alone changes
-module _ (kept : Seen) (new s : SoFar) (is : kept ≡ seen s) where
-  abbrev rest_changed : (t : SoFar) → new ≡ t → record kept { rest = new } ≡ record (seen s) { rest = t }
+module _ (kept : Seen) (new s : SoFar) (is : kept ≡ kept_of s) where
+  abbrev rest_changed : (t : SoFar) → new ≡ t → record kept { rest = new } ≡ record (kept_of s) { rest = t }
   rest_changed t then = ap (λ (r : SoFar). record kept { rest = r }) then ∙ ap (λ (k : Seen). record k { rest = t }) is
 
-  pub seen_after : (e : Event) (said : Said) (line : List ℕ) → IsOfRest e → new ≡ after (seen s).rest e said line → record kept { rest = new } ≡ seen (after s e said line)
-  seen_after e said line of then = rest_changed (after (seen s).rest e said line) then ∙ rest_after s e said line of
+  pub seen_after : (e : Event) (said : Said) (line : List ℕ) → IsOfRest e → new ≡ after (kept_of s).rest e said line → record kept { rest = new } ≡ kept_of (after s e said line)
+  seen_after e said line of then = rest_changed (after (kept_of s).rest e said line) then ∙ rest_after s e said line of
 
-  pub seen_variable : (v : Variable) → new ≡ behind_variable (seen s).rest v → record kept { rest = new } ≡ seen (behind_variable s v)
-  seen_variable v then = rest_changed (behind_variable (seen s).rest v) then
+  pub seen_variable : (v : Variable) → new ≡ behind_variable (kept_of s).rest v → record kept { rest = new } ≡ kept_of (behind_variable s v)
+  seen_variable v then = rest_changed (behind_variable (kept_of s).rest v) then

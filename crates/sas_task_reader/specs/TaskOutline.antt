@@ -11,8 +11,8 @@ abbrev pub as_far_as_counted : {A : Type 0} → List A → ℕ
 as_far_as_counted items = min (length items) (2 ^ 32 - 1)
 
 -- what is kept of what has come
-abbrev pub seen : SoFar → Seen
-seen s = record {
+abbrev pub kept_of : SoFar → Seen
+kept_of s = record {
   rest = record s {
     parts = record s.parts { groups = []; operators = []; rules = [] };
     facts = [];

@@ -6,7 +6,7 @@ ghost use Rattle.sas_core.specs.declared.parts.Rule.{Rule};
 ghost use Rattle.sas_task_line.specs.declared.so_far.SoFar.{SoFar};
 ghost use Rattle.sas_task_line.specs.TaskEvents.{nothing_yet};
 ghost use Rattle.sas_task_judge.specs.Sections.{behind_group, behind_operator, behind_rule};
-ghost use Rattle.sas_task_reader.specs.TaskOutline.{outline_in, seen};
+ghost use Rattle.sas_task_reader.specs.TaskOutline.{outline_in, kept_of};
 
 use crate::flat_so_far::FlatSoFar;
 use crate::fronts::{group_front, operator_front, rule_front};
@@ -46,16 +46,16 @@ impl Model for TaskOutline {
 impl Seen {
     /// A mutex group more has come.
     fn group(&mut self)
-        ensures { (s : SoFar) (facts : List Fact) → self.old ≡ seen s
-            → self.new ≡ seen (behind_group s facts) }
+        ensures { (s : SoFar) (facts : List Fact) → self.old ≡ kept_of s
+            → self.new ≡ kept_of (behind_group s facts) }
     {
         self.groups = self.groups.saturating_add(1);
     }
 
     /// An operator more has come. The name was the operator's, and goes with it.
     fn operator(&mut self)
-        ensures { (s : SoFar) (o : Operator) → self.old ≡ seen s
-            → self.new ≡ seen (behind_operator s o) }
+        ensures { (s : SoFar) (o : Operator) → self.old ≡ kept_of s
+            → self.new ≡ kept_of (behind_operator s o) }
     {
         self.rest.forget_name();
         self.operators = self.operators.saturating_add(1);
@@ -63,7 +63,7 @@ impl Seen {
 
     /// A rule more has come.
     fn rule(&mut self)
-        ensures { (s : SoFar) (r : Rule) → self.old ≡ seen s → self.new ≡ seen (behind_rule s r) }
+        ensures { (s : SoFar) (r : Rule) → self.old ≡ kept_of s → self.new ≡ kept_of (behind_rule s r) }
     {
         self.rules = self.rules.saturating_add(1);
     }
@@ -72,7 +72,7 @@ impl Seen {
 impl TaskOutline {
     /// Nothing has come.
     pub fn new(alloc: Global) -> Self
-        ensures { result ≡ seen (nothing_yet alloc) }
+        ensures { result ≡ kept_of (nothing_yet alloc) }
     {
         TaskOutline {
             seen: Seen {
@@ -102,9 +102,9 @@ impl TaskOutline {
 
 impl Keeper for TaskOutline {
     ghost use Rattle.std.specs.Prelude.{◌≡◌};
-    ghost use Rattle.sas_task_reader.specs.TaskOutline.{seen};
+    ghost use Rattle.sas_task_reader.specs.TaskOutline.{kept_of};
 
-    ghost keeps = { λ _ s kept. kept ≡ seen s };
+    ghost keeps = { λ _ s kept. kept ≡ kept_of s };
 
     fn keep(&mut self, line: &[u8], event: Event, said: &mut Said) -> Result<(), Kind> {
         match event {

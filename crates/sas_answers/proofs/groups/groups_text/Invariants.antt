@@ -1,8 +1,8 @@
 use Rattle.std.proofs.Common.{◌≡◌, take}
 use Rattle.sas_lines.specs.Lines.{text}
-use Rattle.sas_answers.specs.GroupWords.{group_lines}
+use Rattle.sas_answers.specs.GroupWords.{verdict_lines}
 use Rattle.sas_answers.proofs.groups.groups_text.Given as goal
 
 -- the lines of the groups so far
 abbrev pub invariant-loop-place : goal.invariant-loop-place
-invariant-loop-place l = l.out.items ≡ text (group_lines (take l.place l.verdicts))
+invariant-loop-place l = l.out.items ≡ text (verdict_lines (take l.place l.verdicts))

@@ -1,11 +1,11 @@
 -- Each law is a lemma.
-use Rattle.sas_groups.proofs.Invariance.{jointly_kept_is_exclusive, exclusive_alone_is_invariant, exclusive_jointly_is_invariant}
+use Rattle.sas_groups.proofs.Invariance.{jointly_kept_is_invariant, exclusive_alone_is_invariant, exclusive_jointly_is_invariant}
 use Rattle.sas_groups.proofs.GreatestFamily.{families_unite, greatest_is_one, greatest_has_alone, outside_is_broken}
 use Rattle.sas_groups.proofs.JointVerdicts.{greatest_exists, joint_verdict_is_one, some_joint_verdict}
 use Rattle.sas_groups.proofs.laws.group_laws.Goals as goal
 
 pub returns-clause-invariance : goal.returns-clause-invariance
-returns-clause-invariance c = jointly_kept_is_exclusive
+returns-clause-invariance c = jointly_kept_is_invariant
 
 pub returns-clause-alone : goal.returns-clause-alone
 returns-clause-alone c = exclusive_alone_is_invariant

@@ -1,9 +1,9 @@
 -- The effects so far pass.
 use Rattle.sas_core.specs.Grounded.{operator_at}
-use Rattle.sas_meaning.specs.LayerChecks.{effect_checks}
+use Rattle.sas_meaning.specs.LayerChecks.{effect_layer_checks}
 use Rattle.sas_meaning.proofs.NumberedChecks.{PassBefore}
 use Rattle.sas_meaning.proofs.layer_checks.check_operator.Given as goal
 
 abbrev pub invariant-loop-effect : goal.invariant-loop-effect
 invariant-loop-effect g l =
-    PassBefore (effect_checks (g.T.Grounded.says l.task) l.operator) (operator_at (g.T.Grounded.says l.task) l.operator).effects l.effect
+    PassBefore (effect_layer_checks (g.T.Grounded.says l.task) l.operator) (operator_at (g.T.Grounded.says l.task) l.operator).effects l.effect

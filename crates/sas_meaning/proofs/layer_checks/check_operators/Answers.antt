@@ -1,22 +1,22 @@
 -- The first of the operators that fails decides.
 use Rattle.std.proofs.Common.{rules, ◌≡◌, ◌∙◌, Some, arith, refl}
 use Rattle.std.specs.Result.{result_err}
-use Rattle.sas_meaning.specs.LayerChecks.{operator_checks}
+use Rattle.sas_meaning.specs.LayerChecks.{operator_layer_checks}
 use Rattle.sas_meaning.proofs.NumberedChecks.{pass_before_next, fails_at, pass_all}
 use Rattle.sas_meaning.proofs.layer_checks.check_operators.Goals as goal
 
 pub loop-operator-preserved : goal.loop-operator-preserved
 loop-operator-preserved g c =
     let p = g.T.Grounded.says c.args.task.now in
-    pass_before_next (operator_checks p) p.operators _ _ _ (omega arith) refl c.loop-operator.invariant c.in_ok-check_operator.ensures
+    pass_before_next (operator_layer_checks p) p.operators _ _ _ (omega arith) refl c.loop-operator.invariant c.in_ok-check_operator.ensures
 
 pub returns-in_err-check_operator : goal.returns-in_err-check_operator
 returns-in_err-check_operator g c =
     let p = g.T.Grounded.says c.args.task.now in
     let same : result_err c.from_residual.result ≡ Some c.in_err-check_operator.field-0.0 = search rules in
-    same ∙ fails_at (operator_checks p) p.operators _ _ _ (omega arith) refl c.loop-operator.invariant _ c.in_err-check_operator.ensures
+    same ∙ fails_at (operator_layer_checks p) p.operators _ _ _ (omega arith) refl c.loop-operator.invariant _ c.in_err-check_operator.ensures
 
 pub returns : goal.returns
 returns g c =
     let p = g.T.Grounded.says c.args.task.now in
-    pass_all (operator_checks p) p.operators _ (omega arith) c.loop-operator.invariant
+    pass_all (operator_layer_checks p) p.operators _ (omega arith) c.loop-operator.invariant

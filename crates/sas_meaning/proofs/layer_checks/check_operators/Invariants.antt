@@ -1,8 +1,8 @@
 -- The operators so far pass.
-use Rattle.sas_meaning.specs.LayerChecks.{operator_checks}
+use Rattle.sas_meaning.specs.LayerChecks.{operator_layer_checks}
 use Rattle.sas_meaning.proofs.NumberedChecks.{PassBefore}
 use Rattle.sas_meaning.proofs.layer_checks.check_operators.Given as goal
 
 abbrev pub invariant-loop-operator : goal.invariant-loop-operator
 invariant-loop-operator g l =
-    PassBefore (operator_checks (g.T.Grounded.says l.task)) (g.T.Grounded.says l.task).operators l.operator
+    PassBefore (operator_layer_checks (g.T.Grounded.says l.task)) (g.T.Grounded.says l.task).operators l.operator

@@ -1,7 +1,7 @@
 -- The first of the rules that fails decides.
 use Rattle.std.proofs.Common.{rules, ◌≡◌, ◌∙◌, Some, arith, refl}
 use Rattle.std.specs.Result.{result_err}
-use Rattle.sas_meaning.specs.LayerChecks.{rule_checks}
+use Rattle.sas_meaning.specs.LayerChecks.{rule_layer_checks}
 use Rattle.sas_meaning.proofs.NumberedChecks.{pass_before_next, fails_at, pass_all}
 use Rattle.sas_meaning.proofs.layer_checks.check_rules.Goals as goal
 
@@ -9,7 +9,7 @@ pub loop-rule-preserved : goal.loop-rule-preserved
 loop-rule-preserved g c =
     let p = g.T.Grounded.says c.args.task.now in
     record {
-      pass = pass_before_next (rule_checks p) p.rules _ _ _ (omega arith) refl c.loop-rule.invariant.pass c.in_ok-check_rule.ensures.first;
+      pass = pass_before_next (rule_layer_checks p) p.rules _ _ _ (omega arith) refl c.loop-rule.invariant.pass c.in_ok-check_rule.ensures.first;
       known = c.in_ok-check_rule.ensures.known;
     }
 
@@ -17,9 +17,9 @@ pub returns-in_err-check_rule : goal.returns-in_err-check_rule
 returns-in_err-check_rule g c =
     let p = g.T.Grounded.says c.args.task.now in
     let same : result_err c.from_residual.result ≡ Some c.in_err-check_rule.field-0.0 = search rules in
-    same ∙ fails_at (rule_checks p) p.rules _ _ _ (omega arith) refl c.loop-rule.invariant.pass _ c.in_err-check_rule.ensures.first
+    same ∙ fails_at (rule_layer_checks p) p.rules _ _ _ (omega arith) refl c.loop-rule.invariant.pass _ c.in_err-check_rule.ensures.first
 
 pub returns : goal.returns
 returns g c =
     let p = g.T.Grounded.says c.args.task.now in
-    pass_all (rule_checks p) p.rules _ (omega arith) c.loop-rule.invariant.pass
+    pass_all (rule_layer_checks p) p.rules _ (omega arith) c.loop-rule.invariant.pass

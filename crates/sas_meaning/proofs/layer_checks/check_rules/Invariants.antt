@@ -1,11 +1,11 @@
 -- The rules so far pass, and their new values are known.
-use Rattle.sas_meaning.specs.LayerChecks.{rule_checks}
+use Rattle.sas_meaning.specs.LayerChecks.{rule_layer_checks}
 use Rattle.sas_meaning.specs.NewValues.{NewValues}
 use Rattle.sas_meaning.proofs.NumberedChecks.{PassBefore}
 use Rattle.sas_meaning.proofs.layer_checks.check_rules.Given as goal
 
 abbrev pub invariant-loop-rule : goal.invariant-loop-rule
 invariant-loop-rule g l = record {
-  pass : PassBefore (rule_checks (g.T.Grounded.says l.task)) (g.T.Grounded.says l.task).rules l.rule;
+  pass : PassBefore (rule_layer_checks (g.T.Grounded.says l.task)) (g.T.Grounded.says l.task).rules l.rule;
   known : NewValues (g.T.Grounded.says l.task) l.rule l.new_values;
 }

@@ -1,6 +1,6 @@
 -- Of none of the groups so far is anything left to tell.
 use Rattle.std.proofs.Common.{ℕ, ◌<◌, get_or}
-use Rattle.sas_mutex.specs.Joint.{IsUntold}
+use Rattle.sas_mutex.specs.Judging.{IsUntold}
 use Rattle.sas_mutex.proofs.joint.some_untold.Given as goal
 
 abbrev pub invariant-loop-group : goal.invariant-loop-group

@@ -1,6 +1,6 @@
 -- The operators so far have told of the groups; the family is as it was.
 use Rattle.std.proofs.Common.{◌≡◌}
-use Rattle.sas_mutex.specs.Joint.{AreVerdictsSoFar}
+use Rattle.sas_mutex.specs.Judging.{AreVerdictsSoFar}
 use Rattle.sas_mutex.specs.Marks.{IsClean}
 use Rattle.sas_mutex.proofs.joint.tell_breaking.Given as goal
 

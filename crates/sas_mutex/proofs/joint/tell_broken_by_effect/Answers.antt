@@ -12,7 +12,8 @@ use Rattle.sas_mutex.specs.Effects.{IsKept}
 use Rattle.sas_group_index.specs.Index.{HasFact}
 use Rattle.sas_mutex.specs.Marks.{IsNoted, IsNotedFrom}
 use Rattle.sas_mutex.specs.Firing.{EffectPlace, operator_of, effect_of}
-use Rattle.sas_mutex.specs.Joint.{verdict_at, IsUntold, IsVerdictSoFar}
+use Rattle.sas_mutex.specs.Joint.{verdict_at}
+use Rattle.sas_mutex.specs.Judging.{IsUntold, IsVerdictSoFar}
 use Rattle.sas_mutex.proofs.SetFacts.{groups_setting}
 use Rattle.sas_mutex.proofs.Telling.{next_effect, one_effect_more, so_far_by, told_already, clash_never_fires}
 use Rattle.sas_mutex.proofs.joint.tell_broken_by_effect.Goals as goal

@@ -7,7 +7,8 @@ use Rattle.sas_groups.specs.declared.verdict.Verdict.TheVariants.{Exclusive, Bro
 use Rattle.sas_groups.specs.Verdicts.{IsJointVerdict}
 use Rattle.sas_mutex.specs.Effects.{family_of}
 use Rattle.sas_mutex.specs.Firing.{EffectPlace, operator_of}
-use Rattle.sas_mutex.specs.Joint.{verdict_at, IsUntold, IsVerdictSoFar, AreVerdictsSoFar}
+use Rattle.sas_mutex.specs.Joint.{verdict_at}
+use Rattle.sas_mutex.specs.Judging.{IsUntold, IsVerdictSoFar, AreVerdictsSoFar}
 use Rattle.sas_mutex.proofs.Telling.{broken_here, one_told, so_far_by, one_effect_more, told_already}
 use Rattle.sas_mutex.proofs.joint.tell_group.Goals as goal
 use Rattle.sas_mutex.proofs.joint.tell_group.Given.{Over}

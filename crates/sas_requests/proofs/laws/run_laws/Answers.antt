@@ -1,4 +1,4 @@
-use Rattle.std.proofs.Common.{refl, sym, ◌∙◌, inl, inr, codes}
+use Rattle.std.proofs.Common.{refl, sym, ◌∙◌, codes}
 use Rattle.sas_plan_file.specs.PlanFormat.{plan_format}
 use Rattle.sas_task_format.specs.TaskFormat.{task_format}
 use Rattle.sas_plan_file.proofs.PlanLaws.{plan_laws_hold}
@@ -29,15 +29,12 @@ some Plan b c = some_plan_output b c
 some Mutex b c = some_file_output task_format (codes "task") MutexAnswer b task_laws_hold some_mutex_answer
 
 long : NoneIsLong
-long Show b c out = inl (refl, no_file_output task_format (codes "task") ShowAnswer b task_worded out)
-long Print b c out = inl (refl, no_file_output task_format (codes "task") (PrintAnswer task_format) b task_worded out)
-long Steps b c out = inr (refl, no_file_output plan_format (codes "plan") (PrintAnswer plan_format) c (λ s line k. plan_worded line k) out)
-long Check b c out = inl (refl, no_file_output task_format (codes "task") CheckAnswer b task_worded out)
-long Plan b c out = elim (no_plan_output b c out) [
-  | inl task ↦ inl (refl, task)
-  | inr plan ↦ inr (refl, plan)
-]
-long Mutex b c out = inl (refl, no_file_output task_format (codes "task") MutexAnswer b task_worded out)
+long Show b c out = no_file_output task_format (codes "task") ShowAnswer b task_worded out
+long Print b c out = no_file_output task_format (codes "task") (PrintAnswer task_format) b task_worded out
+long Steps b c out = no_file_output plan_format (codes "plan") (PrintAnswer plan_format) c (λ s line k. plan_worded line k) out
+long Check b c out = no_file_output task_format (codes "task") CheckAnswer b task_worded out
+long Plan b c out = no_plan_output b c out
+long Mutex b c out = no_file_output task_format (codes "task") MutexAnswer b task_worded out
 
 pub returns-clause-one : goal.returns-clause-one
 returns-clause-one c = one

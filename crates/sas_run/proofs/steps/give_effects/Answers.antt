@@ -4,7 +4,7 @@ use Rattle.std.specs.Prelude.{slice_index}
 use Rattle.sas_core.specs.declared.grounded.Change.{Change}
 use Rattle.sas_core.specs.Grounded.{operator_at}
 use Rattle.sas_meaning.specs.States.{AllHold}
-use Rattle.sas_run.specs.Given.{IsGiven, IsGivenTo, Gives}
+use Rattle.sas_run.specs.Given.{IsGiven, IsGivenTo, GivesValue}
 use Rattle.sas_run.proofs.Ranges.{effect_fits, effect_within}
 use Rattle.sas_run.proofs.Giving.{given_on_effects, gives_nothing, gives_one_more}
 use Rattle.sas_run.proofs.steps.give_effects.Goals as goal
@@ -31,7 +31,7 @@ loop-effect-preserved g c =
       | then-holds_all+else-not-give w ↦ subst (λ after. IsGiven p s o (n + 1) after) (sym w.given-is)
           (gives_one_more p s o n given inv (effect_within p c.task.ensures.well_ranged c.args.operator c.requires.operator n (omega arith))
           (subst (AllHold (slice_index s)) c.effect_conditions.ensures (c.holds_all.ensures.0 w.if-holds_all.true)) w.give.new.given
-          (subst (λ (change : Change). Gives given change.var change.new w.give.new.given) w.effect_change-change.ensures (w.give.ensures.yes w.if-not-give.false)))
+          (subst (λ (change : Change). GivesValue given change.var change.new w.give.new.given) w.effect_change-change.ensures (w.give.ensures.yes w.if-not-give.false)))
       | else-holds_all w ↦ subst (λ after. IsGiven p s o (n + 1) after) (sym w.given-is)
           (gives_nothing p s o n given inv (λ fires.
           (let hold = c.holds_all.ensures.1 (subst (AllHold (slice_index s)) (sym c.effect_conditions.ensures) fires) in let not = w.if-holds_all.false in absurd cc)))

@@ -5,7 +5,7 @@ use Rattle.sas_core.specs.WellRanged.{WellRanged}
 use Rattle.sas_task_reader.specs.declared.task_outline.Seen.{Seen}
 use Rattle.sas_flat.specs.Outlines.{outline_of}
 use Rattle.sas_task_reader.specs.Outline.{OutlineOf}
-use Rattle.sas_task_reader.specs.TaskOutline.{outline_in, seen}
+use Rattle.sas_task_reader.specs.TaskOutline.{outline_in, kept_of}
 use Rattle.sas_reader.specs.Devices.{ReadsAll}
 use Rattle.sas_reader.specs.declared.fault.Kind.{Kind}
 use Rattle.sas_task_line.specs.declared.so_far.SoFar.{SoFar}
@@ -22,7 +22,7 @@ use Rattle.sas_task_reader.proofs.outline.read_outline.Goals as goal
 
 -- what the machine keeps
 abbrev Keeps : List (List ℕ) → SoFar → Seen → Type 0
-Keeps lines s kept = kept ≡ seen s
+Keeps lines s kept = kept ≡ kept_of s
 
 abbrev Ended : TaskMachine Seen → Type 0
 Ended m = HasEnded m.judge
@@ -35,10 +35,10 @@ counted_number : (n : ℕ) → IsNumber n → min n (2 ^ 32 - 1) ≡ n
 counted_number n h = omega (arith, h)
 
 -- of a task that is well ranged the outline is what was seen of it
-outline_is : (s : SoFar) → WellRanged s.parts → outline_in (seen s) ≡ outline_of s.parts
+outline_is : (s : SoFar) → WellRanged s.parts → outline_in (kept_of s) ≡ outline_of s.parts
 outline_is s w =
-    ap (λ (n : ℕ). record (outline_in (seen s)) { groups = n }) (counted_number (length s.parts.groups) w.groups.count)
-    ∙ ap (λ (n : ℕ). record (outline_in (seen s)) { groups = length s.parts.groups; operators = n }) (counted_number (length s.parts.operators) w.operators.count)
+    ap (λ (n : ℕ). record (outline_in (kept_of s)) { groups = n }) (counted_number (length s.parts.groups) w.groups.count)
+    ∙ ap (λ (n : ℕ). record (outline_in (kept_of s)) { groups = length s.parts.groups; operators = n }) (counted_number (length s.parts.operators) w.operators.count)
     ∙ ap (λ (n : ℕ). record (outline_of s.parts) { rules = n }) (counted_number (length s.parts.rules) w.rules.count)
 
 pub new-start-requires : goal.new-start-requires

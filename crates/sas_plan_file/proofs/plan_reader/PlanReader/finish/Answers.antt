@@ -1,6 +1,6 @@
 use Rattle.std.proofs.Common.{◌≡◌, sym, subst, rules, Err}
 use Rattle.sas_plan_file.specs.PlanFormat.{plan_format, PlanLineFits}
-use Rattle.sas_plan_file.specs.PlanMachine.{plan_node, plan_start, IsClosed}
+use Rattle.sas_plan_file.specs.PlanMachine.{plan_node, plan_start, HasCost}
 use Rattle.sas_plan_file.specs.PlanReader.{plan_led, plan_rejects, plan_view}
 use Rattle.sas_plan_file.proofs.PlanGrammar.{plan_grammar}
 use Rattle.sas_plan_file.proofs.PlanStanding.{plan_follows, read_plan_parts}
@@ -24,7 +24,7 @@ returns-in_err-finish c =
     let same : c.from_residual.result ≡ Err c.in_err-finish.field-0.0 = search rules in
     subst (Finishes plan_view c.args.self) (sym same) (record {
       read = tt;
-      fault = end_fault plan_format PlanLineFits plan_node plan_start plan_grammar plan_led IsClosed plan_rejects plan_follows _ c.in_err-finish.field-0.0 end.fault;
+      fault = end_fault plan_format PlanLineFits plan_node plan_start plan_grammar plan_led HasCost plan_rejects plan_follows _ c.in_err-finish.field-0.0 end.fault;
       memory = end.fault.memory;
       kept = λ f e. let x = end.kept f e in cc;
     })

@@ -1,7 +1,7 @@
 use Rattle.std.proofs.Common.{ap, ◌∙◌}
 use Rattle.std.proofs.lemmas.Result.{on_ok_weaker}
 use Rattle.sas_task_reader.specs.declared.task_outline.Seen.{Seen}
-use Rattle.sas_task_reader.specs.TaskOutline.{seen}
+use Rattle.sas_task_reader.specs.TaskOutline.{kept_of}
 use Rattle.sas_task_reader.proofs.Outlines.{IsOfRest, seen_after}
 use Rattle.sas_task_reader.proofs.task_outline.TaskOutlineKeeper.keep.Goals as goal
 
@@ -20,6 +20,6 @@ returns-in_default c =
       kept = on_ok_weaker c.keep.result (λ kept lines s is.
           let inside = c.self.view_is ∙ is in
           seen_after c.self.inside.seen c.keep.new.self s inside c.args.event c.args.said.now c.args.line.now of
-          (kept lines (seen s).rest (ap (λ (k : Seen). k.rest) inside))) c.keep.ensures.kept;
+          (kept lines (kept_of s).rest (ap (λ (k : Seen). k.rest) inside))) c.keep.ensures.kept;
       err = c.keep.ensures.err;
     }

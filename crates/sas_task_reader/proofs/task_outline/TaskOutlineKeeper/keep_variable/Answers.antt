@@ -2,7 +2,7 @@ use Rattle.std.proofs.Common.{ap, ◌∙◌}
 use Rattle.std.proofs.lemmas.Result.{IfOk-weaker}
 use Rattle.sas_task_line.specs.declared.so_far.SoFar.{SoFar}
 use Rattle.sas_task_reader.specs.declared.task_outline.Seen.{Seen}
-use Rattle.sas_task_reader.specs.TaskOutline.{seen}
+use Rattle.sas_task_reader.specs.TaskOutline.{kept_of}
 use Rattle.sas_task_reader.proofs.Outlines.{seen_variable}
 use Rattle.sas_task_reader.proofs.task_outline.TaskOutlineKeeper.keep_variable.Goals as goal
 
@@ -14,7 +14,7 @@ returns c = record {
         ahead,
         λ lines s is.
             let inside = c.self.view_is ∙ is in
-            seen_variable c.self.inside.seen c.keep_variable.new.self s inside v (keeps lines (seen s).rest (ap (λ (k : Seen). k.rest) inside)),
+            seen_variable c.self.inside.seen c.keep_variable.new.self s inside v (keeps lines (kept_of s).rest (ap (λ (k : Seen). k.rest) inside)),
       )) c.keep_variable.ensures.took;
   none = IfOk-weaker c.keep_variable.result _ _ (λ kept same none. ap (λ (r : SoFar). record c.self.inside.seen { rest = r }) (same none) ∙ c.self.view_is) c.keep_variable.ensures.none;
   memory = c.keep_variable.ensures.memory;

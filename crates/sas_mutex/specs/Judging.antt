@@ -1,0 +1,50 @@
+-- How the verdicts on all groups of a task are found.
+use Rattle.std.specs.Prelude.{Bool, ◌≡◌, ℕ, ◌<◌, List, length, Contains, IsFalse}
+use Rattle.sas_core.specs.declared.parts.Parts.{Parts}
+use Rattle.sas_core.specs.Grounded.{operator_at, effect_at, group_at}
+use Rattle.sas_groups.specs.declared.verdict.Verdict.{Verdict}
+use Rattle.sas_groups.specs.declared.verdict.Verdict.TheVariants.{Exclusive, Derived, Initial, Broken}
+use Rattle.sas_groups.specs.Clashes.{sets, Keeps}
+use Rattle.sas_groups.specs.Families.{IsIn, IsGroupOfOr}
+use Rattle.sas_groups.specs.Groups.{MayBeExclusive}
+use Rattle.sas_groups.specs.Verdicts.{IsFirstVerdict, IsJointVerdict}
+use Rattle.sas_mutex.specs.Effects.{family_of, KeepsWithItself}
+use Rattle.sas_mutex.specs.Joint.{verdict_at}
+
+-- what is said of each group before operators are asked
+pub record AreFirstVerdicts (p : Parts) (verdicts : List Verdict) : Type 0 where
+  pub one_each : length verdicts ≡ length p.groups
+  pub are : (place : ℕ) → place < length p.groups
+      → IsFirstVerdict p (group_at p place) (verdict_at verdicts place)
+
+-- the group at this place isn't in the family, and nothing is told of it so far, which is said by
+-- `Exclusive`
+pub record IsUntold (kept : List Bool) (verdicts : List Verdict) (place : ℕ) : Type 0 where
+  pub fell : IsFalse (family_of kept place)
+  pub nothing : verdict_at verdicts place ≡ Exclusive
+
+-- the operators below this one keep the group under the family and itself, and so do this one's
+-- effects below this place
+pub record KeptSoFar (p : Parts) (kept : List Bool) (operator effect place : ℕ) : Type 0 where
+  pub operators : (lower : ℕ) → lower < operator
+      → Keeps (IsGroupOfOr p (family_of kept) (group_at p place)) (operator_at p lower)
+      (group_at p place)
+  pub effects : (lower : ℕ) → lower < effect
+      → Contains (group_at p place) (sets (effect_at (operator_at p operator) lower))
+      → KeepsWithItself p kept operator lower place
+
+-- the verdict on the group at this place, as far as the operators and effects so far tell it
+abbrev pub IsVerdictSoFar : Parts → List Bool → ℕ → ℕ → ℕ → Verdict → Type 0
+IsVerdictSoFar p kept operator effect place Derived = IsJointVerdict p place Derived
+IsVerdictSoFar p kept operator effect place Initial = IsJointVerdict p place Initial
+IsVerdictSoFar p kept operator effect place (Broken breaking) =
+    IsJointVerdict p place (Broken breaking)
+IsVerdictSoFar p kept operator effect place Exclusive = MayBeExclusive p (group_at p place)
+    × ((IsIn p (family_of kept) place → ⊥) → KeptSoFar p kept operator effect place)
+
+-- one such verdict for each group
+pub record AreVerdictsSoFar (p : Parts) (kept : List Bool) (operator effect : ℕ)
+    (verdicts : List Verdict) : Type 0 where
+  pub one_each : length verdicts ≡ length p.groups
+  pub are : (place : ℕ) → place < length p.groups
+      → IsVerdictSoFar p kept operator effect place (verdict_at verdicts place)
