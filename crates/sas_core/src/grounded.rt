@@ -26,9 +26,8 @@ impl Change {
     }
 }
 
-/// A grounded task. Everything that interprets a task reads it through these calls. The task represents the parts of a task
-/// file, which are the value `says`. Variables, operators, effects, rules and groups are named by their place, counted from
-/// 0.
+/// A grounded task. Everything that interprets a task reads it through these calls. The parts of a task file that the task
+/// represents are the value `says`. Variables, operators, effects, rules and groups are named by their place, from 0 on.
 pub trait Grounded {
     ghost use Rattle.std.specs.Prelude.{◌≡◌, ◌<◌, length, slice_index};
     ghost use Rattle.sas_core.specs.declared.parts.Parts.{Parts};

@@ -3,7 +3,7 @@ ghost use Rattle.std.specs.Prelude.{◌≡◌};
 
 use crate::Plan;
 
-/// A plan, however it is stored, read step by step. The plan represents the parts of a plan file, which are the value `says`.
+/// A plan, however it is stored, read step by step. The parts of a plan file that the plan represents are the value `says`.
 /// Steps are named by their place, counted from 0.
 pub trait Stepwise {
     ghost use Rattle.std.specs.Prelude.{◌≡◌, ◌<◌, length};

@@ -49,8 +49,8 @@ impl Model for Operators {
 }
 
 impl Columns {
-    /// Returns the head before the operator's, which holds where the operator's items start. Before the first operator all is
-    /// 0.
+    /// Returns the head before the operator's, which holds where the operator's items start. Before the first operator it is
+    /// all 0, since its items start there.
     #[inline(always)]
     fn before(&self, operator: usize) -> Head
         requires { operator ≤ length self.now.heads.items }

@@ -80,7 +80,7 @@ fn number_facts<T: Grounded>(
     Ok(facts)
 }
 
-/// Returns the groups of the task, each under the numbers of its facts, of which there are so many.
+/// Returns, under the number of each fact, the groups of the task that have it. `facts` is the number of all facts.
 fn groups_by_fact<T: Grounded>(
     alloc: Global,
     task: &Layered<T>,

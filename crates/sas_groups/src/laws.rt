@@ -6,10 +6,11 @@ ghost use Rattle.sas_groups.specs.Laws.{GreatestHasAlone, OutsideIsBroken, Joint
 /// The laws of groups.
 /// - Invariance: no reachable state of a layered task holds two different facts of a group that is exclusive, alone or
 ///   jointly, or of a group of any family that is kept jointly.
-/// - Two families that are kept jointly are one together.
+/// - The union of two families that are kept jointly is kept jointly.
 /// - There is at most one greatest family that is kept jointly, and there can't be none.
 /// - The greatest family has every group that is exclusive alone.
-/// - A group outside it that may be exclusive isn't kept by all operators under it and the group itself.
+/// - A group outside the greatest family that may be exclusive isn't kept by all operators under that family and the group
+///   itself.
 /// - Each group has one joint verdict at most, and can't be without one.
 pub fn group_laws()
     ensures invariance { JointlyKeptIsExclusive }

@@ -9,6 +9,6 @@ pub enum Verdict {
     Derived,
     /// Two different facts of it hold in the state section.
     Initial,
-    /// This operator doesn't keep it, and no lower-numbered operator fails to keep it.
+    /// This operator doesn't keep it, and every lower-numbered operator does.
     Broken { operator: u32 },
 }

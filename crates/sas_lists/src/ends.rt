@@ -20,7 +20,7 @@ impl Model for Ends {
     ghost view = { λ e. e.places.items };
 }
 
-/// Adds the number to each place.
+/// Adds `by` to each place.
 fn shift(places: &mut [usize], by: usize)
     requires { EachIndex places.old (λ index. slice_index places.old index + by < 2 ^ 64) }
     ensures { places.new ≡ map (λ place. place + by) places.old }
