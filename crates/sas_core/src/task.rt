@@ -120,7 +120,7 @@ impl Task {
     }
 }
 
-/// A law: parts are well ranged exactly where none of their checks fails.
+/// Ensures a law: parts are well ranged exactly where none of their checks fails.
 pub fn task_laws()
     ensures { ChecksAreTheRules }
 {}

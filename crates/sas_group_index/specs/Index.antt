@@ -14,8 +14,8 @@ use Rattle.sas_meaning.specs.Steps.{preconditions, old_fact}
 use Rattle.sas_group_index.specs.declared.index.Index.{Index}
 use Rattle.sas_group_index.specs.Runs.{AreRunsOf}
 
--- how many facts are on variables below this one; the facts of a task are so numbered, variable
--- after variable
+-- how many facts are on variables below this one; this is how the facts of a task are numbered,
+-- variable after variable
 abbrev pub facts_below : Parts → ℕ → ℕ
 facts_below p zero = 0
 facts_below p (suc var) = facts_below p var + range_of p.variables var

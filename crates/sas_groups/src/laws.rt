@@ -3,7 +3,7 @@ ghost use Rattle.sas_groups.specs.Laws.{JointlyKeptIsExclusive, ExclusiveAloneIs
 ghost use Rattle.sas_groups.specs.Laws.{ExclusiveJointlyIsInvariant, FamiliesUnite, GreatestExists, GreatestIsOne};
 ghost use Rattle.sas_groups.specs.Laws.{GreatestHasAlone, OutsideIsBroken, JointVerdictIsOne, SomeJointVerdict};
 
-/// The laws of groups.
+/// Ensures the laws of groups.
 /// - Invariance: no reachable state of a layered task holds two different facts of a group that is exclusive, alone or
 ///   jointly, or of a group of any family that is kept jointly.
 /// - The union of two families that are kept jointly is kept jointly.

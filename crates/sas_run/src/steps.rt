@@ -93,7 +93,8 @@ fn give_effects<T: Grounded>(
     None
 }
 
-/// Stores the value for the variable, unless another value is stored for it already. Returns whether none is.
+/// Stores the value for the variable, unless another value is stored for it already. Returns whether no other value is
+/// stored.
 fn give(given: &mut Items<Option<u32>>, var: u32, value: u32) -> bool
     requires { var < length given.old }
     ensures yes { IsTrue result → Gives given.old var value given.new }
