@@ -1,4 +1,4 @@
--- What is said of a task or a plan: a text, and whether it is yes or no.
+-- The answers about a task or a plan: a text, and whether it is yes or no.
 use Rattle.std.specs.Prelude.{◌≡◌, ◌⊎◌, ℕ, List, length, codes, Option, Some, None, option_map}
 use Rattle.sas_core.specs.declared.parts.Parts.{Parts}
 use Rattle.sas_core.specs.Checks.{first_fault}
@@ -19,29 +19,31 @@ use Rattle.sas_answers.specs.PlanWords.{valid_line, fault_words, invalid_line}
 
 -- ---- the layers of a task
 
--- the refusal of a task for a fault of its layers; want of memory has none
+-- the refusal of a task for a fault of its layers; there is none for refused memory
 abbrev pub layers_refusal : LayerFault → Option Output
 layers_refusal fault =
     option_map (λ words. record { text = layers_line words; status = No }) (layer_words fault)
 
--- what is said of a task's layers, by their first fault if they have one
+-- the answer about a task's layers, by their first fault if they have one
 abbrev pub layers_verdict : Option LayerFault → Option Output
 layers_verdict None = Some (record { text = codes "task layered\n"; status = Yes })
 layers_verdict (Some fault) = layers_refusal fault
 
--- a task is checked by a line: that it is layered, or the refusal for the first fault of its layers
+-- the answer to a check of a task is a line: that it is layered, or the refusal for the first fault
+-- of its layers
 abbrev pub CheckAnswer : Parts → Output → Type 0
 CheckAnswer p output = layers_verdict (first_fault (layer_checks p)) ≡ Some output
 
 -- ---- its mutex groups
 
--- the mutex groups of a task are answered by a line for each, with the joint verdict on it
+-- the answer about the mutex groups of a task is a line for each, with the joint verdict on it
 abbrev pub GroupsAnswer : Parts → Output → Type 0
 GroupsAnswer p output = (verdicts : List Verdict)
     × AreJointVerdicts p verdicts
     × (output ≡ record { text = text (verdict_lines verdicts); status = groups_status verdicts })
 
--- so those of a layered task; another is refused for the first fault of its layers
+-- this is the answer about a layered task; another task is refused for the first fault of its
+-- layers
 abbrev pub LayeredGroupsAnswer : Parts → Option LayerFault → Output → Type 0
 LayeredGroupsAnswer p (Some fault) output = layers_refusal fault ≡ Some output
 LayeredGroupsAnswer p None output = GroupsAnswer p output
@@ -51,16 +53,16 @@ MutexAnswer p output = LayeredGroupsAnswer p (first_fault (layer_checks p)) outp
 
 -- ---- whether a plan solves it
 
--- what is said of a valid plan: how many steps it has, and its cost
+-- the answer about a valid plan: how many steps it has, and its cost
 abbrev pub valid_answer : PlanParts → Output
 valid_answer plan = record { text = valid_line (length plan.steps) plan.cost; status = Yes }
 
--- what is said of a plan that says this cost and has this fault; of want of memory nothing
+-- the answer about a plan with this cost and this fault; there is none for refused memory
 abbrev pub invalid_answer : ℕ → PlanFault → Option Output
 invalid_answer cost fault =
     option_map (λ words. record { text = invalid_line words; status = No }) (fault_words cost fault)
 
--- a plan is answered by whether it is valid for the task: that it is, or else its fault
+-- the answer about a plan: that it is valid for the task, or else its fault
 abbrev pub VerdictAnswer : Parts → PlanParts → Output → Type 0
 VerdictAnswer p plan output =
     (((operators : List ℕ) × IsValid p plan operators) × (output ≡ valid_answer plan))

@@ -5,7 +5,7 @@ use Rattle.sas_groups.specs.declared.verdict.Verdict.TheVariants.{Exclusive, Der
 use Rattle.sas_output.specs.declared.ending.Status.{Status}
 use Rattle.sas_output.specs.declared.ending.Status.TheVariants.{Yes, No}
 
--- what is said of a group
+-- the words for the verdict on a group
 abbrev pub verdict_words : Verdict → List ℕ
 verdict_words Exclusive = codes "exclusive"
 verdict_words Derived = codes "derived"

@@ -8,7 +8,7 @@ use Rattle.sas_meaning.specs.declared.layered.LayerFault.TheVariants.{TwoValues,
 abbrev pub part_words : List ℕ → ℕ → List ℕ → List ℕ
 part_words part place what = part ++ codes " " ++ decimal place ++ codes ": " ++ what
 
--- the words for a fault of a task's layers; want of memory is no fault of the task
+-- the words for a fault of a task's layers; refused memory is no fault of the task
 abbrev pub layer_words : LayerFault → Option (List ℕ)
 layer_words (EffectOnDerived operator effect) =
     Some (part_words (codes "operator") operator (codes "effect on derived variable"))

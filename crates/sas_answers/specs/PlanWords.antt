@@ -21,7 +21,7 @@ goal_words index = codes "goal fact " ++ decimal index ++ codes " not reached"
 abbrev pub sum_words : ℕ → ℕ → List ℕ
 sum_words sum cost = codes "cost is " ++ decimal sum ++ codes ", not " ++ decimal cost
 
--- the words for a fault of a plan that says this cost; want of memory is no fault of the plan
+-- the words for a fault of a plan with this cost; refused memory is no fault of the plan
 abbrev pub fault_words : ℕ → PlanFault → Option (List ℕ)
 fault_words cost (NoOperator step) = Some (step_words step (codes "no operator of that name"))
 fault_words cost (NotApplicable step) = Some (step_words step (codes "not applicable"))
@@ -30,6 +30,6 @@ fault_words cost (GoalMissed index) = Some (goal_words index)
 fault_words cost (CostDiffers sum) = Some (sum_words sum cost)
 fault_words cost Memory = None
 
--- the line that says why a plan isn't valid
+-- the line that reports why a plan isn't valid
 abbrev pub invalid_line : List ℕ → List ℕ
 invalid_line words = codes "plan invalid: " ++ words ++ codes "\n"

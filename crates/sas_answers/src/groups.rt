@@ -14,7 +14,7 @@ use sas_mutex::{Verdict, check_groups};
 use sas_output::{Status, Told};
 use std::alloc::{AllocError, Global};
 
-/// The answer about the mutex groups of a task.
+/// Returns the answer about the mutex groups of a task.
 pub fn groups_answer(alloc: Global, task: FlatTask) -> Result<Told, AllocError>
     ensures { IfOk result (λ a. MutexAnswer task (output_told a)) }
 {
@@ -31,7 +31,7 @@ pub fn groups_answer(alloc: Global, task: FlatTask) -> Result<Told, AllocError>
     }
 }
 
-/// The answer about the mutex groups of a layered task.
+/// Returns the answer about the mutex groups of a layered task.
 fn verdicts_answer(alloc: Global, layered: &Layered<FlatTask>) -> Result<Told, AllocError>
     ensures { IfOk result (λ a. GroupsAnswer layered.now (output_told a)) }
 {
@@ -42,7 +42,7 @@ fn verdicts_answer(alloc: Global, layered: &Layered<FlatTask>) -> Result<Told, A
     })
 }
 
-/// The lines of the verdicts, each ended by LF.
+/// Returns the lines of the verdicts, each ended by LF.
 fn groups_text(alloc: Global, verdicts: &[Verdict]) -> Result<Vec<u8>, AllocError>
     ensures { IfOk result (λ t. t.items ≡ text (verdict_lines verdicts.now)) }
 {
@@ -81,7 +81,7 @@ fn push_broken(out: &mut Vec<u8>, operator: u32) -> Result<(), AllocError>
     Ok(())
 }
 
-/// Yes if all groups are exclusive.
+/// Returns `Yes` if all groups are exclusive, else `No`.
 fn groups_status(verdicts: &[Verdict]) -> Status
     ensures { result ≡ spec.groups_status verdicts.now }
 {

@@ -10,7 +10,7 @@ use sas_meaning::{LayerFault, Layered};
 use sas_output::{Status, Told};
 use std::alloc::{AllocError, Global};
 
-/// The answer about the layers of a task.
+/// Returns the answer about the layers of a task.
 pub fn layers_answer(alloc: Global, task: FlatTask) -> Result<Told, AllocError>
     ensures { IfOk result (λ a. CheckAnswer task (output_told a)) }
 {
@@ -26,7 +26,7 @@ pub fn layers_answer(alloc: Global, task: FlatTask) -> Result<Told, AllocError>
     }
 }
 
-/// The answer about a task that is layered.
+/// Returns the answer about a task that is layered.
 fn layered_answer(alloc: Global) -> Result<Told, AllocError>
     ensures { IfOk result (λ a. layers_verdict None ≡ Some (output_told a)) }
 {
@@ -36,7 +36,7 @@ fn layered_answer(alloc: Global) -> Result<Told, AllocError>
     })
 }
 
-/// The refusal of a task for a fault of its layers.
+/// Returns the refusal of a task for a fault of its layers. For `Memory` it returns an `Err`.
 pub fn refuse_layers(alloc: Global, fault: LayerFault) -> Result<Told, AllocError>
     ensures { IfOk result (λ a. layers_refusal fault ≡ Some (output_told a)) }
 {
@@ -46,7 +46,7 @@ pub fn refuse_layers(alloc: Global, fault: LayerFault) -> Result<Told, AllocErro
     })
 }
 
-/// The line that refuses a task for a fault of its layers.
+/// Returns the line that refuses a task for a fault of its layers.
 fn layers_text(alloc: Global, fault: LayerFault) -> Result<Vec<u8>, AllocError>
     ensures { IfOk result (λ t. option_map layers_line (layer_words fault) ≡ Some t.items) }
 {
@@ -64,7 +64,7 @@ fn layers_text(alloc: Global, fault: LayerFault) -> Result<Vec<u8>, AllocError>
     }
 }
 
-/// The line that refuses a task for what is wrong with this part of it.
+/// Returns the line that refuses a task for a fault of this part of it.
 fn part_text(alloc: Global, part: &str, place: u32, what: &str) -> Result<Vec<u8>, AllocError>
     ensures { IfOk result (λ t. t.items ≡ layers_line (part_words part.now place what.now)) }
 {

@@ -1,4 +1,4 @@
-//! What is said of a task or a plan that is at hand. It reads no file.
+//! The answers about a task or a plan that is at hand. No file is read.
 #![tactic(auto)]
 
 mod groups;

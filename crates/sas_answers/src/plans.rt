@@ -16,7 +16,7 @@ use sas_output::{Status, Told};
 use sas_run::{PlanFault, Runner, Valid};
 use std::alloc::{AllocError, Global};
 
-/// The answer about whether the plan is valid.
+/// Returns the answer about whether the plan is valid.
 pub fn verdict_answer(
     alloc: Global,
     layered: &Layered<FlatTask>,
@@ -33,7 +33,7 @@ pub fn verdict_answer(
     }
 }
 
-/// Whether the plan is valid, by an evaluator that counts.
+/// Checks whether the plan is valid, with an evaluator that counts open conditions.
 fn check_plan(
     alloc: Global,
     layered: &Layered<FlatTask>,
@@ -53,7 +53,7 @@ fn check_plan(
     verdict
 }
 
-/// The answer about a plan that says this cost and has this fault.
+/// Returns the answer about a plan with this cost and this fault.
 fn refuse_plan(alloc: Global, cost: u64, fault: PlanFault) -> Result<Told, AllocError>
     ensures { IfOk result (λ a. invalid_answer cost fault ≡ Some (output_told a)) }
 {
@@ -63,7 +63,7 @@ fn refuse_plan(alloc: Global, cost: u64, fault: PlanFault) -> Result<Told, Alloc
     })
 }
 
-/// The line of a valid plan.
+/// Returns the line of a valid plan.
 fn valid_text(alloc: Global, steps: usize, cost: u64) -> Result<Vec<u8>, AllocError>
     ensures { IfOk result (λ t. t.items ≡ valid_line steps cost) }
 {
@@ -75,7 +75,7 @@ fn valid_text(alloc: Global, steps: usize, cost: u64) -> Result<Vec<u8>, AllocEr
     Ok(text)
 }
 
-/// The line that says why a plan that says this cost isn't valid.
+/// Returns the line that reports why a plan with this cost isn't valid.
 fn fault_text(alloc: Global, cost: u64, fault: PlanFault) -> Result<Vec<u8>, AllocError>
     ensures { IfOk result (λ t. option_map invalid_line (fault_words cost fault) ≡ Some t.items) }
 {
@@ -89,7 +89,7 @@ fn fault_text(alloc: Global, cost: u64, fault: PlanFault) -> Result<Vec<u8>, All
     }
 }
 
-/// The line that says what is wrong with this step.
+/// Returns the line that reports the fault of this step.
 fn step_text(alloc: Global, step: usize, what: &str) -> Result<Vec<u8>, AllocError>
     ensures { IfOk result (λ t. t.items ≡ invalid_line (step_words step what.now)) }
 {
@@ -100,7 +100,7 @@ fn step_text(alloc: Global, step: usize, what: &str) -> Result<Vec<u8>, AllocErr
     Ok(text)
 }
 
-/// The line that says which fact of the goal isn't reached.
+/// Returns the line that reports which fact of the goal isn't reached.
 fn goal_text(alloc: Global, index: u32) -> Result<Vec<u8>, AllocError>
     ensures { IfOk result (λ t. t.items ≡ invalid_line (goal_words index)) }
 {
@@ -111,7 +111,7 @@ fn goal_text(alloc: Global, index: u32) -> Result<Vec<u8>, AllocError>
     Ok(text)
 }
 
-/// The line that says what the operators cost, and what the plan says.
+/// Returns the line that reports the sum of the operators' costs, and the plan's cost.
 fn cost_text(alloc: Global, sum: u128, cost: u64) -> Result<Vec<u8>, AllocError>
     ensures { IfOk result (λ t. t.items ≡ invalid_line (sum_words sum cost)) }
 {

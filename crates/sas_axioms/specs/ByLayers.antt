@@ -1,4 +1,4 @@
--- What settling one layer after another says of each.
+-- What settling one layer after another does to each layer.
 use Rattle.std.specs.Prelude.{ℕ, ◌<◌, ◌≤◌, List, All}
 use Rattle.sas_core.specs.declared.parts.Rule.{Rule}
 use Rattle.sas_core.specs.declared.parts.Parts.{Parts}

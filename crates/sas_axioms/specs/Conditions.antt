@@ -1,5 +1,5 @@
--- The conditions of the rules that can fire: an index of all, which variables they ask about,
--- and how many are open.
+-- The conditions of the rules that can fire: an index of all, which variables they are on, and how
+-- many are open.
 use Rattle.std.specs.Prelude.{◌≡◌, ℕ, ◌+◌, ◌<◌, ◌==◌, if◌then◌else◌, List, [], ◌∷◌, length, All, Contains, slice_index}
 use Rattle.sas_core.specs.declared.parts.Fact.{Fact}
 use Rattle.sas_core.specs.declared.parts.Parts.{Parts}
@@ -26,13 +26,13 @@ abbrev pub entries : ℕ → List Fact → List (Entry Waiting)
 entries rule [] = []
 entries rule (c ∷ cs) = entry_of c rule ∷ entries rule cs
 
--- each rule that can fire waits for a fact as often as its conditions have it
+-- each rule that can fire waits for a fact as often as its conditions contain it
 pub record AreAllConditions (p : Parts) (es : List (Entry Waiting)) : Type 0 where
   pub only : All (IsCondition p) es
   pub each : (layer var value rule : ℕ) → IsRuleOn p layer rule
       → waits rule var value es ≡ asking var value (rule_at p rule).conditions
 
--- under each variable each rule that can fire waits for a value as often as its conditions ask for
+-- under each variable each rule that can fire waits for a value as often as its conditions require
 -- it
 pub record IsFullIndex (p : Parts) (index : List (List Waiting)) : Type 0 where
   pub one_each : length index ≡ length p.variables
@@ -46,13 +46,13 @@ abbrev pub IsAsked : Parts → ℕ → Type 0
 IsAsked p var = (layer rule : ℕ) × (c : Fact)
     × IsRuleOn p layer rule × Contains (rule_at p rule).conditions c × (c.var ≡ var)
 
--- the basic variables that conditions ask about, each at least once
+-- the basic variables that conditions are on, each at least once
 pub record AreAskedBasic (p : Parts) (variables : List ℕ) : Type 0 where
   pub basic : All (IsBasic p) variables
   pub exist : All (λ var. var < length p.variables) variables
   pub each : (var : ℕ) → IsBasic p var → IsAsked p var → Contains variables var
 
--- the basic variables that conditions ask about have the same values
+-- the basic variables that conditions are on have the same values
 abbrev pub SameAsked : Parts → List ℕ → List ℕ → Type 0
 SameAsked p s s' = (var : ℕ) → IsBasic p var → IsAsked p var
     → slice_index s var ≡ slice_index s' var

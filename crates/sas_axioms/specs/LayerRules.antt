@@ -19,7 +19,7 @@ pub record AreFiringRules (p : Parts) (rules : List LayerRule) : Type 0 where
   pub each : (layer rule : ℕ) → IsRuleOn p layer rule
       → Contains rules (record { layer = layer; rule = rule })
 
--- in ascending order of their layers
+-- the rules that can fire, in ascending order of their layers
 pub record AreLayerRules (p : Parts) (rules : List LayerRule) : Type 0 where
   pub firing : AreFiringRules p rules
   pub ascending : IsNonDecreasingBy (λ (r : LayerRule). r.layer) rules
@@ -38,7 +38,7 @@ pub record IsLayerSpan (rules : List LayerRule) (start layer end : ℕ) : Type 0
   pub first : (d : LayerRule) → (slice_index_or rules start d).layer ≡ layer
   pub ends : IsLayerEnd rules start layer end
 
--- these are the layers of the rules from one place to another, one after the other
+-- these are the layers of the rules from one place to another, in order
 abbrev pub AreSpans : List LayerRule → ℕ → List LayerSpan → ℕ → Type 0
 AreSpans rules start [] end = start ≡ end
 AreSpans rules start (span ∷ spans) end =

@@ -1,4 +1,4 @@
--- What the public clauses cite.
+-- The modules that public contracts cite.
 pub use Rattle.sas_meaning.specs.States
 pub use Rattle.sas_meaning.specs.Layers
 pub use Rattle.sas_meaning.specs.Settled

@@ -14,7 +14,7 @@ abbrev pub StaysOn : Parts → ℕ → ℕ → Type 0
 StaysOn p layer rule =
     All (λ (c : Fact). (its : ℕ) → IsOnLayer p its c.var → its ≡ layer) (rule_at p rule).conditions
 
--- of each rule whether it looks below its layer
+-- for each rule, whether it looks below its layer
 pub record AreLooks (p : Parts) (below : List Bool) : Type 0 where
   pub one_each : length below ≡ length p.rules
   pub each : (layer rule : ℕ) (d : Bool) → IsRuleOn p layer rule

@@ -8,13 +8,13 @@ use Rattle.sas_meaning.specs.Layers.{IsOnLayer}
 use Rattle.sas_axioms.specs.declared.waiting.Waiting.{Waiting}
 use Rattle.sas_axioms.specs.LayerRules.{IsRuleOn}
 
--- how often the conditions have this fact
+-- how often the conditions contain this fact
 abbrev pub asking : ℕ → ℕ → List Fact → ℕ
 asking var value [] = 0
 asking var value (c ∷ cs) =
     (if (c.var == var) && (c.value == value) then 1 else 0) + asking var value cs
 
--- the rule waits for the condition: under its variable, for its value
+-- the entry of a condition of the rule: the rule waits for its value, under its variable
 abbrev pub entry_of : Fact → ℕ → Entry Waiting
 entry_of condition rule =
     record { key = condition.var; item = record { value = condition.value; rule = rule } }
@@ -30,13 +30,13 @@ waits rule var value (e ∷ es) =
 abbrev pub IsOfOneLayer : Parts → ℕ → Waiting → Type 0
 IsOfOneLayer p var w = (layer : ℕ) × IsRuleOn p layer w.rule × IsOnLayer p layer var
 
--- each rule that can fire waits for a fact on its layer as often as its conditions have it
+-- each rule that can fire waits for a fact on its layer as often as its conditions contain it
 pub record IsWaiting (p : Parts) (es : List (Entry Waiting)) : Type 0 where
   pub only : All (λ (e : Entry Waiting). IsOfOneLayer p e.key e.item) es
   pub each : (layer var value rule : ℕ) → IsOnLayer p layer var → IsRuleOn p layer rule
       → waits rule var value es ≡ asking var value (rule_at p rule).conditions
 
--- what the rule on the layer waits for stands behind the entries so far
+-- the entries of the rule on the layer are added behind the entries so far
 pub record AddsWaiting (p : Parts) (layer rule : ℕ) (es es' : List (Entry Waiting)) : Type 0 where
   pub only : All (λ (e : Entry Waiting). IsOfOneLayer p e.key e.item) es
       → All (λ (e : Entry Waiting). IsOfOneLayer p e.key e.item) es'
@@ -51,17 +51,17 @@ abbrev pub released : ℕ → List Waiting → List ℕ
 released value [] = []
 released value (w ∷ ws) = if w.value == value then w.rule ∷ released value ws else released value ws
 
--- how often a number stands in a list
+-- how often a number occurs in a list
 abbrev pub occurrences : ℕ → List ℕ → ℕ
 occurrences n [] = 0
 occurrences n (x ∷ xs) = (if x == n then 1 else 0) + occurrences n xs
 
--- what waits for values of the variable
+-- the entries that wait for values of the variable
 abbrev pub waiting_at : List (List Waiting) → ℕ → List Waiting
 waiting_at index var = slice_index_or index var []
 
 -- under each derived variable each rule of its layer that can fire waits for a value as often as
--- its conditions ask for it
+-- its conditions require it
 pub record IsIndex (p : Parts) (index : List (List Waiting)) : Type 0 where
   pub one_each : length index ≡ length p.variables
   pub only : (layer var : ℕ) → IsOnLayer p layer var

@@ -1,11 +1,11 @@
-// From a layer to all layers: what settles a state, settles one layer after another.
+// From one layer to all layers: a state is settled by settling one layer after another.
 ghost use Rattle.sas_core.specs.Variables.{IsState};
 ghost use Rattle.sas_meaning.specs.Settled.{Settles};
 
 use sas_core::Grounded;
 use sas_meaning::{Layered, State};
 
-/// What settles the layers of a task in turn, from the lowest one on.
+/// An evaluator that settles the layers of a task in turn, from the lowest one on.
 pub trait ByLayers<T: Grounded> {
     ghost use Rattle.std.specs.Prelude.{◌≡◌, ◌+◌, ◌≤◌, ℕ, List, IfSome, IfNone};
     ghost use Rattle.sas_core.specs.declared.parts.Parts.{Parts};
@@ -14,13 +14,13 @@ pub trait ByLayers<T: Grounded> {
     ghost use Rattle.sas_meaning.specs.Forced.{AtDefault};
     ghost use Rattle.sas_axioms.specs.ByLayers.{IsIdle, SettlesNext};
 
-    /// It can settle states of this task.
+    /// The evaluator can settle states of this task.
     ghost ready: { Self → Parts → Type 0 };
 
-    /// And it can go on with a state of these values, of which the layers from this one on are left.
+    /// And it can go on with a state of these values, where the layers from this one on are still to be settled.
     ghost stands: { Self → Parts → ℕ → List ℕ → Type 0 };
 
-    /// Gives the derived variables their default.
+    /// Sets the derived variables to their default.
     fn begin(&mut self, layered: &Layered<T>, state: &mut State)
         requires ready { ready self.old layered.now }
         requires state { IsState layered.now.variables state.old }
@@ -29,8 +29,8 @@ pub trait ByLayers<T: Grounded> {
         ensures basic { SameBasic layered.now state.old state.new }
         ensures default { (layer : ℕ) → AtDefault layered.now layer state.new };
 
-    /// Settles one of the layers that are left, and says which it is. No rule can fire on those that it passes over, nor, where
-    /// it settles none, on any that is left.
+    /// Settles one of the layers that are left, and returns which one. No rule can fire on the layers that it passes over.
+    /// Where it settles none, no rule can fire on any layer that is left.
     fn settle_next(&mut self, layered: &Layered<T>, from: u64, state: &mut State) -> Option<u32>
         requires stands { stands self.old layered.now from state.old }
         requires state { IsState layered.now.variables state.old }

@@ -11,7 +11,7 @@ use sas_lists::{Entry, Lists};
 use sas_meaning::Layered;
 use std::alloc::{AllocError, Global};
 
-/// The index of all conditions of the rules that can fire.
+/// Returns the index of all conditions of the rules that can fire.
 pub fn index_of_all<T: Grounded>(
     alloc: Global,
     task: &Layered<T>,
@@ -22,7 +22,7 @@ pub fn index_of_all<T: Grounded>(
     Lists::by_key(alloc, waiting.as_slice(), task.variables() as usize)
 }
 
-/// The basic variables that conditions of rules that can fire are on.
+/// Returns the basic variables that conditions of rules that can fire are on.
 pub fn asked_variables<T: Grounded>(
     alloc: Global,
     task: &Layered<T>,
@@ -40,7 +40,7 @@ pub fn asked_variables<T: Grounded>(
     Ok(variables)
 }
 
-/// The conditions of the rules that can fire, rule after rule.
+/// Returns the conditions of the rules that can fire, rule after rule.
 fn all_conditions<T: Grounded>(
     alloc: Global,
     task: &Layered<T>,

@@ -25,7 +25,7 @@ pub struct Counted {
 }
 
 impl Counted {
-    /// The values of the state section, and what they leave open.
+    /// Returns the values of the state section, and how many conditions of each rule they leave open.
     pub fn new<T: Grounded>(alloc: Global, task: &Layered<T>) -> Result<Counted, AllocError>
         ensures values { IfOk result (λ counted. counted.values ≡ task.now.init) }
         ensures counts { IfOk result (λ counted. IsCounted task.now counted) }
@@ -41,7 +41,7 @@ impl Counted {
         })
     }
 
-    /// Counts anew the rules that wait for the fact's variable, which has the fact's value from now on.
+    /// Sets the fact's variable to the fact's value, and updates the counters of the rules that wait for a value of it.
     pub fn recount(&mut self, fact: Fact)
         requires var { fact.var < length self.old.values }
         requires counts { (p : Parts) × IsCounted p self.old }
@@ -57,7 +57,7 @@ impl Counted {
     }
 }
 
-/// How many conditions of each rule these values leave open.
+/// Returns how many conditions of each rule these values leave open.
 fn open_counters<T: Grounded>(
     alloc: Global,
     task: &Layered<T>,
@@ -75,8 +75,8 @@ fn open_counters<T: Grounded>(
     Ok(counters)
 }
 
-/// Where a variable's value changes, one condition more is open in each rule that waits for the former value, and one less
-/// in each that waits for the new one.
+/// Updates the counters where a variable's value changes: one condition more is open in each rule that waits for the former
+/// value, and one less in each rule that waits for the new value.
 fn count_change(waiting: &[Waiting], former: u32, value: u32, counters: &mut Items<u32>)
     requires differ { former ≢ value }
     requires exist { All (λ (w : Waiting). w.rule < length counters.old) waiting.now }

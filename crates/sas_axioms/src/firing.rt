@@ -25,13 +25,13 @@ use std::alloc::{AllocError, Global};
 pub struct Work {
     /// The layer.
     pub layer: u32,
-    /// How many conditions of each of its rules don't hold yet.
+    /// For each of its rules, how many conditions don't hold yet.
     pub counters: Items<u32>,
-    /// Variables that were given their rules' value, while the rules that wait for it don't know it yet.
+    /// Variables that were set to their rules' value, and whose waiting rules haven't been counted down yet.
     pub stack: Vec<u32>,
 }
 
-/// What settles the layers of a task, one at a time.
+/// An evaluator that settles the layers of a task, one at a time.
 #[derive(Drop)]
 pub struct Firing {
     /// Which rules wait for which facts.
@@ -43,7 +43,7 @@ pub struct Firing {
 }
 
 impl Firing {
-    /// What settles the layers of the task. All that it needs is reserved here.
+    /// Returns an evaluator for the task. All memory that it needs is reserved here.
     pub fn new<T: Grounded>(alloc: Global, task: &Layered<T>) -> Result<Firing, AllocError>
         ensures { IfOk result (λ firing. IsPrepared task.now firing) }
     {
@@ -59,7 +59,7 @@ impl Firing {
         })
     }
 
-    /// Settles a layer on which all variables have their default. These are its rules that can fire.
+    /// Settles a layer on which all variables have their default. `rules` are its rules that can fire.
     pub fn settle_layer<T: Grounded>(
         &mut self,
         task: &Layered<T>,
@@ -109,7 +109,7 @@ fn count_conditions<T: Grounded>(
     }
 }
 
-/// How many of the conditions don't hold.
+/// Returns how many of the conditions don't hold.
 pub fn open_of(state: &State, conditions: &[Fact]) -> u32
     requires exist { All (λ (c : Fact). c.var < length state.now) conditions.now }
     requires few { length conditions.now < 2 ^ 31 }
@@ -148,7 +148,7 @@ fn fire_ready<T: Grounded>(
     }
 }
 
-/// Gives the rule's variable its value, and notes the variable if the value is new.
+/// Sets the rule's variable to its new value, and puts the variable on the stack if that changes its value.
 fn fire<T: Grounded>(task: &Layered<T>, rule: u32, work: &mut Work, state: &mut State)
     requires rule { IsRuleOn task.now work.old.layer rule }
     requires room { HasRoom task.now work.old }
@@ -168,7 +168,7 @@ fn fire<T: Grounded>(task: &Layered<T>, rule: u32, work: &mut Work, state: &mut 
     }
 }
 
-/// Releases what waits for the variables on the stack, until it is empty.
+/// Counts down the rules that wait for the variables on the stack, until it is empty.
 fn empty_stack<T: Grounded>(
     task: &Layered<T>,
     index: &Lists<Waiting>,

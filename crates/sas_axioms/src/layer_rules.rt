@@ -13,7 +13,7 @@ pub struct LayerRule {
     pub rule: u32,
 }
 
-/// The rules that can fire, in ascending order of their layers.
+/// Returns the rules that can fire, in ascending order of their layers.
 pub fn ranked_rules<T: Grounded>(
     alloc: Global,
     task: &Layered<T>,
@@ -25,7 +25,7 @@ pub fn ranked_rules<T: Grounded>(
     Ok(rules)
 }
 
-/// The rules that can fire, in the order of the task.
+/// Returns the rules that can fire, in the order of the task.
 fn firing_rules<T: Grounded>(alloc: Global, task: &Layered<T>) -> Result<Vec<LayerRule>, AllocError>
     ensures { IfOk result (λ rules. AreFiringRules task.now rules.items) }
 {
@@ -38,7 +38,7 @@ fn firing_rules<T: Grounded>(alloc: Global, task: &Layered<T>) -> Result<Vec<Lay
     Ok(rules)
 }
 
-/// The layer of the rule's variable, if the rule can fire.
+/// Returns the layer of the rule's variable, if the rule can fire.
 pub fn firing_layer<T: Grounded>(task: &Layered<T>, rule: u32) -> Option<u32>
     requires rule { rule < length task.now.rules }
     ensures some { IfSome result (λ layer. IsRuleOn task.now layer rule) }
@@ -60,7 +60,7 @@ pub struct LayerSpan {
     pub end: usize,
 }
 
-/// The layer whose rules begin at this place.
+/// Returns the layer whose rules begin at this place, if there is a rule at it.
 pub fn layer_at(rules: &[LayerRule], start: usize) -> Option<LayerSpan>
     ensures some { IfSome result (λ span. IsLayerSpan rules.now start span.layer span.end) }
     ensures none { IfNone result (length rules.now ≤ start) }
@@ -74,7 +74,7 @@ pub fn layer_at(rules: &[LayerRule], start: usize) -> Option<LayerSpan>
     }
 }
 
-/// Where the rules of the layer end that begin at this place.
+/// Returns where the rules of the layer end that begin at this place.
 fn layer_end(rules: &[LayerRule], start: usize, layer: u32) -> usize
     requires { start ≤ length rules.now }
     ensures { IsLayerEnd rules.now start layer result }
@@ -86,7 +86,7 @@ fn layer_end(rules: &[LayerRule], start: usize, layer: u32) -> usize
     end
 }
 
-/// The layers of the rules, from the lowest one on.
+/// Returns the layers of the rules, from the lowest one on.
 pub fn spans_of(alloc: Global, rules: &[LayerRule]) -> Result<Vec<LayerSpan>, AllocError>
     ensures { IfOk result (λ spans. AreSpans rules.now 0 spans.items (length rules.now)) }
 {

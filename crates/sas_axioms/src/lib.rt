@@ -1,4 +1,5 @@
-//! Layers, states, and what settles them. The definitions stand in `sas_meaning`, whose calls this crate passes on.
+//! Layers, states, and the evaluators that settle states. The definitions are in `sas_meaning`. This crate re-exports its
+//! layered tasks, states, evaluator trait and laws.
 #![tactic(auto)]
 
 mod by_layers;

@@ -16,21 +16,21 @@ use sas_meaning::{Layered, State};
 use std::alloc::{AllocError, Global};
 
 /// How many conditions of each rule are open while all derived variables have their default. The variables of a layer have
-/// it where the layer begins, so its rules begin with these counts, but for those that look below: that ask about a lower
-/// layer. The counts depend on basic variables alone, of which few change between two steps of a plan, and are counted
-/// anew only where one did.
+/// their default where the layer begins, so its rules begin with these counts. The exception is the rules that look below:
+/// those with a condition on a lower layer. The counts depend on basic variables alone, of which few change between two steps
+/// of a plan. They are counted anew only where one did.
 #[derive(Drop)]
 pub struct Resting {
     /// The basic variables that conditions of rules that can fire are on.
     asked: Vec<u32>,
-    /// The counts, by the values that the asked variables had last and the default of each derived one.
+    /// The counts, by the last values of the asked variables and the default of each derived variable.
     counted: Counted,
-    /// Of each rule whether it has a condition on a derived variable of a lower layer.
+    /// For each rule, whether it has a condition on a derived variable of a lower layer.
     looks_below: Vec<bool>,
 }
 
 impl Resting {
-    /// The counts in the state of the state section.
+    /// Returns the counts for the values of the state section.
     pub fn new<T: Grounded>(alloc: Global, task: &Layered<T>) -> Result<Resting, AllocError>
         ensures { IfOk result (λ r. IsResting task.now r) }
     {
@@ -43,7 +43,7 @@ impl Resting {
         })
     }
 
-    /// Takes over the state's values of the basic variables that conditions ask about, and counts what changed.
+    /// Takes over the state's values of the basic variables that conditions are on, and updates the counts.
     pub fn follow<T: Grounded>(&mut self, task: &Layered<T>, state: &State)
         requires resting { IsResting task.now self.old }
         requires state { IsState task.now.variables state.now }
@@ -53,8 +53,8 @@ impl Resting {
         follow_asked(task, self.asked.as_slice(), state, &mut self.counted);
     }
 
-    /// How many conditions of the rule are open where its layer begins. Those of a rule that looks below are counted, since
-    /// lower layers have been settled by then.
+    /// Returns how many conditions of the rule are open where its layer begins. For a rule that looks below they are counted
+    /// here, since lower layers have been settled by then.
     pub fn count_of<T: Grounded>(
         &self,
         task: &Layered<T>,
@@ -80,7 +80,7 @@ impl Resting {
     }
 }
 
-/// Takes over the state's values of these variables, and counts what changed.
+/// Takes over the state's values of these variables, and updates the counts.
 fn follow_asked<T: Grounded>(task: &Layered<T>, asked: &[u32], state: &State, counted: &mut Counted)
     requires asked { AreAskedBasic task.now asked.now }
     requires state { IsState task.now.variables state.now }
@@ -98,7 +98,7 @@ fn follow_asked<T: Grounded>(task: &Layered<T>, asked: &[u32], state: &State, co
     }
 }
 
-/// Of each rule whether it looks below its layer.
+/// Returns, for each rule, whether it looks below its layer.
 fn looks_of<T: Grounded>(alloc: Global, task: &Layered<T>) -> Result<Vec<bool>, AllocError>
     ensures { IfOk result (λ below. AreLooks task.now below.items) }
 {
@@ -113,7 +113,8 @@ fn looks_of<T: Grounded>(alloc: Global, task: &Layered<T>) -> Result<Vec<bool>, 
     Ok(below)
 }
 
-/// Whether a condition of the rule, which is on this layer, is on a derived variable of another one, which is lower.
+/// Returns whether the rule, which is on this layer, has a condition on a derived variable of another layer, which is then
+/// lower.
 fn looks_below<T: Grounded>(task: &Layered<T>, layer: u32, rule: u32) -> bool
     requires rule { IsRuleOn task.now layer rule }
     ensures yes { IsTrue result → StaysOn task.now layer rule → ⊥ }

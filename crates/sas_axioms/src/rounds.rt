@@ -11,8 +11,8 @@ use crate::by_layers::{ByLayers, settle_by_layers};
 use sas_core::{Fact, Grounded};
 use sas_meaning::{Layered, Settle, State};
 
-/// Settles states of any layered task: goes through the layers that occur, in ascending order, and repeats the rules of a
-/// layer until none changes a value. It takes no memory.
+/// An evaluator that settles states of any layered task. It goes through the layers that occur, in ascending order, and
+/// repeats the rules of a layer until none changes a value. It takes no memory.
 #[derive(Clone, Copy, Debug, PartialEq, Eq)]
 pub struct Rounds;
 
@@ -40,7 +40,7 @@ impl<T: Grounded> ByLayers<T> for Rounds {
     }
 }
 
-/// Gives all derived variables their default.
+/// Sets all derived variables to their default.
 fn set_defaults<T: Grounded>(task: &Layered<T>, state: &mut State)
     requires { IsState task.now.variables state.old }
     ensures state { IsState task.now.variables state.new }
@@ -55,7 +55,7 @@ fn set_defaults<T: Grounded>(task: &Layered<T>, state: &mut State)
     }
 }
 
-/// The lowest layer of a variable from this one on.
+/// Returns the lowest layer of a variable from this one on, if there is one.
 fn next_layer<T: Grounded>(task: &Layered<T>, from: u64) -> Option<u32>
     ensures some { IfSome result (λ n. (from ≤ n) × Occurs task.now n
         × ((m : ℕ) → from ≤ m → Occurs task.now m → n ≤ m)) }
@@ -81,7 +81,7 @@ fn settle_layer<T: Grounded>(task: &Layered<T>, layer: u32, state: &mut State)
     while go_round(task, layer, state) {}
 }
 
-/// Goes once through the rules of a layer, and says whether a value changed.
+/// Goes once through the rules of a layer, and returns whether a value changed.
 fn go_round<T: Grounded>(task: &Layered<T>, layer: u32, state: &mut State) -> bool
     requires state { IsState task.now.variables state.old }
     requires forced { OnlyForced task.now layer state.old }
@@ -108,7 +108,7 @@ fn go_round<T: Grounded>(task: &Layered<T>, layer: u32, state: &mut State) -> bo
     changed
 }
 
-/// Whether the rule is on the layer and is to change its variable's value now.
+/// Returns whether the rule is on the layer and has to change its variable's value now.
 fn changes<T: Grounded>(task: &Layered<T>, layer: u32, state: &State, rule: u32) -> bool
     requires state { IsState task.now.variables state.now }
     requires rule { rule < length task.now.rules }

@@ -9,14 +9,16 @@ use sas_lists::{Entry, Lists};
 use sas_meaning::Layered;
 use std::alloc::{AllocError, Global};
 
-/// A rule that can fire waits for a value of a variable: a condition of it. Under the variable it stands in an index.
+/// A condition of a rule that can fire: the rule waits for this value of a variable. In an index it is stored under the
+/// variable.
 #[derive(Clone, Copy, Debug, PartialEq, Eq)]
 pub struct Waiting {
     pub value: u32,
     pub rule: u32,
 }
 
-/// For each variable which rules wait for its values: the conditions of rules that can fire, on variables of their own layer.
+/// Returns, for each variable, which rules wait for its values: the conditions of rules that can fire, on variables of their
+/// own layer.
 pub fn index_of_own_layers<T: Grounded>(
     alloc: Global,
     task: &Layered<T>,
@@ -27,7 +29,7 @@ pub fn index_of_own_layers<T: Grounded>(
     Lists::by_key(alloc, waiting.as_slice(), task.variables() as usize)
 }
 
-/// What waits, rule after rule.
+/// Returns the entries of the index, rule after rule.
 fn all_waiting<T: Grounded>(
     alloc: Global,
     task: &Layered<T>,
@@ -43,7 +45,7 @@ fn all_waiting<T: Grounded>(
     Ok(waiting)
 }
 
-/// Adds what the rule waits for.
+/// Adds the entries of the rule.
 fn push_waiting<T: Grounded>(
     task: &Layered<T>,
     layer: u32,
@@ -63,7 +65,7 @@ fn push_waiting<T: Grounded>(
     Ok(())
 }
 
-/// What the rule waits for, which has this condition, under the condition's variable.
+/// Returns the entry for this condition of the rule, under the condition's variable.
 pub fn entry_of(condition: Fact, rule: u32) -> Entry<Waiting>
     ensures { result ≡ entry_of condition rule }
 {

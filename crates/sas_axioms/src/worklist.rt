@@ -1,4 +1,4 @@
-// Settling by counters: each rule is looked at when a condition of it comes to hold, and not before.
+// Settling by counters: each rule is looked at when one of its conditions starts to hold, and not before.
 ghost use Rattle.std.specs.Prelude.{ℕ, IfOk};
 ghost use Rattle.sas_core.specs.Variables.{IsState};
 ghost use Rattle.sas_meaning.specs.Settled.{SameBasic};
@@ -12,10 +12,10 @@ use sas_core::{Fact, Grounded};
 use sas_meaning::{Layered, Settle, State};
 use std::alloc::{AllocError, Global};
 
-/// Settles states of one layered task. From one state to the next it keeps the counts that its layers begin with, as far
-/// as these depend on basic variables; any state is settled all the same. All that it needs is reserved by `new`, so
-/// `settle` takes no memory. Its space depends on the numbers of variables, rules and conditions, and not on which layers
-/// there are.
+/// An evaluator that settles states of one layered task. From one state to the next it keeps the counts with which its layers
+/// begin, as far as these depend on basic variables. It settles any state of the task all the same. `new` reserves all memory
+/// that it needs, so `settle` takes no memory. Its space depends on the numbers of variables, rules and conditions, and not
+/// on which layers there are.
 #[derive(Drop)]
 pub struct Worklist {
     /// The derived variables.
@@ -28,12 +28,12 @@ pub struct Worklist {
     next: usize,
     /// Where in `rules` the next layer begins.
     start: usize,
-    /// What settles the layers.
+    /// The evaluator of single layers.
     firing: Firing,
 }
 
 impl Worklist {
-    /// A worklist that is ready for the task.
+    /// Returns a worklist that is ready for the task.
     pub fn new<T: Grounded>(alloc: Global, layered: &Layered<T>) -> Result<Worklist, AllocError>
         ensures { IfOk result (λ w. IsReadyFor layered.now w) }
     {
@@ -89,7 +89,7 @@ impl<T: Grounded> ByLayers<T> for Worklist {
     }
 }
 
-/// The derived variables.
+/// Returns the derived variables.
 pub fn derived_variables<T: Grounded>(
     alloc: Global,
     task: &Layered<T>,
@@ -105,7 +105,7 @@ pub fn derived_variables<T: Grounded>(
     Ok(variables)
 }
 
-/// Gives the derived variables, which these are, their default.
+/// Sets the derived variables, which are `derived`, to their default.
 fn set_defaults<T: Grounded>(task: &Layered<T>, derived: &[u32], state: &mut State)
     requires derived { AreDerived task.now derived.now }
     requires state { IsState task.now.variables state.old }

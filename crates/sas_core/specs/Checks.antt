@@ -1,4 +1,4 @@
--- The rules of a task file as tests in the order of the file, each with the fault that it finds.
+-- The rules of a task file as tests in the order of the file, each with the fault that it reports.
 use Rattle.std.specs.Prelude.{◌≡◌, ℕ, ◌↔◌, ◌==◌, Bool, not, nat_lt, if◌then◌else◌}
 use Rattle.std.specs.Prelude.{List, [], ◌∷◌, ◌++◌, length, zip, flat_map, Option, Some, None}
 use Rattle.std.specs.List.{list_all}
@@ -16,7 +16,7 @@ use Rattle.sas_core.specs.Numbers.{is_number}
 use Rattle.sas_core.specs.Variables.{has_value, fact_exists}
 use Rattle.sas_core.specs.WellRanged.{WellRanged}
 
--- a test of some parts, and what is wrong with them where it fails
+-- a test of some parts, and the fault that it reports where it fails
 pub record Check (F : Type 0) : Type 0 where
   pub passes : Bool
   pub fault : F
@@ -30,8 +30,8 @@ first_fault (check ∷ checks) = if check.passes then first_fault checks else So
 abbrev pub check : {F : Type 0} → Bool → F → List (Check F)
 check passes fault = record { passes = passes; fault = fault } ∷ []
 
--- a list behind its count: the count first, and its fault where it is no number, then each item in
--- turn
+-- a list behind its count: the count first, and its fault where it isn't a number, then each item
+-- in turn
 abbrev pub listed : {F A : Type 0} → F → (A → List (Check F)) → List A → List (Check F)
 listed too_many checks_of items =
     check (is_number (length items)) too_many ++ flat_map checks_of items
@@ -54,8 +54,7 @@ variable_checks v =
 abbrev pub fact_checks : List Variable → Fact → List (Check PartsFault)
 fact_checks variables fact = check (fact_exists variables fact) BadFact
 
--- what an effect or a rule changes: the old value of its variable, if one is asked for, and the new
--- one
+-- what an effect or a rule changes: the old value of its variable, if there is one, and the new one
 abbrev pub change_checks : List Variable → ℕ → Option ℕ → ℕ → List (Check PartsFault)
 change_checks variables var None new = check (has_value variables var new) BadFact
 change_checks variables var (Some old) new =
@@ -97,6 +96,6 @@ checks p =
     ++ listed TooMany (operator_checks p.variables) p.operators
     ++ listed TooMany (rule_checks p.variables) p.rules
 
--- no check fails exactly where the parts are well ranged
+-- the parts are well ranged exactly where no check fails
 abbrev pub ChecksAreTheRules : Type 0
 ChecksAreTheRules = (p : Parts) → (first_fault (checks p) ≡ None) ↔ WellRanged p

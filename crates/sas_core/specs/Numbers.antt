@@ -1,4 +1,4 @@
--- Which numbers may stand in a file.
+-- Which numbers may occur in a file.
 use Rattle.std.specs.Prelude.{ℕ, ◌^◌, ◌<◌, Bool, nat_lt, Option, IfSome}
 
 -- a number is at most 2,147,483,647

@@ -1,11 +1,11 @@
--- Which plans there are.
+-- Which parts are those of a plan.
 use Rattle.std.specs.Prelude.{◌≡◌, ℕ, ◌+◌, List, ◌∷◌, ◌++◌, length}
 use Rattle.std.specs.List.{AllByRecursion}
 use Rattle.sas_core.specs.Names.{IsName}
 use Rattle.sas_core.specs.Numbers.{IsPlanCost}
 use Rattle.sas_core.specs.PlanParts.{PlanParts}
 
--- each step is a name, and the cost is one that a plan file can say
+-- each step is a name, and the cost is one that a plan file can contain
 pub record WellNamed (p : PlanParts) : Type 0 where
   pub steps : AllByRecursion IsName p.steps
   pub cost : IsPlanCost p.cost

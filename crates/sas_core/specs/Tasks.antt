@@ -4,7 +4,7 @@ use Rattle.std.specs.Option.{option_map_or}
 use Rattle.sas_core.specs.declared.parts.Operator.{Operator}
 use Rattle.sas_core.specs.declared.parts.Parts.{Parts}
 
--- under metric 1 an operator costs what its cost line says, under metric 0 it costs 1
+-- under metric 1 the cost of an operator is the number on its cost line, under metric 0 it is 1
 abbrev pub cost_of : Parts → ℕ → ℕ
 cost_of p operator =
     if p.metric then option_map_or (λ (o : Operator). o.cost) (slice_get p.operators operator) 0

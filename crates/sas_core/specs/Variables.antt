@@ -1,5 +1,5 @@
--- The variables of a task, and the facts that they make.
--- A variable is named by its place, counted from 0, and so is a value.
+-- The variables of a task, and facts on them. A variable is named by its place, counted from 0, and
+-- so is a value.
 use Rattle.std.specs.Prelude.{◌≡◌, ℕ, ◌<◌, Bool, nat_lt, List, length}
 use Rattle.std.specs.Prelude.{slice_get, slice_index, Option, None, Some, IsSome, option_and_then}
 use Rattle.std.specs.Option.{option_map_or}

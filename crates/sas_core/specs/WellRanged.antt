@@ -43,7 +43,7 @@ pub record OperatorFits (variables : List Variable) (o : Operator) : Type 0 wher
   -- its cost is a number
   pub cost : IsNumber o.cost
 
--- a rule is like an effect
+-- a rule follows the same rules as an effect
 pub record RuleFits (variables : List Variable) (r : Rule) : Type 0 where
   pub conditions : Listed (FactExists variables) r.conditions
   pub new : HasValue variables r.var r.new

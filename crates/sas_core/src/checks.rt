@@ -1,4 +1,4 @@
-// The rules of a task file, looked at in the order of the file.
+// The rules of a task file, checked in the order of the file.
 #![tactic(auto, using(crate::proofs::FirstFaults::fails_before, crate::proofs::FirstFaults::decides_after))]
 
 ghost use Rattle.std.specs.Prelude.{◌≡◌, ◌==◌, not, length};
@@ -14,26 +14,27 @@ use crate::items::Items;
 use crate::names::is_name;
 use crate::parts::{Effect, Fact, Operator, Parts, Rule, Variable};
 
-/// What is wrong with some parts.
+/// A rule of a task file that some parts break.
 #[derive(Clone, Copy, Debug, PartialEq, Eq)]
 pub enum PartsFault {
     /// There is no variable.
     NoVariable,
-    /// More than 2,147,483,647 of something: the number of them can't be written.
+    /// There are more than 2,147,483,647 of something, so their number can't be written.
     TooMany,
-    /// A name without a byte, or with LF or CR.
+    /// A name is empty, or contains LF or CR.
     BadName,
-    /// A layer or a cost above 2,147,483,647.
+    /// A layer or a cost is above 2,147,483,647.
     BadNumber,
-    /// A variable without a value.
+    /// A variable has no value.
     BadRange,
-    /// A variable or a value that doesn't exist.
+    /// A fact or a change is on a variable that doesn't exist, or has a value that doesn't exist. Or a value of the state
+    /// section isn't in the range of its variable.
     BadFact,
-    /// The state section hasn't one value per variable.
+    /// The state section doesn't have exactly one value for each variable.
     InitLength,
 }
 
-/// What stands in a task file, and is looked at in the order of the file.
+/// A piece of a task file that is checked in the order of the file.
 trait Checked {
     ghost use Rattle.std.specs.Prelude.{◌≡◌, List};
     ghost use Rattle.std.specs.Result.{result_err};
@@ -41,15 +42,15 @@ trait Checked {
     ghost use Rattle.sas_core.specs.declared.parts.Variable.{Variable};
     ghost use Rattle.sas_core.specs.Checks.{Check, first_fault};
 
-    /// The checks of it in a task of these variables, in order.
+    /// Its checks in a task with these variables, in order.
     ghost checks_of: { List Variable → Self → List (Check PartsFault) };
 
-    /// Looks at it, up to the first fault.
+    /// Checks it in order, and returns the first fault.
     fn check_among(&self, variables: &Items<Variable>) -> Result<(), PartsFault>
         ensures { result_err result ≡ first_fault (checks_of variables.now self.now) };
 }
 
-/// Looks at how many items there are, and at each of them.
+/// Checks the number of items, then each item in turn.
 fn check_list<T: Checked>(variables: &Items<Variable>, items: &Items<T>) -> Result<(), PartsFault>
     ensures { result_err result ≡ first_fault
         (listed TooMany (T.checks_of variables.now) items.now) }
@@ -61,7 +62,7 @@ fn check_list<T: Checked>(variables: &Items<Variable>, items: &Items<T>) -> Resu
     Ok(())
 }
 
-/// Looks at the parts in the order of the file, up to the first fault.
+/// Checks the parts in the order of the file, and returns the first fault.
 pub fn check_parts(parts: &Parts) -> Result<(), PartsFault>
     ensures { result_err result ≡ first_fault (checks parts.now) }
 {
@@ -131,7 +132,7 @@ fn check_state(variables: &Items<Variable>, values: &Items<u32>) -> Result<(), P
     check(values_in_range(variables, values), PartsFault::BadFact)
 }
 
-/// Whether each value is in the range of the variable at its place.
+/// Returns whether each value is in the range of the variable at its place.
 fn values_in_range(variables: &Items<Variable>, values: &Items<u32>) -> bool
     ensures { result ≡ values_in_range variables.now values.now }
 {
@@ -168,7 +169,7 @@ impl Checked for Rule {
     }
 }
 
-/// Looks at a variable, the old value that is asked of it, if any, and its new value.
+/// Checks the variable with its old value, if there is one, and then with its new value.
 fn check_change(
     variables: &Items<Variable>,
     var: u32,
@@ -183,7 +184,7 @@ fn check_change(
     check(has_value(variables, var, new), PartsFault::BadFact)
 }
 
-/// Whether the variable exists and has the value.
+/// Returns whether the variable exists and has the value.
 pub fn has_value(variables: &Items<Variable>, var: u32, value: u32) -> bool
     ensures { result ≡ spec.has_value variables.now var value }
 {
@@ -199,7 +200,7 @@ fn check_number(n: u32) -> Result<(), PartsFault>
     check(is_number(n as usize), PartsFault::BadNumber)
 }
 
-/// The fault, unless there is an item.
+/// Returns the fault if there is no item.
 fn check_some<T>(items: &Items<T>, fault: PartsFault) -> Result<(), PartsFault>
     ensures { result_err result ≡ first_fault (check (not (length items.now == 0)) fault) }
 {
@@ -212,14 +213,14 @@ fn check_count<T>(items: &Items<T>) -> Result<(), PartsFault>
     check(is_number(items.len()), PartsFault::TooMany)
 }
 
-/// Whether the number may stand in a file: it is at most 2,147,483,647.
+/// Returns whether the number may occur in a file: whether it is at most 2,147,483,647.
 fn is_number(n: usize) -> bool
     ensures { result ≡ is_number n }
 {
     n <= i32::MAX as usize
 }
 
-/// The fault, unless the test passes.
+/// Returns the fault if the test fails.
 pub fn check<F: Copy>(passes: bool, fault: F) -> Result<(), F>
     ensures { result_err result ≡ first_fault (check passes fault) }
 {

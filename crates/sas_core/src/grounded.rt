@@ -1,12 +1,12 @@
-// What a grounded task says, however it is stored.
+// The contents of a grounded task, however it is stored.
 ghost use Rattle.std.specs.Prelude.{◌≡◌, ◌<◌, length};
 ghost use Rattle.sas_core.specs.Grounded as spec;
 ghost use Rattle.sas_core.specs.WellRanged.{OperatorFits};
 
 use crate::{Effect, Fact, Operator, Rule, Task};
 
-/// What an effect or a rule changes: its variable gets the new value. The old value, if any, is asked of the variable
-/// before.
+/// What an effect or a rule changes: its variable gets the new value. The old value, if there is one, is the value that the
+/// variable is required to have before.
 #[derive(Clone, Copy, Debug, PartialEq, Eq)]
 pub struct Change {
     pub var: u32,
@@ -15,7 +15,7 @@ pub struct Change {
 }
 
 impl Change {
-    /// The fact that it sets.
+    /// Returns the fact that it sets.
     pub fn fact(self) -> Fact
         ensures { result ≡ record { var = self.var; value = self.new } }
     {
@@ -26,8 +26,8 @@ impl Change {
     }
 }
 
-/// A grounded task. All that gives a task meaning asks it through these calls; what it says is the value `says`, the
-/// parts of a task file. Variables, operators, effects, rules and groups are named by their place, counted from 0.
+/// A grounded task. Everything that interprets a task reads it through these calls. The parts of a task file that the task
+/// represents are the value `says`. Variables, operators, effects, rules and groups are named by their place, from 0 on.
 pub trait Grounded {
     ghost use Rattle.std.specs.Prelude.{◌≡◌, ◌<◌, length, slice_index};
     ghost use Rattle.sas_core.specs.declared.parts.Parts.{Parts};
@@ -37,90 +37,90 @@ pub trait Grounded {
     ghost use Rattle.sas_core.specs.Variables.{range_of, layer_of};
     ghost use Rattle.sas_core.specs.WellRanged.{WellRanged};
 
-    /// What it says.
+    /// The parts that the task represents.
     ghost says: { Self → Parts };
 
-    /// How many variables there are. What the task says is well ranged.
+    /// Returns the number of variables. The parts that the task represents are well ranged.
     fn variables(&self) -> u32
         ensures count { result ≡ length (says self.now).variables }
         ensures well_ranged { WellRanged (says self.now) };
 
-    /// How many mutex groups there are.
+    /// Returns the number of mutex groups.
     fn groups(&self) -> u32
         ensures { result ≡ length (says self.now).groups };
 
-    /// How many operators there are.
+    /// Returns the number of operators.
     fn operators(&self) -> u32
         ensures { result ≡ length (says self.now).operators };
 
-    /// How many rules there are.
+    /// Returns the number of rules.
     fn rules(&self) -> u32
         ensures { result ≡ length (says self.now).rules };
 
-    /// How many values the variable has.
+    /// Returns the number of the variable's values.
     fn range(&self, var: u32) -> u32
         requires { var < length (says self.now).variables }
         ensures { result ≡ range_of (says self.now).variables var };
 
-    /// The layer of a derived variable; a basic one has none.
+    /// Returns the layer of a derived variable. A basic variable has none.
     fn layer(&self, var: u32) -> Option<u32>
         requires { var < length (says self.now).variables }
         ensures { result ≡ layer_of (says self.now).variables var };
 
-    /// The variable's value in the state section; that of a derived variable is its default.
+    /// Returns the variable's value in the state section. The value of a derived variable there is its default.
     fn initial_value(&self, var: u32) -> u32
         requires { var < length (says self.now).variables }
         ensures { result ≡ slice_index (says self.now).init var };
 
-    /// The facts of the goal.
+    /// Returns the facts of the goal.
     fn goal(&self) -> &[Fact]
         ensures { result.now ≡ (says self.now).goal };
 
-    /// The facts of the mutex group.
+    /// Returns the facts of the mutex group.
     fn group(&self, group: u32) -> &[Fact]
         requires { group < length (says self.now).groups }
         ensures { result.now ≡ group_at (says self.now) group };
 
-    /// The operator's name.
+    /// Returns the operator's name.
     fn name(&self, operator: u32) -> &[u8]
         requires { operator < length (says self.now).operators }
         ensures { result.now ≡ (operator_at (says self.now) operator).name };
 
-    /// What the operator costs: what its cost line says under metric 1, and 1 under metric 0.
+    /// Returns the operator's cost: the number on its cost line under metric 1, and 1 under metric 0.
     fn cost(&self, operator: u32) -> u32
         requires { operator < length (says self.now).operators }
         ensures { result ≡ cost_of (says self.now) operator };
 
-    /// The operator's prevail conditions.
+    /// Returns the operator's prevail conditions.
     fn prevail(&self, operator: u32) -> &[Fact]
         requires { operator < length (says self.now).operators }
         ensures { result.now ≡ (operator_at (says self.now) operator).prevail };
 
-    /// How many effects the operator has.
+    /// Returns the number of the operator's effects.
     fn effects(&self, operator: u32) -> u32
         requires { operator < length (says self.now).operators }
         ensures { result ≡ length (operator_at (says self.now) operator).effects };
 
-    /// The conditions of the operator's effect.
+    /// Returns the conditions of the operator's effect.
     fn effect_conditions(&self, operator: u32, effect: u32) -> &[Fact]
         requires operator { operator < length (says self.now).operators }
         requires effect { effect < length (operator_at (says self.now) operator).effects }
         ensures { result.now
             ≡ (effect_at (operator_at (says self.now) operator) effect).conditions };
 
-    /// What the operator's effect changes.
+    /// Returns what the operator's effect changes.
     fn effect_change(&self, operator: u32, effect: u32) -> Change
         requires operator { operator < length (says self.now).operators }
         requires effect { effect < length (operator_at (says self.now) operator).effects }
         ensures { result
             ≡ effect_change (effect_at (operator_at (says self.now) operator) effect) };
 
-    /// The conditions of the rule.
+    /// Returns the conditions of the rule.
     fn rule_conditions(&self, rule: u32) -> &[Fact]
         requires { rule < length (says self.now).rules }
         ensures { result.now ≡ (rule_at (says self.now) rule).conditions };
 
-    /// What the rule changes.
+    /// Returns what the rule changes.
     fn rule_change(&self, rule: u32) -> Change
         requires { rule < length (says self.now).rules }
         ensures { result ≡ rule_change (rule_at (says self.now) rule) };

@@ -1,4 +1,4 @@
-// A list whose contracts speak of its items alone.
+// A list whose contracts mention its items alone.
 ghost use Rattle.std.specs.Prelude.{◌≡◌, List, [], ◌∷◌, ◌++◌, ◌<◌, length, slice_set, OnOk, OnErr, IsTrue, ◌↔◌};
 ghost use Rattle.std.specs.Slice.{IsItemAt};
 ghost use Rattle.std.specs.Cmp.Lexicographic.{pointwise, lists_per, lists_equiv};
@@ -6,8 +6,8 @@ ghost use Rattle.std.specs.Cmp.Lexicographic.{pointwise, lists_per, lists_equiv}
 use std::alloc::{AllocError, Global};
 use std::marker::Model;
 
-/// A growing list. In a contract it is the list of its items: two of them are the same if their items are, whatever
-/// room is reserved behind these.
+/// A growing list. In a contract its value is the list of its items. So two lists have the same value if their items are the
+/// same, whatever capacity is reserved behind these.
 #[derive(Debug, Drop)]
 pub struct Items<T> {
     items: Vec<T>,
@@ -19,7 +19,7 @@ impl<T> Model for Items<T> {
     ghost view = { λ a. a.items.items };
 }
 
-/// Two lists are equal if they are as long and their items are equal in pairs.
+/// Two lists are equal if they have the same length and their items are equal in pairs.
 impl<T: PartialEq> PartialEq for Items<T> {
     ghost eq = { pointwise T.eq };
 
@@ -43,7 +43,7 @@ impl<T> From<Vec<T>> for Items<T> {
 }
 
 impl<T> Items<T> {
-    /// An empty list. It takes no memory.
+    /// Returns an empty list. It takes no memory.
     pub fn new(alloc: Global) -> Self
         ensures { result ≡ [] }
     {
@@ -52,14 +52,14 @@ impl<T> Items<T> {
         }
     }
 
-    /// The items of the vector. It takes no memory.
+    /// Returns the list of the vector's items. It takes no memory.
     pub fn from_vec(items: Vec<T>) -> Self
         ensures { result ≡ items.items }
     {
         Items { items }
     }
 
-    /// The vector of the items. It takes no memory.
+    /// Returns the vector of the items. It takes no memory.
     pub fn into_vec(self) -> Vec<T>
         ensures { result.items ≡ self }
     {
@@ -67,28 +67,28 @@ impl<T> Items<T> {
         items
     }
 
-    /// The items in order.
+    /// Returns the items in order.
     pub fn as_slice(&self) -> &[T]
         ensures { result.now ≡ self.now }
     {
         self.items.as_slice()
     }
 
-    /// How many items there are.
+    /// Returns the number of items.
     pub fn len(&self) -> usize
         ensures { result ≡ length self.now }
     {
         self.items.len()
     }
 
-    /// Whether there is no item.
+    /// Returns whether there is no item.
     pub fn is_empty(&self) -> bool
         ensures { IsTrue result ↔ (self.now ≡ []) }
     {
         self.items.is_empty()
     }
 
-    /// The item at the index, counted from 0, if there is one.
+    /// Returns the item at the index, counted from 0, if there is one.
     pub fn get(&self, index: usize) -> Option<&T>
         ensures { IsItemAt self.now index result }
     {
@@ -106,7 +106,7 @@ impl<T: Drop> Items<T> {
         Ok(())
     }
 
-    /// Puts the item in the place of the one at the index, counted from 0, which is dropped.
+    /// Replaces the item at the index, counted from 0. The old item is dropped.
     pub fn set(&mut self, index: usize, item: T)
         requires { index < length self.old }
         ensures { self.new ≡ slice_set self.old index item }
@@ -114,7 +114,7 @@ impl<T: Drop> Items<T> {
         self.items[index] = item;
     }
 
-    /// Takes all items away and keeps the memory.
+    /// Removes all items and keeps the memory.
     pub fn clear(&mut self)
         ensures { self.new ≡ [] }
     {

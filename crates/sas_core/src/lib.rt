@@ -1,5 +1,5 @@
-//! What the two formats are about: the types, which of their values may stand in a file, and how a task and a plan are asked,
-//! however they are stored.
+//! The contents of the two file formats: the types, which of their values may occur in a file, and how a task and a plan are
+//! read, however they are stored.
 #![tactic(auto)]
 
 mod checks;

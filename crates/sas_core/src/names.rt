@@ -5,14 +5,14 @@ ghost use Rattle.sas_core.specs.Names as spec;
 
 use memchr::memchr2;
 
-/// Whether the bytes are a name: at least one byte, and neither LF nor CR.
+/// Returns whether the bytes are a name: at least one byte, and neither LF nor CR.
 pub fn is_name(bytes: &[u8]) -> bool
     ensures { result ≡ spec.is_name bytes.now }
 {
     !bytes.is_empty() && is_one_line(bytes)
 }
 
-/// Whether there is neither LF nor CR.
+/// Returns whether the bytes contain neither LF nor CR.
 fn is_one_line(bytes: &[u8]) -> bool
     ensures { result ≡ list_all spec.is_plain bytes.now }
 {

@@ -1,4 +1,4 @@
-// What a task file says, as plain data. Only a `Task` is known to follow the rules of the format.
+// The contents of a task file as plain data. Only a `Task` is known to follow the rules of the format.
 use crate::items::Items;
 
 /// A variable and one of its values, each by its place, counted from 0.
@@ -8,7 +8,7 @@ pub struct Fact {
     pub value: u32,
 }
 
-/// A variable. A basic one has no layer; a derived one is on a layer, and rules give it its value.
+/// A variable. A basic variable has no layer. A derived variable is on a layer, and rules set its value.
 #[derive(Debug, PartialEq, Eq, Drop)]
 pub struct Variable {
     pub name: Items<u8>,
@@ -17,8 +17,8 @@ pub struct Variable {
     pub values: Items<Items<u8>>,
 }
 
-/// An effect: where its conditions hold, the variable gets the new value. The old value, if any, has to hold before the
-/// operator's step, whether the effect fires or not.
+/// An effect: where its conditions hold, the variable gets the new value. The old value, if there is one, is a precondition
+/// of the operator: it has to hold before the operator's step, whether the effect fires or not.
 #[derive(Debug, PartialEq, Eq, Drop)]
 pub struct Effect {
     pub conditions: Items<Fact>,
@@ -27,7 +27,7 @@ pub struct Effect {
     pub new: u32,
 }
 
-/// An operator: its prevail conditions, its effects and what its cost line says.
+/// An operator: its prevail conditions, its effects and the number on its cost line.
 #[derive(Debug, PartialEq, Eq, Drop)]
 pub struct Operator {
     pub name: Items<u8>,
@@ -45,7 +45,7 @@ pub struct Rule {
     pub new: u32,
 }
 
-/// All that a task file says, in the order of its sections.
+/// All contents of a task file, in the order of its sections.
 #[derive(Debug, PartialEq, Eq, Drop)]
 pub struct Parts {
     /// Whether cost lines count (metric 1), or each operator costs 1 (metric 0).
@@ -53,7 +53,7 @@ pub struct Parts {
     pub variables: Items<Variable>,
     /// The mutex groups.
     pub groups: Items<Items<Fact>>,
-    /// The state section: a value for each variable. That of a derived variable is its default.
+    /// The state section: a value for each variable. The value of a derived variable is its default.
     pub init: Items<u32>,
     pub goal: Items<Fact>,
     pub operators: Items<Operator>,

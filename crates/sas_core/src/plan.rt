@@ -9,7 +9,7 @@ use crate::items::Items;
 use crate::names::is_name;
 use std::marker::Model;
 
-/// The words behind a plan's cost. They are kept, and no verdict rests on them.
+/// The words behind the cost on a plan's last line. They are kept, and no verdict depends on them.
 #[derive(Clone, Copy, Debug, PartialEq, Eq)]
 pub enum CostKind {
     /// `(unit cost)`
@@ -18,13 +18,13 @@ pub enum CostKind {
     General,
 }
 
-/// A step that isn't a name: the first one, counted from 1.
+/// The first step of a plan that isn't a name, counted from 1.
 #[derive(Clone, Copy, Debug, PartialEq, Eq)]
 pub struct BadName {
     pub step: usize,
 }
 
-/// A plan: each step is a name. Two plans are equal if their steps, their costs and the words behind these are.
+/// A plan: each step is a name. Two plans are equal if their steps, their costs and the words behind the costs are equal.
 #[derive(Debug, PartialEq, Eq, Drop)]
 pub struct Plan {
     steps: Items<Items<u8>>,
@@ -46,8 +46,8 @@ impl Model for Plan {
 }
 
 impl Plan {
-    /// The plan of these steps, unless one of them isn't a name: then the first that isn't, and the steps unchanged.
-    /// It takes no memory.
+    /// Returns the plan of these steps if each of them is a name. Otherwise returns the steps unchanged, and the first step
+    /// that isn't a name. It takes no memory.
     pub fn new(
         steps: Items<Items<u8>>,
         cost: u64,
@@ -64,7 +64,7 @@ impl Plan {
         }
     }
 
-    /// The plan of these steps, where each of them is known to be a name. It takes no memory and looks at no step.
+    /// Returns the plan of these steps, where each of them is known to be a name. It takes no memory and checks no step.
     pub fn of_names(steps: Items<Items<u8>>, cost: u64, kind: CostKind) -> Plan
         requires { AllByRecursion IsName steps }
         ensures { result ≡ record { steps = steps; cost = cost; kind = kind } }
@@ -72,7 +72,7 @@ impl Plan {
         Plan { steps, cost, kind }
     }
 
-    /// The names of the steps, in order.
+    /// Returns the names of the steps, in order.
     pub fn steps(&self) -> &Items<Items<u8>>
         ensures steps { result.now ≡ self.now.steps }
         ensures names { AllByRecursion IsName self.now.steps }
@@ -80,14 +80,14 @@ impl Plan {
         &self.steps
     }
 
-    /// The cost that the plan's last line says.
+    /// Returns the cost on the plan's last line.
     pub fn cost(&self) -> u64
         ensures { result ≡ self.now.cost }
     {
         self.cost
     }
 
-    /// The words behind the cost.
+    /// Returns the words behind the cost.
     pub fn kind(&self) -> CostKind
         ensures { result ≡ self.now.kind }
     {
@@ -95,7 +95,7 @@ impl Plan {
     }
 }
 
-/// The first step that isn't a name, counted from 1.
+/// Returns the first step that isn't a name, counted from 1.
 fn first_bad_name(steps: &[Items<u8>]) -> Option<usize>
     ensures none { IfNone result (AllByRecursion IsName steps.now) }
     ensures first { IfSome result (IsFirstBadName steps.now) }

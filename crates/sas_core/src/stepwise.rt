@@ -1,28 +1,28 @@
-// What a plan says, however it is stored.
+// The contents of a plan, however it is stored.
 ghost use Rattle.std.specs.Prelude.{◌≡◌};
 
 use crate::Plan;
 
-/// A plan, however it is stored, asked step by step; what it says is the value `says`. Steps are named by their place,
-/// counted from 0.
+/// A plan, however it is stored, read step by step. The parts of a plan file that the plan represents are the value `says`.
+/// Steps are named by their place, counted from 0.
 pub trait Stepwise {
     ghost use Rattle.std.specs.Prelude.{◌≡◌, ◌<◌, length};
     ghost use Rattle.sas_core.specs.PlanParts.{PlanParts};
     ghost use Rattle.sas_core.specs.Stepwise.{step_at};
 
-    /// What it says.
+    /// The parts that the plan represents.
     ghost says: { Self → PlanParts };
 
-    /// How many steps there are.
+    /// Returns the number of steps.
     fn steps(&self) -> usize
         ensures { result ≡ length (says self.now).steps };
 
-    /// The name of the step.
+    /// Returns the name of the step.
     fn step(&self, index: usize) -> &[u8]
         requires { index < length (says self.now).steps }
         ensures { result.now ≡ step_at (says self.now) index };
 
-    /// The cost that the plan's last line says.
+    /// Returns the cost on the plan's last line.
     fn cost(&self) -> u64
         ensures { result ≡ (says self.now).cost };
 }

@@ -10,7 +10,7 @@ use crate::checks::{PartsFault, check_parts, has_value};
 use crate::parts::{Fact, Parts};
 use std::marker::Model;
 
-/// A task: its parts are well ranged. Two tasks are equal if their parts are.
+/// A task: its parts are well ranged, so they follow all the rules of a task file. Two tasks are equal if their parts are.
 #[derive(Debug, PartialEq, Eq, Drop)]
 pub struct Task {
     parts: Parts,
@@ -30,15 +30,21 @@ impl Model for Task {
 }
 
 impl Task {
-    /// The task of these parts, if they are well ranged; else their first fault in the order of the file, and the parts
-    /// unchanged. It takes no memory.
+    /// Returns the task of these parts if they are well ranged. Otherwise returns the parts unchanged, and their first fault
+    /// in the order of the file. It takes no memory.
     ///
-    /// That order is: `NoVariable`, and `TooMany` variables; per variable its name, its layer, `BadRange` where it has
-    /// no value, the number and the names of its values; the number of groups, and per group the number of its facts
-    /// and these; `InitLength`, and the values of the state section; the goal; the number of operators, and per
-    /// operator its name, the number of its prevail conditions and these, the number of its effects and these, and its
-    /// cost; the number of rules, and these. Of an effect or a rule the number of its conditions and these come first,
-    /// then its variable with its old and its new value.
+    /// The order of the checks is:
+    /// - `NoVariable`, and the number of variables.
+    /// - For each variable its name, its layer, `BadRange` where it has no value, the number of its values, and their names.
+    /// - The number of groups, and for each group the number of its facts, and these facts.
+    /// - `InitLength`, and the values of the state section.
+    /// - The number of facts of the goal, and these facts.
+    /// - The number of operators, and for each operator its name, the number of its prevail conditions, these conditions, the
+    ///   number of its effects, these effects, and its cost.
+    /// - The number of rules, and these rules.
+    ///
+    /// The fault of a number of items is `TooMany`. In an effect or a rule the number of its conditions and these conditions
+    /// are checked first. Then its variable is checked with its old value, if there is one, and with its new value.
     pub fn new(parts: Parts) -> Result<Task, (Parts, PartsFault)>
         ensures well_ranged { IsOk result ↔ WellRanged parts }
         ensures task { IfOk result (λ t. t ≡ parts) }
@@ -51,7 +57,7 @@ impl Task {
         }
     }
 
-    /// The task of these parts, where they are known to be well ranged. It takes no memory and looks at no part.
+    /// Returns the task of these parts, where they are known to be well ranged. It takes no memory and checks no part.
     pub fn of_parts(parts: Parts) -> Task
         requires { WellRanged parts }
         ensures { result ≡ parts }
@@ -59,7 +65,7 @@ impl Task {
         Task { parts }
     }
 
-    /// The task's parts.
+    /// Returns the task's parts.
     pub fn parts(&self) -> &Parts
         ensures parts { result.now ≡ self.now }
         ensures well_ranged { WellRanged self.now }
@@ -67,7 +73,7 @@ impl Task {
         &self.parts
     }
 
-    /// The task's parts, for good. It takes no memory.
+    /// Turns the task into its parts. It takes no memory.
     pub fn into_parts(self) -> Parts
         ensures parts { result ≡ self }
         ensures well_ranged { WellRanged self }
@@ -76,7 +82,7 @@ impl Task {
         parts
     }
 
-    /// What the operator costs: what its cost line says under metric 1, and 1 under metric 0.
+    /// Returns the operator's cost: the number on its cost line under metric 1, and 1 under metric 0.
     pub fn cost(&self, operator: u32) -> u32
         requires { operator < length self.now.operators }
         ensures { result ≡ cost_of self.now operator }
@@ -88,7 +94,7 @@ impl Task {
         }
     }
 
-    /// How many values the variable has.
+    /// Returns the number of the variable's values.
     pub fn range(&self, var: u32) -> u32
         requires { var < length self.now.variables }
         ensures { result ≡ range_of self.now.variables var }
@@ -96,7 +102,7 @@ impl Task {
         self.parts.variables.as_slice()[var as usize].values.len() as u32
     }
 
-    /// Whether the variable is derived: whether it has a layer.
+    /// Returns whether the variable is derived: whether it has a layer.
     pub fn derived(&self, var: u32) -> bool
         requires { var < length self.now.variables }
         ensures { IsTrue result ↔ IsDerived self.now.variables var }
@@ -106,7 +112,7 @@ impl Task {
             .is_some()
     }
 
-    /// Whether the fact's variable exists and has the fact's value.
+    /// Returns whether the fact's variable exists and has the fact's value.
     pub fn has_fact(&self, fact: Fact) -> bool
         ensures { IsTrue result ↔ FactExists self.now.variables fact }
     {
@@ -114,7 +120,7 @@ impl Task {
     }
 }
 
-/// A law: no check of some parts fails exactly where they are well ranged.
+/// Ensures a law: parts are well ranged exactly where none of their checks fails.
 pub fn task_laws()
     ensures { ChecksAreTheRules }
 {}

@@ -17,7 +17,7 @@ plain_effect change = effect change []
 abbrev pub plain_effects : List Change → List Effect
 plain_effects changes = map plain_effect changes
 
--- the change at this place; behind the last one that of variable 0 to value 0
+-- the change at this place; behind the last change, one that sets variable 0 to value 0
 abbrev pub change_in : List Change → ℕ → Change
 change_in changes index = slice_index_or changes index (record { var = 0; old = None; new = 0 })
 
@@ -26,7 +26,7 @@ effects_of changes conditions =
     table (length changes)
     (λ index. effect (change_in changes index) (slice_index_or conditions index []))
 
--- the effect at this place; behind the last one that of variable 0 to value 0
+-- the effect at this place; behind the last effect, one that sets variable 0 to value 0
 abbrev pub effect_in : List Effect → ℕ → Effect
 effect_in effects index =
     slice_index_or effects index (record { conditions = []; var = 0; old = None; new = 0 })

@@ -2,7 +2,7 @@
 use Rattle.sas_core.specs.declared.parts.Parts.{Parts}
 use Rattle.sas_flat.specs.declared.columns.TaskColumns.{TaskColumns}
 
--- the parts that stand in the columns
+-- the parts that the columns hold
 abbrev pub parts_in : TaskColumns → Parts
 parts_in c = record {
   metric = c.metric;

@@ -1,4 +1,4 @@
--- Operators in columns: the items of all one behind the other, and the head of each.
+-- Operators in columns: the items of all operators one after another, and the head of each.
 use Rattle.std.specs.Prelude.{ℕ, List, [], length, map, slice_index, slice_index_or}
 use Rattle.sas_core.specs.declared.parts.Fact.{Fact}
 use Rattle.sas_core.specs.declared.parts.Effect.{Effect}
@@ -33,7 +33,7 @@ operators_in c = table (length c.heads.items) (λ index. operator
     (list_at c.effects (effect_ends c.heads.items) index)
     (slice_index (costs c.heads.items) index))
 
--- the heads say where the items of each operator end, and no item stands behind these
+-- the heads hold where the items of each operator end, and no item is behind the last of these ends
 pub record AreAligned (c : Columns) : Type 0 where
   pub names : AreEnds (name_ends c.heads.items) (length c.names.items)
   pub prevail : AreEnds (prevail_ends c.heads.items) (length c.prevail.items)
@@ -48,7 +48,7 @@ end_head c cost = record {
   cost = cost;
 }
 
--- the operator at this place; behind the last one that of no name and no effect
+-- the operator at this place; behind the last operator, one with no name and no effect
 abbrev pub operator_in : List Operator → ℕ → Operator
 operator_in operators index =
     slice_index_or operators index (record { name = []; prevail = []; effects = []; cost = 0 })

@@ -23,7 +23,7 @@ pub record AreAligned (c : Columns) : Type 0 where
   pub layers : length c.layers.items ≡ length c.ends
   pub values : AreEnds c.ends (length c.values)
 
--- each column has what the variable puts there behind what it had
+-- behind what it had, each column has what it stores of the variable
 pub record OneMore (old new : Columns) (v : Variable) : Type 0 where
   pub names : new.names ≡ old.names ++ v.name ∷ []
   pub layers : new.layers.items ≡ old.layers.items ++ v.layer ∷ []

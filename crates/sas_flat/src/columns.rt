@@ -5,7 +5,7 @@ use crate::variables::Variables;
 use sas_core::{Fact, Items};
 use sas_lists::Lists;
 
-/// The parts of a task in a few blocks of memory, whether they are well ranged or not.
+/// The parts of a task in a few blocks of memory. They need not be well ranged.
 #[derive(Debug, Drop)]
 pub struct TaskColumns {
     pub metric: bool,

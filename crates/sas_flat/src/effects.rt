@@ -8,10 +8,10 @@ use sas_lists::Lists;
 use std::alloc::{AllocError, Global};
 use std::marker::Model;
 
-/// Effects. In a contract they are the list of them.
+/// Effects. In a contract their value is the list of the effects.
 ///
-/// Most effects of most tasks have no conditions, so the lists of conditions reach only as far as there are some: an effect
-/// behind the last list has none.
+/// Most effects of most tasks have no conditions. So the lists of conditions reach only as far as there are some, and an
+/// effect behind the last list has none.
 #[derive(Debug, Drop)]
 pub struct Effects {
     changes: Vec<Change>,
@@ -31,7 +31,7 @@ impl Model for Effects {
 }
 
 impl Effects {
-    /// No effect. It takes no memory.
+    /// Returns an empty list of effects. It takes no memory.
     pub fn new(alloc: Global) -> Self
         ensures { result ≡ [] }
     {
@@ -41,14 +41,14 @@ impl Effects {
         }
     }
 
-    /// How many effects there are.
+    /// Returns the number of effects.
     pub(crate) fn len(&self) -> usize
         ensures { result ≡ length self.now }
     {
         self.changes.len()
     }
 
-    /// What the effect changes.
+    /// Returns what the effect changes.
     pub(crate) fn change(&self, index: usize) -> Change
         requires { index < length self.now }
         ensures { result ≡ grounded.effect_change (effect_in self.now index) }
@@ -56,7 +56,7 @@ impl Effects {
         self.changes.as_slice()[index]
     }
 
-    /// The conditions of the effect.
+    /// Returns the conditions of the effect.
     pub(crate) fn conditions(&self, index: usize) -> &[Fact]
         requires { index < length self.now }
         ensures { result.now ≡ (effect_in self.now index).conditions }
@@ -68,7 +68,7 @@ impl Effects {
         }
     }
 
-    /// One effect more. After an `Err` the effects are as they were.
+    /// Adds an effect. After an `Err` the effects are as they were.
     #[inline(always)]
     pub fn push(&mut self, conditions: &[Fact], change: Change) -> Result<(), AllocError>
         ensures ok { OnOk result (self.new ≡ self.old ++ effect change conditions.now ∷ []) }
@@ -83,7 +83,7 @@ impl Effects {
         Ok(())
     }
 
-    /// Effects more that make these changes without conditions. After an `Err` the effects are as they were.
+    /// Adds effects that make these changes without conditions. After an `Err` the effects are as they were.
     pub(crate) fn append_plain(&mut self, changes: &[Change]) -> Result<(), AllocError>
         ensures ok { OnOk result (self.new ≡ self.old ++ plain_effects changes.now) }
         ensures err { OnErr result (self.new ≡ self.old) }
@@ -92,7 +92,7 @@ impl Effects {
         Ok(())
     }
 
-    /// All these effects more. After an `Err` the effects are as they were.
+    /// Adds all of these effects at the end. After an `Err` the effects are as they were.
     pub(crate) fn append(&mut self, more: &Effects) -> Result<(), AllocError>
         ensures ok { OnOk result (self.new ≡ self.old ++ more.now) }
         ensures err { OnErr result (self.new ≡ self.old) }
@@ -106,7 +106,7 @@ impl Effects {
         Ok(())
     }
 
-    /// Leaves so many effects, the first ones.
+    /// Keeps the first `count` effects.
     pub(crate) fn truncate(&mut self, count: usize)
         requires { count ≤ length self.old }
         ensures { self.new ≡ take count self.old }
@@ -117,7 +117,7 @@ impl Effects {
         }
     }
 
-    /// Takes all effects away and keeps the memory.
+    /// Removes all effects and keeps the memory.
     pub fn clear(&mut self)
         ensures { self.new ≡ [] }
     {

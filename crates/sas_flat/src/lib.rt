@@ -1,4 +1,4 @@
-//! A task or a plan in a few blocks of memory: as many as there are columns, however large it is.
+//! A task or a plan in a few blocks of memory: one or a few for each column, however large it is.
 #![tactic(auto)]
 
 mod columns;

@@ -11,8 +11,8 @@ use sas_core::{Change, Fact};
 use std::alloc::{AllocError, Global};
 use std::marker::Model;
 
-/// What is of fixed size of an operator: where its name, its prevail conditions and its effects end, each behind those of
-/// the operators before it, and its cost.
+/// The part of an operator that has a fixed size: where its name, its prevail conditions and its effects end, each behind
+/// those of the operators before it, and its cost.
 #[derive(Clone, Copy, Debug)]
 struct Head {
     name: usize,
@@ -21,7 +21,7 @@ struct Head {
     cost: u32,
 }
 
-/// The columns of operators: the items of all operators one behind the other, and the head of each.
+/// The columns of operators: the items of all operators one after another, and the head of each operator.
 #[derive(Debug, Drop)]
 pub struct Columns {
     names: Vec<u8>,
@@ -30,7 +30,7 @@ pub struct Columns {
     heads: Vec<Head>,
 }
 
-/// Operators. In a contract they are the list of them.
+/// Operators. In a contract their value is the list of the operators.
 #[derive(Debug, Drop)]
 pub struct Operators {
     columns: Columns,
@@ -49,7 +49,8 @@ impl Model for Operators {
 }
 
 impl Columns {
-    /// The head before the operator's, which says where the operator's items start; before the first one all is 0.
+    /// Returns the head before the operator's, which holds where the operator's items start. Before the first operator it is
+    /// all 0, since its items start there.
     #[inline(always)]
     fn before(&self, operator: usize) -> Head
         requires { operator ≤ length self.now.heads.items }
@@ -69,7 +70,7 @@ impl Columns {
         }
     }
 
-    /// The head of an operator of this cost whose items end where all items end.
+    /// Returns the head of an operator of this cost whose items end where all items end.
     #[inline(always)]
     fn end(&self, cost: u32) -> Head
         ensures { result ≡ end_head self.now cost }
@@ -82,8 +83,8 @@ impl Columns {
         }
     }
 
-    /// The name, the prevail conditions and the head of one operator more, whose effects stand behind those of the others
-    /// already. After an `Err` some of its items stand there too.
+    /// Adds the name, the prevail conditions and the head of an operator, whose effects are already behind those of the
+    /// others. After an `Err` some of its items may be there too, without a head.
     #[inline(always)]
     fn push(&mut self, name: &[u8], prevail: &[Fact], cost: u32) -> Result<(), AllocError>
         ensures names { Kept self.old.names.items self.new.names.items }
@@ -103,7 +104,7 @@ impl Columns {
         Ok(())
     }
 
-    /// Leaves the items up to where the head says that they end.
+    /// Keeps the items up to the ends that the head holds.
     fn truncate(&mut self, end: Head)
         requires { end.effects ≤ length self.old.effects }
         ensures names { self.new.names.items ≡ take end.name self.old.names.items }
@@ -118,7 +119,7 @@ impl Columns {
 }
 
 impl Operators {
-    /// No operator. It takes no memory.
+    /// Returns an empty list of operators. It takes no memory.
     pub fn new(alloc: Global) -> Self
         ensures { result ≡ [] }
     {
@@ -132,14 +133,14 @@ impl Operators {
         }
     }
 
-    /// How many operators there are.
+    /// Returns the number of operators.
     pub(crate) fn len(&self) -> usize
         ensures { result ≡ length self.now }
     {
         self.columns.heads.len()
     }
 
-    /// One operator more. After an `Err` the operators are as they were.
+    /// Adds an operator. After an `Err` the operators are as they were.
     pub fn push(
         &mut self,
         name: &[u8],
@@ -162,7 +163,7 @@ impl Operators {
         }
     }
 
-    /// One operator more whose effects make these changes without conditions. After an `Err` the operators are as they were.
+    /// Adds an operator whose effects make these changes without conditions. After an `Err` the operators are as they were.
     pub fn push_plain(
         &mut self,
         name: &[u8],
@@ -185,7 +186,7 @@ impl Operators {
         }
     }
 
-    /// The operator's name.
+    /// Returns the operator's name.
     pub(crate) fn name(&self, operator: usize) -> &[u8]
         requires { operator < length self.now }
         ensures { result.now ≡ (operator_in self.now operator).name }
@@ -195,7 +196,7 @@ impl Operators {
         &self.columns.names.as_slice()[start..end]
     }
 
-    /// The operator's prevail conditions.
+    /// Returns the operator's prevail conditions.
     pub(crate) fn prevail(&self, operator: usize) -> &[Fact]
         requires { operator < length self.now }
         ensures { result.now ≡ (operator_in self.now operator).prevail }
@@ -205,7 +206,7 @@ impl Operators {
         &self.columns.prevail.as_slice()[start..end]
     }
 
-    /// What the operator's cost line says.
+    /// Returns the number on the operator's cost line.
     pub(crate) fn cost(&self, operator: usize) -> u32
         requires { operator < length self.now }
         ensures { result ≡ (operator_in self.now operator).cost }
@@ -213,7 +214,7 @@ impl Operators {
         self.columns.heads[operator].cost
     }
 
-    /// How many effects the operator has.
+    /// Returns the number of the operator's effects.
     pub(crate) fn effects(&self, operator: usize) -> usize
         requires { operator < length self.now }
         ensures { result ≡ length (operator_in self.now operator).effects }
@@ -221,7 +222,7 @@ impl Operators {
         self.columns.heads[operator].effects - self.columns.before(operator).effects
     }
 
-    /// What the operator's effect changes.
+    /// Returns what the operator's effect changes.
     pub(crate) fn change(&self, operator: usize, effect: usize) -> Change
         requires operator { operator < length self.now }
         requires effect { effect < length (operator_in self.now operator).effects }
@@ -235,7 +236,7 @@ impl Operators {
             .change(self.columns.before(operator).effects + effect)
     }
 
-    /// The conditions of the operator's effect.
+    /// Returns the conditions of the operator's effect.
     pub(crate) fn conditions(&self, operator: usize, effect: usize) -> &[Fact]
         requires operator { operator < length self.now }
         requires effect { effect < length (operator_in self.now operator).effects }

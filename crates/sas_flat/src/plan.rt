@@ -7,7 +7,7 @@ use sas_core::{CostKind, Stepwise};
 use sas_lists::Lists;
 use std::marker::Model;
 
-/// A plan whose names stand in one block of memory. In a contract it is its parts.
+/// A plan whose names are stored in one block of memory. In a contract its value is the plan's parts.
 #[derive(Debug, Drop)]
 pub struct FlatPlan {
     steps: Lists<u8>,
@@ -27,7 +27,7 @@ impl Model for FlatPlan {
 }
 
 impl FlatPlan {
-    /// The plan of these steps, where each of them is known to be a name. It takes no memory and looks at no step.
+    /// Returns the plan of these steps, where each of them is known to be a name. It takes no memory and checks no step.
     pub fn of_names(steps: Lists<u8>, cost: u64, kind: CostKind) -> FlatPlan
         requires { AllByRecursion IsName steps }
         ensures { result ≡ record { steps = steps; cost = cost; kind = kind } }
@@ -35,7 +35,7 @@ impl FlatPlan {
         FlatPlan { steps, cost, kind }
     }
 
-    /// The words behind the cost.
+    /// Returns the words behind the cost.
     pub fn kind(&self) -> CostKind
         ensures { result ≡ self.now.kind }
     {

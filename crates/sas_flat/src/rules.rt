@@ -8,7 +8,8 @@ use sas_core::{Change, Fact};
 use std::alloc::{AllocError, Global};
 use std::marker::Model;
 
-/// Rules. In a contract they are the list of them. They are kept as the effects that they are like.
+/// Rules. They are stored as effects with the same conditions and changes. In a contract their value is the list of the
+/// rules.
 #[derive(Debug, Drop)]
 pub struct Rules {
     effects: Effects,
@@ -25,7 +26,7 @@ impl Model for Rules {
 }
 
 impl Rules {
-    /// No rule. It takes no memory.
+    /// Returns an empty list of rules. It takes no memory.
     pub fn new(alloc: Global) -> Self
         ensures { result ≡ [] }
     {
@@ -34,14 +35,14 @@ impl Rules {
         }
     }
 
-    /// How many rules there are.
+    /// Returns the number of rules.
     pub(crate) fn len(&self) -> usize
         ensures { result ≡ length self.now }
     {
         self.effects.len()
     }
 
-    /// What the rule changes.
+    /// Returns what the rule changes.
     pub(crate) fn change(&self, index: usize) -> Change
         requires { index < length self.now }
         ensures { result ≡ grounded.rule_change (rule_in self.now index) }
@@ -49,7 +50,7 @@ impl Rules {
         self.effects.change(index)
     }
 
-    /// The conditions of the rule.
+    /// Returns the conditions of the rule.
     pub(crate) fn conditions(&self, index: usize) -> &[Fact]
         requires { index < length self.now }
         ensures { result.now ≡ (rule_in self.now index).conditions }
@@ -57,7 +58,7 @@ impl Rules {
         self.effects.conditions(index)
     }
 
-    /// One rule more. After an `Err` the rules are as they were.
+    /// Adds a rule. After an `Err` the rules are as they were.
     #[inline(always)]
     pub fn push(&mut self, conditions: &[Fact], change: Change) -> Result<(), AllocError>
         ensures ok { OnOk result (self.new ≡ self.old ++ rule change conditions.now ∷ []) }

@@ -7,7 +7,7 @@ use crate::columns::TaskColumns;
 use sas_core::{Change, Fact, Grounded};
 use std::marker::Model;
 
-/// A task in a few blocks of memory: its parts are well ranged. In a contract it is its parts.
+/// A task in a few blocks of memory: its parts are well ranged. In a contract its value is the task's parts.
 #[derive(Debug, Drop)]
 pub struct FlatTask {
     columns: TaskColumns,
@@ -26,7 +26,7 @@ impl Model for FlatTask {
 }
 
 impl FlatTask {
-    /// The task of these parts, where they are known to be well ranged. It takes no memory and looks at no part.
+    /// Returns the task of these parts, where they are known to be well ranged. It takes no memory and checks no part.
     pub fn of_parts(columns: TaskColumns) -> FlatTask
         requires { WellRanged (parts_in columns) }
         ensures { result ≡ parts_in columns }

@@ -10,7 +10,7 @@ use sas_lists::{Ends, Lists};
 use std::alloc::{AllocError, Global};
 use std::marker::Model;
 
-/// The columns of variables. The names of all values stand one behind the other, and `ends` says where those of each
+/// The columns of variables. The names of all values are stored one after another, and `ends` holds where those of each
 /// variable end.
 #[derive(Debug, Drop)]
 pub struct Columns {
@@ -20,7 +20,7 @@ pub struct Columns {
     ends: Ends,
 }
 
-/// Variables. In a contract they are the list of them.
+/// Variables. In a contract their value is the list of the variables.
 #[derive(Debug, Drop)]
 pub struct Variables {
     columns: Columns,
@@ -39,7 +39,7 @@ impl Model for Variables {
 }
 
 impl Columns {
-    /// One item more in each column. After an `Err` some columns have it.
+    /// Adds what a variable has in each column. After an `Err` some columns may have it.
     #[inline(always)]
     fn push(
         &mut self,
@@ -60,7 +60,7 @@ impl Columns {
         self.ends.push(self.values.len())
     }
 
-    /// Leaves so many variables, the first ones, which have so many values.
+    /// Keeps the first `variables` variables, whose values are the first `values` ones.
     fn truncate(&mut self, variables: usize, values: usize)
         requires names { variables ≤ length self.old.names }
         requires values { values ≤ length self.old.values }
@@ -77,7 +77,7 @@ impl Columns {
 }
 
 impl Variables {
-    /// No variable. It takes no memory.
+    /// Returns an empty list of variables. It takes no memory.
     pub fn new(alloc: Global) -> Self
         ensures { result ≡ [] }
     {
@@ -91,14 +91,14 @@ impl Variables {
         }
     }
 
-    /// How many variables there are.
+    /// Returns the number of variables.
     pub fn len(&self) -> usize
         ensures { result ≡ length self.now }
     {
         self.columns.ends.len()
     }
 
-    /// One variable more, with these names of its values. After an `Err` the variables are as they were.
+    /// Adds a variable with these names of its values. After an `Err` the variables are as they were.
     #[inline(always)]
     pub fn push(
         &mut self,
@@ -120,7 +120,7 @@ impl Variables {
         }
     }
 
-    /// How many values the variable has.
+    /// Returns the number of the variable's values.
     pub(crate) fn range(&self, var: usize) -> usize
         requires { var < length self.now }
         ensures { result ≡ spec.range_of self.now var }
@@ -128,7 +128,7 @@ impl Variables {
         self.columns.ends.end(var) - self.columns.ends.start(var)
     }
 
-    /// The name of the variable at the index, counted from 0, if there is one.
+    /// Returns the name of the variable at the index, counted from 0, if there is one.
     pub fn name(&self, var: usize) -> Option<&[u8]>
         ensures { option_map (λ name. name.now) result
             ≡ option_map (λ (v : Variable). v.name) (slice_get self.now var) }
@@ -140,7 +140,7 @@ impl Variables {
         }
     }
 
-    /// The layer of a derived variable; a basic one has none.
+    /// Returns the layer of a derived variable. A basic variable has none.
     pub fn layer(&self, var: usize) -> Option<u32>
         requires { var < length self.now }
         ensures { result ≡ spec.layer_of self.now var }
@@ -148,7 +148,7 @@ impl Variables {
         self.columns.layers.as_slice()[var]
     }
 
-    /// The name of a variable's value, if there is this variable and it has this value.
+    /// Returns the name of a variable's value, if there is this variable and it has this value.
     pub fn value_name(&self, var: usize, value: usize) -> Option<&[u8]>
         ensures { option_map (λ name. name.now) result ≡ spec.value_name self.now var value }
     {

@@ -14,8 +14,8 @@ use Rattle.sas_meaning.specs.Steps.{preconditions, old_fact}
 use Rattle.sas_group_index.specs.declared.index.Index.{Index}
 use Rattle.sas_group_index.specs.Runs.{AreRunsOf}
 
--- how many facts are on variables below this one; the facts of a task are so numbered, variable
--- after variable
+-- how many facts are on variables below this one; this is how the facts of a task are numbered,
+-- variable after variable
 abbrev pub facts_below : Parts → ℕ → ℕ
 facts_below p zero = 0
 facts_below p (suc var) = facts_below p var + range_of p.variables var
@@ -34,7 +34,7 @@ pub record HasFact (p : Parts) (place : ℕ) (fact : Fact) : Type 0 where
   pub exists : place < length p.groups
   pub among : Contains (group_at p place) fact
 
--- the list under this key; behind the last one there is none
+-- the list under this key; behind the last list it is empty
 abbrev pub under : List (List ℕ) → ℕ → List ℕ
 under lists key = slice_index_or lists key []
 
@@ -43,8 +43,8 @@ abbrev pub groups_of : Index → Fact → List ℕ
 groups_of index fact =
     under index.groups (slice_index_or index.firsts.items fact.var 0 + fact.value)
 
--- under the number of each fact of the task the groups that have it, and under each number in
--- ascending order
+-- under the number of each fact of the task the groups that have it, and under each number the
+-- groups in ascending order
 pub record AreGroupsByFact (p : Parts) (groups : List (List ℕ)) : Type 0 where
   pub are : (fact : Fact) → FactExists p.variables fact
       → (place : ℕ) → Contains (under groups (number p fact)) place ↔ HasFact p place fact
@@ -90,7 +90,7 @@ entries_of_fact index operator fact =
 abbrev pub entries_of_facts : Index → ℕ → List Fact → List (Entry ℕ)
 entries_of_facts index operator facts = flat_map (entries_of_fact index operator) facts
 
--- the facts that the effect mentions: its variable's old value, if it asks for one, and its
+-- the facts that the effect mentions: its variable's old value, if it requires one, and its
 -- conditions
 abbrev pub facts_of_effect : Effect → List Fact
 facts_of_effect e = option_to_list (old_fact e) ++ e.conditions

@@ -1,3 +1,3 @@
--- What the public clauses cite.
+-- The modules that public contracts cite.
 pub mod Index
 pub mod Runs

@@ -1,4 +1,4 @@
--- Facts of a group that stand in a row on one variable.
+-- Facts of a group that are in a row on one variable.
 use Rattle.std.specs.Prelude.{◌≡◌, ℕ, ◌<◌, ◌≤◌, List, [], ◌∷◌, length, take, drop, All, slice_index_or}
 use Rattle.sas_core.specs.declared.parts.Fact.{Fact}
 use Rattle.sas_core.specs.declared.parts.Parts.{Parts}
@@ -19,7 +19,7 @@ AreRuns facts (n ∷ runs) = (n ≤ length facts)
 abbrev pub runs_at : List (List ℕ) → ℕ → List ℕ
 runs_at runs place = slice_index_or runs place []
 
--- and so of all groups of the task
+-- the same for all groups of the task
 pub record AreRunsOf (p : Parts) (runs : List (List ℕ)) : Type 0 where
   pub one_each : length runs ≡ length p.groups
   pub are : (place : ℕ) → place < length p.groups → AreRuns (group_at p place) (runs_at runs place)

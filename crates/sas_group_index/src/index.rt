@@ -11,19 +11,19 @@ use sas_lists::{Entry, Lists};
 use sas_meaning::Layered;
 use std::alloc::{AllocError, Global};
 
-/// Which groups have which fact. Facts are numbered, variable after variable, so that a look at one takes a fixed time.
+/// Which groups have which fact. Facts are numbered, variable after variable, so one is looked up in a fixed time.
 #[derive(Drop)]
 pub struct Index {
     /// The number of each variable's first fact.
     pub firsts: Vec<usize>,
     /// The groups under the number of each fact of theirs.
     pub groups: Lists<u32>,
-    /// For each group, how many of its facts stand in a row on one variable.
+    /// For each group, the lengths of its runs, each of facts in a row on one variable.
     pub runs: Items<Items<u32>>,
 }
 
 impl Index {
-    /// The index of the groups of the task.
+    /// Returns the index of the groups of the task.
     pub fn new<T: Grounded>(alloc: Global, task: &Layered<T>) -> Result<Index, AllocError>
         ensures { IfOk result (λ index. IsIndexOf task.now index) }
     {
@@ -38,12 +38,12 @@ impl Index {
         })
     }
 
-    /// The groups that have the fact.
+    /// Returns the groups that have the fact.
     pub fn groups_of(&self, fact: Fact) -> &[u32]
         requires { All (λ (first : ℕ). first ≤ 2 ^ 62) self.now.firsts.items }
         ensures { result.now ≡ spec.groups_of self.now fact }
     {
-        // A variable that isn't there has no first number. Its facts are looked up as if that were 0.
+        // A variable that doesn't exist has no first number. Its facts are looked up as if that were 0.
         let first = match self.firsts.as_slice().get(fact.var as usize) {
             Some(first) => *first,
             None => 0,
@@ -51,7 +51,7 @@ impl Index {
         under(&self.groups, first + fact.value as usize)
     }
 
-    /// Whether the group has the fact.
+    /// Returns whether the group has the fact.
     pub fn has(&self, group: u32, fact: Fact) -> bool
         requires low { All (λ (first : ℕ). first ≤ 2 ^ 62) self.now.firsts.items }
         requires ascending { IsNonDecreasing (spec.groups_of self.now fact) }
@@ -61,7 +61,7 @@ impl Index {
     }
 }
 
-/// Adds the number of each variable's first fact to the empty list. Says how many facts there are.
+/// Adds the number of each variable's first fact to the empty list, and returns the number of all facts.
 fn number_facts<T: Grounded>(
     task: &Layered<T>,
     firsts: &mut Vec<usize>,
@@ -80,7 +80,7 @@ fn number_facts<T: Grounded>(
     Ok(facts)
 }
 
-/// The groups of the task, each under the numbers of its facts, of which there are so many.
+/// Returns, under the number of each fact, the groups of the task that have it. `facts` is the number of all facts.
 fn groups_by_fact<T: Grounded>(
     alloc: Global,
     task: &Layered<T>,
@@ -92,7 +92,7 @@ fn groups_by_fact<T: Grounded>(
     requires all { facts ≡ facts_below task.now (length task.now.variables) }
     ensures { IfOk result (λ groups. AreGroupsByFact task.now groups) }
 {
-    // The contract of this call tells that the task is well ranged.
+    // By its contract the task is well ranged.
     let _ = task.task();
     let mut entries = Vec::new(alloc);
     for group in 0..task.groups() {
@@ -114,7 +114,7 @@ fn enter_group<T: Grounded>(
     ensures { let facts = group_at task.now group in OnOk result
         (entries.new.items ≡ entries.old.items ++ entries_of_group task.now group facts) }
 {
-    // The contract of this call tells that the task is well ranged.
+    // By its contract the task is well ranged.
     let _ = task.task();
     for fact in task.group(group) {
         entries.push(Entry {
@@ -125,7 +125,7 @@ fn enter_group<T: Grounded>(
     Ok(())
 }
 
-/// The list under the key; behind the last one there is none.
+/// Returns the list under the key. Behind the last list it is empty.
 pub fn under(lists: &Lists<u32>, key: usize) -> &[u32]
     ensures { result.now ≡ under lists.now key }
 {

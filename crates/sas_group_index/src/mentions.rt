@@ -9,7 +9,7 @@ use sas_lists::{Entry, Lists};
 use sas_meaning::Layered;
 use std::alloc::{AllocError, Global};
 
-/// For each group, the operators that mention a fact of it, as a precondition or as a condition of an effect.
+/// Returns, for each group, the operators that mention a fact of it, as a precondition or as a condition of an effect.
 pub fn mentions_of<T: Grounded>(
     alloc: Global,
     task: &Layered<T>,
@@ -18,7 +18,7 @@ pub fn mentions_of<T: Grounded>(
     requires index { IsIndexOf task.now index.now }
     ensures { IfOk result (λ mentions. AreMentions task.now mentions) }
 {
-    // The contract of this call tells that the task is well ranged.
+    // By its contract the task is well ranged.
     let _ = task.task();
     let mut entries = Vec::new(alloc);
     for operator in 0..task.operators() {

@@ -1,4 +1,4 @@
-// Facts of a group that stand in a row on one variable.
+// Facts of a group that are in a row on one variable.
 ghost use Rattle.std.specs.Prelude.{◌≡◌, ℕ, ◌<◌, ◌≤◌, ◌^◌, length, take, All, IfOk, slice_index_or};
 ghost use Rattle.sas_core.specs.declared.parts.Fact.{Fact};
 ghost use Rattle.sas_group_index.specs.Runs.{AreRuns, AreRunsOf};
@@ -7,14 +7,14 @@ use sas_core::{Fact, Grounded, Items};
 use sas_meaning::Layered;
 use std::alloc::{AllocError, Global};
 
-/// For each group of the task, how many of its facts stand in a row on one variable, run after run.
+/// Returns, for each group of the task, the lengths of its runs, each of facts in a row on one variable.
 pub fn runs_of_groups<T: Grounded>(
     alloc: Global,
     task: &Layered<T>,
 ) -> Result<Items<Items<u32>>, AllocError>
     ensures { IfOk result (λ runs. AreRunsOf task.now runs) }
 {
-    // The contract of this call tells that the task is well ranged.
+    // By its contract the task is well ranged.
     let _ = task.task();
     let mut runs = Items::from_vec(Vec::with_capacity(alloc, task.groups() as usize)?);
     for group in 0..task.groups() {
@@ -23,7 +23,7 @@ pub fn runs_of_groups<T: Grounded>(
     Ok(runs)
 }
 
-/// How many of the facts stand in a row on one variable, run after run.
+/// Returns the lengths of the runs of these facts, each of facts in a row on one variable.
 fn runs_in(alloc: Global, facts: &[Fact]) -> Result<Items<u32>, AllocError>
     requires { length facts.now < 2 ^ 31 }
     ensures { IfOk result (λ runs. AreRuns facts.now runs) }
@@ -38,7 +38,7 @@ fn runs_in(alloc: Global, facts: &[Fact]) -> Result<Items<u32>, AllocError>
     Ok(runs)
 }
 
-/// How many facts at the front are on the variable.
+/// Returns how many facts at the front are on the variable.
 fn run_length(facts: &[Fact], var: u32) -> usize
     ensures within { result ≤ length facts.now }
     ensures on_it { All (λ (f : Fact). f.var ≡ var) (take result facts.now) }

@@ -1,5 +1,5 @@
--- What the parts of the check of a group decide. Which groups count is said by a condition on
--- groups, `Counts`.
+-- What the parts of the check of a group decide. A condition on groups, `Counts`, decides which
+-- groups count.
 use Rattle.std.specs.Prelude.{◌≡◌, ◌≢◌, ◌⊎◌, ℕ, ◌<◌, length, List, [], ◌∷◌, All, Contains, slice_index}
 use Rattle.sas_core.specs.declared.parts.Fact.{Fact}
 use Rattle.sas_core.specs.declared.parts.Effect.{Effect}
@@ -13,7 +13,7 @@ use Rattle.sas_groups.specs.Lists.{known}
 abbrev pub Alone : List Fact → List Fact → Type 0
 Alone group = λ (g : List Fact). g ≡ group
 
--- one of the facts is such
+-- one of the facts has the property
 abbrev pub Has : (Fact → Type 0) → List Fact → Type 0
 Has P facts = (f : Fact) × Contains facts f × P f
 
@@ -29,16 +29,16 @@ abbrev pub NotBoth : (List Fact → Type 0) → Operator → List Fact → Effec
 NotBoth Counts o group e f = Contains group (sets f) → e.var ≢ f.var
     → Clash Counts (known o e.conditions f.conditions)
 
--- if this fact is on another variable, it can't have held before, or it is removed
+-- if this fact is on another variable than the effect, it can't have held before, or it is removed
 abbrev pub IsGone : (List Fact → Type 0) → Operator → Effect → Fact → Type 0
 IsGone Counts o e f = e.var ≢ f.var
     → Clash Counts (known o e.conditions (f ∷ [])) ⊎ IsRemoved o (known o e.conditions (f ∷ [])) f
 
--- each effect is such
+-- each effect of the operator has the property
 abbrev pub OfEffects : Operator → (Effect → Type 0) → Type 0
 OfEffects o P = (effect : ℕ) → effect < length o.effects → P (effect_at o effect)
 
--- where an effect sets a fact of the group, no other sets another in the same step
+-- where an effect sets a fact of the group, no other effect sets another in the same step
 abbrev pub IsSingle : (List Fact → Type 0) → Operator → List Fact → Effect → Type 0
 IsSingle Counts o group e = Contains group (sets e) → OfEffects o (NotBoth Counts o group e)
 
@@ -46,6 +46,6 @@ IsSingle Counts o group e = Contains group (sets e) → OfEffects o (NotBoth Cou
 abbrev pub RemovesAll : (List Fact → Type 0) → Operator → List Fact → Effect → Type 0
 RemovesAll Counts o group e = Contains group (sets e) → All (IsGone Counts o e) group
 
--- another fact than this doesn't hold in the state section
+-- the second fact holds in the state section only if it is the first one
 abbrev pub IsOnlyOne : List ℕ → Fact → Fact → Type 0
 IsOnlyOne init f g = Holds (slice_index init) g → f ≡ g

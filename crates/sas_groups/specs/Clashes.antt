@@ -1,5 +1,5 @@
 -- Which facts can't hold together, and which operators keep a group. Groups are lists of facts,
--- taken as sets; which of them count is said by a condition on groups, `Counts`.
+-- taken as sets. A condition on groups, `Counts`, decides which of them count.
 use Rattle.std.specs.Prelude.{◌≡◌, ◌≢◌, ◌⊎◌, List, [], ◌∷◌, ◌++◌, All, Contains}
 use Rattle.sas_core.specs.declared.parts.Fact.{Fact}
 use Rattle.sas_core.specs.declared.parts.Effect.{Effect}

@@ -1,5 +1,5 @@
 -- The facts that hold where effects of an operator fire, and those of them that an iterator has
--- still to give.
+-- still to return.
 use Rattle.std.specs.Prelude.{List, [], ◌++◌, filter_map, Option, None, Some}
 use Rattle.std.specs.Option.{option_to_list}
 use Rattle.sas_core.specs.declared.parts.Fact.{Fact}
@@ -17,7 +17,7 @@ abbrev pub conditions_of : Option Effect → List Fact
 conditions_of None = []
 conditions_of (Some e) = e.conditions
 
--- what is left of `Facts`
+-- the facts that `Facts` has still to return
 abbrev pub facts_left : Facts → List Fact
 facts_left it = it.prevail.now ++ (filter_map old_fact it.effects.now
     ++ (it.first.now ++ (it.second.now ++ option_to_list it.extra)))
@@ -26,10 +26,10 @@ facts_left it = it.prevail.now ++ (filter_map old_fact it.effects.now
 abbrev pub known : Operator → List Fact → List Fact → List Fact
 known o first second = preconditions o ++ first ++ second
 
--- the same on these premises
+-- the same for these premises
 abbrev pub known_on : Parts → Premises → List Fact
 known_on p premises = known (operator_at p premises.operator) premises.first.now premises.second.now
 
--- what is left of `Known`
+-- the facts that `Known` has still to return
 abbrev pub known_left : {T : Type 0} → Known T → List Fact
 known_left it = it.preconditions ++ it.first.now ++ it.second.now

@@ -16,8 +16,8 @@ pub record IsFirstBreaking (p : Parts) (Counts : List Fact → Type 0) (group : 
   pub breaks : Keeps Counts (operator_at p operator) group → ⊥
   pub first : (lower : ℕ) → lower < operator → Keeps Counts (operator_at p lower) group
 
--- what is said of a group before operators are asked; nothing speaks against it so far where it is
--- exclusive
+-- the verdict on a group before operators are checked; `Exclusive` then means that no reason
+-- against the group was found so far
 abbrev pub IsFirstVerdict : Parts → List Fact → Verdict → Type 0
 IsFirstVerdict p group Derived = IsOnBasic p group → ⊥
 IsFirstVerdict p group Initial = IsOnBasic p group × (IsExclusiveIn p.init group → ⊥)
@@ -35,9 +35,10 @@ IsVerdictAlone p group Exclusive = IsOnBasic p group
     × IsExclusiveIn p.init group
     × AllKeep p (λ g. g ≡ group) group
 
--- the joint verdict on the group at this place: derived or initial, as by itself; the groups of the
--- greatest family that is kept jointly are exclusive; any other is broken by the lowest operator
--- that doesn't keep it under that family and the group itself
+-- The joint verdict on the group at this place. It is derived or initial where the verdict on the
+-- group by itself is. The groups of the greatest family that is kept jointly are exclusive. Any
+-- other group is broken by the lowest operator that doesn't keep it under that family and the group
+-- itself.
 abbrev pub IsJointVerdict : Parts → ℕ → Verdict → Type 0
 IsJointVerdict p place Derived = IsOnBasic p (group_at p place) → ⊥
 IsJointVerdict p place Initial = IsOnBasic p (group_at p place)

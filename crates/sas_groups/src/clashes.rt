@@ -8,14 +8,14 @@ use crate::known::{Known, Premises};
 use sas_core::{Fact, Grounded};
 use sas_meaning::Layered;
 
-/// Whether the fact is one of the facts.
+/// Returns whether the fact is one of the facts.
 pub fn contains(facts: &[Fact], fact: Fact) -> bool
     ensures { IsTrue result ↔ Contains facts.now fact }
 {
     facts.iter().any(|x| *x == fact)
 }
 
-/// Whether the facts contradict each other.
+/// Returns whether the two facts contradict each other.
 fn contradict(group: &[Fact], f: Fact, g: Fact) -> bool
     ensures yes { IsTrue result → Contradict (Alone group.now) f g }
     ensures no { IsFalse result → Contradict (Alone group.now) f g → ⊥ }
@@ -27,7 +27,7 @@ fn contradict(group: &[Fact], f: Fact, g: Fact) -> bool
     }
 }
 
-/// Whether the fact contradicts one that is known.
+/// Returns whether the fact contradicts one that is known.
 fn contradicts_known<T: Grounded>(
     task: &Layered<T>,
     premises: &Premises<'_>,
@@ -48,7 +48,7 @@ fn contradicts_known<T: Grounded>(
     false
 }
 
-/// Whether what is known clashes.
+/// Returns whether the known facts clash.
 pub fn clash<T: Grounded>(task: &Layered<T>, premises: &Premises<'_>, group: &[Fact]) -> bool
     requires { premises.now.operator < length task.now.operators }
     ensures yes { IsTrue result → Clash (Alone group.now) (known_on task.now premises.now) }

@@ -7,9 +7,9 @@ ghost use Rattle.sas_groups.specs.Lists.{facts_left, conditions_of};
 
 use sas_core::{Effect, Fact, Operator};
 
-/// An iterator over the facts that hold where up to two effects of an operator fire: its prevail conditions, the old
-/// values that its effects ask for, the conditions of the first effect and of the second, and one fact more. It copies
-/// nothing and takes no memory; what it has still to give is `facts_left`.
+/// An iterator over the facts that hold where up to two effects of an operator fire: its prevail conditions, the old values
+/// that its effects require, the conditions of the first effect and of the second, and one fact more. It copies nothing and
+/// takes no memory. The facts that it has still to return are `facts_left`.
 #[derive(Clone, Copy)]
 pub struct Facts<'a> {
     prevail: &'a [Fact],
@@ -20,7 +20,7 @@ pub struct Facts<'a> {
 }
 
 impl<'a> Facts<'a> {
-    /// All of them.
+    /// Returns an iterator over all of these facts.
     pub fn new(
         operator: &'a Operator,
         first: Option<&'a Effect>,
@@ -75,7 +75,7 @@ impl<'a> Iterator for Facts<'a> {
     }
 }
 
-/// The conditions of the effect, if there is one.
+/// Returns the conditions of the effect, and none if there is no effect.
 fn conditions<'a>(effect: Option<&'a Effect>) -> &'a [Fact]
     ensures { result.now ≡ conditions_of (option_map (λ e. e.now) effect.entry) }
 {

@@ -10,7 +10,7 @@ use crate::removal::is_removed;
 use sas_core::{Fact, Grounded};
 use sas_meaning::Layered;
 
-/// Whether the operator keeps the group.
+/// Returns whether the operator keeps the group.
 pub fn keeps<T: Grounded>(task: &Layered<T>, operator: u32, group: &[Fact]) -> bool
     requires { operator < length task.now.operators }
     ensures yes { IsTrue result
@@ -21,7 +21,7 @@ pub fn keeps<T: Grounded>(task: &Layered<T>, operator: u32, group: &[Fact]) -> b
     never_sets_two(task, operator, group) && removes_others(task, operator, group)
 }
 
-/// Whether no two effects that may fire together set facts of the group on different variables.
+/// Returns whether no two effects that may fire together set facts of the group on different variables.
 fn never_sets_two<T: Grounded>(task: &Layered<T>, operator: u32, group: &[Fact]) -> bool
     requires { operator < length task.now.operators }
     ensures yes { IsTrue result → OfEffects (operator_at task.now operator)
@@ -37,7 +37,7 @@ fn never_sets_two<T: Grounded>(task: &Layered<T>, operator: u32, group: &[Fact])
     true
 }
 
-/// Whether no effect that may fire together with this one sets a fact of the group too, on another variable.
+/// Returns whether no effect that may fire together with this one sets a fact of the group too, on another variable.
 fn is_single<T: Grounded>(task: &Layered<T>, operator: u32, group: &[Fact], effect: u32) -> bool
     requires operator { operator < length task.now.operators }
     requires effect { effect < length (operator_at task.now operator).effects }
@@ -59,7 +59,7 @@ fn is_single<T: Grounded>(task: &Layered<T>, operator: u32, group: &[Fact], effe
     true
 }
 
-/// Whether the other effect never sets a fact of the group on another variable in the same step as this effect fires.
+/// Returns whether the other effect never sets a fact of the group on another variable in the same step as this effect fires.
 fn not_both<T: Grounded>(
     task: &Layered<T>,
     operator: u32,
@@ -93,7 +93,7 @@ fn not_both<T: Grounded>(
     clash(task, &both, group)
 }
 
-/// Whether no effect sets a fact of the group while another fact of it stays.
+/// Returns whether no effect sets a fact of the group while another fact of it stays.
 fn removes_others<T: Grounded>(task: &Layered<T>, operator: u32, group: &[Fact]) -> bool
     requires { operator < length task.now.operators }
     ensures yes { IsTrue result → OfEffects (operator_at task.now operator)
@@ -109,7 +109,7 @@ fn removes_others<T: Grounded>(task: &Layered<T>, operator: u32, group: &[Fact])
     true
 }
 
-/// Whether no other fact of the group stays where this effect sets one.
+/// Returns whether no other fact of the group stays where this effect sets one.
 fn removes_all<T: Grounded>(task: &Layered<T>, operator: u32, group: &[Fact], effect: u32) -> bool
     requires operator { operator < length task.now.operators }
     requires effect { effect < length (operator_at task.now operator).effects }
@@ -131,7 +131,7 @@ fn removes_all<T: Grounded>(task: &Layered<T>, operator: u32, group: &[Fact], ef
     true
 }
 
-/// Whether this fact doesn't stay where the effect fires, if that is on another variable.
+/// Returns whether this fact doesn't stay where the effect fires, if the fact is on another variable than the effect.
 fn is_gone<T: Grounded>(
     task: &Layered<T>,
     operator: u32,

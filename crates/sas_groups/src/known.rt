@@ -14,8 +14,8 @@ pub struct Premises<'a> {
     pub second: &'a [Fact],
 }
 
-/// An iterator over an operator's preconditions, then the facts of two lists.
-/// What it has still to give is `known_left`.
+/// An iterator over an operator's preconditions, then the facts of two lists. The facts that it has still to return are
+/// `known_left`.
 #[derive(Drop)]
 pub struct Known<'a, 'b, T: Grounded> {
     preconditions: Preconditions<'a, Layered<T>>,
@@ -24,7 +24,7 @@ pub struct Known<'a, 'b, T: Grounded> {
 }
 
 impl<'a, 'b, T: Grounded> Known<'a, 'b, T> {
-    /// All of them.
+    /// Returns an iterator over all facts that are known on these premises.
     pub fn new(task: &'a Layered<T>, premises: &Premises<'b>) -> Known<'a, 'b, T>
         requires { premises.now.operator < length task.now.operators }
         ensures { known_left result ≡ known_on task.now premises.now }

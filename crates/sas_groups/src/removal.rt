@@ -9,7 +9,7 @@ use crate::known::{Known, Premises};
 use sas_core::{Fact, Grounded};
 use sas_meaning::Layered;
 
-/// Whether the fact is known.
+/// Returns whether the fact is known.
 fn is_known<T: Grounded>(task: &Layered<T>, premises: &Premises<'_>, fact: Fact) -> bool
     requires { premises.now.operator < length task.now.operators }
     ensures yes { IsTrue result → Contains (known_on task.now premises.now) fact }
@@ -23,7 +23,7 @@ fn is_known<T: Grounded>(task: &Layered<T>, premises: &Premises<'_>, fact: Fact)
     false
 }
 
-/// Whether all the conditions are known.
+/// Returns whether all the conditions are known.
 fn all_known<T: Grounded>(task: &Layered<T>, premises: &Premises<'_>, conditions: &[Fact]) -> bool
     requires { premises.now.operator < length task.now.operators }
     ensures yes { IsTrue result → All (Contains (known_on task.now premises.now)) conditions.now }
@@ -38,7 +38,7 @@ fn all_known<T: Grounded>(task: &Layered<T>, premises: &Premises<'_>, conditions
     true
 }
 
-/// Whether an effect of the operator whose conditions are all known sets the variable of the fact to another value.
+/// Returns whether an effect of the operator whose conditions are all known sets the variable of the fact to another value.
 pub fn is_removed<T: Grounded>(task: &Layered<T>, premises: &Premises<'_>, fact: Fact) -> bool
     requires { premises.now.operator < length task.now.operators }
     ensures yes { IsTrue result → IsRemoved (operator_at task.now premises.now.operator)
@@ -54,7 +54,7 @@ pub fn is_removed<T: Grounded>(task: &Layered<T>, premises: &Premises<'_>, fact:
     false
 }
 
-/// Whether the effect's conditions are all known, and it sets the variable of the fact to another value.
+/// Returns whether the effect's conditions are all known, and it sets the variable of the fact to another value.
 fn removes<T: Grounded>(task: &Layered<T>, premises: &Premises<'_>, effect: u32, fact: Fact) -> bool
     requires operator { premises.now.operator < length task.now.operators }
     requires effect { effect < length (operator_at task.now premises.now.operator).effects }

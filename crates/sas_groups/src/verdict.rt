@@ -1,14 +1,14 @@
-// What is said of a group.
+// The verdict on a group.
 
 /// Whether a group is shown to be exclusive: that no reachable state holds two different facts of it.
 #[derive(Clone, Copy, Debug, PartialEq, Eq)]
 pub enum Verdict {
-    /// It is.
+    /// It is shown to be exclusive.
     Exclusive,
-    /// A fact of it is on a derived variable, of which the criterion says nothing.
+    /// A fact of it is on a derived variable. The criterion covers groups on basic variables alone.
     Derived,
     /// Two different facts of it hold in the state section.
     Initial,
-    /// This operator, the lowest-numbered such, doesn't keep it.
+    /// This operator doesn't keep it, and every lower-numbered operator does.
     Broken { operator: u32 },
 }

@@ -1,11 +1,12 @@
-// Where lists that stand one behind the other end.
+// Where lists that are stored one after another end.
 ghost use Rattle.std.specs.Prelude.{◌≡◌, ◌<◌, ◌≤◌, ◌+◌, ◌^◌, [], ◌∷◌, ◌++◌, length, take, map, replicate, OnOk, OnErr, EachIndex, slice_index};
 ghost use Rattle.sas_lists.specs.Lists.{start_of};
 
 use std::alloc::{AllocError, Global};
 use std::marker::Model;
 
-/// The places where lists in one block end, one for each list. They grow. In a contract they are the list of them.
+/// The places where lists in one block end, one for each list. They ascend in the lists of this crate. In a contract their
+/// value is the list of the places.
 #[derive(Debug, Drop)]
 pub struct Ends {
     places: Vec<usize>,
@@ -19,7 +20,7 @@ impl Model for Ends {
     ghost view = { λ e. e.places.items };
 }
 
-/// Moves each place so far behind.
+/// Adds `by` to each place.
 fn shift(places: &mut [usize], by: usize)
     requires { EachIndex places.old (λ index. slice_index places.old index + by < 2 ^ 64) }
     ensures { places.new ≡ map (λ place. place + by) places.old }
@@ -30,7 +31,7 @@ fn shift(places: &mut [usize], by: usize)
 }
 
 impl Ends {
-    /// No list. It takes no memory.
+    /// Returns the ends of no list. It takes no memory.
     pub fn new(alloc: Global) -> Self
         ensures { result ≡ [] }
     {
@@ -39,21 +40,22 @@ impl Ends {
         }
     }
 
-    /// The lists that end at these places. It takes no memory.
+    /// Returns the ends of lists that end at these places. It takes no memory.
     pub(crate) fn of_places(places: Vec<usize>) -> Self
         ensures { result ≡ places.items }
     {
         Ends { places }
     }
 
-    /// How many lists there are.
+    /// Returns the number of lists.
     pub fn len(&self) -> usize
         ensures { result ≡ length self.now }
     {
         self.places.len()
     }
 
-    /// Where the list at the index starts: where the one before it ends. Behind the last list starts the next one.
+    /// Returns where the list at the index starts, which is where the one before it ends. At the index behind the last list
+    /// it returns where the next list would start.
     pub fn start(&self, index: usize) -> usize
         requires { index ≤ length self.now }
         ensures { result ≡ start_of self.now index }
@@ -65,7 +67,7 @@ impl Ends {
         }
     }
 
-    /// Where the list at the index ends.
+    /// Returns where the list at the index ends.
     pub fn end(&self, index: usize) -> usize
         requires { index < length self.now }
         ensures { result ≡ slice_index self.now index }
@@ -73,7 +75,7 @@ impl Ends {
         self.places.as_slice()[index]
     }
 
-    /// One list more, which ends at this place. After an `Err` the lists are as they were.
+    /// Adds a list that ends at this place. After an `Err` the lists are as they were.
     #[inline(always)]
     pub fn push(&mut self, place: usize) -> Result<(), AllocError>
         requires { start_of self.old (length self.old) ≤ place }
@@ -84,7 +86,7 @@ impl Ends {
         Ok(())
     }
 
-    /// So many lists more, which all end at this place. After an `Err` the lists are as they were.
+    /// Adds `count` lists that all end at this place. After an `Err` the lists are as they were.
     pub fn push_same(&mut self, place: usize, count: usize) -> Result<(), AllocError>
         requires { start_of self.old (length self.old) ≤ place }
         ensures ok { OnOk result (self.new ≡ self.old ++ replicate count place) }
@@ -94,8 +96,8 @@ impl Ends {
         self.places.resize(self.places.len() + count, place)
     }
 
-    /// As many lists more as these, where each ends so far behind the place where it ends here. After an `Err` the lists are
-    /// as they were.
+    /// Adds a list for each of `more`. It ends `by` places behind the end that it has there. After an `Err` the lists are as
+    /// they were.
     pub fn push_shifted(&mut self, more: &Ends, by: usize) -> Result<(), AllocError>
         requires { EachIndex more.now (λ index. slice_index more.now index + by < 2 ^ 64) }
         ensures ok { OnOk result (self.new ≡ self.old ++ map (λ place. place + by) more.now) }
@@ -107,14 +109,14 @@ impl Ends {
         Ok(())
     }
 
-    /// Leaves so many lists of those that there are, the first ones.
+    /// Keeps the first `count` lists, or all if there are fewer.
     pub fn truncate(&mut self, count: usize)
         ensures { self.new ≡ take count self.old }
     {
         self.places.truncate(count);
     }
 
-    /// Takes all lists away and keeps the memory.
+    /// Removes all lists and keeps the memory.
     pub fn clear(&mut self)
         ensures { self.new ≡ [] }
     {

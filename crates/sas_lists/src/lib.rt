@@ -1,4 +1,4 @@
-//! Lists that stand one behind the other in one block of memory.
+//! Lists that are stored one after another in one block of memory.
 #![tactic(auto)]
 
 mod by_key;

@@ -1,4 +1,4 @@
-// Lists that stand one behind the other in one block of memory.
+// Lists that are stored one after another in one block of memory.
 ghost use Rattle.std.specs.Prelude.{◌≡◌, ◌<◌, ◌≤◌, ◌-◌, [], ◌∷◌, ◌++◌, length, take, replicate, OnOk, OnErr, slice_range};
 ghost use Rattle.std.specs.List.{slice_index_or};
 ghost use Rattle.sas_lists.specs.Lists.{lists_of, AreEnds};
@@ -7,7 +7,7 @@ use crate::ends::Ends;
 use std::alloc::{AllocError, Global};
 use std::marker::Model;
 
-/// Lists in one block of memory, and where each ends. In a contract they are the list of them.
+/// Lists in one block of memory, and where each ends. In a contract their value is the list of these lists.
 #[derive(Debug, Drop)]
 pub struct Lists<T> {
     items: Vec<T>,
@@ -25,7 +25,7 @@ impl<T> Model for Lists<T> {
     ghost invariant = { λ l. AreEnds l.ends (length l.items.items) };
 }
 
-/// The items from a place to another.
+/// Returns the items from one place to another.
 fn part<T>(items: &[T], start: usize, end: usize) -> &[T]
     requires ordered { start ≤ end }
     requires within { end ≤ length items.now }
@@ -35,7 +35,7 @@ fn part<T>(items: &[T], start: usize, end: usize) -> &[T]
 }
 
 impl<T> Lists<T> {
-    /// No list. It takes no memory.
+    /// Returns an empty list of lists. It takes no memory.
     pub fn new(alloc: Global) -> Self
         ensures { result ≡ [] }
     {
@@ -45,7 +45,7 @@ impl<T> Lists<T> {
         }
     }
 
-    /// The lists that these items are, one behind the other, and that end there. It takes no memory.
+    /// Returns the lists that these items form one after another, and that end at these places. It takes no memory.
     pub(crate) fn of_parts(items: Vec<T>, ends: Ends) -> Self
         requires { AreEnds ends (length items.items) }
         ensures { result ≡ lists_of items.items ends }
@@ -53,14 +53,14 @@ impl<T> Lists<T> {
         Lists { items, ends }
     }
 
-    /// How many lists there are.
+    /// Returns the number of lists.
     pub fn len(&self) -> usize
         ensures { result ≡ length self.now }
     {
         self.ends.len()
     }
 
-    /// The list at the index, counted from 0.
+    /// Returns the list at the index, counted from 0.
     pub fn get(&self, index: usize) -> &[T]
         requires { index < length self.now }
         ensures { result.now ≡ slice_index_or self.now index [] }
@@ -71,7 +71,7 @@ impl<T> Lists<T> {
 }
 
 impl<T: Copy> Lists<T> {
-    /// One list more. After an `Err` the lists are as they were.
+    /// Adds a list. After an `Err` the lists are as they were.
     #[inline(always)]
     pub fn push(&mut self, list: &[T]) -> Result<(), AllocError>
         ensures ok { OnOk result (self.new ≡ self.old ++ list.now ∷ []) }
@@ -88,7 +88,7 @@ impl<T: Copy> Lists<T> {
         }
     }
 
-    /// Empty lists behind the others, until there are so many. After an `Err` the lists are as they were.
+    /// Adds empty lists at the end until there are `count` lists. After an `Err` the lists are as they were.
     pub fn fill(&mut self, count: usize) -> Result<(), AllocError>
         ensures ok { OnOk result (self.new ≡ self.old ++ replicate (count - length self.old) []) }
         ensures err { OnErr result (self.new ≡ self.old) }
@@ -100,7 +100,7 @@ impl<T: Copy> Lists<T> {
         Ok(())
     }
 
-    /// All these lists more. After an `Err` the lists are as they were.
+    /// Adds all of these lists at the end. After an `Err` the lists are as they were.
     #[inline(always)]
     pub fn append(&mut self, more: &Lists<T>) -> Result<(), AllocError>
         ensures ok { OnOk result (self.new ≡ self.old ++ more.now) }
@@ -117,7 +117,7 @@ impl<T: Copy> Lists<T> {
         }
     }
 
-    /// Leaves so many lists, the first ones.
+    /// Keeps the first `count` lists.
     pub fn truncate(&mut self, count: usize)
         requires { count ≤ length self.old }
         ensures { self.new ≡ take count self.old }
@@ -126,7 +126,7 @@ impl<T: Copy> Lists<T> {
         self.ends.truncate(count);
     }
 
-    /// Takes all lists away and keeps the memory.
+    /// Removes all lists and keeps the memory.
     pub fn clear(&mut self)
         ensures { self.new ≡ [] }
     {

@@ -1,4 +1,4 @@
--- How far the rules of a layer have come to fire.
+-- How far the rules of a layer have fired.
 use Rattle.std.specs.Prelude.{◌≡◌, ◌≢◌, ℕ, ◌+◌, ◌==◌, Bool, if◌then◌else◌, IsTrue, List, [], ◌∷◌, slice_index}
 use Rattle.sas_core.specs.declared.parts.Rule.{Rule}
 use Rattle.sas_core.specs.declared.parts.Parts.{Parts}
@@ -20,12 +20,12 @@ equal_places [] ys = 0
 equal_places (x ∷ xs) [] = 0
 equal_places (x ∷ xs) (y ∷ ys) = (if x == y then 1 else 0) + equal_places xs ys
 
--- the rule has given its variable its value, where it is on the layer and fires
+-- the rule has set its variable to its value, where it is on the layer and fires
 abbrev pub HasFired : Parts → ℕ → List ℕ → Rule → Type 0
 HasFired t layer s rule = IsOnLayer t layer rule.var → CanFire t rule
     → AllHold (slice_index s) rule.conditions → slice_index s rule.var ≡ rule.new
 
--- the rule is on the layer, fires, and has not given its variable its value yet
+-- the rule is on the layer, fires, and has not set its variable to its value yet
 pub record Changes (t : Parts) (layer : ℕ) (s : List ℕ) (rule : Rule) : Type 0 where
   pub on : IsOnLayer t layer rule.var
   pub can : CanFire t rule

@@ -14,7 +14,7 @@ abbrev pub SettledExists : Type 0
 SettledExists = (p : Parts) (s : List ℕ) → WellRanged p → IsLayered p → IsState p.variables s
     → (s' : List ℕ) × Settles p s s'
 
--- and one alone
+-- and only one
 abbrev pub SettledIsOne : Type 0
 SettledIsOne = (p : Parts) (s a b : List ℕ) → IsLayered p → Settles p s a → Settles p s b → a ≡ b
 
@@ -22,7 +22,7 @@ SettledIsOne = (p : Parts) (s a b : List ℕ) → IsLayered p → Settles p s a 
 abbrev pub InitialExists : Type 0
 InitialExists = (p : Parts) → WellRanged p → IsLayered p → (s : List ℕ) × IsInitial p s
 
--- and one alone
+-- and only one
 abbrev pub InitialIsOne : Type 0
 InitialIsOne = (p : Parts) (a b : List ℕ) → IsLayered p → IsInitial p a → IsInitial p b → a ≡ b
 

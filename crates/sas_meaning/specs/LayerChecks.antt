@@ -1,4 +1,4 @@
--- The conditions of a layered task as tests in order, each with the fault that it finds.
+-- The conditions of a layered task as tests in order, each with the fault that it reports.
 use Rattle.std.specs.Prelude.{◌≡◌, ◌↔◌, ℕ, ◌==◌, ◌&&◌, ◌||◌, Bool, not, nat_lt, nat_le}
 use Rattle.std.specs.Prelude.{if◌then◌else◌, is_some, true, List, [], ◌++◌, take, flat_map, None}
 use Rattle.std.specs.List.{list_all, enumerate_from}
@@ -15,7 +15,7 @@ use Rattle.sas_meaning.specs.declared.layered.LayerFault.TheVariants.{EffectOnDe
 use Rattle.sas_meaning.specs.declared.layered.LayerFault.TheVariants.{OldValue, TwoValues, LayerOrder}
 use Rattle.sas_meaning.specs.Layers.{default_of, can_fire, IsLayered}
 
--- the checks of each item in turn, which is named by its place
+-- the checks of each item in turn; an item is named by its place
 abbrev pub numbered : {A : Type 0} → (ℕ → A → List (Check LayerFault)) → List A
     → List (Check LayerFault)
 numbered checks_of items = flat_map (λ (place, item). checks_of place item) (enumerate_from 0 items)
@@ -63,6 +63,6 @@ rule_layer_checks p place rule =
 abbrev pub layer_checks : Parts → List (Check LayerFault)
 layer_checks p = numbered (operator_layer_checks p) p.operators ++ numbered (rule_layer_checks p) p.rules
 
--- no check fails exactly where the task is layered
+-- the task is layered exactly where no check fails
 abbrev pub LayerChecksAreTheRules : Type 0
 LayerChecksAreTheRules = (p : Parts) → (first_fault (layer_checks p) ≡ None) ↔ IsLayered p

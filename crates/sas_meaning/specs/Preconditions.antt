@@ -1,4 +1,4 @@
--- The preconditions that an iterator over them has still to give.
+-- The preconditions that an iterator over them has still to return.
 use Rattle.std.specs.Prelude.{◌≡◌, ℕ, ◌<◌, ◌≤◌, List, ◌++◌, length, drop, filter_map}
 use Rattle.sas_core.specs.declared.parts.Fact.{Fact}
 use Rattle.sas_core.specs.declared.parts.Operator.{Operator}
@@ -6,11 +6,11 @@ use Rattle.sas_core.specs.declared.parts.Parts.{Parts}
 use Rattle.sas_core.specs.Grounded.{operator_at}
 use Rattle.sas_meaning.specs.Steps.{old_fact}
 
--- these prevail conditions, and the old values that the operator's effects from this one on ask for
+-- these prevail conditions, and the old values that the operator's effects from this one on require
 abbrev pub preconditions_left : List Fact → Operator → ℕ → List Fact
 preconditions_left prevail o effect = prevail ++ filter_map old_fact (drop effect o.effects)
 
--- the task has the operator, and that has so many effects, of which some are passed
+-- the task has the operator, and this has so many effects, of which the iterator has passed some
 pub record IsAtOperator (p : Parts) (operator effect effects : ℕ) : Type 0 where
   pub exists : operator < length p.operators
   pub passed : effect ≤ effects

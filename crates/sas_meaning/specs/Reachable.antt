@@ -1,4 +1,4 @@
--- Which states a task can come to.
+-- Which states of a task are reachable.
 use Rattle.std.specs.Prelude.{ℕ, List, Contains}
 use Rattle.sas_core.specs.declared.parts.Operator.{Operator}
 use Rattle.sas_core.specs.declared.parts.Parts.{Parts}

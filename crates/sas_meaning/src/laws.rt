@@ -2,9 +2,9 @@
 ghost use Rattle.sas_meaning.specs.LayerChecks.{LayerChecksAreTheRules};
 ghost use Rattle.sas_meaning.specs.Laws.{SettledExists, SettledIsOne, InitialExists, InitialIsOne, StepIsOne};
 
-/// What holds of each layered task: each choice of basic values has exactly one settled state, so there is exactly one
-/// initial state, and a step of an operator leads to one state at most. And the checks of layers find a fault exactly
-/// where a task isn't layered.
+/// Ensures the laws of layered tasks. Each choice of basic values has exactly one settled state, so there is exactly one
+/// initial state. A step of an operator leads to one state at most. The checks of layers report a fault exactly where a task
+/// isn't layered.
 pub fn meaning_laws()
     ensures checks { LayerChecksAreTheRules }
     ensures settled { SettledExists }

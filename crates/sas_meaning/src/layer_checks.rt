@@ -1,4 +1,4 @@
-// The conditions of a layered task, looked at in order.
+// The conditions of a layered task, checked in order.
 ghost use Rattle.std.specs.Prelude.{◌≡◌, ◌≢◌, ◌==◌, ◌<◌, ◌+◌, length, slice_index_or, true, Some, None, IfOk};
 ghost use Rattle.std.specs.Option.{option_map_or};
 ghost use Rattle.std.specs.Result.{result_err};
@@ -14,7 +14,7 @@ use crate::layered::LayerFault;
 use sas_core::{Change, Fact, Grounded, Items, check};
 use std::alloc::Global;
 
-/// Looks at the operators and the rules in turn, up to the first fault.
+/// Checks the operators and then the rules in turn, and returns the first fault.
 pub fn check_layers<T: Grounded>(alloc: Global, task: &T) -> Result<(), LayerFault>
     ensures first { result_err result ≢ Some LayerFault.Memory
         → result_err result ≡ first_fault (spec.layer_checks (T.says task.now)) }
@@ -26,7 +26,7 @@ pub fn check_layers<T: Grounded>(alloc: Global, task: &T) -> Result<(), LayerFau
     check_rules(task, &mut new_values)
 }
 
-/// Looks at the operators in turn.
+/// Checks the operators in turn.
 fn check_operators<T: Grounded>(task: &T) -> Result<(), LayerFault>
     requires { WellRanged (T.says task.now) }
     ensures { result_err result
@@ -39,7 +39,7 @@ fn check_operators<T: Grounded>(task: &T) -> Result<(), LayerFault>
     Ok(())
 }
 
-/// Looks at the effects of an operator in turn.
+/// Checks the effects of an operator in turn.
 fn check_operator<T: Grounded>(task: &T, operator: u32) -> Result<(), LayerFault>
     requires well_ranged { WellRanged (T.says task.now) }
     requires operator { operator < length (T.says task.now).operators }
@@ -57,7 +57,7 @@ fn check_operator<T: Grounded>(task: &T, operator: u32) -> Result<(), LayerFault
     Ok(())
 }
 
-/// Looks at the rules in turn. No rule's new value is known at the start.
+/// Checks the rules in turn. At the start no rule's new value is known.
 fn check_rules<T: Grounded>(task: &T, new_values: &mut Items<Option<u32>>) -> Result<(), LayerFault>
     requires well_ranged { WellRanged (T.says task.now) }
     requires known { NewValues (T.says task.now) 0 new_values.old }
@@ -70,7 +70,7 @@ fn check_rules<T: Grounded>(task: &T, new_values: &mut Items<Option<u32>>) -> Re
     Ok(())
 }
 
-/// Looks at a rule, where the new values of the rules before it are known.
+/// Checks a rule, where the new values of the rules before it are known.
 fn check_rule<T: Grounded>(
     task: &T,
     rule: u32,
@@ -94,7 +94,7 @@ fn check_rule<T: Grounded>(
     check_firing_rule(task, rule, change, new_values)
 }
 
-/// Looks at a rule that can fire, and makes its new value known.
+/// Checks a rule that can fire, and stores its new value.
 fn check_firing_rule<T: Grounded>(
     task: &T,
     rule: u32,
@@ -122,7 +122,7 @@ fn check_firing_rule<T: Grounded>(
     check_conditions(task, rule, change.var)
 }
 
-/// Looks at the conditions of a rule for this variable in turn.
+/// Checks the conditions of a rule for this variable in turn.
 fn check_conditions<T: Grounded>(task: &T, rule: u32, var: u32) -> Result<(), LayerFault>
     requires well_ranged { WellRanged (T.says task.now) }
     requires rule { rule < length (T.says task.now).rules }
@@ -145,7 +145,7 @@ fn check_conditions<T: Grounded>(task: &T, rule: u32, var: u32) -> Result<(), La
     Ok(())
 }
 
-/// Whether a condition of a rule for this variable looks down.
+/// Returns whether a condition of a rule for this variable looks down.
 fn looks_down<T: Grounded>(task: &T, var: u32, condition: Fact) -> bool
     requires var { var < length (T.says task.now).variables }
     requires condition { condition.var < length (T.says task.now).variables }
@@ -161,7 +161,7 @@ fn looks_down<T: Grounded>(task: &T, var: u32, condition: Fact) -> bool
     }
 }
 
-/// The value that is known of the variable, if any.
+/// Returns the value that is known of the variable, if any.
 fn value_of(values: &Items<Option<u32>>, var: u32) -> Option<u32>
     requires { var < length values.now }
     ensures { result ≡ slice_index_or values.now var None }
@@ -169,7 +169,7 @@ fn value_of(values: &Items<Option<u32>>, var: u32) -> Option<u32>
     values.as_slice()[var as usize]
 }
 
-/// Whether there is no value, or just this one.
+/// Returns whether there is no value, or only this one.
 fn is_none_or_just(value: Option<u32>, only: u32) -> bool
     ensures { result ≡ option_map_or (λ its. its == only) value true }
 {

@@ -16,12 +16,12 @@ pub enum LayerFault {
     EffectOnDerived { operator: u32, effect: u32 },
     /// The rule's variable is basic.
     RuleOnBasic { rule: u32 },
-    /// The rule can fire, and asks for an old value that isn't its variable's default.
+    /// The rule can fire, and requires an old value that isn't its variable's default.
     OldValue { rule: u32 },
     /// The rule can fire, and so can an earlier rule of its variable with another new value.
     TwoValues { rule: u32 },
-    /// The rule can fire, and its condition is on a derived variable of a higher layer, or of the same layer and asks
-    /// for its default.
+    /// The rule can fire, and this condition of it is on a derived variable of a higher layer. Or it is on one of the same
+    /// layer, and requires its default.
     LayerOrder { rule: u32, condition: u32 },
     /// Memory was refused.
     Memory,
@@ -37,7 +37,7 @@ impl From<AllocError> for LayerFault {
     }
 }
 
-/// A task that is layered. In a contract it is the parts that its task says.
+/// A task that is layered. In a contract its value is the parts that the task represents.
 #[derive(Drop)]
 pub struct Layered<T: Grounded = Task> {
     task: T,
@@ -58,11 +58,14 @@ impl<T: Grounded> Model for Layered<T> {
 impl<T: Grounded> Layered<T> {
     ghost use Rattle.sas_core.specs.WellRanged.{WellRanged};
 
-    /// The task, if it is layered; else its first fault, and the task unchanged.
+    /// Returns the layered task if the task is layered. Otherwise returns the task unchanged, and its first fault.
     ///
-    /// The order is: over the operators, and in each over its effects, `EffectOnDerived`; then over the rules, and in
-    /// each `RuleOnBasic` and, where the rule can fire, `OldValue`, `TwoValues`, and `LayerOrder` for its first such
-    /// condition. `Memory` may come at any point.
+    /// The order of the checks is:
+    /// - For each operator, and for each of its effects, `EffectOnDerived`.
+    /// - For each rule `RuleOnBasic`, and then, where the rule can fire, `OldValue`, `TwoValues`, and `LayerOrder` for each
+    ///   of its conditions.
+    ///
+    /// `Memory` may be reported at any point.
     pub fn new(alloc: Global, task: T) -> Result<Layered<T>, (T, LayerFault)>
         ensures task { IfOk result (λ l. l ≡ T.says task) }
         ensures layered { IfOk result (λ l. IsLayered l) }
@@ -76,7 +79,7 @@ impl<T: Grounded> Layered<T> {
         }
     }
 
-    /// The task. It is well ranged, and layered.
+    /// Returns the task. It is well ranged and layered.
     pub fn task(&self) -> &T
         ensures task { T.says result.now ≡ self.now }
         ensures well_ranged { WellRanged self.now }
@@ -85,7 +88,7 @@ impl<T: Grounded> Layered<T> {
         &self.task
     }
 
-    /// The task, for good. It takes no memory.
+    /// Turns the layered task into its task. It takes no memory.
     pub fn into_task(self) -> T
         ensures { T.says result ≡ self }
     {
@@ -94,7 +97,8 @@ impl<T: Grounded> Layered<T> {
     }
 }
 
-/// A layered task is asked as its task is. That it is well ranged and layered need not be said where one is at hand.
+/// The calls of a layered task are those of its task. Where a layered task is at hand, it is known to be well ranged and
+/// layered.
 impl<T: Grounded> Grounded for Layered<T> {
     ghost says = { λ l. l };
 

@@ -1,5 +1,4 @@
-//! What a task means: which tasks are layered, states, settled states, preconditions, steps,
-//! and which states can be reached.
+//! What a task means: which tasks are layered, states, settled states, preconditions, steps, and which states are reachable.
 #![tactic(auto)]
 
 mod laws;

@@ -1,4 +1,4 @@
-// The facts that an operator asks for.
+// The facts that an operator requires.
 ghost use Rattle.std.specs.Prelude.{◌≡◌, ◌<◌, length};
 ghost use Rattle.sas_core.specs.Grounded.{operator_at};
 ghost use Rattle.sas_meaning.specs.Steps.{preconditions};
@@ -6,16 +6,16 @@ ghost use Rattle.sas_meaning.specs.Steps.{preconditions};
 use sas_core::{Fact, Grounded};
 use std::marker::Model;
 
-/// An iterator over an operator's preconditions: its prevail conditions, then the old values that its effects ask for.
-/// It takes no memory. In a contract it is the facts that it has still to give.
+/// An iterator over an operator's preconditions: its prevail conditions, then the old values that its effects require. It
+/// takes no memory. In a contract its value is the facts that it has still to return.
 #[derive(Drop)]
 pub struct Preconditions<'a, T: Grounded> {
     task: &'a T,
     operator: u32,
     prevail: &'a [Fact],
-    /// The next effect whose old value is asked for.
+    /// The next effect whose old value is looked up.
     effect: u32,
-    /// How many effects there are.
+    /// The number of effects.
     effects: u32,
 }
 
@@ -34,7 +34,7 @@ impl<'a, T: Grounded> Model for Preconditions<'a, T> {
 }
 
 impl<'a, T: Grounded> Preconditions<'a, T> {
-    /// All of them.
+    /// Returns an iterator over all preconditions of the operator.
     #[inline(always)]
     pub fn new(task: &'a T, operator: u32) -> Preconditions<'a, T>
         requires { operator < length (T.says task.now).operators }

@@ -1,15 +1,15 @@
-// What settles a state.
+// Evaluators, which settle states.
 use crate::layered::Layered;
 use crate::state::State;
 use sas_core::Grounded;
 
-/// What settles states of a task: it gives the derived variables the values that the rules give them.
+/// An evaluator, which settles states of a task: it sets the derived variables to the values that follow by the rules.
 pub trait Settle<T: Grounded> {
     ghost use Rattle.sas_core.specs.declared.parts.Parts.{Parts};
     ghost use Rattle.sas_core.specs.Variables.{IsState};
     ghost use Rattle.sas_meaning.specs.Settled.{Settles};
 
-    /// It can settle states of this task.
+    /// The evaluator can settle states of this task.
     ghost ready: { Self → Parts → Type 0 };
 
     /// Settles the state, which has to fit the task.

@@ -8,7 +8,7 @@ use Rattle.sas_core.specs.Grounded.{operator_at, effect_at, group_at}
 use Rattle.sas_groups.specs.Families.{IsGroupOf, IsGroupOfOr}
 use Rattle.sas_groups.specs.Checks.{NotBoth, IsGone}
 
--- the family of the places at which a list says so
+-- the family of the places at which the list is true
 abbrev pub family_of : List Bool → ℕ → Bool
 family_of kept place = slice_index_or kept place false
 

@@ -35,7 +35,7 @@ abbrev pub IsEffectAtRest : Parts → List Bool → List ℕ → ℕ → ℕ →
 IsEffectAtRest p kept waiting operator effect =
     MentionsNone p operator waiting → EffectKeepsAll p kept operator effect
 
--- and so an operator, if its effects are
+-- an operator is at rest if its effects are
 abbrev pub IsAtRest : Parts → List Bool → List ℕ → ℕ → Type 0
 IsAtRest p kept waiting operator = (effect : ℕ) → effect < length (operator_at p operator).effects
     → IsEffectAtRest p kept waiting operator effect
@@ -50,8 +50,8 @@ abbrev pub count : List Bool → ℕ
 count [] = 0
 count (kept ∷ rest) = (if kept then 1 else 0) + count rest
 
--- a place in the lists for each group, and behind those that fell room for all that may still fall;
--- together they are not more than all groups
+-- The lists have a place for each group. Behind the groups that fell there is room for all that may
+-- still fall. Together these are not more than all groups.
 pub record HasRoom (p : Parts) (family : Family) : Type 0 where
   pub one_each : length family.kept ≡ length p.groups
   pub room : count family.kept + length family.fallen.items ≤ vec_capacity family.fallen
@@ -63,12 +63,12 @@ abbrev pub AreCandidates : Parts → List Bool → Type 0
 AreCandidates p kept = (place : ℕ) → place < length p.groups
     → IsTrue (family_of kept place) ↔ MayBeExclusive p (group_at p place)
 
--- the groups that fell since
+-- the groups that fell after `before`
 abbrev pub newly : Family → Family → List ℕ
 newly before after = drop (length before.fallen.items) after.fallen.items
 
--- some groups of the family fell: these are noted, and no family that is kept jointly, and lay in
--- the one before, has one of them
+-- Some groups of the family fell, and these are noted. No family that is kept jointly, and lay in
+-- the family before, has one of them.
 pub record Falls (p : Parts) (before after : Family) : Type 0 where
   pub one_each : length after.kept ≡ length before.kept
   pub behind : after.fallen.items ≡ before.fallen.items ++ newly before after
@@ -87,23 +87,23 @@ pub record Falls (p : Parts) (before after : Family) : Type 0 where
 abbrev pub looked_at : List ℕ → ℕ → ℕ
 looked_at looked operator = slice_index_or looked operator 0
 
--- since then the operator is at rest, but for what fell meanwhile
+-- since it was looked at, the operator is at rest, but for the groups that fell meanwhile
 pub record RestsSince (p : Parts) (family : Family) (looked : List ℕ) (operator : ℕ) : Type 0 where
   pub within : looked_at looked operator ≤ length family.fallen.items
   pub rest : IsAtRest p family.kept (drop (looked_at looked operator) family.fallen.items) operator
 
--- so is the operator, or it keeps each group where that one alone counts
+-- the same holds of the operator, or it keeps each group where that one alone counts
 abbrev pub WasLookedAt : Parts → Family → List ℕ → ℕ → Type 0
 WasLookedAt p family looked operator =
     RestsSince p family looked operator ⊎ KeepsEachAlone p family.kept operator
 
--- and so is each operator
+-- the same for each operator
 pub record AreLookedAt (p : Parts) (family : Family) (looked : List ℕ) : Type 0 where
   pub one_each : length looked ≡ length p.operators
   pub each : (operator : ℕ) → operator < length p.operators → WasLookedAt p family looked operator
 
--- of the operator it is noted now how many groups had fallen before, or more, if it keeps each
--- group where that one alone counts
+-- For the operator it is stored now how many groups had fallen before. Or a larger number is
+-- stored, and the operator keeps each group where that one alone counts.
 pub record IsNotedOnce (p : Parts) (before after : Family) (operator : ℕ) (looked looked' : List ℕ)
     : Type 0 where
   pub when : ℕ

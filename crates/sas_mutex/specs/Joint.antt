@@ -7,7 +7,7 @@ use Rattle.sas_groups.specs.declared.verdict.Verdict.TheVariants.{Exclusive}
 use Rattle.sas_groups.specs.Groups.{IsInvariant}
 use Rattle.sas_groups.specs.Verdicts.{IsJointVerdict}
 
--- the verdict on the group at this place; behind the last one it is exclusive
+-- the verdict on the group at this place; behind the last group it is exclusive
 abbrev pub verdict_at : List Verdict → ℕ → Verdict
 verdict_at verdicts place = slice_index_or verdicts place Exclusive
 

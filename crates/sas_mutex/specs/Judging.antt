@@ -11,14 +11,14 @@ use Rattle.sas_groups.specs.Verdicts.{IsFirstVerdict, IsJointVerdict}
 use Rattle.sas_mutex.specs.Effects.{family_of, KeepsWithItself}
 use Rattle.sas_mutex.specs.Joint.{verdict_at}
 
--- what is said of each group before operators are asked
+-- the verdict on each group before operators are checked
 pub record AreFirstVerdicts (p : Parts) (verdicts : List Verdict) : Type 0 where
   pub one_each : length verdicts ≡ length p.groups
   pub are : (place : ℕ) → place < length p.groups
       → IsFirstVerdict p (group_at p place) (verdict_at verdicts place)
 
--- the group at this place isn't in the family, and nothing is told of it so far, which is said by
--- `Exclusive`
+-- the group at this place isn't in the family, and no operator was found yet that breaks it, which
+-- `Exclusive` represents
 pub record IsUntold (kept : List Bool) (verdicts : List Verdict) (place : ℕ) : Type 0 where
   pub fell : IsFalse (family_of kept place)
   pub nothing : verdict_at verdicts place ≡ Exclusive
@@ -33,7 +33,7 @@ pub record KeptSoFar (p : Parts) (kept : List Bool) (operator effect place : ℕ
       → Contains (group_at p place) (sets (effect_at (operator_at p operator) lower))
       → KeepsWithItself p kept operator lower place
 
--- the verdict on the group at this place, as far as the operators and effects so far tell it
+-- the verdict on the group at this place, as far as the operators and effects so far decide it
 abbrev pub IsVerdictSoFar : Parts → List Bool → ℕ → ℕ → ℕ → Verdict → Type 0
 IsVerdictSoFar p kept operator effect place Derived = IsJointVerdict p place Derived
 IsVerdictSoFar p kept operator effect place Initial = IsJointVerdict p place Initial

@@ -1,4 +1,4 @@
--- What the public clauses cite.
+-- The modules that public contracts cite.
 pub use Rattle.sas_groups.specs.Clashes
 pub use Rattle.sas_groups.specs.Groups
 pub use Rattle.sas_groups.specs.Families

@@ -43,8 +43,8 @@ pub record IsOfGroup (p : Parts) (facts : List Fact) (place : ℕ) (fact : Fact)
   pub among : Contains facts fact
   pub has : HasFact p place fact
 
--- what is noted for a group: that none of the facts is of it, or the one that is, or that two
--- different ones are
+-- what is noted for a group: that it has none of the facts, or the one fact that it has, or that it
+-- has two different ones
 abbrev pub IsGroupNote : Parts → List Fact → ℕ → Noted → Type 0
 IsGroupNote p facts place Nothing = (fact : Fact) → IsOfGroup p facts place fact → ⊥
 IsGroupNote p facts place (One fact) = IsOfGroup p facts place fact

@@ -1,4 +1,4 @@
--- What one fact changes of what is noted, and what the notes tell of one fact.
+-- What one fact changes of what is noted, and what follows from the notes for one fact.
 use Rattle.std.specs.Prelude.{◌≡◌, ◌≢◌, ◌⊎◌, ℕ, ◌<◌, Bool, IsTrue, Option, None, Some}
 use Rattle.std.specs.Prelude.{List, [], length, slice_index_or, slice_set, All, Contains}
 use Rattle.sas_core.specs.declared.parts.Fact.{Fact}
@@ -83,14 +83,14 @@ pub record IsNew (groups : List ℕ) (kept : List Bool) (fact : Fact) (before af
   pub some : TakenBySome groups kept fact before.groups after.groups
   pub all : TakenByAll groups kept fact before.groups after.groups
 
--- nothing is noted for these groups, and for the others what was, or nothing
+-- nothing is noted for these groups, and for each other group what was noted before, or nothing
 pub record ForgetsGroups (groups : List ℕ) (before after : List Noted) : Type 0 where
   pub as_many : length after ≡ length before
   pub none : All (λ (place : ℕ). group_note after place ≡ Nothing) groups
   pub each : (place : ℕ)
       → (group_note after place ≡ group_note before place) ⊎ (group_note after place ≡ Nothing)
 
--- nothing is noted of the fact
+-- what is noted of the fact is taken back
 pub record Forgets (groups : List ℕ) (fact : Fact) (before after : Marks) : Type 0 where
   pub values : after.values ≡ slice_set before.values fact.var None
   pub by_group : ForgetsGroups groups before.groups after.groups
@@ -113,7 +113,7 @@ pub record IsBarred (groups : List ℕ) (kept : List Bool) (fact : Fact) (marks 
   pub none : value_note marks.values fact.var ≡ None
   pub group : HasNotedGroup groups kept marks.groups
 
--- the notes speak against the fact
+-- the notes contradict the fact
 abbrev pub IsAgainst : List ℕ → List Bool → Fact → Marks → Type 0
 IsAgainst groups kept fact marks = HasOtherValue marks.values fact ⊎ IsBarred groups kept fact marks
 
@@ -140,7 +140,7 @@ pub record AreKnown (p : Parts) (kept : List Bool) (facts : List Fact) (marks : 
   pub noted : IsNoted p facts marks
   pub apart : Clash (IsKept p kept) facts → ⊥
 
--- what is known where the effect at this place of this operator fires
+-- the known facts where the effect at this place of this operator fires
 abbrev pub known_at : Parts → ℕ → ℕ → List Fact
 known_at p operator effect =
     known (operator_at p operator) (effect_at (operator_at p operator) effect).conditions []
@@ -151,7 +151,7 @@ pub record AreNoted (p : Parts) (kept : List Bool) (facts : List Fact) (marks : 
   pub are : AreKnown p kept facts marks
   pub from : IsNotedFrom p facts marks
 
--- what is known where the effect fires is noted, and nothing else, and doesn't clash
+-- the known facts where the effect fires are noted, and no others, and don't clash
 abbrev pub IsNotedFor : Parts → List Bool → ℕ → ℕ → Marks → Type 0
 IsNotedFor p kept operator effect marks = AreNoted p kept (known_at p operator effect) marks
 
@@ -177,7 +177,7 @@ IsDecidedByFirst e facts marks = (first : Fact) (d : Fact) → 0 < length facts
 
 -- ---- the same of an effect and a group of a task, where the groups of the family count
 
--- what is known where the effect fires is noted, and nothing else, and doesn't clash
+-- the known facts where the effect fires are noted, and no others, and don't clash
 pub record IsNotedAt (f : EffectPlace) (kept : List Bool) (marks : Marks) : Type 0 where
   pub one_each : length kept ≡ length f.task.groups
   pub noted : IsNotedFor f.task kept f.operator f.effect marks
@@ -189,7 +189,7 @@ KeepsGroup f kept place = KeepsAt f.task kept f.operator f.effect place
 abbrev pub KeepsGroupItself : EffectPlace → List Bool → ℕ → Type 0
 KeepsGroupItself f kept place = KeepsWithItself f.task kept f.operator f.effect place
 
--- what is known where both effects fire clashes
+-- the known facts where both effects fire clash
 abbrev pub BothClashAt : EffectPlace → List Bool → ℕ → Type 0
 BothClashAt f kept other = Clash (IsKept f.task kept) (known (operator_of f)
     (effect_of f).conditions (effect_at (operator_of f) other).conditions)

@@ -19,8 +19,9 @@ use sas_groups::Premises;
 use sas_meaning::Layered;
 use std::marker::Model;
 
-/// An effect of an operator of a task, with the index of the task's groups. What is asked of it is asked where it fires.
-/// In a contract it is the task and the two places; that they exist, and that the index is the task's, holds of every one.
+/// An effect of an operator of a task, with the index of the task's groups. Its calls are about a state in which it fires. In
+/// a contract its value is the task and the places of the operator and the effect. These places exist, and the index is that
+/// of the task's groups.
 #[derive(Drop)]
 pub struct Firing<'a, 'b, T: Grounded> {
     pub task: &'a Layered<T>,
@@ -47,7 +48,8 @@ impl<'a, 'b, T: Grounded> Model for Firing<'a, 'b, T> {
 }
 
 impl<'a, 'b, T: Grounded> Firing<'a, 'b, T> {
-    /// Whether the effect keeps the group, which is in the family. What is known where it fires is noted, and doesn't clash.
+    /// Returns whether the effect keeps the group, which is in the family. The known facts where it fires are noted, and
+    /// don't clash.
     pub fn keeps_by_notes(&self, kept: &[bool], group: u32, marks: &mut Marks) -> bool
         requires notes { IsNotedAt self.now kept.now marks.old }
         requires group { IsIn self.now.task (family_of kept.now) group }
@@ -58,8 +60,8 @@ impl<'a, 'b, T: Grounded> Firing<'a, 'b, T> {
         self.is_single(kept, group, marks) && self.removes_others(kept, group, marks)
     }
 
-    /// Whether the effect keeps the group, which isn't in the family, under the family and the group itself, by what is
-    /// noted. The family is in the end as it was.
+    /// Returns whether the effect keeps the group, which isn't in the family, under the family and the group itself, by what
+    /// is noted. In the end the family is as it was.
     pub fn keeps_with_itself(&self, group: u32, kept: &mut Items<bool>, marks: &mut Marks) -> bool
         requires notes { IsNotedAt self.now kept.old marks.old }
         requires group { group < length self.now.task.groups }
@@ -69,7 +71,7 @@ impl<'a, 'b, T: Grounded> Firing<'a, 'b, T> {
         ensures kept { kept.new ≡ kept.old }
         ensures notes { IsNotedAt self.now kept.old marks.new }
     {
-        // Two facts of the group are known where the effect fires, so as the group counts it never does.
+        // Two facts of the group are known where the effect fires. Since the group counts, it never fires.
         if marks.groups.as_slice()[group as usize].is_several() {
             return true;
         }
@@ -79,7 +81,7 @@ impl<'a, 'b, T: Grounded> Firing<'a, 'b, T> {
         keeps
     }
 
-    /// Whether no effect that may fire together with this one sets a fact of the group too, on another variable.
+    /// Returns whether no effect that may fire together with this one sets a fact of the group too, on another variable.
     fn is_single(&self, kept: &[bool], group: u32, marks: &mut Marks) -> bool
         requires notes { IsNotedAt self.now kept.now marks.old }
         requires group { IsIn self.now.task (family_of kept.now) group }
@@ -95,7 +97,8 @@ impl<'a, 'b, T: Grounded> Firing<'a, 'b, T> {
         true
     }
 
-    /// Whether the other effect never sets a fact of the group on another variable in the same step as this effect fires.
+    /// Returns whether the other effect never sets a fact of the group on another variable in the same step as this effect
+    /// fires.
     fn not_both(&self, kept: &[bool], other: u32, group: u32, marks: &mut Marks) -> bool
         requires notes { IsNotedAt self.now kept.now marks.old }
         requires other { other < length (operator_of self.now).effects }
@@ -114,7 +117,8 @@ impl<'a, 'b, T: Grounded> Firing<'a, 'b, T> {
         self.both_clash(kept, other, marks)
     }
 
-    /// Whether what is known where both effects fire clashes. What is known where this one fires is noted before and after.
+    /// Returns whether the known facts where both effects fire clash. The known facts where this effect fires are noted
+    /// before and after.
     fn both_clash(&self, kept: &[bool], other: u32, marks: &mut Marks) -> bool
         requires notes { IsNotedAt self.now kept.now marks.old }
         requires other { other < length (operator_of self.now).effects }
@@ -144,7 +148,7 @@ impl<'a, 'b, T: Grounded> Firing<'a, 'b, T> {
         clash
     }
 
-    /// Whether no other fact of the group stays where this effect fires. Mostly an old value tells so at once.
+    /// Returns whether no other fact of the group stays where this effect fires. Mostly an old value decides this at once.
     fn removes_others(&self, kept: &[bool], group: u32, marks: &Marks) -> bool
         requires notes { IsNotedAt self.now kept.now marks.now }
         requires group { IsIn self.now.task (family_of kept.now) group }
@@ -154,8 +158,8 @@ impl<'a, 'b, T: Grounded> Firing<'a, 'b, T> {
         self.asks_one_of(group) || self.none_stays(kept, group, marks)
     }
 
-    /// Whether the effect asks for an old value that is a fact of the group. Then no other fact of the group can have held,
-    /// on another variable.
+    /// Returns whether the effect requires an old value that is a fact of the group. Then no other fact of the group on
+    /// another variable can have held.
     fn asks_one_of(&self, group: u32) -> bool
         ensures { IsTrue result
             → (kept : List Bool) → IsIn self.now.task (family_of kept) group
@@ -174,14 +178,14 @@ impl<'a, 'b, T: Grounded> Firing<'a, 'b, T> {
         }
     }
 
-    /// Whether no other fact of the group stays, where what is known is noted and doesn't clash.
+    /// Returns whether no other fact of the group stays, where the known facts are noted and don't clash.
     fn none_stays(&self, kept: &[bool], group: u32, marks: &Marks) -> bool
         requires notes { IsNotedAt self.now kept.now marks.now }
         requires group { IsIn self.now.task (family_of kept.now) group }
         ensures yes { IsTrue result → AreGoneAt self.now kept.now group }
         ensures no { IsFalse result → AreGoneAt self.now kept.now group → ⊥ }
     {
-        // What holds of every such effect is told where a field of it is named.
+        // Naming a field makes the invariant of the effect available.
         let _ = &self.task;
         // Where a fact of the group is known, it contradicts all the others.
         if let Some(fact) = marks.groups.as_slice()[group as usize].only() {
@@ -198,8 +202,8 @@ impl<'a, 'b, T: Grounded> Firing<'a, 'b, T> {
         true
     }
 
-    /// Whether none of the facts stays, which are on one variable, and of which none is known. If that is the effect's
-    /// variable, or another value of it is known, that is told at once.
+    /// Returns whether none of the facts stays. They are on one variable, and none of them is known. If that is the effect's
+    /// variable, or another value of it is known, this is decided at once.
     fn run_is_gone(&self, kept: &[bool], run: &[Fact], marks: &Marks) -> bool
         requires notes { IsNotedAt self.now kept.now marks.now }
         requires exist { All (FactExists self.now.task.variables) run.now }
@@ -208,7 +212,7 @@ impl<'a, 'b, T: Grounded> Firing<'a, 'b, T> {
         ensures yes { IsTrue result → All (IsGoneAt self.now kept.now) run.now }
         ensures no { IsFalse result → All (IsGoneAt self.now kept.now) run.now → ⊥ }
     {
-        // What holds of every such effect is told where a field of it is named.
+        // Naming a field makes the invariant of the effect available.
         let _ = &self.index;
         if self.is_settled(run, marks) {
             return true;
@@ -221,7 +225,7 @@ impl<'a, 'b, T: Grounded> Firing<'a, 'b, T> {
         true
     }
 
-    /// Whether the first of the facts is on the effect's variable, or a value of its variable is known.
+    /// Returns whether the first of the facts is on the effect's variable, or a value of its variable is known.
     fn is_settled(&self, run: &[Fact], marks: &Marks) -> bool
         requires values { All (λ (f : Fact). f.var < length marks.now.values) run.now }
         ensures { IsTrue result → IsDecidedByFirst (effect_of self.now) run.now marks.now }
@@ -235,7 +239,7 @@ impl<'a, 'b, T: Grounded> Firing<'a, 'b, T> {
         }
     }
 
-    /// Whether the fact is on the effect's variable, or doesn't stay where the effect fires.
+    /// Returns whether the fact is on the effect's variable, or doesn't stay where the effect fires.
     fn is_gone(&self, kept: &[bool], fact: Fact, marks: &Marks) -> bool
         requires notes { IsNotedAt self.now kept.now marks.now }
         requires fact { FactExists self.now.task.variables fact }
@@ -250,7 +254,7 @@ impl<'a, 'b, T: Grounded> Firing<'a, 'b, T> {
     }
 }
 
-/// Whether the fact contradicts one that is noted.
+/// Returns whether the fact contradicts one that is noted.
 fn contradicts(index: &Index, kept: &[bool], fact: Fact, marks: &Marks) -> bool
     requires low { All (λ (first : ℕ). first ≤ 2 ^ 62) index.now.firsts.items }
     requires value { fact.var < length marks.now.values }
@@ -267,7 +271,7 @@ fn contradicts(index: &Index, kept: &[bool], fact: Fact, marks: &Marks) -> bool
     }
 }
 
-/// Whether a fact is noted for one of these groups that is kept.
+/// Returns whether a fact is noted for one of these groups that is kept.
 fn has_noted(groups: &[u32], kept: &[bool], noted: &Items<Noted>) -> bool
     requires kept { AreBelow (length kept.now) groups.now }
     requires noted { AreBelow (length noted.now) groups.now }
@@ -282,8 +286,8 @@ fn has_noted(groups: &[u32], kept: &[bool], noted: &Items<Noted>) -> bool
     false
 }
 
-/// Whether an effect of the operator whose conditions all are this fact or noted sets the variable of the fact to another
-/// value.
+/// Returns whether an effect of the operator, each of whose conditions is this fact or noted, sets the variable of the fact
+/// to another value.
 fn is_removed<T: Grounded>(task: &Layered<T>, operator: u32, fact: Fact, marks: &Marks) -> bool
     requires wide { IsWide task.now marks.now }
     requires operator { operator < length task.now.operators }
@@ -298,7 +302,8 @@ fn is_removed<T: Grounded>(task: &Layered<T>, operator: u32, fact: Fact, marks: 
     false
 }
 
-/// Whether the effect's conditions all are this fact or noted, and it sets the variable of the fact to another value.
+/// Returns whether each of the effect's conditions is this fact or noted, and the effect sets the variable of the fact to
+/// another value.
 fn removes<T: Grounded>(
     task: &Layered<T>,
     operator: u32,
@@ -314,7 +319,7 @@ fn removes<T: Grounded>(
     ensures no { IsFalse result
         → Removes marks.now fact (effect_at (operator_at task.now operator) effect) → ⊥ }
 {
-    // The contract of this call tells that the task is well ranged.
+    // By its contract the task is well ranged.
     let _ = task.task();
     let change = task.effect_change(operator, effect);
     if change.var != fact.var || change.new == fact.value {
@@ -323,7 +328,7 @@ fn removes<T: Grounded>(
     all_met(task.effect_conditions(operator, effect), fact, marks)
 }
 
-/// Whether all the conditions are this fact or noted.
+/// Returns whether each of the conditions is this fact or noted.
 fn all_met(conditions: &[Fact], fact: Fact, marks: &Marks) -> bool
     requires { All (λ (c : Fact). c.var < length marks.now.values) conditions.now }
     ensures yes { IsTrue result → All (IsMet marks.now fact) conditions.now }
@@ -337,7 +342,7 @@ fn all_met(conditions: &[Fact], fact: Fact, marks: &Marks) -> bool
     true
 }
 
-/// Whether the condition is this fact or noted.
+/// Returns whether the condition is this fact or noted.
 fn is_met(condition: Fact, fact: Fact, marks: &Marks) -> bool
     requires { condition.var < length marks.now.values }
     ensures yes { IsTrue result → IsMet marks.now fact condition }

@@ -23,11 +23,12 @@ use sas_meaning::Layered;
 /// The groups that may still be kept jointly, and those that fell out of them.
 #[derive(Drop)]
 pub struct Family {
-    /// Whether the group is of the family.
+    /// For each group, whether it is in the family.
     pub kept: Items<bool>,
-    /// Those that fell, in their order.
+    /// The groups that fell, in the order in which they did.
     pub fallen: Vec<u32>,
-    /// That of no group: under it and the group itself an effect is asked whether it keeps a group by that group alone.
+    /// The family without a group. Under it and a group itself an effect is checked for whether it keeps the group by the
+    /// group alone.
     pub none: Items<bool>,
 }
 
@@ -38,13 +39,13 @@ struct Fallen<'a> {
     operators: &'a [u32],
 }
 
-/// Noted in place of how many groups had fallen, of an operator that need never be looked at again.
+/// Stored for an operator that need never be looked at again, in place of how many groups had fallen.
 const FOR_GOOD: u32 = u32::MAX;
 
-/// Takes from the family, which has the groups that may be exclusive, each that some operator doesn't keep, until every
-/// operator keeps each that is left. After groups fell only those operators are looked at again that mention a fact of one,
-/// but for those that keep each group by that group alone. `looked` has an item for each operator, where it is noted how many
-/// groups had fallen when it was looked at last.
+/// Removes from the family, which has the groups that may be exclusive, each group that some operator doesn't keep, until
+/// every operator keeps each group that is left. After a group fell, only operators that mention a fact of it are looked at
+/// again, and of these none that keeps each group by that group alone. `looked` has an item for each operator, which holds
+/// how many groups had fallen when it was looked at last.
 pub fn find_greatest<T: Grounded>(
     indexed: &IndexedTask<'_, '_, T>,
     looked: &mut Items<u32>,
@@ -114,7 +115,7 @@ fn look_again<T: Grounded>(
     }
 }
 
-/// Looks at those of the operators that weren't looked at since the group fell.
+/// Looks at the operators in `fallen` that weren't looked at since the group fell.
 fn look_at_each<T: Grounded>(
     indexed: &IndexedTask<'_, '_, T>,
     fallen: &Fallen<'_>,
@@ -144,7 +145,7 @@ fn look_at_each<T: Grounded>(
     }
 }
 
-/// Looks at the operator, and notes how many groups had fallen before, or that it need never be looked at again.
+/// Looks at the operator, and stores how many groups had fallen before, or that it need never be looked at again.
 fn look_once<T: Grounded>(
     indexed: &IndexedTask<'_, '_, T>,
     operator: u32,
@@ -164,14 +165,15 @@ fn look_once<T: Grounded>(
     ensures room { HasRoom indexed.now family.new }
     ensures clean { IsClean indexed.now marks.new }
 {
-    // The contract of this call tells that the task is well ranged, so it hasn't more groups than a `u32` tells.
+    // By its contract the task is well ranged, so the number of its groups fits in a `u32`.
     let _ = indexed.task.task();
     let fallen = family.fallen.len() as u32;
     let alone = look_at(indexed, operator, family, marks);
     looked.set(operator as usize, if alone { FOR_GOOD } else { fallen });
 }
 
-/// Takes from the family the groups that the operator doesn't keep. Says whether it keeps each that is left by that group alone.
+/// Removes from the family the groups that the operator doesn't keep. Returns true only if the operator keeps each group that
+/// is left by that group alone.
 fn look_at<T: Grounded>(
     indexed: &IndexedTask<'_, '_, T>,
     operator: u32,
@@ -203,9 +205,9 @@ fn look_at<T: Grounded>(
     alone
 }
 
-/// Takes from the family the groups that the operator's effects without conditions don't keep. Says whether they keep each that
-/// is left by that group alone. What is known where they fire is the same for all of them, and is noted once; if that clashes,
-/// none of them ever fires.
+/// Removes from the family the groups that the operator's effects without conditions don't keep. Returns true only if they
+/// keep each group that is left by that group alone. The known facts where they fire are the same for all of them, and are
+/// noted once. If these clash, none of the effects ever fires.
 fn look_at_plain<T: Grounded>(
     indexed: &IndexedTask<'_, '_, T>,
     operator: u32,
@@ -246,8 +248,8 @@ fn look_at_plain<T: Grounded>(
     alone
 }
 
-/// Takes from the family the groups that the operator's effects without conditions don't keep, by what is noted. Says whether
-/// they keep each that is left by that group alone.
+/// Removes from the family the groups that the operator's effects without conditions don't keep, by what is noted. Returns
+/// true only if they keep each group that is left by that group alone.
 fn look_at_each_plain<T: Grounded>(
     indexed: &IndexedTask<'_, '_, T>,
     operator: u32,
@@ -284,7 +286,7 @@ fn look_at_each_plain<T: Grounded>(
     alone
 }
 
-/// Whether some effect of the operator has no conditions.
+/// Returns whether some effect of the operator has no conditions.
 fn has_plain<T: Grounded>(task: &Layered<T>, operator: u32) -> bool
     requires { operator < length task.now.operators }
     ensures { IsFalse result
@@ -300,7 +302,7 @@ fn has_plain<T: Grounded>(task: &Layered<T>, operator: u32) -> bool
     false
 }
 
-/// Whether the effect has no conditions.
+/// Returns whether the effect has no conditions.
 fn is_plain<T: Grounded>(task: &Layered<T>, operator: u32, effect: u32) -> bool
     requires operator { operator < length task.now.operators }
     requires effect { effect < length (operator_at task.now operator).effects }
@@ -310,8 +312,8 @@ fn is_plain<T: Grounded>(task: &Layered<T>, operator: u32, effect: u32) -> bool
     task.effect_conditions(operator, effect).is_empty()
 }
 
-/// Takes from the family the groups that the effect doesn't keep. Says whether it keeps each that is left by that group alone.
-/// What is known where it fires is noted once for all of them; if that clashes, it never fires.
+/// Removes from the family the groups that the effect doesn't keep. Returns true only if it keeps each group that is left by
+/// that group alone. The known facts where it fires are noted once for all groups. If these clash, the effect never fires.
 fn look_at_effect<T: Grounded>(
     firing: &Firing<'_, '_, T>,
     family: &mut Family,
@@ -348,8 +350,8 @@ fn look_at_effect<T: Grounded>(
     alone
 }
 
-/// Takes from the family the groups that the effect doesn't keep, by what is noted. Says whether it keeps each that is left by
-/// that group alone.
+/// Removes from the family the groups that the effect doesn't keep, by what is noted. Returns true only if it keeps each
+/// group that is left by that group alone.
 fn look_at_groups<T: Grounded>(
     firing: &Firing<'_, '_, T>,
     family: &mut Family,
@@ -378,8 +380,9 @@ fn look_at_groups<T: Grounded>(
     alone
 }
 
-/// Takes the group from the family if the effect doesn't keep it, by what is noted. Says whether the effect keeps it by the group
-/// alone, if it is left; where it does, every family that has the group will do.
+/// Removes the group from the family if the effect doesn't keep it, by what is noted. Returns true only if the effect keeps
+/// it by the group alone, or it isn't in the family any more. An effect that keeps a group by the group alone keeps it under
+/// every family that has the group.
 fn look_at_group<T: Grounded>(
     firing: &Firing<'_, '_, T>,
     group: u32,
@@ -398,7 +401,7 @@ fn look_at_group<T: Grounded>(
     ensures room { HasRoom firing.now.task family.new }
     ensures notes { IsNotedAt firing.now family.new.kept marks.new }
 {
-    // What holds of every such effect is told where a field of it is named.
+    // Naming a field makes the invariant of the effect available.
     let _ = &firing.task;
     if !family.kept.as_slice()[group as usize] {
         return true;
@@ -414,7 +417,7 @@ fn look_at_group<T: Grounded>(
 }
 
 impl Family {
-    /// The group falls.
+    /// Removes the group from the family, and adds it to those that fell.
     fn take_away(&mut self, group: u32)
         requires kept { IsTrue (family_of self.old.kept group) }
         requires room { count self.old.kept + length self.old.fallen.items

@@ -1,12 +1,12 @@
-// A task with what is looked up of it again and again.
+// A task with the indexes that are used for it again and again.
 use sas_core::Grounded;
 use sas_group_index::Index;
 use sas_lists::Lists;
 use sas_meaning::Layered;
 use std::marker::Model;
 
-/// A task, which groups have which of its facts, and which operators mention facts of a group. In a
-/// contract it is the parts that the task says.
+/// A task, which groups have which of its facts, and which operators mention facts of a group. In a contract its value is the
+/// parts that the task represents.
 #[derive(Drop)]
 pub struct IndexedTask<'a, 'b, T: Grounded> {
     pub task: &'a Layered<T>,

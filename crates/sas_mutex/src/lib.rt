@@ -1,5 +1,5 @@
-//! Mutex groups judged jointly: which groups of a task are invariants, where each may rest on others. The definitions, the laws
-//! and the check of one group stand in `sas_groups`, whose calls this crate passes on.
+//! Mutex groups judged jointly: which groups of a task are invariants, where each may depend on others. The definitions, the
+//! laws and the check of one group are in `sas_groups`. This crate re-exports the laws and that check.
 #![tactic(auto)]
 
 mod effects;

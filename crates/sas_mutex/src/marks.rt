@@ -29,7 +29,7 @@ pub enum Noted {
 }
 
 impl Noted {
-    /// What is noted once this fact of the group is noted too.
+    /// Returns what is noted once this fact of the group is noted too.
     fn with(self, fact: Fact) -> Noted
         ensures { IsNotedToo self fact result }
     {
@@ -40,7 +40,7 @@ impl Noted {
         }
     }
 
-    /// The fact that is noted, if it is the only one.
+    /// Returns the fact that is noted, if it is the only one.
     pub fn only(self) -> Option<Fact>
         ensures some { (fact : Fact) → result ≡ Some fact → self ≡ One fact }
         ensures none { result ≡ None → (fact : Fact) → self ≢ One fact }
@@ -51,14 +51,14 @@ impl Noted {
         }
     }
 
-    /// Whether none is noted.
+    /// Returns whether none is noted.
     pub fn is_nothing(self) -> bool
         ensures { IsTrue result ↔ (self ≡ Nothing) }
     {
         matches!(self, Noted::Nothing)
     }
 
-    /// Whether several are noted.
+    /// Returns whether several are noted.
     pub fn is_several(self) -> bool
         ensures { IsTrue result ↔ (self ≡ Several) }
     {
@@ -76,7 +76,7 @@ pub struct Marks {
 }
 
 impl Marks {
-    /// Nothing is noted.
+    /// Returns marks in which nothing is noted.
     pub fn new<T: Grounded>(alloc: Global, task: &Layered<T>) -> Result<Marks, AllocError>
         ensures { IfOk result (λ marks. IsClean task.now marks) }
     {
@@ -87,7 +87,7 @@ impl Marks {
     }
 }
 
-/// Notes what is known. Says whether it clashes; then not all of it is noted.
+/// Notes the known facts, and returns whether they clash. If they do, not all of them are noted.
 pub fn note_known<T: Grounded>(
     task: &Layered<T>,
     index: &Index,
@@ -109,7 +109,7 @@ pub fn note_known<T: Grounded>(
         → IsNoted task.now (known_on task.now premises.now) marks.new }
     ensures from { IsNotedFrom task.now (known_on task.now premises.now) marks.new }
 {
-    // The contract of this call tells that the task is well ranged.
+    // By its contract the task is well ranged.
     let _ = task.task();
     for fact in Known::new(task, premises) {
         if !note(index, kept, fact, marks) {
@@ -119,7 +119,7 @@ pub fn note_known<T: Grounded>(
     false
 }
 
-/// Notes the fact. Says whether it contradicts none that is noted; if it does, it may be noted in part.
+/// Notes the fact, and returns whether it contradicts none that is noted. If it does, it may be noted in part.
 fn note(index: &Index, kept: &[bool], fact: Fact, marks: &mut Marks) -> bool
     requires low { All (λ (first : ℕ). first ≤ 2 ^ 62) index.now.firsts.items }
     requires value { fact.var < length marks.old.values }
@@ -140,7 +140,7 @@ fn note(index: &Index, kept: &[bool], fact: Fact, marks: &mut Marks) -> bool
     }
 }
 
-/// Notes the fact for these groups, which have it. Says whether no other fact is noted for one of them that is kept.
+/// Notes the fact for these groups, which have it. Returns whether no other fact is noted for one of them that is kept.
 fn note_in_groups(groups: &[u32], kept: &[bool], fact: Fact, noted: &mut Items<Noted>) -> bool
     requires kept { AreBelow (length kept.now) groups.now }
     requires noted { AreBelow (length noted.old) groups.now }
@@ -158,7 +158,7 @@ fn note_in_groups(groups: &[u32], kept: &[bool], fact: Fact, noted: &mut Items<N
     true
 }
 
-/// Takes back what is noted of what is known.
+/// Takes back what is noted of the known facts.
 pub fn forget_known<T: Grounded>(
     task: &Layered<T>,
     index: &Index,
@@ -172,7 +172,7 @@ pub fn forget_known<T: Grounded>(
     requires from { IsNotedFrom task.now (known_on task.now premises.now) marks.old }
     ensures { IsClean task.now marks.new }
 {
-    // The contract of this call tells that the task is well ranged.
+    // By its contract the task is well ranged.
     let _ = task.task();
     for fact in Known::new(task, premises) {
         forget(index, fact, marks);

@@ -29,10 +29,11 @@ IsDecided (Err TooLong) = ⊤
 IsDecided (Err Memory) = ⊥
 IsDecided (Err Read) = ⊥
 
--- What a result says. `Out` tells the output, or that there is none, and `Sent` which bytes went
--- out. The whole text of the output went out, and the status is its status; or a write failed, and
--- the first bytes of the text went out; or there is no output. Want of memory and a failed read say
--- nothing of the output.
+-- What a result reports. `Out` holds of the output, or of none if there is none. `Sent` holds of
+-- the bytes that were written. Where the result is a status, the whole text of the output was
+-- written, and the status is its status. Where a write failed, the first bytes of the text were
+-- written. Where an input is too long, there is no output. Refused memory and a failed read report
+-- nothing about the output.
 abbrev pub Ends : (Option Output → Type 0) → (List ℕ → Type 0) → Result Status ToolFault → Type 0
 Ends Out Sent (Ok status) =
     (output : Output) × Out (Some output) × (status ≡ output.status) × Sent output.text

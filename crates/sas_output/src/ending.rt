@@ -4,13 +4,13 @@ ghost use Rattle.std.specs.Prelude.{◌≡◌};
 use std::alloc::AllocError;
 use thiserror::Error;
 
-/// The answer in one word.
+/// The status of an answer: the answer in one word.
 #[derive(Clone, Copy, Debug, PartialEq, Eq)]
 pub enum Status {
-    /// The file is a text of its format; the task is layered where that was asked, the plan valid, and all groups
+    /// The file is a text of its format. Where that was asked, the task is layered, the plan is valid, and all groups are
     /// exclusive. The answer was written.
     Yes,
-    /// A file is refused, or the plan isn't valid, or a group isn't shown to be exclusive, and that was written.
+    /// A file is refused, or the plan isn't valid, or a group isn't shown to be exclusive. This answer was written.
     No,
 }
 
@@ -23,10 +23,10 @@ pub enum ToolFault {
     /// A read failed.
     #[error("read failed")]
     Read,
-    /// An input goes past the most bytes that are read.
+    /// An input is longer than the most bytes that are read.
     #[error("input too long")]
     TooLong,
-    /// A write failed, and the first `written` bytes of the answer had gone out.
+    /// A write failed, and the first `written` bytes of the answer had been written before.
     #[error("write failed")]
     Write { written: usize },
 }

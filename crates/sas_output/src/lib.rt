@@ -1,4 +1,4 @@
-//! How a run ends: by an answer in one word, or why there is none; and how a text goes out, whole or in pieces.
+//! How a run ends: by an answer in one word, or why there is no answer. And how a text is written, whole or in pieces.
 #![tactic(auto)]
 
 mod ending;

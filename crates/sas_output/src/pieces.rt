@@ -1,4 +1,4 @@
-// A text that goes out in pieces.
+// A text that is written in pieces.
 ghost use Rattle.std.specs.Prelude.{◌≡◌, ◌≤◌, ◌+◌, ◌↔◌, [], ◌++◌, length, false};
 ghost use Rattle.std.specs.Prelude.{IfOk, IfErr, IsErr, IsTrue, OnOk, flat_map};
 ghost use Rattle.std.specs.Io.KnownBytes.{Appends};
@@ -12,7 +12,8 @@ use std::marker::Model;
 /// The most bytes that are held back.
 const PIECE: usize = 65_536;
 
-/// What has come of a text and hasn't gone out yet, and how many bytes of it have. Only `new` asks for memory.
+/// A text that is written in pieces: the bytes of it that are held back, and how many bytes were written before them. Only
+/// `new` asks for memory.
 #[derive(Drop)]
 pub struct Pieces {
     piece: Vec<u8>,
@@ -28,12 +29,12 @@ impl Model for Pieces {
 
     ghost view = { λ p. record { held = p.piece.items; written = p.written } };
 
-    // No byte that is held asks for memory.
+    // Holding a byte asks for no memory.
     ghost invariant = { λ p. (vec_len p.piece ≤ 65536) × (65536 ≤ vec_capacity p.piece) };
 }
 
 impl Pieces {
-    /// Nothing has come yet. An `Err` comes only for want of memory.
+    /// Returns a text without a byte so far. An `Err` reports that memory was refused.
     pub fn new(alloc: Global) -> Result<Pieces, AllocError>
         ensures { IfOk result (λ p. p ≡ record { held = []; written = 0 }) }
     {
@@ -43,8 +44,8 @@ impl Pieces {
         })
     }
 
-    /// Puts the bytes behind what has come. What is held goes out where there is no room for them behind it; and they
-    /// go out themselves, without a copy, where they are longer than a piece. Not to be called after a failure.
+    /// Adds the bytes to the text. If there is no room for them behind what is held, this is written first. If they are
+    /// longer than a piece, they are then written themselves, without a copy. Not to be called after a failure.
     pub fn push<W: Write>(&mut self, out: &mut Watched<W>, bytes: &[u8]) -> Result<(), Short>
         requires { out.old.failed ≡ false }
         ensures puts { PutsOrBreaks (W.contents out.old.device) (W.contents out.new.device)
@@ -64,7 +65,7 @@ impl Pieces {
         self.pass(out, bytes)
     }
 
-    /// Puts the bytes of these parts, one after another, behind what has come. Not to be called after a failure.
+    /// Adds the bytes of these parts to the text, one after another. Not to be called after a failure.
     pub fn push_all<W: Write>(&mut self, out: &mut Watched<W>, parts: &[&[u8]]) -> Result<(), Short>
         requires { out.old.failed ≡ false }
         ensures puts { PutsOrBreaks (W.contents out.old.device) (W.contents out.new.device)
@@ -115,8 +116,8 @@ impl Pieces {
     }
 }
 
-/// Writes the bytes, behind so many that were written before. How many it then are comes back, as far as that can be
-/// counted.
+/// Writes the bytes, where `written` bytes were written before. Returns how many bytes are written in all, as far as a
+/// `usize` can count them.
 fn send<W: Write>(written: usize, out: &mut Watched<W>, bytes: &[u8]) -> Result<usize, Short>
     requires { out.old.failed ≡ false }
     ensures ok { IfOk result (λ n.

@@ -1,4 +1,4 @@
-// A text that is at hand, and how it goes out.
+// A text that is at hand, and how it is written.
 ghost use Rattle.std.specs.Prelude.{◌≡◌, ◌↔◌, false, Some, IfErr, IsErrAnd, IsTrue};
 ghost use Rattle.std.specs.Io.KnownBytes.{Appends};
 ghost use Rattle.sas_output.specs.Ending.{output_told};
@@ -8,7 +8,7 @@ use crate::ending::{Status, ToolFault};
 use sas_lines::{Watched, write_out};
 use std::io::Write;
 
-/// What is said: a text, and its status.
+/// An answer: a text, and its status.
 #[derive(Drop)]
 pub struct Told {
     pub text: Vec<u8>,
@@ -16,7 +16,7 @@ pub struct Told {
 }
 
 impl Told {
-    /// Writes the text. It asks for no memory. Not to be called after a failure.
+    /// Writes the text, and returns its status. It asks for no memory. Not to be called after a failure.
     pub fn write<W: Write>(&self, out: &mut Watched<W>) -> Result<Status, ToolFault>
         requires { out.old.failed ≡ false }
         ensures ends { Ends (λ output. output ≡ Some (output_told self.now))

@@ -1,5 +1,5 @@
--- What follows: a plan of a layered task is valid in one way, or has exactly one fault;
--- where its steps lead is reachable.
+-- What follows from the definitions: a plan of a layered task is valid in one way, or has exactly
+-- one fault. The state to which its steps lead is reachable.
 use Rattle.std.specs.Prelude.{◌≡◌, ◌⊎◌, ℕ, List}
 use Rattle.sas_core.specs.declared.parts.Parts.{Parts}
 use Rattle.sas_core.specs.PlanParts.{PlanParts}

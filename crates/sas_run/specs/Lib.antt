@@ -1,4 +1,4 @@
--- What the public clauses cite.
+-- The modules that public contracts cite.
 pub mod Plans
 pub mod Verdicts
 pub mod Laws

@@ -12,8 +12,8 @@ use Rattle.sas_run.specs.Names.{IsNextNamed}
 abbrev pub is_called : List ℕ → NameKey → Bool
 is_called name key = pointwise nat_eq name key.bytes.now
 
--- The map tells of each name the lowest operator of it, or that no operator has it; the table tells
--- of each operator the next one of its name, or that there is none.
+-- The map holds, for each name, the lowest operator of it, or nothing if no operator has it. The
+-- table holds, for each operator, the next one of its name, or that there is none.
 pub record AreNames (p : Parts) (names : Names) : Type 0 where
   pub first : (name : List ℕ) → IsNextNamed p name 0 (get_by (is_called name) names.first)
   pub one_each : length names.next.items ≡ length p.operators
@@ -21,7 +21,7 @@ pub record AreNames (p : Parts) (names : Names) : Type 0 where
       → IsNextNamed p (operator_at p operator).name (operator + 1)
       (slice_index_or names.next.items operator None)
 
--- the new map tells this operator of the name, and of each other name what the old one tells
+-- the new map holds this operator for the name, and for each other name what the old one holds
 abbrev pub Puts : {S : Type 0} → List ℕ → ℕ → IndexMap NameKey ℕ S → IndexMap NameKey ℕ S → Type 0
 Puts name operator old new = (other : List ℕ) → get_by (is_called other) new
     ≡ (if pointwise nat_eq name other then Some operator else get_by (is_called other) old)

@@ -10,7 +10,7 @@ pub record IsLowestNamed (p : Parts) (name : List ℕ) (from operator : ℕ) : T
   pub of_name : IsNamed p name operator
   pub first : (lower : ℕ) → from ≤ lower → lower < operator → IsNamed p name lower → ⊥
 
--- the answer tells it, or that there is none
+-- the result is this operator, or none if there is none
 abbrev pub IsNextNamed : Parts → List ℕ → ℕ → Option ℕ → Type 0
 IsNextNamed p name from (Some operator) = IsLowestNamed p name from operator
 IsNextNamed p name from None = (operator : ℕ) → from ≤ operator → IsNamed p name operator → ⊥
@@ -19,12 +19,12 @@ IsNextNamed p name from None = (operator : ℕ) → from ≤ operator → IsName
 abbrev pub IsFirst : Parts → ℕ → Type 0
 IsFirst p operator = IsLowestNamed p (operator_at p operator).name 0 operator
 
--- of each of the first steps the lowest operator of its name
+-- for each of the first steps, the lowest operator of its name
 abbrev pub HaveFirsts : Parts → List (List ℕ) → List ℕ → Type 0
 HaveFirsts p steps firsts = (step : ℕ) → step < length firsts
     → IsLowestNamed p (slice_index_or steps step []) 0 (slice_index firsts step)
 
--- of each step, up to the first one whose name no operator has, the lowest operator of its name
+-- for each step, up to the first one whose name no operator has, the lowest operator of its name
 pub record AreFirsts (p : Parts) (steps : List (List ℕ)) (firsts : List ℕ) : Type 0 where
   pub within : length firsts ≤ length steps
   pub each : HaveFirsts p steps firsts

@@ -11,7 +11,8 @@ use Rattle.sas_run.specs.declared.plan_check.PlanFault.TheVariants.{Memory, NoOp
 use Rattle.sas_run.specs.declared.plan_check.PlanFault.TheVariants.{Conflict, GoalMissed, CostDiffers}
 use Rattle.sas_run.specs.Plans.{IsNamed, IsChosen, LeadsTo, cost_of_all}
 
--- the steps before this one, counted from 1, go through and lead to the state s; it has the name
+-- the steps before this one go through and lead to the state s; this step, counted from 1, has the
+-- name
 pub record ComesTo (p : Parts) (steps : List (List ℕ)) (step : ℕ) (s name : List ℕ) : Type 0 where
   pub before : List (List ℕ)
   pub behind : List (List ℕ)
@@ -26,8 +27,8 @@ pub record IsFirstMissed (value : ℕ → ℕ) (facts : List Fact) (index : ℕ)
   pub missed : (d : Fact) → Holds value (slice_index_or facts index d) → ⊥
   pub before : (k : ℕ) (d : Fact) → k < index → Holds value (slice_index_or facts k d)
 
--- what is wrong with a plan that isn't valid: the first thing in the order of its steps, then the
--- goal, then the cost
+-- the fault of a plan that isn't valid: the first one in the order of its steps, then the goal,
+-- then the cost
 abbrev pub IsFaultOf : Parts → PlanParts → PlanFault → Type 0
 -- no operator has the step's name
 IsFaultOf p plan (NoOperator step) = (s name : List ℕ)

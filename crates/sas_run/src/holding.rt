@@ -7,7 +7,7 @@ ghost use Rattle.sas_run.specs.Verdicts.{IsFirstMissed};
 use sas_core::Fact;
 use sas_meaning::State;
 
-/// The place of the first of the facts that doesn't hold.
+/// Returns the place of the first of the facts that doesn't hold, if there is one.
 pub fn first_missed(state: &State, facts: &[Fact]) -> Option<usize>
     requires { All (λ (f : Fact). f.var < length state.now) facts.now }
     ensures some { IfSome result (λ index. IsFirstMissed (slice_index state.now) facts.now index) }

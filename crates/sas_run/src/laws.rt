@@ -2,8 +2,9 @@
 ghost use Rattle.sas_run.specs.Laws.{SomeVerdict, ValidHasNoFault, ValidIsOne};
 ghost use Rattle.sas_run.specs.Laws.{FaultIsOne, LeadsToReachable, LastIsReachable};
 
-/// What holds of plans of layered tasks: a plan is valid, with one list of operators, or has exactly one fault, and
-/// never both. Of any task: where steps that go through lead is reachable, and so the last state of a valid plan.
+/// Ensures the laws of plans. A plan of a layered task is valid, with one list of operators, or has exactly one fault, and
+/// never both. In any task the state to which steps lead that go through is reachable, and so is the last state of a valid
+/// plan.
 pub fn verdict_laws()
     ensures some { SomeVerdict }
     ensures not_both { ValidHasNoFault }

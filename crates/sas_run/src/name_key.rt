@@ -8,7 +8,7 @@ ghost use Rattle.sas_run.specs.NameTable.{is_called};
 use indexmap::Equivalent;
 use std::hash::{Hash, Hasher};
 
-/// A name whose bytes stand elsewhere. They are compared at once, and go to a hasher at once, where a list of bytes
+/// A name whose bytes are stored elsewhere. All bytes are compared at once, and go to a hasher at once, where a list of bytes
 /// goes byte by byte.
 #[derive(Clone, Copy)]
 pub struct NameKey<'a> {
@@ -40,7 +40,7 @@ impl<'a> Hash for NameKey<'a> {
     }
 }
 
-/// A name is looked up by one whose bytes may live shorter.
+/// A name is looked up by a key whose bytes may have a shorter lifetime.
 impl<'a, 'b> Equivalent<NameKey<'a>> for NameKey<'b> {
     ghost equivalent = { λ q. is_called q.bytes.now };
 

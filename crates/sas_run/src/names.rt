@@ -20,8 +20,8 @@ pub struct Names<'a> {
 }
 
 impl<'a> Names<'a> {
-    /// The names of the task's operators. It goes from the last operator to the first, so that the lowest one of each
-    /// name comes last.
+    /// Returns the names of the task's operators. It goes from the last operator to the first, so that the lowest operator of
+    /// each name is inserted last.
     pub fn new<T: Grounded>(alloc: Global, task: &'a Layered<T>) -> Result<Names<'a>, AllocError>
         ensures { IfOk result (λ names. AreNames task.now names) }
     {
@@ -36,14 +36,14 @@ impl<'a> Names<'a> {
         Ok(Names { first, next })
     }
 
-    /// The lowest operator of this name. It takes no memory.
+    /// Returns the lowest operator of this name, if there is one. It takes no memory.
     pub fn first(&self, name: &[u8]) -> Option<u32>
         ensures { (p : Parts) → AreNames p self.now → IsNextNamed p name.now 0 result }
     {
         self.first.get(NameKey { bytes: name }).copied()
     }
 
-    /// The next operator of the same name. It takes no memory.
+    /// Returns the next operator of the same name, if there is one. It takes no memory.
     pub fn next(&self, operator: u32) -> Option<u32>
         ensures { (p : Parts) → AreNames p self.now → operator < length p.operators
             → IsNextNamed p (operator_at p operator).name (operator + 1) result }
@@ -55,7 +55,7 @@ impl<'a> Names<'a> {
     }
 }
 
-/// Lets the map tell this operator of the name, and returns the one that it told before.
+/// Maps the name to this operator, and returns the operator to which it was mapped before, if any.
 fn put<'a>(
     first: &mut IndexMap<NameKey<'a>, u32>,
     name: &'a [u8],

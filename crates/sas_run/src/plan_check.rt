@@ -49,8 +49,8 @@ impl From<AllocError> for PlanFault {
 }
 
 impl<'a, E: Settle<T> + Drop, T: Grounded> Runner<'a, E, T> {
-    /// Whether the plan is valid: its operators and its cost, or its fault. A step means the lowest-numbered operator
-    /// of its name that is applicable. All memory is asked for before the first step.
+    /// Checks whether the plan is valid, and returns its operators and its cost, or its fault. A step means the
+    /// lowest-numbered operator of its name that is applicable. All memory is asked for before the first step.
     pub fn check_plan<P: Stepwise>(&mut self, alloc: Global, plan: &P) -> Result<Valid, PlanFault>
         ensures valid { IfOk result (λ v. IsValid self.old (P.says plan.now) v.operators.items) }
         ensures cost { IfOk result (λ v. v.cost ≡ (P.says plan.now).cost) }
@@ -68,8 +68,8 @@ impl<'a, E: Settle<T> + Drop, T: Grounded> Runner<'a, E, T> {
         })
     }
 
-    /// Whether the plan is valid whose steps' lowest operators these are; its operators are added, for which there is room.
-    /// Without an allocator it can ask for no memory.
+    /// Checks whether the plan is valid, where `firsts` are the lowest operators of its steps. Adds the plan's operators, for
+    /// which there is room. Without an allocator it can ask for no memory.
     fn judge<P: Stepwise>(
         &mut self,
         plan: &P,
@@ -96,9 +96,9 @@ impl<'a, E: Settle<T> + Drop, T: Grounded> Runner<'a, E, T> {
         Ok(())
     }
 
-    /// For each step, up to the first one whose name no operator has, the lowest operator of its name. A name that comes
-    /// several times in a row is looked up once. All names are looked up before the first step, since each waits for
-    /// memory that is read in no order: those of several steps then wait at once.
+    /// Returns, for each step up to the first one whose name no operator has, the lowest operator of its name. A name that
+    /// comes several times in a row is looked up once. All names are looked up before the first step, since each look-up
+    /// waits for memory that is read in no order. So the look-ups of several steps wait at the same time.
     fn first_operators<P: Stepwise>(&self, alloc: Global, plan: &P) -> Result<Vec<u32>, AllocError>
         ensures { IfOk result (λ firsts. AreFirsts self.now (P.says plan.now).steps firsts.items) }
     {
@@ -112,7 +112,7 @@ impl<'a, E: Settle<T> + Drop, T: Grounded> Runner<'a, E, T> {
         Ok(firsts)
     }
 
-    /// The lowest operator of the name of the next step, where these are those of the steps before it.
+    /// Returns the lowest operator of the name of the next step, if there is one. `firsts` are those of the steps before it.
     fn next_first<P: Stepwise>(&self, plan: &P, firsts: &[u32]) -> Option<u32>
         requires step { length firsts.now < length (P.says plan.now).steps }
         requires firsts { HaveFirsts self.now (P.says plan.now).steps firsts.now }
@@ -128,7 +128,8 @@ impl<'a, E: Settle<T> + Drop, T: Grounded> Runner<'a, E, T> {
         }
     }
 
-    /// Makes the plan's steps in turn, whose lowest operators these are, and adds their operators, for which there is room.
+    /// Makes the plan's steps in turn, where `firsts` are their lowest operators. Adds their operators, for which there is
+    /// room.
     fn go_through<P: Stepwise>(
         &mut self,
         plan: &P,
@@ -156,7 +157,7 @@ impl<'a, E: Settle<T> + Drop, T: Grounded> Runner<'a, E, T> {
         Ok(())
     }
 
-    /// Makes the step of the name of this operator, which is the lowest that has it.
+    /// Makes the step of the name of this operator, which is the lowest that has it, and returns the step's operator.
     fn go_on(&mut self, first: u32, step: usize, state: &mut State) -> Result<u32, PlanFault>
         requires first { IsFirst self.old first }
         requires state { IsState self.old.variables state.old }
@@ -176,7 +177,7 @@ impl<'a, E: Settle<T> + Drop, T: Grounded> Runner<'a, E, T> {
     }
 }
 
-/// What the operators cost together.
+/// Returns the sum of the operators' costs.
 fn cost_of<T: Grounded>(task: &Layered<T>, operators: &[u32]) -> u128
     requires exist { All (λ operator. operator < length task.now.operators) operators.now }
     ensures { result ≡ cost_of_all task.now operators.now }

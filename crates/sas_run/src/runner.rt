@@ -1,4 +1,4 @@
-// What goes through the steps of plans.
+// Runners, which make the steps of plans.
 ghost use Rattle.std.specs.Prelude.{◌≡◌, ◌<◌, ◌↔◌, length, IfOk, IfErr, IfSome, IfNone, IsTrue, slice_index};
 ghost use Rattle.sas_core.specs.Grounded.{operator_at};
 ghost use Rattle.sas_core.specs.Variables.{IsState};
@@ -28,14 +28,14 @@ pub enum Choice {
     Found(u32),
 }
 
-/// What goes through the steps of a layered task, with an evaluator that is ready for it. In a contract it is the parts
-/// that its task says.
+/// A runner, which makes the steps of a layered task, with an evaluator that is ready for the task. In a contract its value
+/// is the parts that the task represents.
 #[derive(Drop)]
 pub struct Runner<'a, E: Settle<T> + Drop, T: Grounded = Task> {
     layered: &'a Layered<T>,
     evaluator: E,
     names: Names<'a>,
-    /// What the effects that fire in a step give each variable; between two steps nothing.
+    /// For each variable, the value to which the effects that fire in a step set it. Between two steps there is none.
     given: Items<Option<u32>>,
 }
 
@@ -54,8 +54,8 @@ impl<'a, E: Settle<T> + Drop, T: Grounded> Model for Runner<'a, E, T> {
 }
 
 impl<'a, E: Settle<T> + Drop, T: Grounded> Runner<'a, E, T> {
-    /// A runner for the task, with an evaluator that is ready for it. It reserves what steps need. The evaluator comes
-    /// back where memory is refused.
+    /// Returns a runner for the task, with an evaluator that is ready for it. The memory that steps need is reserved here. If
+    /// it is refused, the evaluator is returned unchanged.
     pub fn new(
         alloc: Global,
         layered: &'a Layered<T>,
@@ -80,7 +80,7 @@ impl<'a, E: Settle<T> + Drop, T: Grounded> Runner<'a, E, T> {
         }
     }
 
-    /// The initial state: that of the state section, settled.
+    /// Returns the initial state, which is the state of the state section, settled.
     pub fn initial(&mut self, alloc: Global) -> Result<State, AllocError>
         ensures initial { IfOk result (λ s. IsInitial self.old s) }
         ensures same { self.new ≡ self.old }
@@ -90,7 +90,7 @@ impl<'a, E: Settle<T> + Drop, T: Grounded> Runner<'a, E, T> {
         Ok(state)
     }
 
-    /// Whether the operator's preconditions hold in the state. It takes no memory.
+    /// Returns whether the operator's preconditions hold in the state. It takes no memory.
     pub fn applicable(&self, state: &State, operator: u32) -> bool
         requires operator { operator < length self.now.operators }
         requires state { IsState self.now.variables state.now }
@@ -99,7 +99,7 @@ impl<'a, E: Settle<T> + Drop, T: Grounded> Runner<'a, E, T> {
         is_applicable(self.layered, state, operator)
     }
 
-    /// Which operator the name means in the state: the lowest-numbered one that has exactly this name and is
+    /// Returns which operator the name means in the state: the lowest-numbered one that has exactly this name and is
     /// applicable. It takes no memory.
     pub fn choose(&self, state: &State, name: &[u8]) -> Choice
         requires { IsState self.now.variables state.now }
@@ -114,14 +114,14 @@ impl<'a, E: Settle<T> + Drop, T: Grounded> Runner<'a, E, T> {
         }
     }
 
-    /// The lowest operator of the name. It takes no memory.
+    /// Returns the lowest operator of the name, if there is one. It takes no memory.
     pub(crate) fn look_up(&self, name: &[u8]) -> Option<u32>
         ensures { IsNextNamed self.now name.now 0 result }
     {
         self.names.first(name)
     }
 
-    /// The first operator that is applicable, of this one and those behind it that have its name. It takes no memory.
+    /// Returns the first operator that is applicable, of this one and those behind it that have its name. It takes no memory.
     pub(crate) fn choose_from(&self, state: &State, first: u32) -> Option<u32>
         requires state { IsState self.now.variables state.now }
         requires first { first < length self.now.operators }
@@ -130,7 +130,8 @@ impl<'a, E: Settle<T> + Drop, T: Grounded> Runner<'a, E, T> {
         first_applicable(self.layered, &self.names, state, first)
     }
 
-    /// Makes the step of the operator, if there is one; else the state is as it was. It takes no memory.
+    /// Makes the step of the operator, if there is one. Otherwise leaves the state as it was, and returns the fault. It takes
+    /// no memory.
     pub fn step(&mut self, state: &mut State, operator: u32) -> Result<(), StepFault>
         requires operator { operator < length self.old.operators }
         requires state { IsState self.old.variables state.old }
@@ -143,7 +144,7 @@ impl<'a, E: Settle<T> + Drop, T: Grounded> Runner<'a, E, T> {
         }
     }
 
-    /// The same for an operator that is known to be applicable.
+    /// Does the same as `step` for an operator that is known to be applicable.
     pub(crate) fn step_on(&mut self, state: &mut State, operator: u32) -> Result<(), StepFault>
         requires operator { operator < length self.old.operators }
         requires state { IsState self.old.variables state.old }
@@ -158,7 +159,7 @@ impl<'a, E: Settle<T> + Drop, T: Grounded> Runner<'a, E, T> {
         Ok(())
     }
 
-    /// The index of the first fact of the goal that doesn't hold. It takes no memory.
+    /// Returns the index of the first fact of the goal that doesn't hold, if there is one. It takes no memory.
     pub fn goal(&self, state: &State) -> Option<u32>
         requires { IsState self.now.variables state.now }
         ensures { IsGoalAnswer state.now self.now.goal result }
@@ -169,7 +170,7 @@ impl<'a, E: Settle<T> + Drop, T: Grounded> Runner<'a, E, T> {
         }
     }
 
-    /// The task.
+    /// Returns the task.
     pub fn layered(&self) -> &'a Layered<T>
         ensures { result.now ≡ self.now }
     {
@@ -177,7 +178,7 @@ impl<'a, E: Settle<T> + Drop, T: Grounded> Runner<'a, E, T> {
     }
 }
 
-/// Nothing given to any variable.
+/// Returns a list that holds no value for any variable of the task.
 fn nothing_given<T: Grounded>(
     alloc: Global,
     task: &Layered<T>,
@@ -187,7 +188,7 @@ fn nothing_given<T: Grounded>(
     Ok(Items::from_vec(vec![in alloc; None; task.variables() as usize]?))
 }
 
-/// Whether the operator's preconditions hold.
+/// Returns whether the operator's preconditions hold.
 fn is_applicable<T: Grounded>(task: &Layered<T>, state: &State, operator: u32) -> bool
     requires operator { operator < length task.now.operators }
     requires state { IsState task.now.variables state.now }
@@ -199,7 +200,7 @@ fn is_applicable<T: Grounded>(task: &Layered<T>, state: &State, operator: u32) -
     }
 }
 
-/// The first operator that is applicable, of this one and those behind it that have its name.
+/// Returns the first operator that is applicable, of this one and those behind it that have its name.
 fn first_applicable<T: Grounded>(
     task: &Layered<T>,
     names: &Names<'_>,

@@ -12,13 +12,13 @@ use sas_meaning::{Layered, Preconditions, State};
 /// Why an operator has no step in a state.
 #[derive(Clone, Copy, Debug, PartialEq, Eq)]
 pub enum StepFault {
-    /// This precondition, the first that fails, doesn't hold.
+    /// This precondition doesn't hold. It is the first that doesn't.
     NotApplicable { fact: Fact },
-    /// The effect fires, and sets a variable to another value than an earlier effect that fires; it is the first such.
+    /// The effect fires, and sets a variable to another value than an earlier effect that fires. It is the first such effect.
     Conflict { effect: u32 },
 }
 
-/// The first of the operator's preconditions that doesn't hold.
+/// Returns the first of the operator's preconditions that doesn't hold, if there is one.
 pub fn missed_precondition<T: Grounded>(
     task: &Layered<T>,
     operator: u32,
@@ -40,8 +40,8 @@ pub fn missed_precondition<T: Grounded>(
     None
 }
 
-/// Does what the effects that fire do, where the preconditions hold, unless two of the effects conflict. What is given
-/// to variables meanwhile is nothing again in the end.
+/// Applies the effects that fire to the state, where the preconditions hold. If two of these effects conflict, leaves the
+/// state as it was, and returns the fault. `given` is used meanwhile, and holds no value in the end.
 pub fn apply<T: Grounded>(
     task: &Layered<T>,
     operator: u32,
@@ -63,8 +63,8 @@ pub fn apply<T: Grounded>(
     Ok(())
 }
 
-/// Gives each variable what the effects that fire set it to, up to the first that conflicts with an earlier one: that
-/// is the answer.
+/// Stores, for each variable, the value to which the effects that fire set it, up to the first effect that conflicts with an
+/// earlier one. Returns this effect, if there is one.
 fn give_effects<T: Grounded>(
     task: &Layered<T>,
     operator: u32,
@@ -93,7 +93,8 @@ fn give_effects<T: Grounded>(
     None
 }
 
-/// Gives the variable the value, unless another one was given to it before. Says whether it was not.
+/// Stores the value for the variable, unless another value is stored for it already. Returns whether no other value is
+/// stored.
 fn give(given: &mut Items<Option<u32>>, var: u32, value: u32) -> bool
     requires { var < length given.old }
     ensures yes { IsTrue result → GivesValue given.old var value given.new }
@@ -108,7 +109,7 @@ fn give(given: &mut Items<Option<u32>>, var: u32, value: u32) -> bool
     }
 }
 
-/// Takes back what is given to the variables of the effects.
+/// Removes the values that are stored for the variables of the effects.
 fn take_back<T: Grounded>(task: &Layered<T>, operator: u32, given: &mut Items<Option<u32>>)
     requires operator { operator < length task.now.operators }
     requires given_to { IsGivenTo task.now (operator_at task.now operator) given.old }
@@ -122,7 +123,7 @@ fn take_back<T: Grounded>(task: &Layered<T>, operator: u32, given: &mut Items<Op
     }
 }
 
-/// Writes what is given to the variables of the effects into the state, and takes it back.
+/// Writes the values that are stored for the variables of the effects into the state, and removes them.
 fn write_given<T: Grounded>(
     task: &Layered<T>,
     operator: u32,

@@ -16,7 +16,8 @@ use std::alloc::{AllocError, Global};
 use std::io::Write;
 use std::marker::Model;
 
-/// The summary of a task with this outline. A `usize` tells how long it is, so what went out of it can be counted.
+/// The summary of a task with this outline. A `usize` can hold its length, so the bytes of it that are written can be
+/// counted.
 #[derive(Drop)]
 pub struct Summary {
     outline: Outline,
@@ -36,7 +37,7 @@ impl Model for Summary {
 }
 
 impl Summary {
-    /// The summary of a task with this outline.
+    /// Returns the summary of a task with this outline.
     pub fn new(outline: Outline) -> Summary
         requires { length (text (summary_lines outline)) < 2 ^ 64 }
         ensures { result ≡ outline }
@@ -44,8 +45,8 @@ impl Summary {
         Summary { outline }
     }
 
-    /// Writes the lines of the summary, in pieces. At an `Err` without a write nothing was written; it then comes for
-    /// want of memory. Not to be called after a failure.
+    /// Writes the lines of the summary, in pieces. If an `Err` isn't a failed write, it is `Memory`, and nothing was written.
+    /// Not to be called after a failure.
     pub fn write<W: Write>(&self, alloc: Global, out: &mut Watched<W>) -> Result<Status, ToolFault>
         requires { out.old.failed ≡ false }
         ensures ends { Ends
@@ -89,7 +90,7 @@ fn push_summary<W: Write>(
     pieces.flush(out)
 }
 
-/// The lines of the task's numbers, each ended by LF.
+/// Returns the lines of the task's numbers, each ended by LF.
 fn numbers_text(alloc: Global, outline: &Outline) -> Result<Vec<u8>, AllocError>
     ensures { IfOk result (λ t. t.items ≡ text (spec.number_lines outline.now)) }
 {
@@ -119,7 +120,7 @@ fn push_number_line(out: &mut Vec<u8>, word: &[u8], n: u128) -> Result<(), Alloc
     Ok(())
 }
 
-/// How many of the variables are derived.
+/// Returns how many of the variables are derived.
 fn derived_count(variables: &Variables) -> usize
     ensures { result ≡ spec.derived_count variables.now }
 {
@@ -139,7 +140,7 @@ struct Valued {
     value: u32,
 }
 
-/// Puts a line for each variable behind what has come: its value in the state section.
+/// Adds a line for each variable: its value in the state section.
 fn push_state<W: Write>(
     pieces: &mut Pieces,
     out: &mut Watched<W>,
@@ -158,7 +159,7 @@ fn push_state<W: Write>(
     Ok(())
 }
 
-/// Puts a line for each fact of the goal behind what has come.
+/// Adds a line for each fact of the goal.
 fn push_goal<W: Write>(
     pieces: &mut Pieces,
     out: &mut Watched<W>,
@@ -180,8 +181,7 @@ fn push_goal<W: Write>(
     Ok(())
 }
 
-/// Puts the line of a word and a fact, with the name of the fact's value, behind what has come. A fact that doesn't
-/// exist has no line.
+/// Adds the line of a word and a fact, with the name of the fact's value. A fact that doesn't exist has no line.
 fn push_fact<W: Write>(
     pieces: &mut Pieces,
     out: &mut Watched<W>,
@@ -203,7 +203,7 @@ fn push_fact<W: Write>(
     }
 }
 
-/// Puts the line of a word, a variable, its value and the value's name behind what has come.
+/// Adds the line of a word, a variable, its value and the value's name.
 fn push_fact_line<W: Write>(
     pieces: &mut Pieces,
     out: &mut Watched<W>,
