@@ -100,7 +100,7 @@ impl TaskJudge {
         }
     }
 
-    /// Whether all has come.
+    /// Returns whether all has come.
     pub fn has_ended(&self) -> bool
         ensures { IsTrue result ↔ HasEnded self.now }
     {
@@ -289,7 +289,7 @@ impl TaskJudge {
         Ok(Event::Group)
     }
 
-    /// How many values the next variable has that has none in the state yet.
+    /// Returns how many values the next variable has that has none in the state yet.
     fn next_range(&self) -> usize
         ensures { result ≡ range_in self.now.ranges self.now.valued }
     {
@@ -520,7 +520,7 @@ impl TaskJudge {
         }
     }
 
-    /// Whether each variable has its value.
+    /// Returns whether each variable has its value.
     fn has_state(&self) -> bool
         ensures has { IsTrue result ↔ (length self.now.ranges ≤ self.now.valued) }
         ensures few { length self.now.ranges < 2 ^ 64 }

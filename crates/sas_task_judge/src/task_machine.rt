@@ -30,7 +30,7 @@ impl<K: Keeper> TaskMachine<K> {
         }
     }
 
-    /// What was kept.
+    /// Returns what was kept.
     pub fn into_kept(self) -> K
         ensures { result ≡ self.kept }
     {

@@ -115,7 +115,7 @@ fn changes_before<'a>(
     Ok(Some(rest))
 }
 
-/// The cost that stands before the last word of an operator, and the rest.
+/// Returns the cost that stands before the last word of an operator, and the rest.
 #[inline(always)]
 fn end_before(bytes: &[u8]) -> Option<(u32, &[u8])>
     ensures { IfSome result (λ found.
@@ -127,7 +127,7 @@ fn end_before(bytes: &[u8]) -> Option<(u32, &[u8])>
     Some((cost, rest))
 }
 
-/// The name behind the first word of an operator, and the rest.
+/// Returns the name behind the first word of an operator, and the rest.
 #[inline(always)]
 fn begin_before(bytes: &[u8]) -> Option<(&[u8], &[u8])>
     ensures { IfSome result (λ found. IsName found.0.now
@@ -138,7 +138,7 @@ fn begin_before(bytes: &[u8]) -> Option<(&[u8], &[u8])>
     name_before(rest)
 }
 
-/// The operator that stands first in the bytes, where it is quick to see that its facts exist and its effects have no
+/// Returns the operator that stands first in the bytes, where it is quick to see that its facts exist and its effects have no
 /// conditions. Its prevail conditions and changes are gathered. After `None` or an `Err` anything may be gathered.
 #[inline(always)]
 pub fn operator_found<'a>(
@@ -169,7 +169,7 @@ pub fn operator_found<'a>(
     Ok(Some(OperatorFound { name, cost, front }))
 }
 
-/// The head of a rule whose facts exist that stands before the last word, and the rest.
+/// Returns the head of a rule whose facts exist that stands before the last word, and the rest.
 #[inline(always)]
 fn head_before<'a>(ranges: &Items<u32>, bytes: &'a [u8]) -> Option<(Change, &'a [u8])>
     ensures { IfSome result (λ found.
@@ -185,7 +185,7 @@ fn head_before<'a>(ranges: &Items<u32>, bytes: &'a [u8]) -> Option<(Change, &'a 
     Some((head, rest))
 }
 
-/// The rule that stands first in the bytes, where it is quick to see that its facts exist. Its conditions are gathered.
+/// Returns the rule that stands first in the bytes, where it is quick to see that its facts exist. Its conditions are gathered.
 /// After `None` or an `Err` anything may be gathered.
 #[inline(always)]
 pub fn rule_found(

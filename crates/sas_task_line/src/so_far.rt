@@ -32,7 +32,7 @@ fn push<T: Drop>(items: &mut Items<T>, item: T) -> Result<(), Kind>
     Ok(())
 }
 
-/// A copy of the line.
+/// Returns a copy of the line.
 fn copy_of(alloc: Global, line: &[u8]) -> Result<Items<u8>, Kind>
     ensures ok { IfOk result (λ name. name ≡ line.now) }
     ensures err { IfErr result (λ k. k ≡ Kind.Memory) }
@@ -65,7 +65,7 @@ impl SoFar {
         }
     }
 
-    /// The parts that have come.
+    /// Returns the parts that have come.
     pub fn into_parts(self) -> Parts
         ensures { result ≡ self.parts }
     {

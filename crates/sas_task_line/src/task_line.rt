@@ -40,7 +40,7 @@ pub fn name_at(line: &[u8]) -> Result<(), Kind>
     }
 }
 
-/// A number.
+/// Returns a number.
 pub fn number_at(line: &[u8]) -> Result<u32, Kind>
     ensures { Says format.number_slot (λ i. any (number_in i)) format.number line.now result }
 {
@@ -50,7 +50,7 @@ pub fn number_at(line: &[u8]) -> Result<u32, Kind>
     }
 }
 
-/// A number that isn't 0.
+/// Returns a number that isn't 0.
 pub fn positive_at(line: &[u8]) -> Result<u32, Kind>
     ensures { Says format.number_slot (λ i. positive (number_in i)) format.number line.now result }
 {
@@ -61,7 +61,7 @@ pub fn positive_at(line: &[u8]) -> Result<u32, Kind>
     }
 }
 
-/// A number below a bound.
+/// Returns a number below a bound.
 pub fn number_below(line: &[u8], bound: usize) -> Result<u32, Kind>
     ensures { Says format.number_slot (λ i. nat_lt (number_in i) bound) format.number
         line.now result }
@@ -73,7 +73,7 @@ pub fn number_below(line: &[u8], bound: usize) -> Result<u32, Kind>
     }
 }
 
-/// The version.
+/// Returns the version.
 pub fn version_at(line: &[u8]) -> Result<u32, Kind>
     ensures { Says format.number_slot (λ i. number_in i == 3) format.number line.now result }
 {
@@ -84,7 +84,7 @@ pub fn version_at(line: &[u8]) -> Result<u32, Kind>
     }
 }
 
-/// A number, or none.
+/// Returns a number, or none.
 pub fn signed_at(line: &[u8]) -> Result<Option<u32>, Kind>
     ensures { Says format.signed_slot (λ _. true) format.signed line.now result }
 {
@@ -94,7 +94,7 @@ pub fn signed_at(line: &[u8]) -> Result<Option<u32>, Kind>
     }
 }
 
-/// The next part, as a number.
+/// Returns the next part, as a number.
 fn take_number(parts: &mut Numbers<'_>) -> Option<u32>
     ensures found { IfSome result (λ n. TakesNumber parts.old n parts.new) }
     ensures none { IfNone result
@@ -106,7 +106,7 @@ fn take_number(parts: &mut Numbers<'_>) -> Option<u32>
     }
 }
 
-/// The next part, as a number or none.
+/// Returns the next part, as a number or none.
 fn take_signed(parts: &mut Numbers<'_>) -> Option<Option<u32>>
     ensures found { IfSome result (λ n. TakesSigned parts.old n parts.new) }
     ensures none { IfNone result
@@ -118,7 +118,7 @@ fn take_signed(parts: &mut Numbers<'_>) -> Option<Option<u32>>
     }
 }
 
-/// The next two parts, as a fact.
+/// Returns the next two parts, as a fact.
 fn take_fact(parts: &mut Numbers<'_>) -> Option<Fact>
     ensures found { IfSome result (λ f. TakesFact parts.old f parts.new) }
     ensures none { IfNone result
@@ -155,7 +155,7 @@ fn take_facts(
     Ok(true)
 }
 
-/// The next three parts, as a change.
+/// Returns the next three parts, as a change.
 fn take_change(parts: &mut Numbers<'_>) -> Option<Change>
     ensures found { IfSome result
         (λ (c : Change). TakesHead parts.old c.var c.old c.new parts.new) }
@@ -174,14 +174,14 @@ fn take_change(parts: &mut Numbers<'_>) -> Option<Change>
     Some(Change { var, old, new })
 }
 
-/// Whether no part is left.
+/// Returns whether no part is left.
 fn is_over(parts: &mut Numbers<'_>) -> bool
     ensures { IsTrue result ↔ (parts.old ≡ []) }
 {
     parts.next().is_none()
 }
 
-/// The fact that the line spells, whether it exists or not.
+/// Returns the fact that the line spells, whether it exists or not.
 fn fact_of(line: &[u8]) -> Option<Fact>
     ensures found { IfSome result (λ f. Spells (format.fact f) line.now) }
     ensures none { IfNone result ((f : Fact) → Spells (format.fact f) line.now → ⊥) }
@@ -220,7 +220,7 @@ fn effect_of(effect: &mut Effect, line: &[u8]) -> Result<bool, AllocError>
     Ok(is_over(&mut parts))
 }
 
-/// The change that the line spells, whether its values exist or not.
+/// Returns the change that the line spells, whether its values exist or not.
 fn change_of(line: &[u8]) -> Option<Change>
     ensures found { IfSome result
         (λ (c : Change). Spells (format.head c.var c.old c.new) line.now) }
@@ -238,7 +238,7 @@ fn change_of(line: &[u8]) -> Option<Change>
     }
 }
 
-/// Whether the variable exists and has the value, by the number of each variable's values.
+/// Returns whether the variable exists and has the value, by the number of each variable's values.
 pub fn value_in(ranges: &Items<u32>, var: u32, value: u32) -> bool
     ensures { result ≡ value_in ranges.now var value }
 {
@@ -248,7 +248,7 @@ pub fn value_in(ranges: &Items<u32>, var: u32, value: u32) -> bool
     }
 }
 
-/// Whether the variable exists and has the new value and the old one, if any.
+/// Returns whether the variable exists and has the new value and the old one, if any.
 pub fn change_in(ranges: &Items<u32>, var: u32, old: Option<u32>, new: u32) -> bool
     ensures { result ≡ change_in ranges.now var old new }
 {
@@ -258,7 +258,7 @@ pub fn change_in(ranges: &Items<u32>, var: u32, old: Option<u32>, new: u32) -> b
     }
 }
 
-/// Whether all facts exist.
+/// Returns whether all facts exist.
 fn facts_in_ranges(ranges: &Items<u32>, facts: &Items<Fact>) -> bool
     ensures { result ≡ list_all (fact_in_ranges ranges.now) facts.now }
 {
@@ -268,7 +268,7 @@ fn facts_in_ranges(ranges: &Items<u32>, facts: &Items<Fact>) -> bool
         .all(|fact| value_in(ranges, fact.var, fact.value))
 }
 
-/// Whether each fact of the effect exists.
+/// Returns whether each fact of the effect exists.
 fn effect_in_ranges(ranges: &Items<u32>, effect: &Effect) -> bool
     ensures { result ≡ effect_in_ranges ranges.now effect.now }
 {
@@ -276,7 +276,7 @@ fn effect_in_ranges(ranges: &Items<u32>, effect: &Effect) -> bool
         && change_in(ranges, effect.var, effect.old, effect.new)
 }
 
-/// A fact that exists.
+/// Returns a fact that exists.
 pub fn fact_at(ranges: &Items<u32>, line: &[u8]) -> Result<Fact, Kind>
     ensures { Says format.fact_slot (λ i. fact_in_ranges ranges.now (fact_in i)) format.fact
         line.now result }
@@ -304,7 +304,7 @@ pub fn effect_at(effect: &mut Effect, ranges: &Items<u32>, line: &[u8]) -> Resul
     Ok(())
 }
 
-/// The head of a rule, of which each fact exists.
+/// Returns the head of a rule, of which each fact exists.
 pub fn head_at(ranges: &Items<u32>, line: &[u8]) -> Result<Change, Kind>
     ensures { Says format.head_slot (λ i. head_in_ranges ranges.now (head_in i))
         (λ (c : Change). format.head c.var c.old c.new) line.now result }

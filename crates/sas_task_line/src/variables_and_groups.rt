@@ -20,7 +20,7 @@ pub struct VariableFound<'a> {
     pub front: Front,
 }
 
-/// The name and the axiom layer behind the first word of a variable, and the rest.
+/// Returns the name and the axiom layer behind the first word of a variable, and the rest.
 #[inline(always)]
 fn begin_before(bytes: &[u8]) -> Option<(&[u8], Option<u32>, &[u8])>
     ensures { IfSome result (λ found. IsName found.0.now
@@ -56,7 +56,7 @@ fn names_before<'a>(bytes: &'a [u8], names: &mut Lists<u8>) -> Result<Option<&'a
     Ok(Some(rest))
 }
 
-/// The variable that stands first in the bytes, if it is quick to see. Its values are gathered. After `None` or an
+/// Returns the variable that stands first in the bytes, if it is quick to see. Its values are gathered. After `None` or an
 /// `Err` any may be gathered.
 #[inline(always)]
 pub fn variable_found<'a>(
@@ -82,7 +82,7 @@ pub fn variable_found<'a>(
     Ok(Some(VariableFound { name, layer, front }))
 }
 
-/// The lines of the mutex group that stands first in the bytes, where it is quick to see that its facts exist. These
+/// Returns the lines of the mutex group that stands first in the bytes, where it is quick to see that its facts exist. These
 /// are gathered. After `None` or an `Err` any may be gathered.
 #[inline(always)]
 pub fn group_found(

@@ -92,7 +92,7 @@ impl FlatSoFar {
         }
     }
 
-    /// The task of the parts that have come, where they are known to be well ranged. It takes no memory.
+    /// Returns the task of the parts that have come, where they are known to be well ranged. It takes no memory.
     pub fn into_task(self) -> FlatTask
         requires { WellRanged self.parts }
         ensures { result ≡ self.parts }
@@ -102,7 +102,7 @@ impl FlatSoFar {
         FlatTask::of_parts(columns)
     }
 
-    /// The outline of the parts that have come, with these numbers of groups, operators and rules.
+    /// Returns the outline of the parts that have come, with these numbers of groups, operators and rules.
     pub fn into_outline(self, groups: u32, operators: u32, rules: u32) -> Outline
         ensures { result ≡ outline_with self.parts groups operators rules }
     {

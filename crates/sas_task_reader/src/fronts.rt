@@ -18,7 +18,7 @@ pub const NO_VARIABLE: VariableKept = VariableKept {
     range: 0,
 };
 
-/// The lines of the variable that stands first in the bytes, and how many values it has, where it is found. Anything
+/// Returns the lines of the variable that stands first in the bytes, and how many values it has, where it is found. Anything
 /// may be gathered.
 pub fn variable_front(bytes: &[u8], gathered: &mut Gathered) -> Result<Option<VariableKept>, Kind>
     ensures found { IfOk result (λ found. IfSome found (λ kept.
@@ -34,7 +34,7 @@ pub fn variable_front(bytes: &[u8], gathered: &mut Gathered) -> Result<Option<Va
     }))
 }
 
-/// The lines of the mutex group that stands first in the bytes likewise.
+/// Returns the lines of the mutex group that stands first in the bytes likewise.
 pub fn group_front(
     ranges: &Items<u32>,
     bytes: &[u8],
@@ -47,7 +47,7 @@ pub fn group_front(
     Ok(group_found(ranges, bytes, gathered)?)
 }
 
-/// The lines of the operator that stands first in the bytes likewise.
+/// Returns the lines of the operator that stands first in the bytes likewise.
 pub fn operator_front(
     ranges: &Items<u32>,
     bytes: &[u8],
@@ -63,7 +63,7 @@ pub fn operator_front(
     Ok(Some(found.front))
 }
 
-/// The lines of the rule that stands first in the bytes likewise.
+/// Returns the lines of the rule that stands first in the bytes likewise.
 pub fn rule_front(
     ranges: &Items<u32>,
     bytes: &[u8],

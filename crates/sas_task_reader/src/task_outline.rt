@@ -85,7 +85,7 @@ impl TaskOutline {
         }
     }
 
-    /// The outline of what has come.
+    /// Returns the outline of what has come.
     pub fn into_outline(self) -> Outline
         ensures { result ≡ outline_in self }
     {

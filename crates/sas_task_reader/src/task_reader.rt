@@ -29,7 +29,7 @@ impl TaskReader {
         TaskReader::within(alloc, LIMIT)
     }
 
-    /// The same, for at most `limit` bytes.
+    /// Returns the same, for at most `limit` bytes.
     pub(crate) fn within(alloc: Global, limit: u64) -> Self
         requires { limit ≤ most_bytes }
         ensures { Starts task_view limit result }
@@ -46,7 +46,7 @@ impl TaskReader {
         self.reader.feed(piece)
     }
 
-    /// The task, once all has come. It takes no memory: want of memory is answered only where `feed` answered it.
+    /// Returns the task, once all has come. It takes no memory: want of memory is answered only where `feed` answered it.
     pub fn finish(self) -> Result<Task, Fault>
         ensures { Finishes task_view self result }
     {

@@ -37,7 +37,7 @@ impl TaskText {
         }
     }
 
-    /// The text so far.
+    /// Returns the text so far.
     pub fn into_text(self) -> Vec<u8>
         ensures { result.items ≡ self }
     {

@@ -241,7 +241,7 @@ fn push_goal(out: &mut Vec<u8>, facts: &Items<Fact>) -> Result<(), AllocError>
     push_word(out, b"end_goal")
 }
 
-/// The text of a task: its lines, each ended by LF. An `Err` comes only for want of memory.
+/// Returns the text of a task: its lines, each ended by LF. An `Err` comes only for want of memory.
 pub fn encode_task(alloc: Global, task: &Task) -> Result<Vec<u8>, AllocError>
     ensures { IfOk result (λ t. t.items ≡ text (lines_of task_format task.now)) }
 {

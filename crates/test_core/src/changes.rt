@@ -78,7 +78,7 @@ fn put_back<T: Drop>(list: &mut Items<T>, items: Vec<T>) {
     drop(mem::replace(list, Items::from_vec(items)));
 }
 
-/// The list of the bytes.
+/// Returns the list of the bytes.
 fn bytes_of(alloc: Global, bytes: &[u8]) -> Result<Items<u8>, AllocError> {
     Ok(Items::from_vec(Vec::from_slice(alloc, bytes)?))
 }

@@ -35,7 +35,7 @@ fn take_told<P: Print>(out: &P, kind: &str, text: &[u8]) {
     }
 }
 
-/// An input of this kind, which reads from the device.
+/// Returns an input of this kind, which reads from the device.
 fn opened<'a>(kind: &str, device: ToldReader<'a>) -> Opened<ToldReader<'a>, ToldReader<'a>> {
     match kind {
         "file" => Opened::File(device),
@@ -111,7 +111,7 @@ fn write_out_told<R: AllocGlobal + Print>(rt: &R, words: &[u8]) {
     say(rt, "");
 }
 
-/// Whether a writer of this room, which takes so much at a time and then fails or takes none, gets as much of the text
+/// Returns whether a writer of this room, which takes so much at a time and then fails or takes none, gets as much of the text
 /// as there is room.
 fn is_written_out(
     alloc: Global,

@@ -29,7 +29,7 @@ fn say_name<P: Print>(out: &P, bytes: &[u8]) {
     say_either(out, is_name(bytes), "name", "no name");
 }
 
-/// The list of some bytes, which then come a second time.
+/// Returns the list of some bytes, which then come a second time.
 fn list_of(alloc: Global, bytes: &[u8]) -> Result<Items<u8>, AllocError> {
     let mut list = Items::new(alloc);
     for byte in bytes {
@@ -55,7 +55,7 @@ fn say_items<R: AllocGlobal + Print>(rt: &R, bytes: &[u8]) -> Result<(), AllocEr
     Ok(())
 }
 
-/// The names that stand between `|`.
+/// Returns the names that stand between `|`.
 fn names_of(alloc: Global, bytes: &[u8]) -> Result<Items<Items<u8>>, AllocError> {
     let mut names = Items::new(alloc);
     for name in bytes.split(|&byte| byte == b'|') {
@@ -64,7 +64,7 @@ fn names_of(alloc: Global, bytes: &[u8]) -> Result<Items<Items<u8>>, AllocError>
     Ok(names)
 }
 
-/// The words behind a cost.
+/// Returns the words behind a cost.
 fn kind_of(word: &str) -> CostKind {
     match word {
         "unit" => CostKind::Unit,
@@ -72,7 +72,7 @@ fn kind_of(word: &str) -> CostKind {
     }
 }
 
-/// What `Plan::new` says of these steps.
+/// Returns what `Plan::new` says of these steps.
 fn plan_from(
     names: Items<Items<u8>>,
     cost: u64,
@@ -81,7 +81,7 @@ fn plan_from(
     Plan::new(names, cost, kind)
 }
 
-/// Whether two lists of names are the same.
+/// Returns whether two lists of names are the same.
 fn are_same_names(names: &Items<Items<u8>>, others: &Items<Items<u8>>) -> bool {
     names == others
 }
@@ -155,7 +155,7 @@ fn say_same_as<R: AllocGlobal + Print>(rt: &R, plan: &Plan, file: &[u8]) {
     drop(other);
 }
 
-/// Whether two plans are equal: exactly if they say the same.
+/// Returns whether two plans are equal: exactly if they say the same.
 fn is_same_plan(plan: &Plan, other: &Plan) -> bool
     ensures { IsTrue result ↔ (plan.now ≡ other.now) }
 {

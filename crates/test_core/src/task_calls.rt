@@ -58,7 +58,7 @@ fn call_on<R: AllocGlobal + Print>(
     Ok(())
 }
 
-/// The changed parts, where the bytes are those of a task.
+/// Returns the changed parts, where the bytes are those of a task.
 fn parts_of(alloc: Global, bytes: &[u8]) -> Result<Option<Parts>, AllocError> {
     let (changes, file) = cut(bytes, b'|');
     let Some(task) = task_of(alloc, file) else {
@@ -67,7 +67,7 @@ fn parts_of(alloc: Global, bytes: &[u8]) -> Result<Option<Parts>, AllocError> {
     changed(alloc, task.into_parts(), changes)
 }
 
-/// The parts with these changes.
+/// Returns the parts with these changes.
 fn changed(alloc: Global, parts: Parts, changes: &[u8]) -> Result<Option<Parts>, AllocError> {
     let mut parts = parts;
     match change_all(alloc, &mut parts, changes) {
@@ -79,12 +79,12 @@ fn changed(alloc: Global, parts: Parts, changes: &[u8]) -> Result<Option<Parts>,
     }
 }
 
-/// What `Task::new` says of the parts.
+/// Returns what `Task::new` says of the parts.
 fn task_from(parts: Parts) -> Result<Task, (Parts, PartsFault)> {
     Task::new(parts)
 }
 
-/// Whether the parts are the same.
+/// Returns whether the parts are the same.
 fn are_same(parts: &Parts, others: &Parts) -> bool {
     parts == others
 }
@@ -94,7 +94,7 @@ fn say_kept<P: Print>(out: &P, parts: &Parts, given: &Parts) {
     say_either(out, are_same(parts, given), "kept", "WRONG: other parts");
 }
 
-/// The task of the parts of a task.
+/// Returns the task of the parts of a task.
 fn made_again(task: Task) -> Task {
     Task::of_parts(task.into_parts())
 }

@@ -2,7 +2,7 @@
 use sas_text::{Fault, Kind};
 use test_words::{say, say_whole};
 
-/// The word for a kind of fault.
+/// Returns the word for a kind of fault.
 fn word_of(kind: Kind) -> &'static str {
     match kind {
         Kind::Keyword => "keyword",

@@ -32,7 +32,7 @@ fn say_end<P: Print, M: Machine>(out: &P, reader: Reader<M>, bytes: &[u8]) {
     }
 }
 
-/// The fault of the bytes, if they have one.
+/// Returns the fault of the bytes, if they have one.
 fn fault_of<M: Machine>(reader: Reader<M>, bytes: &[u8]) -> Option<Fault> {
     let mut reader = reader;
     if let Err(fault) = reader.feed(bytes) {

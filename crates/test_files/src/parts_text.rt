@@ -114,7 +114,7 @@ fn push_parts(text: &mut Vec<u8>, parts: &Parts) -> Result<(), AllocError> {
     Ok(())
 }
 
-/// What the parts say.
+/// Returns what the parts say.
 pub fn text_of_parts(alloc: Global, parts: &Parts) -> Result<Vec<u8>, AllocError> {
     let mut text = Vec::new(alloc);
     push_parts(&mut text, parts)?;
@@ -138,7 +138,7 @@ fn push_variable_of(text: &mut Vec<u8>, outline: &Outline, var: usize) -> Result
     Ok(())
 }
 
-/// What an outline says, in the order of the file.
+/// Returns what an outline says, in the order of the file.
 pub fn text_of_outline(alloc: Global, outline: &Outline) -> Result<Vec<u8>, AllocError> {
     let mut text = Vec::new(alloc);
     push_numbers(&mut text, b"metric", &[Some(u32::from(outline.metric))])?;
@@ -153,7 +153,7 @@ pub fn text_of_outline(alloc: Global, outline: &Outline) -> Result<Vec<u8>, Allo
     Ok(text)
 }
 
-/// What a flat plan says: its steps and its cost.
+/// Returns what a flat plan says: its steps and its cost.
 pub fn text_of_flat_plan(alloc: Global, plan: &FlatPlan) -> Result<Vec<u8>, AllocError> {
     let mut text = Vec::new(alloc);
     for index in 0..plan.steps() {
@@ -165,7 +165,7 @@ pub fn text_of_flat_plan(alloc: Global, plan: &FlatPlan) -> Result<Vec<u8>, Allo
     Ok(text)
 }
 
-/// How many of everything a flat task says there are.
+/// Returns how many of everything a flat task says there are.
 pub fn text_of_flat_task(alloc: Global, task: &FlatTask) -> Result<Vec<u8>, AllocError> {
     let mut text = Vec::new(alloc);
     push_numbers(&mut text, b"variables", &[Some(task.variables())])?;

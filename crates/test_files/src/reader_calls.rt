@@ -97,7 +97,7 @@ fn say_longest<R: AllocGlobal + Print>(rt: &R, way: Way, file: &[u8]) {
     say_right(rt, longer_than(longest.get(), 4096));
 }
 
-/// The line that a fault at the end of these bytes has.
+/// Returns the line that a fault at the end of these bytes has.
 fn last_line(bytes: &[u8]) -> u64 {
     let mut line = 1u64;
     for byte in bytes {
@@ -108,7 +108,7 @@ fn last_line(bytes: &[u8]) -> u64 {
     line
 }
 
-/// Whether the answer is this kind of fault, on the last line of the bytes.
+/// Returns whether the answer is this kind of fault, on the last line of the bytes.
 fn is_fault_at_end(read: &Result<Vec<u8>, Fault>, bytes: &[u8], kind: Kind) -> bool {
     match read {
         Ok(_) => false,
@@ -116,7 +116,7 @@ fn is_fault_at_end(read: &Result<Vec<u8>, Fault>, bytes: &[u8], kind: Kind) -> b
     }
 }
 
-/// The length of the first front of a file that doesn't end early, on its last line. It could show a definition that
+/// Returns the length of the first front of a file that doesn't end early, on its last line. It could show a definition that
 /// counts lines otherwise, or refuses what may still become a file.
 fn wrong_front(alloc: Global, way: Way, file: &[u8]) -> Option<usize> {
     for length in 0..file.len() {
@@ -129,13 +129,13 @@ fn wrong_front(alloc: Global, way: Way, file: &[u8]) -> Option<usize> {
     None
 }
 
-/// Whether a device that gives the bytes and then fails is answered so, on its last line.
+/// Returns whether a device that gives the bytes and then fails is answered so, on its last line.
 fn is_failure(alloc: Global, way: Way, bytes: &[u8], interrupted: bool) -> bool {
     let (read, failed) = read_from(alloc, way, Breaks::new(bytes, interrupted));
     failed && is_fault_at_end(&read, bytes, Kind::Read)
 }
 
-/// The length of the first front of a file with another answer where the device then fails. It could show a failure
+/// Returns the length of the first front of a file with another answer where the device then fails. It could show a failure
 /// that is taken for the end, or a read that is tried again.
 fn wrong_failure(alloc: Global, way: Way, file: &[u8]) -> Option<usize> {
     for length in 0..=file.len() {
@@ -178,13 +178,13 @@ fn takes_all<F: Pieces>(reader: &mut F, pieces: &[&[u8]]) -> bool {
     true
 }
 
-/// Whether a file in these pieces is read as this text.
+/// Returns whether a file in these pieces is read as this text.
 fn is_read_as<F: Pieces>(alloc: Global, pieces: &[&[u8]], text: &[u8]) -> bool {
     let mut reader = F::start(alloc);
     takes_all(&mut reader, pieces) && is_text(&reader.text(alloc), text)
 }
 
-/// Whether this text was read.
+/// Returns whether this text was read.
 fn is_text(read: &Result<Vec<u8>, Fault>, text: &[u8]) -> bool {
     match read {
         Ok(read) => read.as_slice() == text,
@@ -192,7 +192,7 @@ fn is_text(read: &Result<Vec<u8>, Fault>, text: &[u8]) -> bool {
     }
 }
 
-/// The text of a file that comes byte by byte.
+/// Returns the text of a file that comes byte by byte.
 fn text_of_bytes<F: Pieces>(alloc: Global, file: &[u8]) -> Result<Vec<u8>, Fault> {
     let mut reader = F::start(alloc);
     for byte in file {
@@ -201,7 +201,7 @@ fn text_of_bytes<F: Pieces>(alloc: Global, file: &[u8]) -> Result<Vec<u8>, Fault
     reader.text(alloc)
 }
 
-/// The first place where a file, cut in two there, with or without an empty piece between, isn't read as it is byte by
+/// Returns the first place where a file, cut in two there, with or without an empty piece between, isn't read as it is byte by
 /// byte. It could show a line that is judged otherwise where a piece ends in it.
 fn wrong_cut<F: Pieces>(alloc: Global, file: &[u8]) -> Result<Option<usize>, AllocError> {
     let Ok(text) = text_of_bytes::<F>(alloc, file) else {
@@ -218,7 +218,7 @@ fn wrong_cut<F: Pieces>(alloc: Global, file: &[u8]) -> Result<Option<usize>, All
     Ok(None)
 }
 
-/// The first byte that isn't refused behind a file, on the line behind its last. It could show a byte that is taken
+/// Returns the first byte that isn't refused behind a file, on the line behind its last. It could show a byte that is taken
 /// there, as a space or a CR.
 fn wrong_byte<F: Pieces>(alloc: Global, file: &[u8]) -> Option<usize> {
     for last in 0..=u8::MAX {

@@ -24,7 +24,7 @@ pub enum Way {
     FlatTask,
 }
 
-/// The way of this name.
+/// Returns the way of this name.
 pub fn way_of(name: &str) -> Way {
     match name {
         "plan" => Way::Plan,
@@ -37,7 +37,7 @@ pub fn way_of(name: &str) -> Way {
     }
 }
 
-/// The fault at want of memory behind a reader.
+/// Returns the fault at want of memory behind a reader.
 fn wanting(_error: AllocError) -> Fault {
     Fault {
         line: 1,
@@ -45,12 +45,12 @@ fn wanting(_error: AllocError) -> Fault {
     }
 }
 
-/// The text of a plan.
+/// Returns the text of a plan.
 fn text_of_plan(alloc: Global, plan: &Plan) -> Result<Vec<u8>, Fault> {
     encode_plan(alloc, plan).map_err(wanting)
 }
 
-/// The text of a task.
+/// Returns the text of a task.
 fn text_of_task(alloc: Global, task: &Task) -> Result<Vec<u8>, Fault> {
     encode_task(alloc, task).map_err(wanting)
 }
@@ -125,7 +125,7 @@ pub trait Pieces: Drop {
     /// Takes the next piece.
     fn take(&mut self, piece: &[u8]) -> Result<(), Fault>;
 
-    /// The text of what was read, once all has come.
+    /// Returns the text of what was read, once all has come.
     fn text(self, alloc: Global) -> Result<Vec<u8>, Fault>;
 }
 

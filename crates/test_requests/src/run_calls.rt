@@ -36,7 +36,7 @@ pub fn call_of_tool<R: AllocGlobal + Print>(rt: &R, asked: &Asked<'_>) -> Result
     Ok(true)
 }
 
-/// The request of this name.
+/// Returns the request of this name.
 fn request_of(name: &str) -> Request {
     match name {
         "print" => Request::Print,
@@ -48,7 +48,7 @@ fn request_of(name: &str) -> Request {
     }
 }
 
-/// The task and the plan that bytes are: a plan, a `|` and a task where a plan is to solve a task, else both are the
+/// Returns the task and the plan that bytes are: a plan, a `|` and a task where a plan is to solve a task, else both are the
 /// same file.
 fn inputs(request: Request, bytes: &[u8]) -> (&[u8], &[u8]) {
     if request == Request::Plan {
@@ -78,7 +78,7 @@ fn say_laws<P: Print>(out: &P) {
     say(out, "laws");
 }
 
-/// The answer to a request, over these devices, and the writer.
+/// Returns the answer to a request, over these devices, and the writer.
 fn answer_over<T: Read + Drop, P: Read + Drop, W: Write>(
     alloc: Global,
     request: Request,
@@ -203,7 +203,7 @@ fn run_longest<R: AllocGlobal + Print>(
     Ok(())
 }
 
-/// Whether a failure of the devices behind these bytes is answered so, and nothing is written.
+/// Returns whether a failure of the devices behind these bytes is answered so, and nothing is written.
 fn is_failure(
     alloc: Global,
     request: Request,
@@ -217,7 +217,7 @@ fn is_failure(
     Ok(result == Err(ToolFault::Read) && written.kept().is_empty())
 }
 
-/// Whether a failure of the plan's device alone behind these bytes is answered so.
+/// Returns whether a failure of the plan's device alone behind these bytes is answered so.
 fn is_plan_failure(
     alloc: Global,
     request: Request,
@@ -231,7 +231,7 @@ fn is_plan_failure(
     Ok(result == Err(ToolFault::Read) && written.kept().is_empty())
 }
 
-/// The length of the first front of a plan with another answer where its device then fails. It could show a failure
+/// Returns the length of the first front of a plan with another answer where its device then fails. It could show a failure
 /// that is passed over where the verdict is known before, or is told of the task.
 fn wrong_plan_front(
     alloc: Global,
@@ -250,7 +250,7 @@ fn wrong_plan_front(
     Ok(None)
 }
 
-/// The length of the first front of a file with another answer where the devices then fail. It could show a failure
+/// Returns the length of the first front of a file with another answer where the devices then fail. It could show a failure
 /// that is taken for the end.
 fn wrong_front(alloc: Global, request: Request, file: &[u8]) -> Result<Option<usize>, AllocError> {
     for length in 0..=file.len() {
@@ -264,7 +264,7 @@ fn wrong_front(alloc: Global, request: Request, file: &[u8]) -> Result<Option<us
     Ok(None)
 }
 
-/// Whether a writer with this room gets as much of the text as there is room, and the answer says so.
+/// Returns whether a writer with this room gets as much of the text as there is room, and the answer says so.
 fn is_cut_off(text: &[u8], room: usize, answer: (Result<Status, ToolFault>, Narrow)) -> bool {
     let (result, written) = answer;
     let told = match result {
@@ -274,7 +274,7 @@ fn is_cut_off(text: &[u8], room: usize, answer: (Result<Status, ToolFault>, Narr
     told && written.kept().len() == room && text.starts_with(written.kept())
 }
 
-/// Whether that is so of a writer that takes so much at a time and so much in all, whether it then fails or takes none.
+/// Returns whether that is so of a writer that takes so much at a time and so much in all, whether it then fails or takes none.
 fn is_right_room(
     alloc: Global,
     request: Request,
@@ -292,7 +292,7 @@ fn is_right_room(
     )
 }
 
-/// The least room, up to that of the answer, with which a writer doesn't get so much of it, or the answer isn't that.
+/// Returns the least room, up to that of the answer, with which a writer doesn't get so much of it, or the answer isn't that.
 /// It could show bytes that go out twice or not at all.
 fn wrong_room(alloc: Global, request: Request, bytes: &[u8]) -> Result<Option<usize>, AllocError> {
     let files = inputs(request, bytes);

@@ -70,7 +70,7 @@ fn say_kept<P: Print>(out: &P, task: &Task, given: &Task, word: &str) {
     say_either(out, is_same_task(task, given), word, "WRONG: another task");
 }
 
-/// The numbers of a line.
+/// Returns the numbers of a line.
 fn numbers_of(alloc: Global, words: &[u8]) -> Result<Vec<u32>, AllocError> {
     let mut numbers = Vec::new(alloc);
     for word in words.split(|&byte| byte == b' ') {
@@ -152,7 +152,7 @@ fn say_holds<P: Print>(out: &P, state: &State, fact: Fact) {
     say_either(out, state.holds(fact), "holds", "doesn't hold");
 }
 
-/// The state of these values.
+/// Returns the state of these values.
 fn state_of(alloc: Global, task: &Task, words: &[u8]) -> Result<State, StateFault>
     ensures { IfOk result (λ state. IsState task.now.variables state) }
 {
@@ -160,7 +160,7 @@ fn state_of(alloc: Global, task: &Task, words: &[u8]) -> Result<State, StateFaul
     State::of(alloc, task, values.as_slice())
 }
 
-/// The state of these values, settled.
+/// Returns the state of these values, settled.
 pub fn settled<E: Settle<Task>>(
     alloc: Global,
     evaluator: &mut E,

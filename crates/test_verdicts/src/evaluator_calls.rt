@@ -119,7 +119,7 @@ fn compare_each<R: AllocGlobal + Print>(
     }
 }
 
-/// Whether both states are there, and are the same.
+/// Returns whether both states are there, and are the same.
 fn are_same(state: &Result<State, StateFault>, other: &Result<State, StateFault>) -> bool {
     match (state, other) {
         (Ok(state), Ok(other)) => state.values() == other.values(),

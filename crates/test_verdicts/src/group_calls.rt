@@ -44,7 +44,7 @@ fn say_alone<P: Print>(out: &P, layered: &Layered<Task>) {
     }
 }
 
-/// The effect of this number, if there is one.
+/// Returns the effect of this number, if there is one.
 fn effect_of<'a>(operator: &'a Operator, word: &[u8]) -> Option<&'a Effect> {
     operator.effects.as_slice().get(number_in(word)? as usize)
 }

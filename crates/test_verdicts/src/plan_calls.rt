@@ -57,7 +57,7 @@ fn say_checked<R: AllocGlobal + Print, E: Settle<Task> + Drop>(
     }
 }
 
-/// Whether there is an answer about the plan, where memory was refused before.
+/// Returns whether there is an answer about the plan, where memory was refused before.
 fn is_checked<E: Settle<Task> + Drop>(
     alloc: Global,
     runner: &mut Runner<'_, E>,

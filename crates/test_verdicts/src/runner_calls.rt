@@ -14,7 +14,7 @@ use std::alloc::{AllocError, Global};
 use std::cell::Cell;
 use test_words::{Asked, cut, number_in, say, say_either, say_want, spend, text_of};
 
-/// A runner for the task, with this evaluator.
+/// Returns a runner for the task, with this evaluator.
 fn runner_of<'a, E: Settle<Task> + Drop>(
     alloc: Global,
     layered: &'a Layered<Task>,
@@ -106,7 +106,7 @@ fn make_call<P: Print, E: Settle<Task> + Drop>(
     say_values(out, state.values());
 }
 
-/// The operator of this number, if there is one.
+/// Returns the operator of this number, if there is one.
 fn operator_of(layered: &Layered<Task>, word: &[u8]) -> Option<u32>
     ensures { IfSome result (λ operator. operator < length layered.now.operators) }
 {
@@ -225,7 +225,7 @@ pub fn new_runner<R: AllocGlobal + Print>(
     }
 }
 
-/// An evaluator, and so many allocations behind it.
+/// Returns an evaluator, and so many allocations behind it.
 fn worklist_behind(
     alloc: Global,
     count: usize,
@@ -243,7 +243,7 @@ fn worklist_behind(
     }
 }
 
-/// Whether the evaluator still settles the state of the state section as `Rounds` does.
+/// Returns whether the evaluator still settles the state of the state section as `Rounds` does.
 fn settles<E: Settle<Task> + Drop>(alloc: Global, layered: &Layered<Task>, evaluator: E) -> bool
     requires { E.ready evaluator layered.now }
 {

@@ -31,13 +31,13 @@ fn fill<R: Read>(input: &mut R, buffer: &mut [u8]) -> Option<usize>
     Some(filled)
 }
 
-/// What is asked for, on the input that is read into the buffer.
+/// Returns what is asked for, on the input that is read into the buffer.
 pub fn asked_by<'a, R: Read>(input: &mut R, buffer: &'a mut [u8]) -> Option<Asked<'a>> {
     let filled = fill(input, buffer)?;
     asked_in(&buffer[..filled])
 }
 
-/// What some bytes ask for.
+/// Returns what some bytes ask for.
 fn asked_in(given: &[u8]) -> Option<Asked<'_>> {
     let (line, bytes) = cut(given, b'\n');
     let (call, words) = str::from_utf8(line).ok()?.split_once(' ')?;
@@ -50,7 +50,7 @@ fn asked_in(given: &[u8]) -> Option<Asked<'_>> {
     })
 }
 
-/// What stands before the first such byte, and what stands behind it: nothing where there is none.
+/// Returns what stands before the first such byte, and what stands behind it: nothing where there is none.
 pub fn cut(bytes: &[u8], separator: u8) -> (&[u8], &[u8]) {
     match bytes.iter().position(|&byte| byte == separator) {
         Some(at) => (&bytes[..at], &bytes[at + 1..]),
@@ -58,12 +58,12 @@ pub fn cut(bytes: &[u8], separator: u8) -> (&[u8], &[u8]) {
     }
 }
 
-/// The text of some bytes, empty where they are none.
+/// Returns the text of some bytes, empty where they are none.
 pub fn text_of(bytes: &[u8]) -> &str {
     str::from_utf8(bytes).unwrap_or("")
 }
 
-/// The number that some bytes spell, if they do.
+/// Returns the number that some bytes spell, if they do.
 pub fn number_in(bytes: &[u8]) -> Option<u32> {
     text_of(bytes).parse().ok()
 }

@@ -43,7 +43,7 @@ impl<'a> Read for ToldReader<'a> {
     }
 }
 
-/// The failure that these bytes tell, if they tell one.
+/// Returns the failure that these bytes tell, if they tell one.
 fn failure(told: &[u8]) -> Option<ErrorKind> {
     match told {
         [b'!'] => Some(ErrorKind::Other),
@@ -69,7 +69,7 @@ impl<'a> ToldWriter<'a> {
         }
     }
 
-    /// What it took.
+    /// Returns what it took.
     pub fn kept(&self) -> &[u8] {
         self.kept.as_slice()
     }
@@ -117,7 +117,7 @@ impl<'a> Read for NotingReader<'a> {
     }
 }
 
-/// The length of a buffer that is longer than so many bytes.
+/// Returns the length of a buffer that is longer than so many bytes.
 pub fn longer_than(length: usize, most: usize) -> Option<usize> {
     if length > most { Some(length) } else { None }
 }
