@@ -16,7 +16,7 @@ use std::io::Read;
 /// reported as `Kind::Read`, want of memory as `Kind::Memory`. Not to be called with a device that has failed.
 ///
 /// The clauses about bytes are about those that the device makes known (`remaining`). A reader over memory makes them
-/// known. A file or standard input makes none known, and then the clauses hold only of some bytes.
+/// known. A file or standard input makes none known, and then the clauses state only that there are such bytes.
 pub fn read_plan<R: Read>(alloc: Global, reader: &mut Watched<R>) -> Result<Plan, Fault>
     requires { reader.old.failed ≡ false }
     ensures { ReadsAll R.remaining plan_format (ValueOf plan_format) reader.old reader.new result }

@@ -28,7 +28,7 @@ pub enum Answer {
     Summary(Summary),
 }
 
-/// Returns the answer about the inputs.
+/// Returns the answer to the request about the inputs.
 pub fn answer_to<T: Read, P: Read>(
     alloc: Global,
     request: Request,
@@ -62,7 +62,7 @@ pub fn answer_to<T: Read, P: Read>(
     }
 }
 
-/// Writes an answer. At an `Err` without a write nothing was written; it then comes for want of memory. Not to be
+/// Writes an answer. At an `Err` without a write nothing was written; it is then returned for want of memory. Not to be
 /// called after a failure.
 pub fn write_answer<W: Write>(
     alloc: Global,
@@ -82,7 +82,7 @@ pub fn write_answer<W: Write>(
     }
 }
 
-/// Returns the summary of a task.
+/// Returns the answer with the summary of a task.
 fn show<R: Read>(alloc: Global, reader: &mut Watched<R>) -> Result<Answer, ToolFault>
     requires { reader.old.failed ≡ false }
     ensures { AnswersFile R.remaining ShowOut reader.old reader.new result }
@@ -93,7 +93,7 @@ fn show<R: Read>(alloc: Global, reader: &mut Watched<R>) -> Result<Answer, ToolF
     }
 }
 
-/// Returns the lines of a task.
+/// Returns the answer with the lines of a task.
 fn print<R: Read>(alloc: Global, reader: &mut Watched<R>) -> Result<Answer, ToolFault>
     requires { reader.old.failed ≡ false }
     ensures { AnswersFile R.remaining PrintOut reader.old reader.new result }
@@ -107,7 +107,7 @@ fn print<R: Read>(alloc: Global, reader: &mut Watched<R>) -> Result<Answer, Tool
     }
 }
 
-/// Returns the steps of a plan and its cost.
+/// Returns the answer with the steps of a plan and its cost.
 fn steps<R: Read>(alloc: Global, plan: &mut Watched<R>) -> Result<Answer, ToolFault>
     requires { plan.old.failed ≡ false }
     ensures { AnswersFile R.remaining StepsOut plan.old plan.new result }
@@ -121,7 +121,7 @@ fn steps<R: Read>(alloc: Global, plan: &mut Watched<R>) -> Result<Answer, ToolFa
     }
 }
 
-/// Returns whether a task is layered.
+/// Returns the answer whether a task is layered.
 fn check<R: Read>(alloc: Global, reader: &mut Watched<R>) -> Result<Answer, ToolFault>
     requires { reader.old.failed ≡ false }
     ensures { AnswersFile R.remaining CheckOut reader.old reader.new result }
@@ -133,7 +133,7 @@ fn check<R: Read>(alloc: Global, reader: &mut Watched<R>) -> Result<Answer, Tool
     Ok(Answer::Text(layers_answer(alloc, task)?))
 }
 
-/// Returns which mutex groups of a task are exclusive.
+/// Returns the answer which mutex groups of a task are exclusive.
 fn mutex<R: Read>(alloc: Global, reader: &mut Watched<R>) -> Result<Answer, ToolFault>
     requires { reader.old.failed ≡ false }
     ensures { AnswersFile R.remaining MutexOut reader.old reader.new result }

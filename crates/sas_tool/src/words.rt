@@ -109,7 +109,7 @@ const REQUESTS: [Words; 6] = [
     },
 ];
 
-/// Returns the words that are understood.
+/// Returns the grammar of the words that are understood.
 fn grammar<'a>(alloc: Global) -> Result<Command<'a>, AllocError> {
     let mut program = Command::new(alloc, "sas")
         .about("Reads, checks and validates task files and plan files of Fast Downward")
@@ -121,7 +121,7 @@ fn grammar<'a>(alloc: Global) -> Result<Command<'a>, AllocError> {
 }
 
 impl Words {
-    /// Returns the words of the request.
+    /// Returns the grammar of the words of the request.
     fn command<'a>(&self, alloc: Global) -> Result<Command<'a>, AllocError> {
         let mut request = Command::new(alloc, self.name).about(self.about);
         if self.task {
@@ -146,7 +146,7 @@ fn the_plan<'a>(alloc: Global) -> Arg<'a> {
         .help("The plan file, or - for standard input")
 }
 
-/// Returns the job of words that were understood: without a request, the steps of the plan on standard input.
+/// Returns the job of words that were understood. Without a request, it is the steps of the plan on standard input.
 fn job_of(alloc: Global, matches: &ArgMatches<'_>) -> Result<Job, AllocError> {
     match matches.subcommand() {
         Some(("show", inner)) => job_over_task(alloc, Request::Show, inner),
@@ -184,7 +184,7 @@ fn job_over_task(
     })
 }
 
-/// Returns the source that stands for an argument.
+/// Returns the source that an argument names.
 fn named(alloc: Global, matches: &ArgMatches<'_>, id: &str) -> Result<Option<Source>, AllocError> {
     match matches.get_str(id) {
         Some("-") => Ok(Some(Source::Input)),
