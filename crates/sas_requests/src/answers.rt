@@ -121,7 +121,7 @@ fn steps<R: Read>(alloc: Global, plan: &mut Watched<R>) -> Result<Answer, ToolFa
     }
 }
 
-/// Returns the answer whether a task is layered.
+/// Returns the answer to whether a task is layered.
 fn check<R: Read>(alloc: Global, reader: &mut Watched<R>) -> Result<Answer, ToolFault>
     requires { reader.old.failed ≡ false }
     ensures { AnswersFile R.remaining CheckOut reader.old reader.new result }
@@ -133,7 +133,7 @@ fn check<R: Read>(alloc: Global, reader: &mut Watched<R>) -> Result<Answer, Tool
     Ok(Answer::Text(layers_answer(alloc, task)?))
 }
 
-/// Returns the answer which mutex groups of a task are exclusive.
+/// Returns the answer to which mutex groups of a task are exclusive.
 fn mutex<R: Read>(alloc: Global, reader: &mut Watched<R>) -> Result<Answer, ToolFault>
     requires { reader.old.failed ≡ false }
     ensures { AnswersFile R.remaining MutexOut reader.old reader.new result }

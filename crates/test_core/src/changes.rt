@@ -1,5 +1,5 @@
-// Changes of the parts of a task, in words, such as `goal 0 2` or `rule 1 new 5`:
-// so parts can be made that no file says.
+// Changes of the parts of a task, in words, such as `goal 0 2` or `rule 1 new 5`. So parts can be made that no file
+// holds.
 use sas_core::{Effect, Fact, Items, Operator, Parts, Rule, Variable};
 use std::alloc::{AllocError, Global};
 use std::mem;

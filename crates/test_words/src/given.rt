@@ -16,17 +16,17 @@ pub fn fact_of(words: &[u8]) -> Option<Fact> {
     })
 }
 
-/// Returns the plan of a file: none where it isn't one.
+/// Returns the plan of a file, or `None` where it is no plan file.
 pub fn plan_of(alloc: Global, file: &[u8]) -> Option<Plan> {
     read_plan(alloc, &mut Watched::new(file)).ok()
 }
 
-/// Returns the task of a file: none where it isn't one.
+/// Returns the task of a file, or `None` where it is no task file.
 pub fn task_of(alloc: Global, file: &[u8]) -> Option<Task> {
     read_task(alloc, &mut Watched::new(file)).ok()
 }
 
-/// Returns whether two tasks are equal: exactly if they say the same.
+/// Returns whether two tasks are equal: exactly if they represent the same parts.
 pub fn is_same_task(task: &Task, other: &Task) -> bool
     ensures { IsTrue result ↔ (task.now ≡ other.now) }
 {
