@@ -23,7 +23,7 @@ BEGAN = time.monotonic()
 
 
 def libraries():
-    """The crates of the repository that each crate of it uses."""
+    """Returns the crates of the repository that each crate of it uses."""
     with open(f"{TOP}/crates.txt", encoding="utf-8") as file:
         lines = [line.split(":") for line in file if line.strip() and not line.startswith("#")]
     names = [name for name, _ in lines]
@@ -31,7 +31,7 @@ def libraries():
 
 
 def with_those_below(name, used):
-    """A crate and those that it stands on."""
+    """Returns a crate and those that it stands on."""
     found = [name]
     for crate in found:
         found += [it for it in used[crate] if it not in found]
@@ -45,7 +45,7 @@ class Progress:
         self.names, self.done = names, set()
 
     def tell(self, crate, is_proved):
-        """Says of a crate whether it is proved, once."""
+        """Prints of a crate whether it is proved, once."""
         if crate in self.done or crate not in self.names:
             return
         self.done.add(crate)
@@ -54,13 +54,13 @@ class Progress:
 
 
 def begin(command, crate, given=subprocess.DEVNULL):
-    """A command that has begun in a crate's folder."""
+    """Begins a command in a crate's folder, and returns it."""
     streams = {"stdin": given, "stdout": subprocess.PIPE, "stderr": subprocess.STDOUT}
     return subprocess.Popen(command, cwd=f"{CRATES}/{crate}", encoding="utf-8", errors="replace", **streams)
 
 
 def prove_lowest(used, progress, log):
-    """Proves the crates that stand on no other, the largest by more processors. It gives whether all are proved."""
+    """Proves the crates that stand on no other, the largest by more processors. Returns whether all are proved."""
     lowest = sorted((it for it in progress.names if not used[it]), key=size_of)
     jobs = {it: "1" for it in lowest} | {lowest[-1]: str(max(1, os.cpu_count() - len(lowest) + 1))}
     begun = {it: begin(["rt", "lib", "--jobs", jobs[it]], it) for it in lowest}
@@ -71,13 +71,14 @@ def prove_lowest(used, progress, log):
 
 
 def size_of(crate):
-    """How many bytes of code a crate has."""
+    """Returns how many bytes of code a crate has."""
     folder = f"{CRATES}/{crate}/src"
     return sum(os.path.getsize(f"{folder}/{it}") for it in os.listdir(folder))
 
 
 def prove_all(jobs, progress, log):
-    """Proves the crates that read and judge, and says of each how it went as soon as it is done. It gives whether all are proved."""
+    """Proves the crates that read and judge, and prints of each how it went as soon as it is done. Returns whether all are
+    proved."""
     crate = None
     with begin(["rt", "all", "check", "--jobs", jobs], REQUESTS) as process:
         for line in process.stdout:
@@ -90,7 +91,7 @@ def prove_all(jobs, progress, log):
 
 
 def build(progress, log):
-    """Proves what is above, builds the program and runs it once. It gives whether that went well."""
+    """Proves what is above, builds the program and runs it once. Returns whether that went well."""
     with open(f"{CRATES}/{PROGRAM}/stdin", "rb") as given:
         process = begin(["rt", "run", "--jobs", PROCESSORS], PROGRAM, given)
         log.write(process.communicate()[0])

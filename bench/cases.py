@@ -24,7 +24,7 @@ CASES = [
 
 
 def chosen(text):
-    """The cases with this text in their name."""
+    """Returns the cases with this text in their name."""
     return [case for case in CASES if text in case.name]
 
 
@@ -33,11 +33,11 @@ def wanted_size(case, scale):
 
 
 def wanted_steps(case, scale):
-    """How many steps the plan shall have; None where the request reads no plan."""
+    """Returns how many steps the plan shall have; None where the request reads no plan."""
     return max(1, int(case.steps * scale)) if case.more_steps else case.steps
 
 
 def files_of(case, made):
-    """The files that the request reads, in the order of its words."""
+    """Returns the files that the request reads, in the order of its words."""
     reads = {"steps": [made.plan], "plan": [made.task, made.plan]}
     return reads.get(case.request, [made.task])

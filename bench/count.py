@@ -36,7 +36,7 @@ Size = namedtuple("Size", "bytes lines")
 
 
 def counted(command):
-    """One run of a command, counted."""
+    """Runs a command once, and counts its instructions."""
     run = subprocess.run([*VALGRIND, *command], stdin=subprocess.DEVNULL, capture_output=True)
     told = re.search(rb"I +refs: +([\d,]+)", run.stderr)
     if not told:
@@ -45,13 +45,13 @@ def counted(command):
 
 
 def size_of(case, made):
-    """The bytes and lines of the files that the request reads."""
+    """Returns the bytes and lines of the files that the request reads."""
     abouts = [made.about[os.path.basename(path)] for path in files_of(case, made)]
     return Size(sum(about["bytes"] for about in abouts), sum(about["lines"] for about in abouts))
 
 
 def further(sizes, counts):
-    """From each scale to the next one, what a further byte costs."""
+    """Returns what a further byte costs, from each scale to the next one."""
     return [(next_count - count) / (next_size.bytes - size.bytes)
             for size, next_size, count, next_count in zip(sizes, sizes[1:], counts, counts[1:])]
 
@@ -61,7 +61,7 @@ def answer_word(count, due):
 
 
 def beside_cells(given, case, made, mine):
-    """The other program at the largest scale."""
+    """Returns the cells about the other program at the largest scale."""
     other = counted([given.beside, case.request, *files_of(case, made)])
     same = (mine.status, mine.output) == (other.status, other.output)
     return ["%.1f" % (other.instructions / 1e6), "%.2f" % (mine.instructions / other.instructions),
@@ -69,7 +69,7 @@ def beside_cells(given, case, made, mine):
 
 
 def case_row(given, case):
-    """Counts a case; its row of the table."""
+    """Counts a case, and returns its row of the table."""
     inputs = [case_input(given.folder, case, given.scale * case.enlarged * times) for times in TIMES]
     sizes = [size_of(case, made) for made in inputs]
     counts = [counted([given.sas, case.request, *files_of(case, made)]) for made in inputs]

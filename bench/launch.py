@@ -13,7 +13,7 @@ import time
 
 
 def run(command, report):
-    """What the forked child does: it becomes the command."""
+    """Becomes the command, in the forked child."""
     os.close(report)
     try:
         os.execvp(command[0], command)
