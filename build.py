@@ -1,10 +1,11 @@
 #!/usr/bin/env python3
-"""Proves what the program needs and builds it, to ./sas; a line for each crate on the screen, and all that the prover says in build.log.
+"""Proves what the program needs and builds it, to ./sas. Prints a line for each crate, and writes all that the prover prints to
+build.log.
 
     python3 build.py JOBS
 
-JOBS is how many crates are begun at a time. A check can use several processors, but under `rt all` each has one. So the lowest crates, for
-which all others wait, are proved first by themselves, and so are those at the top, which wait for all others.
+JOBS is how many crates are begun at a time. A check can use several processors, but under `rt all` each has one. So the lowest
+crates, for which all others wait, are proved first by themselves. So are those at the top, which wait for all others.
 """
 import os
 import re
@@ -45,7 +46,7 @@ class Progress:
         self.names, self.done = names, set()
 
     def tell(self, crate, is_proved):
-        """Prints of a crate whether it is proved, once."""
+        """Prints of a crate, once, whether it is proved."""
         if crate in self.done or crate not in self.names:
             return
         self.done.add(crate)

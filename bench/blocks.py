@@ -99,8 +99,8 @@ class Blocks:
         return []
 
     def plan(self, steps):
-        """Yields a plan of that many steps, one more where the number is odd; or of the steps of one tower if these are
-        more.
+        """Yields the steps of a plan: that many, one more where the number is odd; or the steps of one tower if these
+        are more.
 
         Towers in mixed order are built and taken apart as often as that fits, so that all operators take part; then the
         tower of the goal is built, and its topmost block is taken off and laid back.
@@ -142,7 +142,7 @@ def unstack(block, other):
 
 
 class World:
-    """What lies on what. Each call is a step: one without a meaning is refused, else it gives the step's name."""
+    """What lies on what. Each call is a step. A step without a meaning is refused; else the call returns the step's name."""
 
     TABLE = None
 

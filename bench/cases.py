@@ -1,8 +1,8 @@
 """What is measured: which request over which input.
 
 A size is a number of a unit that the domain knows (its UNITS). A scale multiplies it, and the steps too where the case
-says so; so the bytes of the inputs grow with the scale, and what a case costs should grow as they do. Counting is slow
-and takes a small scale; `enlarged` is by how much it takes more of a case whose inputs are small already.
+has them scaled. So the bytes of the inputs grow with the scale, and what a case costs should grow as they do. Counting is
+slow and takes a small scale; `enlarged` is by how much it takes more of a case whose inputs are small already.
 """
 from collections import namedtuple
 

@@ -4,12 +4,12 @@
     bench/count.py ./sas FOLDER [--beside PROGRAM] [--only TEXT] [--scale F]
 
 A count is the same on a quiet machine and on a loaded one, so it shows what a change did where times are noise. It is
-no time: a program that waits for memory takes longer than its count says.
+no time: a program that waits for memory takes longer than its count shows.
 
 Each case of cases.py is counted at the scales F, 2 F and 4 F (times `enlarged` there): for the largest the
 instructions, and those a line and a byte; then what each further byte costs from F to 2 F and from 2 F to 4 F, and
 growth, the second over the first. Growth near 1 is linear. PROGRAM takes the same words, an older build for example;
-./sas / PROGRAM is told for the largest scale.
+./sas / PROGRAM is printed for the largest scale.
 
 Needs valgrind (apt-get install valgrind).
 """

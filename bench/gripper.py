@@ -110,7 +110,7 @@ class Gripper:
         return []
 
     def plan(self, steps):
-        """Yields a plan of that many steps, or of the steps of one tour if these are more.
+        """Yields the steps of a plan: that many, or the steps of one tour if these are more.
 
         All balls are carried over, back and over again as often as that fits; then the robot goes to and fro.
         """
@@ -132,7 +132,7 @@ class Gripper:
 
 
 class World:
-    """Where everything is. Each call is a step: one without a meaning is refused, else it gives the step's name."""
+    """Where everything is. Each call is a step. A step without a meaning is refused; else the call returns the step's name."""
 
     def __init__(self, balls):
         self.robot = 0

@@ -8,8 +8,8 @@ DOMAIN is gripper (transport), blocks (blocks world) or power (derived variables
 operators, groups (gripper, blocks) or rules (power), as in 200MB or 100000rules; without a unit it counts balls, blocks
 or columns. MB is 1,000,000 bytes, and about.
 
-Each input has a folder of its own in FOLDER, with `task.sas`, `plan` where it has one, and `about.json`, which says
-what is in them. One that is there already is left as it is; after a change of these scripts remove it.
+Each input has a folder of its own in FOLDER, with `task.sas`, `plan` where it has one, and `about.json`, which
+describes them. An input that is there already is left as it is; after a change of these scripts remove it.
 """
 import argparse
 import json

@@ -98,7 +98,7 @@ class Power:
             yield [(self.dark(district), 0)], (self.blackout(), 1, 0)
 
     def plan(self, steps):
-        """Yields a plan of that many steps, at least one.
+        """Yields the steps of a plan: that many, at least one.
 
         After the main switch is closed, one line after the other is opened and closed again; the rings keep the net fed. The
         last line's switch is closed first where the number is even.

@@ -3,9 +3,9 @@
 
     bench/run.py ./sas FOLDER [--beside PROGRAM] [--rounds R] [--only TEXT] [--scale F] [--limit S]
 
-For each case of cases.py it tells the size of the input, the best wall time of R rounds, MB a second at that, the peak
+For each case of cases.py it prints the size of the input, the best wall time of R rounds, MB a second at that, the peak
 memory of the process, and as floors the best times of `cat` and `wc -l` over the same files. PROGRAM takes the same
-words, an older build for example; it runs in turn with ./sas, and for times and memory ./sas / PROGRAM is told.
+words, an older build for example. It runs in turn with ./sas, and for times and memory ./sas / PROGRAM is printed.
 
 In front of the rounds each program runs once to be compared with the answer that is due (answers.py); by then the input
 is in the cache of the system. A run past S seconds is stopped; a program that is stopped there isn't run in the rounds.

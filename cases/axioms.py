@@ -1,19 +1,19 @@
-"""Small tasks with derived variables, made at random from a fixed seed: what states of them settle to, and what is
-wrong with the layers of others.
+"""Small tasks with derived variables, made at random from a fixed seed: what states of them settle to, and the first fault
+of the layers of others.
 
 A task here is
 
     ranges     how many values each variable has
     layers     its layer, None for a basic variable
     defaults   its value in the state section
-    rules      (CONDITIONS, VARIABLE, OLD, NEW): facts (VARIABLE, VALUE), and what changes; -1 stands for no old value
+    rules      (CONDITIONS, VARIABLE, OLD, NEW): facts (VARIABLE, VALUE), and what changes; -1 represents no old value
 
 What a state settles to is computed from the meaning of a task. The basic values stay. Layer after layer, from the
-lowest one on, a derived variable has its default, unless a rule that can fire gives it another value: one whose
+lowest one on, a derived variable has its default, unless a rule that can fire sets it to another value: a rule whose
 conditions hold in the values so reached. A rule whose new value is the default can't fire.
 
-A rule has to be of a derived variable. If it can fire, its old value is none or the default, rules before it give its
-variable the same value, and its conditions are on no higher layer; one that asks for a default is on a lower layer.
+A rule has to be of a derived variable. If it can fire, its old value is none or the default, rules before it set its
+variable to the same value, and its conditions are on no higher layer; one that asks for a default is on a lower layer.
 """
 import random
 

@@ -6,16 +6,16 @@
 The programs are those that the crates `test_core`, `test_files`, `test_verdicts` and `test_requests` are built to, and have
 their names.
 
-calls.json: for each program what its calls say, in groups of the same call.
+calls.json: for each program what its calls print, in groups of the same call.
 
-    call         its name, and for some calls a word that says of which kind
+    call         its name, and for some calls a word that names its kind
     about        what is shown
     refused      left out, or how many allocations come before the call, of which memory.py refuses each in turn
     rows         [INPUT, ANSWER]: the bytes that the call is about, and what the program prints
 
 The calls over the files of tasks.json, lines.json, plans.json, verdicts.json and groups.json are made here, and those over
-the tasks of axioms.py, walks.py, families.py and large.py, and over devices that go on behind a failure. texts.py says what a
-text is. Each case that fails has a line, and the last line is 'N passed, M failed'. The exit status is 0 where none failed.
+the tasks of axioms.py, walks.py, families.py and large.py, and over devices that go on behind a failure. texts.py defines what
+a text is. Each case that fails has a line, and the last line is 'N passed, M failed'. The exit status is 0 where none failed.
 """
 import os
 import subprocess

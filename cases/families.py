@@ -1,5 +1,5 @@
 """Mutex groups computed from the meaning of a task, for small tasks made at random from a fixed seed and for three larger ones:
-what `mutex` says of each, and what is said of each group by itself.
+what `mutex` prints of each, and the verdict on each group by itself.
 
 A task here is as in walks.py, and has
 
@@ -8,7 +8,7 @@ A task here is as in walks.py, and has
 Two facts contradict each other in a family of groups where they are two values of one variable or two facts of one of these
 groups; facts clash where two of them contradict each other. An operator keeps a group if, for any two facts of it on
 different variables, what has to hold for two of its effects that set them clashes; and if, for each of its effects that
-sets one, the other fact clashes with what has to hold for that, or an effect that then fires as well gives its variable
+sets one, the other fact clashes with what has to hold for that, or an effect that then fires as well sets its variable to
 another value.
 
 A group with a fact on a derived variable is `Derived`, one with two facts of the state section `Initial`. A family of the

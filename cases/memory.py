@@ -3,15 +3,15 @@
 
     python3 cases/memory.py SAS PROGRAM ..
 
-The programs are those of `calls.py`. The calls are those of calls.json that say how many allocations come before them:
-what they are given is made by so many, which are left alone. Then a program makes one allocation and tells if it is refused
-(`before`), and then the call. So a run that refuses that one answers `before`; the next ones refuse those of the call, one
-after another, and answer `wanting`, where the call wants memory and all stands that has to stand then; and the last one
-refuses nothing and gives the answer of the call. A reader that wants memory answers that to each piece behind it, too.
+The programs are those of `calls.py`. The calls are those of calls.json with a number of allocations that come before them:
+what they are given is made by so many, which are left alone. Then a program makes one allocation and reports if it is refused
+(`before`), and then makes the call. So a run that refuses that one answers `before`. The next ones refuse those of the call,
+one after another, and answer `wanting`, where the call wants memory and all that has to hold then holds. The last one refuses
+nothing and has the answer of the call. A reader that wants memory returns that for each piece behind it, too.
 
-SAS is the program itself, with requests over a task of the examples and over one that has several of everything: with each
-allocation of it refused in turn, it says `sas: out of memory`, writes nothing and ends with status 3, or does without and
-answers as ever, until a run meets no refusal.
+SAS is the program itself, with requests over a task of the examples and over one that has several of everything. Each
+allocation of it is refused in turn, until a run meets no refusal. With one refused it prints `sas: out of memory` on standard
+error, writes nothing on standard output and ends with status 3; or it does without and answers as ever.
 
 The library that refuses is made of refuse.c, with $CC or cc. Each call that fails has a line, and the last line is
 'N passed, M failed'. The exit status is 0 where none failed.

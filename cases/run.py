@@ -3,13 +3,13 @@
 
     python3 cases/run.py ./sas
 
-tasks.json: task files, and what is said of each, as it stands and with CR LF at the end of each line. `print` gives it
-back as it stands, and does so with CR LF at the end of one line alone. Cut off after any byte it ends early, on its last
+tasks.json: task files, and what is printed of each, as it stands and with CR LF at the end of each line. `print` prints
+it as it stands, and does so with CR LF at the end of one line alone. Cut off after any byte it ends early, on its last
 line; that is tried with `print`, and with `check` where the file is small.
 
     file         the file, a path from the top of the repository
-    check        what `check` says of it
-    mutex        the lines that `mutex` says of it
+    check        what `check` prints of it
+    mutex        the lines that `mutex` prints of it
     show         the lines of its summary
 
 lines.json: lines of these files, and texts in their place. Rows are [LINE, TEXT, ANSWER]; or each of `texts` stands in
@@ -37,11 +37,11 @@ too; those that families.py makes at random, and its larger ones, as standard in
     task         the file, as a text
     output       standard output, exactly
     status       the exit status
-    call         what the call `check-groups` says, for calls.py
+    call         what the call `check-groups` answers, for calls.py
 
 program.json: words and devices, by these names.
 
-    words        the words behind the program's name, each character a byte; FOLDER in one stands for an empty folder
+    words        the words behind the program's name, each character a byte; FOLDER in one represents an empty folder
     files        files by their names: the program runs in a folder that has these alone
     input        standard input, empty where it is left out
     streamed     pairs [TEXT, TIMES] that come before it, and aren't held in memory as a whole; left out: nothing
@@ -56,7 +56,7 @@ program.json: words and devices, by these names.
     status       the exit status
     error        standard error, exactly; null: some text; left out: nothing
 
-texts.py says what a text is. A case without `files` runs at the top of the repository. Each case that fails has a line,
+texts.py defines what a text is. A case without `files` runs at the top of the repository. Each case that fails has a line,
 and the last line is 'N passed, M failed'. The exit status is 0 where none failed.
 """
 import os

@@ -2,7 +2,7 @@
 
 The initial state is that of the state section, settled. An operator is applicable where its prevail conditions hold, and
 each of its effects that asks for an old value finds it, whether it fires or not. A step means the first operator of its
-name that is applicable. Each effect fires whose conditions hold before the step. Where two that fire give one variable
+name that is applicable. Each effect fires whose conditions hold before the step. Where two that fire set one variable to
 different values there is no step; else all take place at once, and the rules settle the state.
 
 The goal has to hold behind the last step of a plan, and its cost has to be the sum of its operators' costs: of their cost

@@ -6,7 +6,7 @@ A text of a case is one of
     a list       of texts, and of pairs [TEXT, TIMES]
     {"file": NAME, ..}   what the file of that name holds, a path from the top of the repository, with changes:
 
-        "line 7": TEXT   in place of what that line says, its end apart; null: the line is left out
+        "line 7": TEXT   in place of that line, its end apart; null: the line is left out
         "ends": TEXT     in place of LF at each line's end
         "from": 20       without so many bytes at the front
         "first": 20      without what stands behind so many bytes

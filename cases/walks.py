@@ -1,13 +1,13 @@
-"""Small tasks with operators, made at random from a fixed seed, with plans and with calls of a runner, and what is said of
+"""Small tasks with operators, made at random from a fixed seed, with plans and with calls of a runner, and the answers to
 these.
 
 A task here is one of axioms.py, or one without derived variables, and has
 
     metric      0 or 1
     goal        facts (VARIABLE, VALUE)
-    operators   (NAME, PREVAIL, EFFECTS, COST), an effect as (CONDITIONS, VARIABLE, OLD, NEW); -1 stands for no old value
+    operators   (NAME, PREVAIL, EFFECTS, COST), an effect as (CONDITIONS, VARIABLE, OLD, NEW); -1 represents no old value
 
-A plan is the names of its steps, and its cost. steps.py says what comes of it.
+A plan is the names of its steps, and its cost. steps.py computes what comes of it.
 """
 import random
 
