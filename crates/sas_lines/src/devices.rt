@@ -68,8 +68,8 @@ impl<D> Watched<D> {
 }
 
 impl<R: Read> Watched<R> {
-    /// Makes one read. Returns how many bytes of `buffer` it filled, 0 at the end of the input. Not to be called after
-    /// a failure.
+    /// Makes one read. Returns how many bytes of `buffer` it filled, 0 at the end of the input. An `Err` is a failure of
+    /// the device, which is noted. Not to be called after a failure.
     pub fn take(&mut self, buffer: &mut [u8]) -> Result<usize, Failed>
         requires { self.old.failed ≡ false }
         ensures bound { IfOk result (λ n. n ≤ length buffer.new) }
@@ -85,8 +85,8 @@ impl<R: Read> Watched<R> {
 }
 
 impl<W: Write> Watched<W> {
-    /// Makes one write. Returns how many of the bytes the device took, at least one unless there are none. Not to be
-    /// called after a failure.
+    /// Makes one write. Returns how many of the bytes the device took, at least one unless there are none. An `Err` is a
+    /// failure of the device, which is noted. Not to be called after a failure.
     pub fn give(&mut self, bytes: &[u8]) -> Result<usize, Failed>
         requires { self.old.failed ≡ false }
         ensures bound { IfOk result (λ n. n ≤ length bytes.now) }

@@ -246,7 +246,7 @@ impl<M: Machine> Reader<M> {
         })
     }
 
-    /// Returns the machine, led to where the lines lead, once all have come; else the fault.
+    /// Returns the machine, led by all lines, once the last one has come. Else returns the fault.
     pub fn finish(self) -> Result<M, Fault>
         ensures { ReachesEnd M.led_by M.ended M.rejects self result }
     {

@@ -5,8 +5,7 @@ use sas_core::Items;
 use sas_reader::{Front, Kind};
 use sas_task_line::{Event, Said, SoFar};
 
-/// What a keeper reports of a variable that it kept: how many lines and bytes its lines are, and how many values it
-/// has.
+/// What a keeper reports of a variable that it kept: how many lines and bytes it takes up, and how many values it has.
 #[derive(Clone, Copy, Debug, PartialEq, Eq)]
 pub struct VariableKept {
     pub front: Front,

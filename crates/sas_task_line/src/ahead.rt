@@ -136,7 +136,7 @@ pub(crate) fn name_before(bytes: &[u8]) -> Option<(&[u8], &[u8])>
     }
 }
 
-/// Returns the number on the first line.
+/// Returns the number on the first line, or `None` where it isn't quick to see.
 pub fn number_ahead(bytes: &[u8]) -> Option<Ahead<u32>>
     ensures { IfSome result (λ a. SpellsAhead (format.number a.said) bytes.now a.taken) }
 {
@@ -147,7 +147,7 @@ pub fn number_ahead(bytes: &[u8]) -> Option<Ahead<u32>>
     })
 }
 
-/// Returns the fact on the first line, whether it exists or not.
+/// Returns the fact on the first line, whether it exists or not, or `None` where it isn't quick to see.
 pub fn fact_ahead(bytes: &[u8]) -> Option<Ahead<Fact>>
     ensures { IfSome result (λ a. SpellsAhead (format.fact a.said) bytes.now a.taken) }
 {
@@ -158,7 +158,8 @@ pub fn fact_ahead(bytes: &[u8]) -> Option<Ahead<Fact>>
     })
 }
 
-/// Returns the effect without conditions on the first line, by its change, whether its facts exist or not.
+/// Returns the effect without conditions on the first line, by its change, whether its facts exist or not. Returns
+/// `None` where it isn't quick to see.
 pub fn effect_ahead(bytes: &[u8]) -> Option<Ahead<Change>>
     ensures { IfSome result
         (λ a. SpellsAhead (format.effect (plain_effect a.said)) bytes.now a.taken) }
@@ -170,7 +171,7 @@ pub fn effect_ahead(bytes: &[u8]) -> Option<Ahead<Change>>
     })
 }
 
-/// Returns the head of a rule on the first line, whether its facts exist or not.
+/// Returns the head of a rule on the first line, whether its facts exist or not, or `None` where it isn't quick to see.
 pub fn head_ahead(bytes: &[u8]) -> Option<Ahead<Change>>
     ensures { IfSome result
         (λ a. SpellsAhead (format.head a.said.var a.said.old a.said.new) bytes.now a.taken) }
@@ -182,7 +183,8 @@ pub fn head_ahead(bytes: &[u8]) -> Option<Ahead<Change>>
     })
 }
 
-/// Returns how many of the bytes the fixed word takes with its LF, where the first line is this word.
+/// Returns how many of the bytes the fixed word takes with its LF, or `None` where it isn't quick to see that the first
+/// line is this word.
 pub fn word_ahead(bytes: &[u8], word: &[u8]) -> Option<usize>
     requires { IsName word.now }
     ensures { IfSome result (λ taken. SpellsAhead (format.word word.now) bytes.now taken) }
@@ -191,7 +193,7 @@ pub fn word_ahead(bytes: &[u8], word: &[u8]) -> Option<usize>
     Some(bytes.len() - rest.len())
 }
 
-/// Returns the name on the first line.
+/// Returns the name on the first line, or `None` where it isn't quick to see.
 pub fn name_ahead(bytes: &[u8]) -> Option<&[u8]>
     ensures { IfSome result (λ name.
         IsName name.now × SpellsAhead (format.name name.now) bytes.now (length name.now + 1)) }

@@ -42,7 +42,7 @@ impl Gathered {
     }
 }
 
-/// What stands first in some bytes: what an operator has beside its conditions and effects, and its lines.
+/// An operator that stands first in some bytes: what it has beside its conditions and effects, and its lines.
 #[derive(Drop)]
 pub struct OperatorFound<'a> {
     pub name: &'a [u8],
@@ -50,7 +50,7 @@ pub struct OperatorFound<'a> {
     pub front: Front,
 }
 
-/// What stands first in some bytes: the head of a rule, and its lines.
+/// A rule that stands first in some bytes: its head, and its lines.
 #[derive(Clone, Copy, Debug, PartialEq, Eq)]
 pub struct RuleFound {
     pub head: Change,

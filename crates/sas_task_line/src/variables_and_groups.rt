@@ -12,7 +12,7 @@ use sas_lists::Lists;
 use sas_reader::Front;
 use std::alloc::AllocError;
 
-/// What stands first in some bytes: what a variable has beside its values, and its lines.
+/// A variable that stands first in some bytes: what it has beside its values, and its lines.
 #[derive(Drop)]
 pub struct VariableFound<'a> {
     pub name: &'a [u8],
@@ -82,8 +82,8 @@ pub fn variable_found<'a>(
     Ok(Some(VariableFound { name, layer, front }))
 }
 
-/// Returns the lines of the mutex group that stands first in the bytes, where it is quick to see that its facts exist.
-/// These are gathered. After `None` or an `Err` any may be gathered.
+/// Returns how many lines and bytes the mutex group takes up that stands first in the bytes, where it is quick to see
+/// that its facts exist. These are gathered. After `None` or an `Err` any may be gathered.
 #[inline(always)]
 pub fn group_found(
     ranges: &Items<u32>,
