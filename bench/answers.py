@@ -20,7 +20,7 @@ def named_lines(word, facts, names):
 
 
 def summary_lines(domain):
-    """The lines of `show`."""
+    """Yields the lines of `show`."""
     counts = domain.counts()
     variables = list(domain.variables())
     names = [values for _, values in variables]
@@ -33,7 +33,7 @@ def summary_lines(domain):
 
 
 def expected_lines(request, about):
-    """The lines of the answer to a request that doesn't print its input."""
+    """Returns the lines of the answer to a request that doesn't print its input."""
     if request == "check":
         return ["task layered"]
     if request == "plan":
@@ -44,7 +44,7 @@ def expected_lines(request, about):
 
 
 def expected(request, made):
-    """The bytes that are due, in pieces."""
+    """Returns the bytes that are due, in pieces."""
     if request == "print":
         return file_pieces(made.task)
     if request == "steps":
@@ -53,7 +53,7 @@ def expected(request, made):
 
 
 def digest(pieces):
-    """What two outputs are compared by."""
+    """Returns a digest of an output, by which two outputs are compared."""
     told = hashlib.sha256()
     for piece in pieces:
         told.update(piece)

@@ -41,7 +41,7 @@ class Blocks:
         return 1 + self.objects + block, value
 
     def on(self, block, other):
-        """The fact that a block lies on another; its positions leave out itself."""
+        """Returns the fact that a block lies on another; its positions leave out itself."""
         return self.position(block, other + 1 if other < block else other)
 
     def pairs(self):
@@ -75,7 +75,7 @@ class Blocks:
         return [self.on(block, block + 1) for block in range(self.objects - 1)]
 
     def operators(self):
-        """Sorted by their first word."""
+        """Yields the operators, sorted by their first word."""
         for block in range(self.objects):
             yield pick_up(block), [], self.taken(block, self.table)
         for block in range(self.objects):
@@ -88,18 +88,19 @@ class Blocks:
             yield unstack(block, other), [], [(1 + other, -1, 0)] + self.taken(block, on)
 
     def taken(self, block, old):
-        """The effects of taking a clear block from this position."""
+        """Returns the effects of taking a clear block from this position."""
         return [(0, 0, 1), (1 + block, 0, 1), (1 + self.objects + block, old, HELD)]
 
     def laid(self, block, new):
-        """The effects of laying a block there."""
+        """Returns the effects of laying a block there."""
         return [(0, -1, 0), (1 + block, -1, 0), (1 + self.objects + block, HELD, new)]
 
     def rules(self):
         return []
 
     def plan(self, steps):
-        """A plan of that many steps, one more where the number is odd; or of the steps of one tower if these are more.
+        """Yields the steps of a plan: that many, one more where the number is odd; or the steps of one tower if these
+        are more.
 
         Towers in mixed order are built and taken apart as often as that fits, so that all operators take part; then the
         tower of the goal is built, and its topmost block is taken off and laid back.
@@ -141,7 +142,7 @@ def unstack(block, other):
 
 
 class World:
-    """What lies on what. Each call is a step: one without a meaning is refused, else it gives the step's name."""
+    """What lies on what. Each call is a step. A step without a meaning is refused; else the call returns the step's name."""
 
     TABLE = None
 
@@ -181,7 +182,7 @@ class World:
         return unstack(block, other)
 
     def build(self, tower):
-        """A tower of blocks that lie on the table, from the lowest on."""
+        """Yields the steps that build a tower of blocks that lie on the table, from the lowest on."""
         for other, block in zip(tower, tower[1:]):
             yield self.pick_up(block)
             yield self.stack(block, other)

@@ -1,8 +1,8 @@
 """What is measured: which request over which input.
 
 A size is a number of a unit that the domain knows (its UNITS). A scale multiplies it, and the steps too where the case
-says so; so the bytes of the inputs grow with the scale, and what a case costs should grow as they do. Counting is slow
-and takes a small scale; `enlarged` is by how much it takes more of a case whose inputs are small already.
+has them scaled. So the bytes of the inputs grow with the scale, and what a case costs should grow as they do. Counting is
+slow and takes a small scale; `enlarged` is by how much it takes more of a case whose inputs are small already.
 """
 from collections import namedtuple
 
@@ -24,7 +24,7 @@ CASES = [
 
 
 def chosen(text):
-    """The cases with this text in their name."""
+    """Returns the cases with this text in their name."""
     return [case for case in CASES if text in case.name]
 
 
@@ -33,11 +33,11 @@ def wanted_size(case, scale):
 
 
 def wanted_steps(case, scale):
-    """How many steps the plan shall have; None where the request reads no plan."""
+    """Returns how many steps the plan shall have; None where the request reads no plan."""
     return max(1, int(case.steps * scale)) if case.more_steps else case.steps
 
 
 def files_of(case, made):
-    """The files that the request reads, in the order of its words."""
+    """Returns the files that the request reads, in the order of its words."""
     reads = {"steps": [made.plan], "plan": [made.task, made.plan]}
     return reads.get(case.request, [made.task])

@@ -4,12 +4,12 @@
     bench/count.py ./sas FOLDER [--beside PROGRAM] [--only TEXT] [--scale F]
 
 A count is the same on a quiet machine and on a loaded one, so it shows what a change did where times are noise. It is
-no time: a program that waits for memory takes longer than its count says.
+no time: a program that waits for memory takes longer than its count shows.
 
 Each case of cases.py is counted at the scales F, 2 F and 4 F (times `enlarged` there): for the largest the
 instructions, and those a line and a byte; then what each further byte costs from F to 2 F and from 2 F to 4 F, and
 growth, the second over the first. Growth near 1 is linear. PROGRAM takes the same words, an older build for example;
-./sas / PROGRAM is told for the largest scale.
+./sas / PROGRAM is printed for the largest scale.
 
 Needs valgrind (apt-get install valgrind).
 """
@@ -36,7 +36,7 @@ Size = namedtuple("Size", "bytes lines")
 
 
 def counted(command):
-    """One run of a command, counted."""
+    """Runs a command once, and counts its instructions."""
     run = subprocess.run([*VALGRIND, *command], stdin=subprocess.DEVNULL, capture_output=True)
     told = re.search(rb"I +refs: +([\d,]+)", run.stderr)
     if not told:
@@ -45,13 +45,13 @@ def counted(command):
 
 
 def size_of(case, made):
-    """The bytes and lines of the files that the request reads."""
+    """Returns the bytes and lines of the files that the request reads."""
     abouts = [made.about[os.path.basename(path)] for path in files_of(case, made)]
     return Size(sum(about["bytes"] for about in abouts), sum(about["lines"] for about in abouts))
 
 
 def further(sizes, counts):
-    """From each scale to the next one, what a further byte costs."""
+    """Returns what a further byte costs, from each scale to the next one."""
     return [(next_count - count) / (next_size.bytes - size.bytes)
             for size, next_size, count, next_count in zip(sizes, sizes[1:], counts, counts[1:])]
 
@@ -61,7 +61,7 @@ def answer_word(count, due):
 
 
 def beside_cells(given, case, made, mine):
-    """The other program at the largest scale."""
+    """Returns the cells about the other program at the largest scale."""
     other = counted([given.beside, case.request, *files_of(case, made)])
     same = (mine.status, mine.output) == (other.status, other.output)
     return ["%.1f" % (other.instructions / 1e6), "%.2f" % (mine.instructions / other.instructions),
@@ -69,7 +69,7 @@ def beside_cells(given, case, made, mine):
 
 
 def case_row(given, case):
-    """Counts a case; its row of the table."""
+    """Counts a case, and returns its row of the table."""
     inputs = [case_input(given.folder, case, given.scale * case.enlarged * times) for times in TIMES]
     sizes = [size_of(case, made) for made in inputs]
     counts = [counted([given.sas, case.request, *files_of(case, made)]) for made in inputs]

@@ -31,7 +31,7 @@ def carried(ball, hand):
 
 
 def change(old, new):
-    """The effect that turns one fact of a variable into another."""
+    """Returns the effect that turns one fact of a variable into another."""
     return old[0], old[1], new[1]
 
 
@@ -89,7 +89,7 @@ class Gripper:
         return [ball_in(ball, 1) for ball in range(self.objects)]
 
     def operators(self):
-        """Sorted by their first word."""
+        """Yields the operators, sorted by their first word."""
         for ball, room, hand in self.handlings():
             in_hand = change(carried(ball, hand), ball_in(ball, room))
             yield drop(ball, room, hand), [robot_in(room)], [(1 + hand, -1, 0), in_hand]
@@ -100,7 +100,7 @@ class Gripper:
             yield pick(ball, room, hand), [robot_in(room)], [(1 + hand, 0, 1), in_room]
 
     def handlings(self):
-        """Each ball in each room with each hand."""
+        """Yields each ball in each room with each hand."""
         for ball in range(self.objects):
             for room in range(len(ROOMS)):
                 for hand in range(len(HANDS)):
@@ -110,7 +110,7 @@ class Gripper:
         return []
 
     def plan(self, steps):
-        """A plan of that many steps, or of the steps of one tour if these are more.
+        """Yields the steps of a plan: that many, or the steps of one tour if these are more.
 
         All balls are carried over, back and over again as often as that fits; then the robot goes to and fro.
         """
@@ -126,13 +126,13 @@ class Gripper:
         assert all(room == 1 for room in world.place)
 
     def tours(self, steps):
-        """How many tours fit; an odd number, so that the balls end in the other room."""
+        """Returns how many tours fit; an odd number, so that the balls end in the other room."""
         tour = 2 * self.objects + 2 * ((self.objects + 1) // 2)
         return 1 + 2 * max(0, (steps - tour) // (2 * tour))
 
 
 class World:
-    """Where everything is. Each call is a step: one without a meaning is refused, else it gives the step's name."""
+    """Where everything is. Each call is a step. A step without a meaning is refused; else the call returns the step's name."""
 
     def __init__(self, balls):
         self.robot = 0
@@ -154,7 +154,8 @@ class World:
         return drop(ball, self.robot, hand)
 
     def tour(self, turn):
-        """Carries all balls into the other room, two at a time; the order and the hands differ from turn to turn."""
+        """Carries all balls into the other room, two at a time, and yields the steps; the order and the hands differ from
+        turn to turn."""
         start = turn % 2
         hands = (1, 0) if turn // 2 % 2 else (0, 1)
         order = mixed(range(len(self.place)), turn)

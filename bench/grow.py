@@ -37,7 +37,7 @@ CASES = [
 
 
 def files_for(folder, case, size):
-    """The files that the request reads, so many MB in all."""
+    """Returns the files that the request reads, so many MB in all."""
     steps = int(size * case.plan * 1e6 / case.step) if case.plan else None
     task = max(size * (1 - case.plan), 1)
     made = made_input(folder, case.domain, domain_of(case.domain, task, "MB"), steps)
@@ -53,7 +53,7 @@ def command_of(sas, case, files):
 
 
 def case_row(sas, case, inputs, counts):
-    """The row of a case, of which the instructions are being counted."""
+    """Returns the row of a case, of which the instructions are being counted."""
     sizes = [size_of(files) for files in inputs]
     peaks = [measured(command_of(sas, case, files), LIMIT).peak * 1e6 for files in inputs]
     return machine.row(["%s %s" % (case.request, case.domain), " · ".join("%.0f" % (size / 1e6) for size in sizes),

@@ -1,10 +1,10 @@
-"""Runs one command and tells how long it took, the most memory that it had, and how it ended.
+"""Runs one command and reports how long it took, the most memory that it had, and how it ended.
 
     python3 -I -S launch.py DESCRIPTOR COMMAND WORD..
 
 writes to the descriptor the wall time in seconds, the peak memory in units of 1,024 bytes, and the exit status, or a
 number below 0 for the signal that ended it. This is a process of its own, and as small as can be, because the system
-counts as a command's peak what the process had that it was forked from: no command is told to take less than this one,
+counts as a command's peak what the process had that it was forked from: no command is reported to take less than this one,
 which is some MB.
 """
 import os
@@ -13,7 +13,7 @@ import time
 
 
 def run(command, report):
-    """What the forked child does: it becomes the command."""
+    """Becomes the command, in the forked child."""
     os.close(report)
     try:
         os.execvp(command[0], command)

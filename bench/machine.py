@@ -8,7 +8,7 @@ import time
 
 
 def cpu_model():
-    """What the system calls the processor, as far as it tells."""
+    """Returns the system's name of the processor, as far as it has one."""
     try:
         with open("/proc/cpuinfo") as file:
             models = [line.split(":", 1)[1].strip() for line in file if line.startswith("model name")]
@@ -18,12 +18,12 @@ def cpu_model():
 
 
 def load():
-    """How many processes ran or waited to run, on average over 1, 5 and 15 minutes."""
+    """Returns how many processes ran or waited to run, on average over 1, 5 and 15 minutes."""
     return "load %.2f %.2f %.2f" % os.getloadavg()
 
 
 def told_program(path):
-    """A program and a checksum of its file, which tells one build from another."""
+    """Returns the line about a program: its name and a checksum of its file, which sets one build apart from another."""
     found = shutil.which(path)
     if not found:
         sys.exit("there is no program %s" % path)
@@ -32,7 +32,7 @@ def told_program(path):
 
 
 def header(program, beside):
-    """The lines in front of a table."""
+    """Yields the lines in front of a table."""
     yield "Date: " + time.strftime("%Y-%m-%d %H:%M:%S UTC", time.gmtime())
     yield "Machine: %s, %d cores, %s %s" % (cpu_model(), os.cpu_count(), platform.system(), platform.release())
     yield "Program: " + told_program(program)
@@ -42,7 +42,7 @@ def header(program, beside):
 
 
 def row(cells):
-    """A row of a table, as Markdown writes it."""
+    """Returns a row of a table, as Markdown writes it."""
     return "| " + " | ".join(cells) + " |"
 
 

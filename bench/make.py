@@ -8,8 +8,8 @@ DOMAIN is gripper (transport), blocks (blocks world) or power (derived variables
 operators, groups (gripper, blocks) or rules (power), as in 200MB or 100000rules; without a unit it counts balls, blocks
 or columns. MB is 1,000,000 bytes, and about.
 
-Each input has a folder of its own in FOLDER, with `task.sas`, `plan` where it has one, and `about.json`, which says
-what is in them. One that is there already is left as it is; after a change of these scripts remove it.
+Each input has a folder of its own in FOLDER, with `task.sas`, `plan` where it has one, and `about.json`, which
+describes them. An input that is there already is left as it is; after a change of these scripts remove it.
 """
 import argparse
 import json
@@ -33,13 +33,13 @@ Made = namedtuple("Made", "folder task plan about")
 
 
 def domain_of(name, size, unit):
-    """The task of a domain that has this size."""
+    """Returns the task of a domain that has this size."""
     domain = DOMAINS[name]
     return domain(max(domain.LEAST, round(domain.UNITS[unit](size))))
 
 
 def in_batches(pieces):
-    """The pieces joined, some thousand at a time, since each write costs more than a piece."""
+    """Yields the pieces joined, some thousand at a time, since each write costs more than a piece."""
     batch = []
     for piece in pieces:
         batch.append(piece)
@@ -50,7 +50,7 @@ def in_batches(pieces):
 
 
 def write(path, pieces):
-    """Writes a file; how many bytes and lines it has, and a checksum that tells two inputs apart."""
+    """Writes a file. Returns how many bytes and lines it has, and a checksum that sets two inputs apart."""
     size, lines, check = 0, 0, 0
     with open(path, "wb") as file:
         for text in in_batches(pieces):
@@ -72,7 +72,7 @@ def write_input(folder, name, domain, steps):
 
 
 def made_input(top, name, domain, steps):
-    """The input of this domain and these steps in the folder; it is made if it isn't there."""
+    """Returns the input of this domain and these steps in the folder. It is made if it isn't there."""
     folder = os.path.join(top, "%s-%d" % (name, domain.objects) + ("" if steps is None else "-steps-%d" % steps))
     if not os.path.isdir(folder):
         # under another name until it is whole, so that a run that was stopped leaves nothing that looks made
@@ -88,13 +88,13 @@ def made_input(top, name, domain, steps):
 
 
 def case_input(top, case, scale):
-    """The input of a case at a scale."""
+    """Returns the input of a case at a scale."""
     domain = domain_of(case.domain, wanted_size(case, scale), case.unit)
     return made_input(top, case.domain, domain, wanted_steps(case, scale))
 
 
 def size_and_unit(domain, text):
-    """What a SIZE says."""
+    """Returns the number and the unit of a SIZE."""
     units = DOMAINS[domain].UNITS
     told = re.fullmatch(r"([0-9.]+)([A-Za-z]*)", text)
     if not told or told[2] and told[2] not in units:
@@ -103,7 +103,7 @@ def size_and_unit(domain, text):
 
 
 def told_line(made):
-    """One line about an input."""
+    """Returns one line about an input."""
     about = made.about
     counts = ", ".join("%d %s" % (about[word], word) for word in ("variables", "groups", "operators", "rules"))
     files = ["%s %d bytes, %d lines, crc32 %s" % (name, *about[name].values())

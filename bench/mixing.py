@@ -4,7 +4,7 @@ PRIME = 1000003
 
 
 def mixed(items, turn):
-    """The items in an order that differs from turn to turn; turn 0 leaves them as they are."""
+    """Returns the items in an order that differs from turn to turn; turn 0 leaves them as they are."""
     if turn == 0:
         return list(items)
     factor = 7919 * (2 * turn + 1) % PRIME

@@ -58,7 +58,7 @@ class Power:
         return len(self.lines) + self.buses + self.districts
 
     def last_bus(self, district):
-        """The bus of the upper row where a district ends."""
+        """Returns the bus of the upper row where a district ends."""
         return 2 * ((district + 1) * self.objects // self.districts - 1)
 
     def variables(self):
@@ -78,14 +78,14 @@ class Power:
         return [(self.blackout(), 1)]
 
     def operators(self):
-        """Sorted by their first word."""
+        """Yields the operators, sorted by their first word."""
         for line in range(len(self.lines)):
             yield close_switch(line), [], [(line, OPEN, CLOSED)]
         for line in range(len(self.lines)):
             yield open_switch(line), [], [(line, CLOSED, OPEN)]
 
     def rules(self):
-        """Each sets its variable from 1, the default of all of them, to 0."""
+        """Yields the rules. Each sets its variable from 1, the default of all of them, to 0."""
         for line, (bus, other) in reversed(list(enumerate(self.lines))):
             if line == MAIN:
                 yield [(MAIN, CLOSED)], (self.fed(other), 1, 0)
@@ -98,10 +98,10 @@ class Power:
             yield [(self.dark(district), 0)], (self.blackout(), 1, 0)
 
     def plan(self, steps):
-        """A plan of that many steps, at least one.
+        """Yields the steps of a plan: that many, at least one.
 
-        After the main switch is closed, one line after the other is opened and closed again; the rings keep the net
-        fed. The last line's switch is closed first where the number is even.
+        After the main switch is closed, one line after the other is opened and closed again; the rings keep the net fed. The
+        last line's switch is closed first where the number is even.
         """
         closed = [value == CLOSED for value in self.initial()[:len(self.lines)]]
         if steps > 0 and steps % 2 == 0:
@@ -113,12 +113,12 @@ class Power:
         assert len(self.fed_buses(closed)) == self.buses
 
     def maintained(self, many):
-        """So many lines, in mixed order, without the main line and the last one."""
+        """Returns so many lines, in mixed order, without the main line and the last one."""
         lines = mixed(range(1, len(self.lines) - 1), 1)
         return (lines[place % len(lines)] for place in range(many))
 
     def fed_buses(self, closed):
-        """The buses that are fed with these switches closed, by going from bus to bus."""
+        """Returns the buses that are fed with these switches closed, by going from bus to bus."""
         ties = {bus: [] for bus in range(self.buses)}
         for line, (bus, other) in enumerate(self.lines):
             if closed[line] and line != MAIN:
@@ -134,7 +134,8 @@ class Power:
 
 
 def lines_of_ladder(columns):
-    """The two buses of each line, column after column: 2 k and 2 k + 1 are column k. The main line has bus 0 alone."""
+    """Returns the two buses of each line, column after column: 2 k and 2 k + 1 are column k. The main line has bus 0
+    alone."""
     lines = [(None, 0)]
     for upper in range(0, 2 * columns, 2):
         if upper > 0:
@@ -144,7 +145,7 @@ def lines_of_ladder(columns):
 
 
 def both(layer, atom):
-    """A variable that says whether an atom holds."""
+    """Returns a variable that represents whether an atom holds."""
     return layer, ["Atom " + atom, "NegatedAtom " + atom]
 
 
@@ -157,6 +158,6 @@ def open_switch(line):
 
 
 def switched(closed, line):
-    """Turns a switch; the name of that step."""
+    """Turns a switch, and returns the name of that step."""
     closed[line] = not closed[line]
     return close_switch(line) if closed[line] else open_switch(line)

@@ -3,9 +3,9 @@
 
     bench/run.py ./sas FOLDER [--beside PROGRAM] [--rounds R] [--only TEXT] [--scale F] [--limit S]
 
-For each case of cases.py it tells the size of the input, the best wall time of R rounds, MB a second at that, the peak
+For each case of cases.py it prints the size of the input, the best wall time of R rounds, MB a second at that, the peak
 memory of the process, and as floors the best times of `cat` and `wc -l` over the same files. PROGRAM takes the same
-words, an older build for example; it runs in turn with ./sas, and for times and memory ./sas / PROGRAM is told.
+words, an older build for example. It runs in turn with ./sas, and for times and memory ./sas / PROGRAM is printed.
 
 In front of the rounds each program runs once to be compared with the answer that is due (answers.py); by then the input
 is in the cache of the system. A run past S seconds is stopped; a program that is stopped there isn't run in the rounds.
@@ -43,7 +43,7 @@ def stop(process):
 
 
 def finish(process, limit):
-    """Waits for a launcher, no longer than the limit; the digest of its output, where it has one to read."""
+    """Waits for a launcher, no longer than the limit. Returns the digest of its output, where it has one to read."""
     # an alarm, since there are two places to wait in
     signal.signal(signal.SIGALRM, lambda *_: stop(process))
     signal.alarm(limit)
@@ -58,7 +58,7 @@ def finish(process, limit):
 
 
 def measured(command, limit, compared=False):
-    """One run of a command; its output is thrown away, or made into a digest to compare it by."""
+    """Runs a command once. Its output is thrown away, or made into a digest to compare it by."""
     source, report = os.pipe()
     process = launcher(command, report, subprocess.PIPE if compared else subprocess.DEVNULL)
     os.close(report)
@@ -77,7 +77,7 @@ def measured(command, limit, compared=False):
 
 
 def commands_of(given, case, files):
-    """What runs in turn in each round, under a name."""
+    """Returns what runs in turn in each round, under a name."""
     commands = {"sas": [given.sas, case.request, *files]}
     if given.beside:
         commands["beside"] = [given.beside, case.request, *files]
@@ -87,7 +87,8 @@ def commands_of(given, case, files):
 
 
 def best_runs(commands, rounds, limit, stopped):
-    """Of each command the best time and the most memory of its runs to the end; those named `stopped` aren't run."""
+    """Returns, of each command, the best time and the most memory of its runs to the end. Those named `stopped` aren't
+    run."""
     runs = {name: [] for name in commands}
     for turn in range(rounds):
         # every other round backwards, so that none is always behind the same one
@@ -100,7 +101,7 @@ def best_runs(commands, rounds, limit, stopped):
 
 
 def word_of(run, due, limit):
-    """How a run compares with the answer that is due."""
+    """Returns how a run compares with the answer that is due."""
     if run.status is None:
         return "stopped after %d s" % limit
     if run.status != 0:
@@ -109,7 +110,7 @@ def word_of(run, due, limit):
 
 
 def compared_words(firsts, due, limit):
-    """What the answers were like, and those of both programs beside each other."""
+    """Returns what the answers were like, and those of both programs beside each other."""
     words = [word_of(firsts["sas"], due, limit)]
     if "beside" in firsts:
         mine, other = firsts["sas"], firsts["beside"]
@@ -132,7 +133,7 @@ def heads(beside):
 
 
 def case_row(given, case):
-    """Measures a case; its row of the table."""
+    """Measures a case, and returns its row of the table."""
     made = case_input(given.folder, case, given.scale)
     files = files_of(case, made)
     commands = commands_of(given, case, files)

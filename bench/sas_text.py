@@ -18,7 +18,7 @@ HEAD = "begin_version\n3\nend_version\nbegin_metric\n0\nend_metric\n"
 
 
 def fact_lines(facts):
-    """How many facts, and a line for each."""
+    """Returns how many facts, and a line for each."""
     return "%d\n" % len(facts) + "".join(["%d %d\n" % fact for fact in facts])
 
 
@@ -51,7 +51,7 @@ def goal_text(facts):
 
 
 def listed(count, items, text):
-    """A count and the text of each item, piece by piece; the count has to be theirs."""
+    """Yields a count and the text of each item, piece by piece; the count has to be theirs."""
     yield "%d\n" % count
     seen = 0
     for place, item in enumerate(items):
@@ -61,7 +61,7 @@ def listed(count, items, text):
 
 
 def task_pieces(domain):
-    """The text of the task of a domain, piece by piece."""
+    """Yields the text of the task of a domain, piece by piece."""
     counts = domain.counts()
     yield HEAD
     yield from listed(counts["variables"], domain.variables(), variable_text)
@@ -73,7 +73,7 @@ def task_pieces(domain):
 
 
 def plan_pieces(steps):
-    """The text of a plan of these steps, under unit cost."""
+    """Yields the text of a plan of these steps, under unit cost."""
     count = 0
     for step in steps:
         yield "(%s)\n" % step

@@ -1,19 +1,19 @@
-"""Small tasks with derived variables, made at random from a fixed seed: what states of them settle to, and what is
-wrong with the layers of others.
+"""Small tasks with derived variables, made at random from a fixed seed: what states of them settle to, and the first fault
+of the layers of others.
 
 A task here is
 
     ranges     how many values each variable has
     layers     its layer, None for a basic variable
     defaults   its value in the state section
-    rules      (CONDITIONS, VARIABLE, OLD, NEW): facts (VARIABLE, VALUE), and what changes; -1 stands for no old value
+    rules      (CONDITIONS, VARIABLE, OLD, NEW): facts (VARIABLE, VALUE), and what changes; -1 represents no old value
 
 What a state settles to is computed from the meaning of a task. The basic values stay. Layer after layer, from the
-lowest one on, a derived variable has its default, unless a rule that can fire gives it another value: one whose
+lowest one on, a derived variable has its default, unless a rule that can fire sets it to another value: a rule whose
 conditions hold in the values so reached. A rule whose new value is the default can't fire.
 
-A rule has to be of a derived variable. If it can fire, its old value is none or the default, rules before it give its
-variable the same value, and its conditions are on no higher layer; one that asks for a default is on a lower layer.
+A rule has to be of a derived variable. If it can fire, its old value is none or the default, rules before it set its
+variable to the same value, and its conditions are on no higher layer; one that asks for a default is on a lower layer.
 """
 import random
 
@@ -24,13 +24,13 @@ LAYERS = ((0,), (0, 1), (0, 1, 2), (3, 2147483647))
 
 
 def other_value(chance, size, value):
-    """A value of such a range that isn't this one."""
+    """Returns a value of such a range that isn't this one."""
     return chance.choice([other for other in range(size) if other != value])
 
 
 def random_condition(chance, task, var, news):
-    """A condition that a rule of this variable may have: on a basic variable, on a lower layer, or on its own layer. On
-    that it isn't a default, and most often it is what the rules give."""
+    """Returns a condition that a rule of this variable may have: on a basic variable, on a lower layer, or on its own layer.
+    On its own layer it isn't a default, and most often it is a value that the rules set."""
     ranges, layers, defaults = task["ranges"], task["layers"], task["defaults"]
     basic = [other for other, layer in enumerate(layers) if layer is None]
     lower = [other for other, layer in enumerate(layers) if layer is not None and layer < layers[var]]
@@ -44,20 +44,20 @@ def random_condition(chance, task, var, news):
 
 
 def any_fact(chance, task):
-    """A fact that exists."""
+    """Returns a fact that exists."""
     on = chance.randrange(len(task["ranges"]))
     return on, chance.randrange(task["ranges"][on])
 
 
 def any_rule(chance, task, var):
-    """A rule of this variable with any conditions, any old value and any new value."""
+    """Returns a rule of this variable with any conditions, any old value and any new value."""
     facts = [any_fact(chance, task) for _ in range(chance.randrange(3))]
     return facts, var, chance.randrange(-1, task["ranges"][var]), chance.randrange(task["ranges"][var])
 
 
 def random_rule(chance, task, news):
-    """A rule of some derived variable, in a layered task whose rules give these new values. Some can't fire, and these
-    have any old value and any conditions."""
+    """Returns a rule of some derived variable, in a layered task whose rules set these new values. Some rules can't fire,
+    and these have any old value and any conditions."""
     var = chance.choice(list(news))
     if chance.random() < 0.15:
         facts, _, old, _ = any_rule(chance, task, var)
@@ -69,7 +69,7 @@ def random_rule(chance, task, news):
 
 
 def random_task(chance):
-    """A layered task. It has a basic variable, and a variable on each of its layers."""
+    """Returns a layered task. It has a basic variable, and a variable on each of its layers."""
     layers = chance.choice(LAYERS)
     size = chance.randint(2 + len(layers), 7)
     task = {
@@ -86,7 +86,7 @@ def random_task(chance):
 
 
 def spoiled_rule(chance, task, rule):
-    """This rule with another old value, another new value or a condition more, or another rule."""
+    """Returns this rule with another old value, another new value or a condition more, or another rule."""
     facts, var, old, new = rule
     size, change = task["ranges"][var], chance.randrange(6)
     if change == 0:
@@ -99,7 +99,7 @@ def spoiled_rule(chance, task, rule):
 
 
 def spoiled_task(chance):
-    """A task that was layered before some of its rules were changed."""
+    """Returns a task that was layered before some of its rules were changed."""
     task = random_task(chance)
     for place in chance.choices(range(len(task["rules"])), k=2):
         task["rules"][place] = spoiled_rule(chance, task, task["rules"][place])
@@ -107,27 +107,27 @@ def spoiled_task(chance):
 
 
 def random_state(chance, task):
-    """A value for each variable, the derived ones too."""
+    """Returns a value for each variable, the derived ones too."""
     return [chance.randrange(most) for most in task["ranges"]]
 
 
 def section(name, lines):
-    """Lines between the two words of their section."""
+    """Returns lines between the two words of their section."""
     return [f"begin_{name}", *lines, f"end_{name}"]
 
 
 def facts_lines(facts):
-    """The number of these facts, and a line for each."""
+    """Returns the number of these facts, and a line for each."""
     return [len(facts), *(f"{var} {value}" for var, value in facts)]
 
 
 def effect_line(facts, var, old, new):
-    """The line of an effect."""
+    """Returns the line of an effect."""
     return " ".join(map(str, [len(facts), *(number for fact in facts for number in fact), var, old, new]))
 
 
 def text_of(task):
-    """The file of a task. Where the task says nothing of them: metric 0, no group, no goal and no operator."""
+    """Returns the file of a task. Where the task has none of them: metric 0, no group, no goal and no operator."""
     operators = task.get("operators", [])
     lines = [*section("version", [3]), *section("metric", [task.get("metric", 0)]), len(task["ranges"])]
     for var, (size, layer) in enumerate(zip(task["ranges"], task["layers"])):
@@ -149,7 +149,7 @@ def text_of(task):
 
 
 def settled(task, state):
-    """What a state settles to."""
+    """Returns the values that a state settles to."""
     layers, defaults = task["layers"], task["defaults"]
     values = [value if layer is None else default for value, layer, default in zip(state, layers, defaults)]
     for layer in sorted({layer for layer in layers if layer is not None}):
@@ -163,7 +163,7 @@ def settled(task, state):
 
 
 def layer_fault(task):
-    """What is wrong first with the layers of a task, as the rules stand in its file; None where it is layered."""
+    """Returns the first fault of the layers of a task, as the rules stand in its file; None where it is layered."""
     layers, defaults, news = task["layers"], task["defaults"], {}
     for rule, (facts, var, old, new) in enumerate(task["rules"]):
         if layers[var] is None:
@@ -182,8 +182,8 @@ def layer_fault(task):
 
 
 def settled_tasks():
-    """Layered tasks, as texts, each with states and what they settle to. They could show a definition of settled states that
-    isn't theirs, where no one thought of the case."""
+    """Yields layered tasks, as texts, each with states and what they settle to. They could show a wrong definition of
+    settled states, in a case that no one thought of."""
     chance = random.Random(SEED)
     for _ in range(TASKS):
         task = random_task(chance)
@@ -192,8 +192,8 @@ def settled_tasks():
 
 
 def spoiled_tasks():
-    """Tasks, as texts, each with what is wrong with its layers. They could show a definition of layered tasks that isn't
-    theirs, where no one thought of the case."""
+    """Yields tasks, as texts, each with the fault of its layers. They could show a wrong definition of layered tasks, in a
+    case that no one thought of."""
     chance = random.Random(SEED)
     for _ in range(TASKS):
         task = spoiled_task(chance)

@@ -6,16 +6,16 @@
 The programs are those that the crates `test_core`, `test_files`, `test_verdicts` and `test_requests` are built to, and have
 their names.
 
-calls.json: for each program what its calls say, in groups of the same call.
+calls.json: for each program what its calls print, in groups of the same call.
 
-    call         its name, and for some calls a word that says of which kind
+    call         its name, and for some calls a word that names its kind
     about        what is shown
     refused      left out, or how many allocations come before the call, of which memory.py refuses each in turn
     rows         [INPUT, ANSWER]: the bytes that the call is about, and what the program prints
 
 The calls over the files of tasks.json, lines.json, plans.json, verdicts.json and groups.json are made here, and those over
-the tasks of axioms.py, walks.py, families.py and large.py, and over devices that go on behind a failure. texts.py says what a
-text is. Each case that fails has a line, and the last line is 'N passed, M failed'. The exit status is 0 where none failed.
+the tasks of axioms.py, walks.py, families.py and large.py, and over devices that go on behind a failure. texts.py defines what
+a text is. Each case that fails has a line, and the last line is 'N passed, M failed'. The exit status is 0 where none failed.
 """
 import os
 import subprocess
@@ -43,7 +43,7 @@ PLAN_WAYS, PLAN_REQUESTS = ("plan", "plan-text", "flat-plan"), ("steps",)
 
 
 def case(program, call, given, answer, about=""):
-    """A call of a program that is made at once, without an allocation before it."""
+    """Returns a call of a program that is made at once, without an allocation before it."""
     return {
         "program": program,
         "name": f"{call}, {about}",
@@ -53,7 +53,8 @@ def case(program, call, given, answer, about=""):
 
 
 def written_cases():
-    """The calls of calls.json. The comment at each call, in the program that makes it, says which mistake it could show."""
+    """Yields the calls of calls.json. The comment at each call, in the program that makes it, names the mistake that it
+    could show."""
     for program, groups in table("calls.json").items():
         for group in groups:
             for given, answer in group["rows"]:
@@ -62,8 +63,9 @@ def written_cases():
 
 
 def task_cases():
-    """Each task file, as it stands and with CR LF: read in any way, in any pieces, cut off, and from a device that fails.
-    They could show a line that is judged otherwise where a piece ends in it, and parts that don't make a task again."""
+    """Yields each task file, as it stands and with CR LF: read in any way, in any pieces, cut off, and from a device that
+    fails. They could show a line that is judged otherwise where a piece ends in it, and parts that don't make a task
+    again."""
     for task in table("tasks.json"):
         name, held = task["file"], as_bytes({"file": task["file"]})
         whole = ["whole\n", {"file": name}, "\n"]
@@ -84,8 +86,8 @@ def task_cases():
 
 
 def device_cases(reader, ways, requests, name, held):
-    """A file that something follows, and devices that fail behind each front of it, or before all is written. They could show
-    a failure that is taken for the end, and bytes that go out twice."""
+    """Yields a file that something follows, and devices that fail behind each front of it, or before all is written. They
+    could show a failure that is taken for the end, and bytes that go out twice."""
     yield case(FILES, f"behind-{reader}", held, RIGHT, name)
     for way in ways:
         yield case(FILES, f"read-broken-fronts {way}", held, RIGHT, name)
@@ -95,8 +97,8 @@ def device_cases(reader, ways, requests, name, held):
 
 
 def told_cases():
-    """Files of devices that fail once, or end, and go on then. They could show a read that is tried again behind a failure, which
-    goes well then, or one that is made behind the end."""
+    """Yields files of devices that fail once, or end, and go on then. They could show a read that is tried again behind a
+    failure, which goes well then, or one that is made behind the end."""
     plan = b"(go )\n(open door)\n; cost = 2 (unit cost)\n"
     for what, ways, requests, held in (
         ("task", TASK_WAYS, TASK_REQUESTS, as_bytes(MINIMAL)),
@@ -114,7 +116,7 @@ def told_cases():
 
 
 def told_calls(ways, requests, told, read, answer, about):
-    """The calls that read from a device that is told this, which read that, or are answered so."""
+    """Yields the calls that read from a device that follows this text, which return that, or report that."""
     for way in ways:
         yield case(FILES, f"read-told {way}", told, read, about)
     for request in requests:
@@ -122,8 +124,8 @@ def told_calls(ways, requests, told, read, answer, about):
 
 
 def told_plan_cases():
-    """The same of `run` with a plan and its task. They could show a plan that is read before its task, too: the task's device
-    comes to its end or fails before that."""
+    """Yields the same for `run` with a plan and its task. They could show a plan that is read before its task, too: the
+    task's device comes to its end or fails before that."""
     for plan, task, answer in (
         ("~#" + EMPTY, MINIMAL, "Err(Read)\n\n"),
         (EMPTY + "#!", MINIMAL, "Err(Read)\n\n"),
@@ -137,8 +139,8 @@ def told_plan_cases():
 
 
 def wide_cases():
-    """Wide tasks, through the calls that take a task or a plan as it is. They could show want of memory that no one was refused,
-    and a buffer that reads more at a time than is said."""
+    """Yields wide tasks, through the calls that take a task or a plan as it is. They could show want of memory that no one
+    was refused, and a buffer that reads more at a time than is documented."""
     for width in (65, 130):
         task, about = wide_task(width), f"{width} of everything"
         text, plans = text_of(task), wide_plans(width)
@@ -158,7 +160,8 @@ def wide_cases():
 
 
 def wide_file_cases(what, text, about):
-    """The file of a wide task or of its plan, read and written again. They could show want of memory that no one was refused."""
+    """Yields the file of a wide task or of its plan, read and written again. They could show want of memory that no one was
+    refused."""
     whole = f"whole\n{text}\n"
     yield case(FILES, f"read {what}", text, whole, about)
     yield case(FILES, f"read {what}-text", text, whole, about)
@@ -166,8 +169,8 @@ def wide_file_cases(what, text, about):
 
 
 def longest_cases(task, plan, about):
-    """How much is read at a time of a long task and of a long plan. They could show a reader with a buffer of more than 4,096
-    bytes."""
+    """Yields the calls that show how much is read at a time of a long task and of a long plan. They could show a reader with
+    a buffer of more than 4,096 bytes."""
     for ways, requests, file in ((TASK_WAYS, TASK_REQUESTS, task), (PLAN_WAYS, PLAN_REQUESTS, plan)):
         for way in ways:
             yield case(FILES, f"longest {way}", file, "read\nright\n", about)
@@ -177,7 +180,8 @@ def longest_cases(task, plan, about):
 
 
 def line_cases():
-    """Each changed line of a task file that isn't too long. They could show two ways to read a task that don't agree."""
+    """Yields each changed line of a task file that isn't too long. They could show two ways to read a task that don't
+    agree."""
     for changed in changed_lines():
         if len(as_bytes(changed["task"])) > LONGEST:
             continue
@@ -188,8 +192,8 @@ def line_cases():
 
 
 def plan_cases():
-    """Each plan file that isn't too long: read in any way, and in pieces. They could show two ways to read a plan that don't
-    agree."""
+    """Yields each plan file that isn't too long: read in any way, and in pieces. They could show two ways to read a plan
+    that don't agree."""
     for plan in table("plans.json"):
         held, output = as_bytes(plan["plan"]), as_bytes(plan["output"])
         if len(held) > LONGEST:
@@ -209,9 +213,9 @@ def plan_cases():
 
 
 def verdict_cases():
-    """Each plan that isn't too long, of a task of verdicts.json or one made at random, through each evaluator: the initial
-    state, and what is said of the plan. Where a file is refused there is none of that. They could show a definition of valid
-    plans that isn't theirs, and evaluators that don't agree."""
+    """Yields each plan that isn't too long, of a task of verdicts.json or one made at random, through each evaluator: the
+    initial state, and the verdict on the plan. Where a file is refused there is none of that. They could show a wrong
+    definition of valid plans, and evaluators that don't agree."""
     for made in (*table("verdicts.json"), *walked_plans()):
         if "call" not in made:
             continue
@@ -221,29 +225,29 @@ def verdict_cases():
 
 
 def step_cases():
-    """Calls of runners on tasks made at random, through each evaluator. They could show a definition of steps that isn't
-    theirs."""
+    """Yields calls of runners on tasks made at random, through each evaluator. They could show a wrong definition of
+    steps."""
     for made in walked_calls():
         for way in EVALUATORS:
             yield case(VERDICTS, f"steps {way}", [made["calls"], "|", made["task"]], made["answers"], made["name"])
 
 
 def group_cases():
-    """The groups of each task that isn't too long, and of those made at random: the joint verdicts, and each by itself. They
-    could show a definition of kept groups by which too few are shown."""
+    """Yields the groups of each task that isn't too long, and of those made at random: the joint verdicts, and each by
+    itself. They could show a definition of kept groups by which too few are shown."""
     for made in (*table("groups.json"), *grouped_tasks()):
         if len(as_bytes(made["task"])) <= LONGEST:
             yield case(VERDICTS, "check-groups", made["task"], made["call"], made["name"])
 
 
 def numbers(values):
-    """The values of a state, in a line."""
+    """Returns the values of a state, in a line."""
     return " ".join(map(str, values))
 
 
 def settled_cases():
-    """States of tasks made at random, settled in turn by each evaluator. They could show a definition of settled states that
-    isn't theirs, and a state that rests on the one before it."""
+    """Yields states of tasks made at random, settled in turn by each evaluator. They could show a wrong definition of
+    settled states, and a state that rests on the one before it."""
     for number, made in enumerate(settled_tasks()):
         given = [";".join(map(numbers, made["states"])), "|", made["task"]]
         answer = "".join(f"state {numbers(values)}\n" for values in made["settled"])
@@ -252,22 +256,22 @@ def settled_cases():
 
 
 def layer_cases():
-    """The layers of tasks made at random. They could show a definition of layered tasks that isn't theirs, and faults in
-    another order."""
+    """Yields the layers of tasks made at random. They could show a wrong definition of layered tasks, and faults in another
+    order."""
     for number, made in enumerate(spoiled_tasks()):
         answer = f"kept\n{made['fault']}\n" if made["fault"] else LAYERED
         yield case(VERDICTS, "layered", made["task"], answer, f"random task {number}")
 
 
 def cases():
-    """All calls."""
+    """Returns all calls."""
     files = (*task_cases(), *line_cases(), *plan_cases(), *verdict_cases())
     devices = (*told_cases(), *told_plan_cases(), *wide_cases())
     return [*written_cases(), *files, *devices, *settled_cases(), *layer_cases(), *step_cases(), *group_cases()]
 
 
 def faults(programs, call):
-    """What is wrong with the answer of a program to a call of it."""
+    """Returns what is wrong with the answer of a program to a call of it."""
     if call["program"] not in programs:
         return [f"{call['program']} is none of the programs"]
     program = programs[call["program"]]

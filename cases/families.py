@@ -1,5 +1,5 @@
 """Mutex groups computed from the meaning of a task, for small tasks made at random from a fixed seed and for three larger ones:
-what `mutex` says of each, and what is said of each group by itself.
+what `mutex` prints of each, and the verdict on each group by itself.
 
 A task here is as in walks.py, and has
 
@@ -8,7 +8,7 @@ A task here is as in walks.py, and has
 Two facts contradict each other in a family of groups where they are two values of one variable or two facts of one of these
 groups; facts clash where two of them contradict each other. An operator keeps a group if, for any two facts of it on
 different variables, what has to hold for two of its effects that set them clashes; and if, for each of its effects that
-sets one, the other fact clashes with what has to hold for that, or an effect that then fires as well gives its variable
+sets one, the other fact clashes with what has to hold for that, or an effect that then fires as well sets its variable to
 another value.
 
 A group with a fact on a derived variable is `Derived`, one with two facts of the state section `Initial`. A family of the
@@ -32,29 +32,29 @@ SHARING, SWAPPING = 4000, 600
 
 
 def contradict(f, g, family):
-    """Whether two facts contradict each other in the family."""
+    """Returns whether two facts contradict each other in the family."""
     return f != g and (f[0] == g[0] or any(f in group and g in group for group in family))
 
 
 def clash(facts, family):
-    """Whether two of the facts do."""
+    """Returns whether two of the facts contradict each other in the family."""
     return any(contradict(f, g, family) for f, g in combinations(facts, 2))
 
 
 def setters(operator, fact):
-    """The effects of the operator that set the fact."""
+    """Returns the effects of the operator that set the fact."""
     return [effect for effect in operator[2] if (effect[1], effect[3]) == fact]
 
 
 def never_both(operator, f, g, family):
-    """Whether effects that set the two facts never fire in one step."""
+    """Returns whether effects that set the two facts never fire in one step."""
     known = preconditions(operator)
     pairs = ((first, second) for first in setters(operator, f) for second in setters(operator, g))
     return all(clash([*known, *first[0], *second[0]], family) for first, second in pairs)
 
 
 def gone(operator, f, effect, family):
-    """Whether the fact doesn't hold behind a step in which the effect fires."""
+    """Returns whether the fact doesn't hold behind a step in which the effect fires."""
     known = [*preconditions(operator), *effect[0], f]
     if clash(known, family):
         return True
@@ -62,7 +62,7 @@ def gone(operator, f, effect, family):
 
 
 def keeps(operator, group, family):
-    """Whether the operator keeps the group."""
+    """Returns whether the operator keeps the group."""
     pairs = [(f, g) for f in group for g in group if f[0] != g[0]]
     return all(never_both(operator, f, g, family) for f, g in pairs) and all(
         gone(operator, f, effect, family) for f, g in pairs for effect in setters(operator, g)
@@ -70,17 +70,17 @@ def keeps(operator, group, family):
 
 
 def first_breaking(task, group, family):
-    """The first operator that doesn't keep the group; None where each does."""
+    """Returns the first operator that doesn't keep the group; None where each does."""
     return next((place for place, one in enumerate(task["operators"]) if not keeps(one, group, family)), None)
 
 
 def are_kept(task, family):
-    """Whether the family is kept."""
+    """Returns whether the family is kept."""
     return all(first_breaking(task, group, family) is None for group in family)
 
 
 def before_operators(task, group):
-    """What is said of a group whatever the operators are, or None."""
+    """Returns the verdict on a group whatever the operators are, or None."""
     if any(task["layers"][var] is not None for var, _ in group):
         return "Derived"
     if len({fact for fact in group if holds(task["defaults"], [fact])}) > 1:
@@ -89,13 +89,13 @@ def before_operators(task, group):
 
 
 def verdict_beside(task, group, family):
-    """The verdict on a group in the family and itself."""
+    """Returns the verdict on a group in the family and itself."""
     operator = first_breaking(task, group, [*family, group])
     return "Exclusive" if operator is None else f"Broken {{ operator: {operator} }}"
 
 
 def greatest(task, candidates):
-    """The groups, by their places, of all families of these candidates that are kept."""
+    """Returns the groups, by their places, of all families of these candidates that are kept."""
     groups = task["groups"]
     families = chain.from_iterable(combinations(candidates, size) for size in range(1, len(candidates) + 1))
     kept = {place for family in families if are_kept(task, [groups[place] for place in family]) for place in family}
@@ -104,7 +104,7 @@ def greatest(task, candidates):
 
 
 def verdicts(task):
-    """The joint verdicts on the groups, and those on each by itself."""
+    """Returns the joint verdicts on the groups, and those on each by itself."""
     groups = task["groups"]
     first = [before_operators(task, group) for group in groups]
     kept = greatest(task, [place for place, verdict in enumerate(first) if verdict is None])
@@ -114,7 +114,7 @@ def verdicts(task):
 
 
 def reachable(task):
-    """The reachable states."""
+    """Returns the reachable states."""
     found, left = set(), [initial(task)]
     while left:
         state = left.pop()
@@ -127,12 +127,12 @@ def reachable(task):
 
 
 def is_invariant(states, group):
-    """Whether none of the states holds two facts of the group."""
+    """Returns whether none of the states holds two facts of the group."""
     return all(len({fact for fact in group if holds(state, [fact])}) <= 1 for state in states)
 
 
 def random_group(chance, task):
-    """A group, most often of facts on several basic variables of which at most one is of the state section."""
+    """Returns a group, most often of facts on several basic variables of which at most one is of the state section."""
     while True:
         group = [any_fact(chance, task) for _ in range(chance.choice((0, 1, 2, 2, 2, 2, 3, 3, 3, 4)))]
         if chance.random() < 0.1 or before_operators(task, group) is None and len({var for var, _ in group}) > 1:
@@ -140,7 +140,8 @@ def random_group(chance, task):
 
 
 def removing(chance, task, f, known):
-    """An effect that most often takes the fact f away, under f, one of the facts that are known, any fact or none."""
+    """Returns an effect that most often takes the fact f away, under f, one of the facts that are known, any fact or
+    none."""
     var, value = f
     facts = chance.choice(([], [], [f], known[:1], known[-1:], [any_fact(chance, task)]))
     new = value if chance.random() < 0.1 else other_value(chance, task["ranges"][var], value)
@@ -148,8 +149,8 @@ def removing(chance, task, f, known):
 
 
 def excluding(chance, task, f, g):
-    """Facts so that a step that sets g doesn't start where f holds: one on its variable, or another one of some group of it.
-    There is none, now and then."""
+    """Returns facts so that a step that sets g doesn't start where f holds: one on its variable, or another one of some
+    group of it. Now and then there is none."""
     rivals = [fact for group in task["groups"] if f in group for fact in group if fact[0] not in (f[0], g[0])]
     if rivals and chance.random() < 0.7:
         return [chance.choice(rivals)]
@@ -157,14 +158,14 @@ def excluding(chance, task, f, g):
 
 
 def two_facts(chance, task):
-    """Two facts of some group on basic variables; none where no such group has two."""
+    """Returns two facts of some group on basic variables; none where no such group has two."""
     groups = [group for group in task["groups"] if len(group) > 1]
     groups = [group for group in groups if all(task["layers"][var] is None for var, _ in group)]
     return chance.sample(chance.choice(groups), 2) if groups else None
 
 
 def either_operator(chance, task, f, g):
-    """An operator with an effect for each of these two facts; it asks for facts that may contradict each other."""
+    """Returns an operator with an effect for each of these two facts; it asks for facts that may contradict each other."""
     on, value = any_fact(chance, task)
     changed = (on, other_value(chance, task["ranges"][on], value))
     other = chance.choice((changed, *chain.from_iterable(task["groups"])))
@@ -173,7 +174,7 @@ def either_operator(chance, task, f, g):
 
 
 def careful_operator(chance, task, g):
-    """An operator that sets this fact, and most often keeps the groups that it is in."""
+    """Returns an operator that sets this fact, and most often keeps the groups that it is in."""
     prevail, conditions, others = random_facts(chance, task, (0, 0, 1)), random_facts(chance, task, (0, 0, 1)), []
     for f in sorted({f for group in task["groups"] if g in group for f in group if f[0] != g[0]}):
         if task["layers"][f[0]] is None and chance.random() < 0.35:
@@ -185,7 +186,7 @@ def careful_operator(chance, task, g):
 
 
 def group_operator(chance, task):
-    """An operator that sets facts of some group, or any operator."""
+    """Returns an operator that sets facts of some group, or any operator."""
     facts = two_facts(chance, task)
     if facts is None or chance.random() < 0.15:
         return random_operator(chance, task)
@@ -195,7 +196,7 @@ def group_operator(chance, task):
 
 
 def grouped_task(chance):
-    """A task with groups that overlap, and with operators."""
+    """Returns a task with groups that overlap, and with operators."""
     while True:
         task = random_task(chance) if chance.random() < 0.3 else basic_task(chance)
         if len(task["ranges"]) <= 4:
@@ -206,8 +207,8 @@ def grouped_task(chance):
 
 
 def chain_of(last):
-    """A task of many groups, each of which rests on the next: the operator that sets its second fact asks for both facts of
-    the next group. For the last of them it asks for these facts."""
+    """Returns a task of many groups, each of which rests on the next: the operator that sets its second fact asks for both
+    facts of the next group. For the last of them it asks for these facts."""
     facts = [[(2 * place, 0), (2 * place + 1, 0)] for place in range(MANY)]
     return {
         "ranges": [2] * (2 * MANY),
@@ -222,8 +223,9 @@ def chain_of(last):
 
 
 def sharing_groups():
-    """A task of many groups, each of two facts that all of them have and one of its own. Many operators swap the shared ones,
-    which keeps each group by itself; then each group rests on the next as in `chain_of`, and the last one on nothing."""
+    """Returns a task of many groups, each of two facts that all of them have and one of its own. Many operators swap the
+    shared ones, which keeps each group by itself; then each group rests on the next as in `chain_of`, and the last one on
+    nothing."""
     there, back = ([([], 0, old, 1 - old), ([], 1, 1 - old, old)] for old in (0, 1))
     own = [(2 + place, 0) for place in range(SHARING)]
     return {
@@ -240,13 +242,13 @@ def sharing_groups():
 
 
 def line_of(place, verdict):
-    """What `mutex` says of a group with this verdict."""
+    """Returns the line that `mutex` prints of a group with this verdict."""
     words = {"Exclusive": "exclusive", "Derived": "derived", "Initial": "not shown: initial state"}
     return f"group {place} {words.get(verdict) or 'not shown: operator ' + verdict.split()[3]}\n"
 
 
 def judged(name, task, joint, alone):
-    """The task as a text, with what is said of its groups."""
+    """Returns the task as a text, with the verdicts on its groups."""
     return {
         "name": name,
         "task": text_of(task),
@@ -257,8 +259,8 @@ def judged(name, task, joint, alone):
 
 
 def grouped_tasks():
-    """Tasks with groups made at random, as texts, each with what is said of the groups. They could show a definition of kept
-    groups by which too few are shown, where no one thought of the case."""
+    """Yields tasks with groups made at random, as texts, each with the verdicts on the groups. They could show a definition
+    of kept groups by which too few are shown, in a case that no one thought of."""
     chance = random.Random(SEED)
     for number in range(TASKS):
         task = grouped_task(chance)
@@ -270,9 +272,10 @@ def grouped_tasks():
 
 
 def long_chains():
-    """Three tasks of many groups that rest on one another. In the first one the last group rests on nothing, so that all fall,
-    one after another from the last one on; in the second it rests on the first one, and all stay. In the third they fall too, and
-    share facts with many operators: where each of these is looked at again as each group falls, no answer comes in time."""
+    """Returns three tasks of many groups that rest on one another. In the first one the last group rests on nothing, so that
+    all fall, one after another from the last one on. In the second it rests on the first one, and all stay. In the third
+    they fall too, and share facts with many operators: where each of these is looked at again as each group falls, no answer
+    comes in time."""
     broken = [f"Broken {{ operator: {place} }}" for place in range(MANY)]
     yield judged("many groups that fall", chain_of([]), broken, broken)
     yield judged("many groups that stay", chain_of([(0, 0), (1, 0)]), ["Exclusive"] * MANY, broken)

@@ -3,15 +3,15 @@
 
     python3 cases/memory.py SAS PROGRAM ..
 
-The programs are those of `calls.py`. The calls are those of calls.json that say how many allocations come before them:
-what they are given is made by so many, which are left alone. Then a program makes one allocation and tells if it is refused
-(`before`), and then the call. So a run that refuses that one answers `before`; the next ones refuse those of the call, one
-after another, and answer `wanting`, where the call wants memory and all stands that has to stand then; and the last one
-refuses nothing and gives the answer of the call. A reader that wants memory answers that to each piece behind it, too.
+The programs are those of `calls.py`. The calls are those of calls.json with a number of allocations that come before them:
+what they are given is made by so many, which are left alone. Then a program makes one allocation and reports if it is refused
+(`before`), and then makes the call. So a run that refuses that one answers `before`. The next ones refuse those of the call,
+one after another, and answer `wanting`, where the call wants memory and all that has to hold then holds. The last one refuses
+nothing and has the answer of the call. A reader that wants memory returns that for each piece behind it, too.
 
-SAS is the program itself, with requests over a task of the examples and over one that has several of everything: with each
-allocation of it refused in turn, it says `sas: out of memory`, writes nothing and ends with status 3, or does without and
-answers as ever, until a run meets no refusal.
+SAS is the program itself, with requests over a task of the examples and over one that has several of everything. Each
+allocation of it is refused in turn, until a run meets no refusal. With one refused it prints `sas: out of memory` on standard
+error, writes nothing on standard output and ends with status 3; or it does without and answers as ever.
 
 The library that refuses is made of refuse.c, with $CC or cc. Each call that fails has a line, and the last line is
 'N passed, M failed'. The exit status is 0 where none failed.
@@ -39,7 +39,7 @@ SEVERAL = 65
 
 
 def refusing(folder):
-    """The library that refuses an allocation, made in a folder."""
+    """Returns the library that refuses an allocation, made in a folder."""
     made = os.path.join(folder, "refuse.so")
     command = shlex.split(os.environ.get("CC") or "cc")
     source = os.path.join(CASES, "refuse.c")
@@ -48,7 +48,8 @@ def refusing(folder):
 
 
 def ended(library, command, given, number):
-    """How a command ends with this allocation refused: its status, what it wrote to each output, and whether it came to that."""
+    """Returns how a command ends with this allocation refused: its status, what it wrote to each output, and whether it came
+    to that."""
     notes, note = os.pipe()
     try:
         ran = subprocess.run(
@@ -71,7 +72,7 @@ def ended(library, command, given, number):
 
 
 def runs(library, command, given, first):
-    """How a command ends with each allocation refused, from this one on, up to the run that refuses none."""
+    """Yields how a command ends with each allocation refused, from this one on, up to the run that refuses none."""
     for number in range(first, MOST):
         end, was_refused = ended(library, command, given, number)
         yield end, was_refused
@@ -80,8 +81,8 @@ def runs(library, command, given, first):
 
 
 def refused_calls(programs):
-    """Each call that is to be refused memory, with the program that makes it and the first allocation that is refused. It
-    could show what is lost then, and a refusal that comes where none was."""
+    """Yields each call that is to be refused memory, with the program that makes it and the first allocation that is
+    refused. It could show what is lost then, and a refusal that comes where none was."""
     for name, groups in table("calls.json").items():
         for group in groups:
             for given, answer in group["rows"] if "refused" in group else ():
@@ -95,8 +96,8 @@ def refused_calls(programs):
 
 
 def refused_requests(sas, folder):
-    """Each request to the program itself. It could show a call that goes on without the memory that it was refused, or that says
-    so behind a part of its answer."""
+    """Yields each request to the program itself. It could show a call that goes on without the memory that it was refused,
+    or that reports this behind a part of its answer."""
     names, cost, _ = wide_plans(SEVERAL)[0]
     files = {"several.sas": text_of(wide_task(SEVERAL)), "several.plan": plan_text(names, cost)}
     for name, text in files.items():
@@ -111,7 +112,7 @@ def refused_requests(sas, folder):
 
 
 def letter(end, was_refused, answer):
-    """What came of a run of a call, in a letter: before, wanting, the answer itself, or something else."""
+    """Returns what came of a run of a call, in a letter: before, wanting, the answer itself, or something else."""
     _, said, _ = end
     if said == answer:
         return "A" if was_refused else "a"
@@ -121,14 +122,14 @@ def letter(end, was_refused, answer):
 
 
 def wrong_with_call(library, call):
-    """What is wrong with a call."""
+    """Returns what is wrong with a call."""
     came = "".join(letter(*run, call["answer"]) for run in runs(library, call["command"], call["given"], call["first"]))
     # the first one shows that none of the call was left alone
     return [] if re.fullmatch("b+w+A*a", came) else [came]
 
 
 def wrong_with_request(library, call):
-    """What is wrong with a request to the program itself."""
+    """Returns what is wrong with a request to the program itself."""
     *refused, (last, was_refused) = runs(library, call["command"], call["given"], call["first"])
     answered = not was_refused and last[0] == call["status"] and last[1] and not last[2]
     wrong = [f"allocation {number}: {end}" for number, (end, _) in enumerate(refused, 1) if end not in (OUT_OF_MEMORY, last)]

@@ -3,7 +3,7 @@ import sys
 
 
 def end(cases, wrong):
-    """Says of each case what is wrong with it, where anything is, and ends with status 0 where nothing is."""
+    """Prints of each case what is wrong with it, where anything is, and ends with status 0 where nothing is."""
     for case, found in zip(cases, wrong, strict=True):
         if found:
             print(f"FAILED {case['name']}: {'; '.join(found)}")

@@ -3,13 +3,13 @@
 
     python3 cases/run.py ./sas
 
-tasks.json: task files, and what is said of each, as it stands and with CR LF at the end of each line. `print` gives it
-back as it stands, and does so with CR LF at the end of one line alone. Cut off after any byte it ends early, on its last
+tasks.json: task files, and what is printed of each, as it stands and with CR LF at the end of each line. `print` prints
+it as it stands, and does so with CR LF at the end of one line alone. Cut off after any byte it ends early, on its last
 line; that is tried with `print`, and with `check` where the file is small.
 
     file         the file, a path from the top of the repository
-    check        what `check` says of it
-    mutex        the lines that `mutex` says of it
+    check        what `check` prints of it
+    mutex        the lines that `mutex` prints of it
     show         the lines of its summary
 
 lines.json: lines of these files, and texts in their place. Rows are [LINE, TEXT, ANSWER]; or each of `texts` stands in
@@ -37,11 +37,11 @@ too; those that families.py makes at random, and its larger ones, as standard in
     task         the file, as a text
     output       standard output, exactly
     status       the exit status
-    call         what the call `check-groups` says, for calls.py
+    call         what the call `check-groups` answers, for calls.py
 
 program.json: words and devices, by these names.
 
-    words        the words behind the program's name, each character a byte; FOLDER in one stands for an empty folder
+    words        the words behind the program's name, each character a byte; FOLDER in one represents an empty folder
     files        files by their names: the program runs in a folder that has these alone
     input        standard input, empty where it is left out
     streamed     pairs [TEXT, TIMES] that come before it, and aren't held in memory as a whole; left out: nothing
@@ -56,7 +56,7 @@ program.json: words and devices, by these names.
     status       the exit status
     error        standard error, exactly; null: some text; left out: nothing
 
-texts.py says what a text is. A case without `files` runs at the top of the repository. Each case that fails has a line,
+texts.py defines what a text is. A case without `files` runs at the top of the repository. Each case that fails has a line,
 and the last line is 'N passed, M failed'. The exit status is 0 where none failed.
 """
 import os
@@ -79,28 +79,28 @@ CLOSING = {"input": "exec <&-", "output": "exec >&-", "error": "exec 2>&-"}
 
 
 def over_task(name, request, task, output, status, **more):
-    """A case of a request over a task alone, which is standard input."""
+    """Returns a case of a request over a task alone, which is standard input."""
     return {"name": name, "words": [request, "-"], "input": task, "output": output, "status": status, **more}
 
 
 def refused(what, fault):
-    """The refusal of a file, and its status."""
+    """Returns the refusal of a file, and its status."""
     return {"output": f"{what} refused: {fault}\n", "status": 1}
 
 
 def checked(fault):
-    """What `check` says of a task with this fault of its layers, or with none, and its status."""
+    """Returns what `check` prints of a task with this fault of its layers, or with none, and its status."""
     return refused("task", fault) if fault else {"output": "task layered\n", "status": 0}
 
 
 def lines_of(lines):
-    """Lines, each ended by LF."""
+    """Returns lines, each ended by LF."""
     return "".join(f"{line}\n" for line in lines).encode("latin-1")
 
 
 def task_cases():
-    """Each task file: as it stands, with other ends of lines, and cut off. They could show a definition of files that isn't
-    theirs, and want of memory that no one was refused."""
+    """Yields each task file: as it stands, with other ends of lines, and cut off. They could show a wrong definition of task
+    files, and want of memory that no one was refused."""
     for task in table("tasks.json"):
         name, held = task["file"], as_bytes({"file": task["file"]})
         returns = held.replace(b"\n", b"\r\n")
@@ -123,8 +123,8 @@ def task_cases():
 
 
 def line_cases():
-    """Each changed line of a task file. They could show a rule of the format that its definition lacks, or an order of faults
-    that isn't that of the file."""
+    """Yields each changed line of a task file. They could show a rule of the format that its definition lacks, or an order
+    of faults that isn't that of the file."""
     for case in changed_lines():
         name, task = case["name"], case["task"]
         more = {"memory": case["memory"]} if case["memory"] else {}
@@ -139,8 +139,8 @@ def line_cases():
 
 
 def plan_cases(folder):
-    """Each plan file, through a file and through standard input, and cut off. They could show a definition of plan files that
-    isn't theirs, and an input that is taken for the other one."""
+    """Yields each plan file, through a file and through standard input, and cut off. They could show a wrong definition of
+    plan files, and an input that is taken for the other one."""
     for number, plan in enumerate(table("plans.json")):
         path, held = os.path.join(folder, f"{number}.plan"), as_bytes(plan["plan"])
         with open(path, "wb") as file:
@@ -155,14 +155,14 @@ def plan_cases(folder):
 
 
 def verdict_case(made, words, **inputs):
-    """A case of `plan` with these words."""
+    """Returns a case of `plan` with these words."""
     name = f"{made['name']}, plan {' '.join(words)}"
     return {"name": name, "words": ["plan", *words], "output": made["output"], "status": made["status"], **inputs}
 
 
 def verdict_cases():
-    """Each plan of a task, from files, and with either of the two from standard input. They could show a definition of valid
-    plans that isn't theirs, and two inputs that are exchanged."""
+    """Yields each plan of a task, from files, and with either of the two from standard input. They could show a wrong
+    definition of valid plans, and two inputs that are exchanged."""
     for made in table("verdicts.json"):
         task, plan = {"t.sas": made["task"]}, {"p.txt": made["plan"]}
         yield verdict_case(made, ["t.sas", "p.txt"], files={**task, **plan})
@@ -173,8 +173,8 @@ def verdict_cases():
 
 
 def group_cases():
-    """The groups of each task, from a file, and from standard input with either end of lines. They could show a definition of
-    kept groups by which too few are shown, or an answer that comes too late."""
+    """Yields the groups of each task, from a file, and from standard input with either end of lines. They could show a
+    definition of kept groups by which too few are shown, or an answer that comes too late."""
     for made in table("groups.json"):
         name, held, answer = made["name"], as_bytes(made["task"]), {"output": made["output"], "status": made["status"]}
         yield {"name": f"{name}, mutex of a file", "words": ["mutex", "t.sas"], "files": {"t.sas": held}, **answer}
@@ -185,7 +185,7 @@ def group_cases():
 
 
 def closed_pipe():
-    """The end for writing of a pipe whose other end is closed."""
+    """Returns the end for writing of a pipe whose other end is closed."""
     reading, writing = os.pipe()
     os.close(reading)
     return writing
@@ -196,7 +196,7 @@ CLOSED_PIPE = closed_pipe()
 
 
 def output_device(case, folder):
-    """What standard output is: a pipe to be read, unless the case says where it goes."""
+    """Returns what standard output is: a pipe to be read, unless the case names another place."""
     if "file" in case:
         file, path = tempfile.mkstemp(dir=folder)
         os.unlink(path)
@@ -209,7 +209,8 @@ def output_device(case, folder):
 
 
 def command_of(program, case, folder):
-    """The program with its words, and what sets its limits and closes its streams before it, where there is any of that."""
+    """Returns the program with its words, and what sets its limits and closes its streams before it, where there is any of
+    that."""
     words = [program, *(as_bytes(word.replace("FOLDER", folder)) for word in case["words"])]
     before = [line.format(case[name] // size) for name, size, line in LIMITS if name in case]
     before += [CLOSING[name] for name in case.get("closed", ())]
@@ -217,7 +218,7 @@ def command_of(program, case, folder):
 
 
 def leave_open(process, given):
-    """Gives the bytes, and waits for the end of the program while its input is still open."""
+    """Writes the bytes, and waits for the end of the program while its input is still open."""
     try:
         process.stdin.write(given)
         process.stdin.flush()
@@ -227,7 +228,7 @@ def leave_open(process, given):
 
 
 def stream(process, parts):
-    """Gives each of these texts so many times. A program that doesn't take them is ended, or this would wait for it."""
+    """Writes each of these texts so many times. A program that doesn't take them is ended, or this would wait for it."""
     timer = threading.Timer(SECONDS, process.kill)
     timer.start()
     try:
@@ -241,7 +242,7 @@ def stream(process, parts):
 
 
 def answer_of(program, case, folder, place):
-    """Runs the program on a case: its exit status, standard output and standard error."""
+    """Runs the program on a case. Returns its exit status, standard output and standard error."""
     given = as_bytes(case.get("input", ""))
     output = output_device(case, place)
     pipe = subprocess.PIPE
@@ -266,7 +267,7 @@ def answer_of(program, case, folder, place):
 
 
 def differences(case, answer):
-    """What is wrong with an answer."""
+    """Yields what is wrong with an answer."""
     status, written, said = answer
     error = case.get("error", "")
     if status != case["status"]:
@@ -280,7 +281,7 @@ def differences(case, answer):
 
 
 def answer_among(program, case, folder):
-    """The same, in a folder that has the files of the case alone, where it has some."""
+    """Does the same in a folder that has the files of the case alone, where it has some."""
     if "files" not in case:
         return answer_of(program, case, folder, TOP)
     with tempfile.TemporaryDirectory() as place:
@@ -291,7 +292,7 @@ def answer_among(program, case, folder):
 
 
 def faults(program, case, folder):
-    """What is wrong with the program's answer to a case."""
+    """Returns what is wrong with the program's answer to a case."""
     try:
         return list(differences(case, answer_among(program, case, folder)))
     except subprocess.TimeoutExpired:

@@ -2,7 +2,7 @@
 
 The initial state is that of the state section, settled. An operator is applicable where its prevail conditions hold, and
 each of its effects that asks for an old value finds it, whether it fires or not. A step means the first operator of its
-name that is applicable. Each effect fires whose conditions hold before the step. Where two that fire give one variable
+name that is applicable. Each effect fires whose conditions hold before the step. Where two that fire set one variable to
 different values there is no step; else all take place at once, and the rules settle the state.
 
 The goal has to hold behind the last step of a plan, and its cost has to be the sum of its operators' costs: of their cost
@@ -12,18 +12,18 @@ from axioms import settled
 
 
 def holds(state, facts):
-    """Whether all these facts hold."""
+    """Returns whether all these facts hold."""
     return all(state[var] == value for var, value in facts)
 
 
 def preconditions(operator):
-    """The facts that have to hold for the operator: its prevail conditions, then the old values of its effects."""
+    """Returns the facts that have to hold for the operator: its prevail conditions, then the old values of its effects."""
     _, prevail, effects, _ = operator
     return [*prevail, *((var, old) for _, var, old, _ in effects if old != -1)]
 
 
 def meant(task, state, name):
-    """The place of the first applicable operator of this name, or a word for why there is none."""
+    """Returns the place of the first applicable operator of this name, or a word for why there is none."""
     named = [place for place, operator in enumerate(task["operators"]) if operator[0] == name]
     if not named:
         return "Unknown"
@@ -31,7 +31,8 @@ def meant(task, state, name):
 
 
 def conflict(state, operator):
-    """The first effect that fires and gives a variable another value than one before it that fires; None where none does."""
+    """Returns the first effect that fires and sets a variable to another value than one before it that fires; None where
+    none does."""
     given = {}
     for place, (facts, var, _, new) in enumerate(operator[2]):
         if holds(state, facts) and given.setdefault(var, new) != new:
@@ -40,7 +41,7 @@ def conflict(state, operator):
 
 
 def next_state(task, state, operator):
-    """The state behind a step of an applicable operator without a conflict."""
+    """Returns the state behind a step of an applicable operator without a conflict."""
     values = list(state)
     for facts, var, _, new in operator[2]:
         if holds(state, facts):
@@ -49,17 +50,17 @@ def next_state(task, state, operator):
 
 
 def initial(task):
-    """The initial state."""
+    """Returns the initial state."""
     return settled(task, task["defaults"])
 
 
 def cost_of(task, operator):
-    """What an operator costs."""
+    """Returns what an operator costs."""
     return task["operators"][operator][3] if task["metric"] else 1
 
 
 def verdict(task, names, cost):
-    """What the program says of a plan, and what the call `check_plan` answers."""
+    """Returns what the program prints of a plan, and what the call `check_plan` answers."""
     state, chosen = initial(task), []
     for step, name in enumerate(names, 1):
         operator = meant(task, state, name)
@@ -83,7 +84,7 @@ def verdict(task, names, cost):
 
 
 def step_answer(task, state, operator):
-    """What comes of the step of an operator in a state, and the state behind it."""
+    """Returns what comes of the step of an operator in a state, and the state behind it."""
     for var, value in preconditions(operator):
         if state[var] != value:
             return f"NotApplicable {{ fact: Fact {{ var: {var}, value: {value} }} }}", state
@@ -94,7 +95,7 @@ def step_answer(task, state, operator):
 
 
 def call_answer(task, state, call, word):
-    """What a call of a runner answers in a state, and the state behind it."""
+    """Returns what a call of a runner answers in a state, and the state behind it."""
     if call == "applicable":
         return str(holds(state, preconditions(task["operators"][word]))).lower(), state
     if call == "choose":
@@ -107,5 +108,5 @@ def call_answer(task, state, call, word):
 
 
 def state_line(state):
-    """The line that shows a state."""
+    """Returns the line that shows a state."""
     return " ".join(["state", *map(str, state)])

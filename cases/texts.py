@@ -6,7 +6,7 @@ A text of a case is one of
     a list       of texts, and of pairs [TEXT, TIMES]
     {"file": NAME, ..}   what the file of that name holds, a path from the top of the repository, with changes:
 
-        "line 7": TEXT   in place of what that line says, its end apart; null: the line is left out
+        "line 7": TEXT   in place of that line, its end apart; null: the line is left out
         "ends": TEXT     in place of LF at each line's end
         "from": 20       without so many bytes at the front
         "first": 20      without what stands behind so many bytes
@@ -21,13 +21,13 @@ TOP = os.path.dirname(CASES)
 
 
 def table(name):
-    """The cases of a table of this folder."""
+    """Returns the cases of a table of this folder."""
     with open(os.path.join(CASES, name), encoding="utf-8") as file:
         return json.load(file)
 
 
 def text_of(file):
-    """What a file of text holds, by its path."""
+    """Returns what a file of text holds, by its path."""
     with open(file, encoding="utf-8") as it:
         return it.read()
 
@@ -39,7 +39,7 @@ def bytes_of_file(name):
 
 
 def as_bytes(text):
-    """The bytes of a text, or of bytes."""
+    """Returns the bytes of a text, or of bytes."""
     if isinstance(text, bytes):
         return text
     if isinstance(text, str):
@@ -54,7 +54,7 @@ def is_repeated(part):
 
 
 def changed(text):
-    """The bytes of a file with changes."""
+    """Returns the bytes of a file with changes."""
     held = bytes_of_file(text["file"])
     lines = held.split(b"\n")
     for key, line in text.items():
@@ -65,17 +65,17 @@ def changed(text):
 
 
 def with_line(name, line, text):
-    """A file with one line replaced."""
+    """Returns a file with one line replaced."""
     return {"file": name, f"line {line}": text}
 
 
 def fault(line, answer):
-    """The fault that the answer of a changed line tells: its word alone where it is on that line."""
+    """Returns the fault that the answer of a changed line names: its word alone where it is on that line."""
     return answer if answer.startswith("line ") else f"line {line}: {answer}"
 
 
 def changed_lines():
-    """Each row of lines.json: the file with its line replaced, and its fault, or None where the text may stand there. And
+    """Yields each row of lines.json: the file with its line replaced, its fault, or None where the text may stand there, and
     the fault of its layers, or None where the task is layered."""
     for group in table("lines.json"):
         rows = group.get("changes") or [
@@ -92,5 +92,5 @@ def changed_lines():
 
 
 def early_end(front):
-    """The fault of a front of a file: it ends on its last line."""
+    """Returns the fault of a front of a file: it ends on its last line."""
     return "line %d: end" % (1 + front.count(b"\n"))

@@ -1,13 +1,13 @@
-"""Small tasks with operators, made at random from a fixed seed, with plans and with calls of a runner, and what is said of
+"""Small tasks with operators, made at random from a fixed seed, with plans and with calls of a runner, and the answers to
 these.
 
 A task here is one of axioms.py, or one without derived variables, and has
 
     metric      0 or 1
     goal        facts (VARIABLE, VALUE)
-    operators   (NAME, PREVAIL, EFFECTS, COST), an effect as (CONDITIONS, VARIABLE, OLD, NEW); -1 stands for no old value
+    operators   (NAME, PREVAIL, EFFECTS, COST), an effect as (CONDITIONS, VARIABLE, OLD, NEW); -1 represents no old value
 
-A plan is the names of its steps, and its cost. steps.py says what comes of it.
+A plan is the names of its steps, and its cost. steps.py computes what comes of it.
 """
 import random
 
@@ -22,25 +22,25 @@ NAMES = ("go", "go ", "go on", "turn")
 
 
 def basic_task(chance):
-    """A task without derived variables."""
+    """Returns a task without derived variables."""
     ranges = [chance.choice((2, 2, 3)) for _ in range(chance.randint(3, 5))]
     defaults = [chance.randrange(size) for size in ranges]
     return {"ranges": ranges, "layers": [None] * len(ranges), "defaults": defaults, "rules": []}
 
 
 def random_fact(chance, task):
-    """A fact that exists, more often than not one of the state section."""
+    """Returns a fact that exists, more often than not one of the state section."""
     var, value = any_fact(chance, task)
     return var, task["defaults"][var] if chance.random() < 0.5 else value
 
 
 def random_facts(chance, task, counts):
-    """So many facts, as one of these counts says."""
+    """Returns so many facts, as one of these counts requires."""
     return [random_fact(chance, task) for _ in range(chance.choice(counts))]
 
 
 def random_effect(chance, task):
-    """An effect on a basic variable."""
+    """Returns an effect on a basic variable."""
     var = chance.choice([var for var, layer in enumerate(task["layers"]) if layer is None])
     size = task["ranges"][var]
     old = chance.choice((-1, -1, -1, task["defaults"][var], chance.randrange(size)))
@@ -48,14 +48,14 @@ def random_effect(chance, task):
 
 
 def random_operator(chance, task):
-    """An operator; it may have the name of another one, and effects that conflict."""
+    """Returns an operator; it may have the name of another one, and effects that conflict."""
     effects = [random_effect(chance, task) for _ in range(chance.choice((0, 1, 2, 2, 3, 4)))]
     return chance.choice(NAMES), random_facts(chance, task, (0, 0, 0, 1, 1, 2)), effects, chance.choice((0, 1, 2, 7))
 
 
 def walk(chance, task):
-    """A plan that goes from state to state while there are applicable operators, its cost, and the last state. Where effects
-    of one of these conflict, it ends with that one, now and then."""
+    """Returns a plan that goes from state to state while there are applicable operators, its cost, and the last state. Where
+    effects of one of these conflict, it ends with that one, now and then."""
     state, names, cost = initial(task), [], 0
     for _ in range(chance.choice((0, 1, 2, 3, 4, 6, 8))):
         named = {name: meant(task, state, name) for name in NAMES}
@@ -72,14 +72,14 @@ def walk(chance, task):
 
 
 def any_name(chance, task):
-    """The name of some operator, most often."""
+    """Returns the name of some operator, most often."""
     if chance.random() < 0.7:
         return chance.choice(task["operators"])[0]
     return chance.choice((*NAMES, "g", "Go", " go"))
 
 
 def spoiled_plan(chance, task, names, cost):
-    """A plan with another cost, another step, or a step less or more."""
+    """Returns a plan with another cost, another step, or a step less or more."""
     change = chance.randrange(4)
     if change == 0 or not names:
         return names, max(0, cost + chance.choice((-1, 1)))
@@ -92,7 +92,7 @@ def spoiled_plan(chance, task, names, cost):
 
 
 def operated_task(chance):
-    """A task with operators, and with no goal yet."""
+    """Returns a task with operators, and with no goal yet."""
     task = random_task(chance) if chance.random() < 0.5 else basic_task(chance)
     task["metric"] = chance.randrange(2)
     task["operators"] = [random_operator(chance, task) for _ in range(chance.randint(2, 5))]
@@ -100,8 +100,8 @@ def operated_task(chance):
 
 
 def walked_task(chance):
-    """A task and plans of it with their costs. Its goal holds behind the first of them, most often, and that has a step, most
-    often."""
+    """Returns a task and plans of it with their costs. Its goal holds behind the first of them, most often, and that has a
+    step, most often."""
     while True:
         task = operated_task(chance)
         names, cost, state = walk(chance, task)
@@ -117,13 +117,13 @@ def walked_task(chance):
 
 
 def plan_text(names, cost):
-    """The file of a plan."""
+    """Returns the file of a plan."""
     return "".join(f"({name})\n" for name in names) + f"; cost = {cost} (unit cost)\n"
 
 
 def walked_plans():
-    """Plans of tasks, as texts, each with the initial state, what the program says of it, and what `check_plan` answers. They
-    could show a definition of valid plans that isn't theirs, where no one thought of the case."""
+    """Yields plans of tasks, as texts, each with the initial state, what the program prints of it, and what `check_plan`
+    answers. They could show a wrong definition of valid plans, in a case that no one thought of."""
     chance = random.Random(SEED)
     for number in range(TASKS):
         task, plans = walked_task(chance)
@@ -141,7 +141,8 @@ def walked_plans():
 
 
 def random_calls(chance, task):
-    """Rounds of calls of a runner, each about all operators, all names and the goal, and then a step of some operator."""
+    """Yields rounds of calls of a runner, each about all operators, all names and the goal, and then a step of some
+    operator."""
     operators = range(len(task["operators"]))
     for _ in range(ROUNDS):
         yield from (("applicable", operator) for operator in operators)
@@ -151,8 +152,8 @@ def random_calls(chance, task):
 
 
 def walked_calls():
-    """Tasks, as texts, each with calls of a runner, and what comes of them: the initial state, and behind each call its answer
-    and the state. They could show a definition of steps that isn't theirs, where no one thought of the case."""
+    """Yields tasks, as texts, each with calls of a runner, and what comes of them: the initial state, and behind each call
+    its answer and the state. They could show a wrong definition of steps, in a case that no one thought of."""
     chance = random.Random(SEED)
     for number in range(TASKS):
         task, _ = walked_task(chance)

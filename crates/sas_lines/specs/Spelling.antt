@@ -3,7 +3,7 @@
 use Rattle.std.specs.Prelude.{◌≡◌, ℕ, ◌+◌, ◌/◌, ◌%◌, ◌^◌, ◌<◌, ◌≤◌, List, [], ◌∷◌, ◌++◌, Option, Some, None, codes}
 use Rattle.std.specs.Fmt.{decimal}
 
--- a signed number in its bytes, where `-1` says that there is none
+-- a signed number in its bytes, where `-1` represents none
 abbrev pub signed_decimal : Option ℕ → List ℕ
 signed_decimal None = codes "-1"
 signed_decimal (Some n) = decimal n

@@ -3,7 +3,8 @@ use Rattle.std.specs.Prelude.{◌≡◌, ◌≤◌, ◌-◌, ℕ, Bool, true, fa
 use Rattle.std.specs.declared.io.ErrorKind.{ErrorKind}
 use Rattle.std.specs.declared.io.ErrorKind.TheVariants.{Interrupted, Other}
 
--- the bytes that a reader gives before it fails, and whether it then says that it was interrupted
+-- the bytes that a reader returns before it fails, and whether it then reports that it was
+-- interrupted
 pub record Breaking : Type 0 where
   pub bytes : List ℕ
   pub interrupted : Bool

@@ -32,7 +32,7 @@ impl<D> Model for Watched<D> {
 }
 
 impl<D> Watched<D> {
-    /// No read or write has failed yet.
+    /// Makes a device through which no read or write has failed yet.
     pub fn new(device: D) -> Watched<D>
         ensures device { result.device ≡ device }
         ensures note { result.failed ≡ false }
@@ -52,14 +52,14 @@ impl<D> Watched<D> {
         Failed
     }
 
-    /// Whether a read or a write through it has failed.
+    /// Returns whether a read or a write through it has failed.
     pub fn failed(&self) -> bool
         ensures { result ≡ self.now.failed }
     {
         self.failed
     }
 
-    /// The device, without the note.
+    /// Returns the device, without the note.
     pub fn into_device(self) -> D
         ensures { result ≡ self.device }
     {
@@ -68,7 +68,8 @@ impl<D> Watched<D> {
 }
 
 impl<R: Read> Watched<R> {
-    /// One read: how many bytes of `buffer` it filled, 0 at the end of the input. Not to be called after a failure.
+    /// Makes one read. Returns how many bytes of `buffer` it filled, 0 at the end of the input. An `Err` is a failure of
+    /// the device, which is noted. Not to be called after a failure.
     pub fn take(&mut self, buffer: &mut [u8]) -> Result<usize, Failed>
         requires { self.old.failed ≡ false }
         ensures bound { IfOk result (λ n. n ≤ length buffer.new) }
@@ -84,8 +85,8 @@ impl<R: Read> Watched<R> {
 }
 
 impl<W: Write> Watched<W> {
-    /// One write: how many of the bytes the device took, at least one unless there are none. Not to be called after a
-    /// failure.
+    /// Makes one write. Returns how many of the bytes the device took, at least one unless there are none. An `Err` is a
+    /// failure of the device, which is noted. Not to be called after a failure.
     pub fn give(&mut self, bytes: &[u8]) -> Result<usize, Failed>
         requires { self.old.failed ≡ false }
         ensures bound { IfOk result (λ n. n ≤ length bytes.now) }

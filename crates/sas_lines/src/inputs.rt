@@ -1,8 +1,8 @@
 // What a program reads from.
 use std::io::{Read, Result};
 
-/// An input that was opened: a file, standard input, or nothing where there is none to read. Its reads are theirs, and of
-/// nothing there is nothing to read.
+/// An input that was opened: a file, standard input, or nothing where there is none to read. A read of it is a read of
+/// that file or of standard input. Of nothing each read returns 0 bytes.
 #[derive(Drop)]
 pub enum Opened<F, I> {
     /// A file.

@@ -10,7 +10,7 @@ use crate::separators::first_place;
 use std::alloc::{AllocError, Global};
 use std::marker::Model;
 
-/// What a feed took: so many bytes of its piece, and whether they complete a line.
+/// What a feed took: the number of bytes of its piece, and whether they complete a line.
 #[derive(Clone, Copy, Debug, PartialEq, Eq)]
 pub struct Fed {
     pub taken: usize,
@@ -24,7 +24,7 @@ pub struct FirstLine<'a> {
     pub taken: usize,
 }
 
-/// The line without one CR at its end, if there is one: it belongs to the line's end.
+/// Returns the line without one CR at its end, if there is one: that CR belongs to the line's end.
 #[tactic(auto, using(crate::proofs::Found::return_at, crate::proofs::Found::no_return_at))]
 fn without_return(line: &[u8]) -> &[u8]
     ensures { result.now ≡ without_return line.now }
@@ -35,7 +35,7 @@ fn without_return(line: &[u8]) -> &[u8]
     }
 }
 
-/// The first line of the bytes, where its LF has come.
+/// Returns the first line of the bytes, or `None` where no LF has come.
 pub fn first_line(bytes: &[u8]) -> Option<FirstLine<'_>>
     ensures some { IfSome result (λ first. LineStandsFirst bytes.now first.line.now first.taken) }
     ensures none { IfNone result (NoEnd bytes.now) }
@@ -47,7 +47,7 @@ pub fn first_line(bytes: &[u8]) -> Option<FirstLine<'_>>
     })
 }
 
-/// Lets the bytes go if they are a complete line. The next line reuses their memory.
+/// Clears the bytes if they are a complete line. The next line reuses their memory.
 fn let_line_go(held: &mut Vec<u8>, complete: bool)
     ensures { held.new.items ≡ (if complete then [] else held.old.items) }
 {
@@ -56,7 +56,7 @@ fn let_line_go(held: &mut Vec<u8>, complete: bool)
     }
 }
 
-/// Takes one CR off the end, if there is one: it belongs to the line's end.
+/// Removes one CR from the end, if there is one: it belongs to the line's end.
 #[tactic(auto, using(crate::proofs::Found::front_without_return))]
 fn drop_return(line: &mut Vec<u8>)
     ensures { line.new.items ≡ without_return line.old.items }
@@ -65,7 +65,7 @@ fn drop_return(line: &mut Vec<u8>)
     line.truncate(kept);
 }
 
-/// Takes a text in pieces, cut anywhere, and gives it line by line.
+/// Takes a text in pieces, cut anywhere, and returns it line by line.
 #[derive(Debug, Drop)]
 pub struct Lines {
     held: Vec<u8>,
@@ -88,7 +88,7 @@ impl Model for Lines {
 }
 
 impl Lines {
-    /// Nothing has come yet. It takes no memory.
+    /// Makes a `Lines` that has taken nothing yet. It takes no memory.
     pub fn new(alloc: Global) -> Self
         ensures line { result.line ≡ [] }
         ensures pending { result.pending ≡ [] }
@@ -99,8 +99,8 @@ impl Lines {
         }
     }
 
-    /// Takes the bytes of `piece` up to and with its first LF, or all of them if there is none. An `Err` comes only for
-    /// want of memory, and then nothing was taken.
+    /// Takes the bytes of `piece` up to and with its first LF, or all of them if there is none. An `Err` is returned
+    /// only for want of memory, and then nothing was taken.
     #[tactic(auto, using(crate::proofs::Feeding::feeding))]
     pub fn feed(&mut self, piece: &[u8]) -> Result<Fed, AllocError>
         // Up to and with the first LF, or all.
@@ -134,7 +134,7 @@ impl Lines {
         })
     }
 
-    /// The line that the last feed completed, without its end. Empty where it completed none.
+    /// Returns the line that the last feed completed, without its end. It is empty where the feed completed none.
     pub fn line(&self) -> &[u8]
         ensures { result.now ≡ self.now.line }
     {
@@ -142,7 +142,8 @@ impl Lines {
         if self.complete { line } else { &[] }
     }
 
-    /// What has come since the last LF. It may end in a CR that belongs to a line's end, if LF comes next.
+    /// Returns the bytes that have come since the last LF. They may end in a CR that belongs to a line's end, if LF
+    /// comes next.
     pub fn pending(&self) -> &[u8]
         ensures { result.now ≡ self.now.pending }
     {

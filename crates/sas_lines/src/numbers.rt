@@ -4,7 +4,7 @@ ghost use Rattle.sas_lines.specs.Parts.{parts, parts_within};
 
 use std::marker::Model;
 
-/// What stands before the first space, and what stands behind it, if there is one.
+/// Returns what stands before the first space, and what stands behind it, if there is one.
 fn cut(line: &[u8]) -> (&[u8], Option<&[u8]>)
     ensures { parts 32 line.now ≡ result.0.now ∷ parts_within 32 result.1 }
 {
@@ -15,7 +15,7 @@ fn cut(line: &[u8]) -> (&[u8], Option<&[u8]>)
     }
 }
 
-/// The parts of a line between its spaces, in order: k spaces give k + 1 parts, some perhaps empty.
+/// The parts of a line between its spaces, in order: k spaces separate k + 1 parts, some perhaps empty.
 #[derive(Debug, Drop)]
 pub struct Numbers<'a> {
     rest: Option<&'a [u8]>,
@@ -31,7 +31,7 @@ impl<'a> Model for Numbers<'a> {
 }
 
 impl<'a> Numbers<'a> {
-    /// All parts of the line are left.
+    /// Makes the iterator over all parts of the line.
     pub fn new(line: &'a [u8]) -> Numbers<'a>
         ensures { result ≡ parts 32 line.now }
     {

@@ -4,7 +4,7 @@ ghost use Rattle.sas_lines.specs.Parts.{Without, StandsFirst};
 
 use memchr::memchr;
 
-/// The place of the first separator.
+/// Returns the place of the first separator, or `None` where there is none.
 pub(crate) fn first_place(separator: u8, bytes: &[u8]) -> Option<usize>
     ensures { MatchOption result (Without separator bytes.now)
         (λ place. StandsFirst separator bytes.now place) }

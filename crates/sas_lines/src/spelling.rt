@@ -3,14 +3,15 @@ ghost use Rattle.std.specs.Prelude.{◌≡◌, ◌<◌, ◌≤◌, ◌^◌, ◌�
 ghost use Rattle.std.specs.Prelude.{IfSome, IfNone, IsTrue, length, slice_index, decimal};
 ghost use Rattle.sas_lines.specs.Spelling.{SpellingIsDecimal, signed_decimal};
 
-/// Whether more digits stand behind a zero at the front.
+/// Returns whether the digits begin with a zero and more stand behind it.
 fn has_leading_zero(digits: &[u8]) -> bool
     ensures { IsTrue result ↔ (slice_index digits.now 0 ≡ 48) × (1 < length digits.now) }
 {
     matches!(digits, [b'0', _, ..])
 }
 
-/// The value of at most 19 decimal digits without a leading zero. It fits, since 10 ^ 19 is below 2 ^ 64.
+/// Returns the value of at most 19 decimal digits without a leading zero, or `None` where they aren't such digits. The
+/// value fits, since 10 ^ 19 is below 2 ^ 64.
 fn short_number(digits: &[u8]) -> Option<u64>
     requires { length digits.now ≤ 19 }
     ensures found { IfSome result (λ n. (n < 10 ^ 19) × (digits.now ≡ decimal n)) }
@@ -29,7 +30,8 @@ fn short_number(digits: &[u8]) -> Option<u64>
     Some(value)
 }
 
-/// The number that the line spells: decimal digits without sign or leading zero, at most 2,147,483,647.
+/// Returns the number that the line spells: decimal digits without sign or leading zero, at most 2,147,483,647. Returns
+/// `None` where the line spells none.
 pub fn number(line: &[u8]) -> Option<u32>
     ensures found { IfSome result (λ n. (n < 2 ^ 31) × (line.now ≡ decimal n)) }
     ensures none { IfNone result ((n : ℕ) → n < 2 ^ 31 → line.now ≡ decimal n → ⊥) }
@@ -45,7 +47,8 @@ pub fn number(line: &[u8]) -> Option<u32>
     }
 }
 
-/// The signed number that the line spells: a number, or `-1` for none.
+/// Returns the signed number that the line spells: a number, or `-1` for none. Returns `None` where the line spells
+/// neither.
 pub fn signed(line: &[u8]) -> Option<Option<u32>>
     ensures found { IfSome result (λ n. IfSome n (λ k. k < 2 ^ 31)
         × (line.now ≡ signed_decimal n)) }
@@ -58,7 +61,8 @@ pub fn signed(line: &[u8]) -> Option<Option<u32>>
     number(line).map(Some)
 }
 
-/// The plan cost that the line spells: decimal digits without sign or leading zero, at most 18,446,744,073,709,551,615.
+/// Returns the plan cost that the line spells: decimal digits without sign or leading zero, at most
+/// 18,446,744,073,709,551,615. Returns `None` where the line spells none.
 pub fn cost(line: &[u8]) -> Option<u64>
     ensures found { IfSome result (λ n. (n < 2 ^ 64) × (line.now ≡ decimal n)) }
     ensures none { IfNone result ((n : ℕ) → n < 2 ^ 64 → line.now ≡ decimal n → ⊥) }
@@ -82,7 +86,7 @@ pub fn cost(line: &[u8]) -> Option<u64>
     Some(value as u64)
 }
 
-/// `decimal`, in which the clauses speak, in plain recursion.
+/// States the law that `decimal`, which the clauses use, is decimal notation in plain recursion.
 pub fn spelling_is_decimal()
     ensures { SpellingIsDecimal }
 {}

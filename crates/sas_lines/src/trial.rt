@@ -10,7 +10,7 @@ use std::io;
 use std::io::{Error, ErrorKind, Read, Write};
 use std::marker::Model;
 
-/// A reader that gives its bytes and then fails at each read.
+/// A reader that returns its bytes and then fails at each read.
 #[derive(Drop)]
 pub struct Breaks<'a> {
     bytes: &'a [u8],
@@ -24,7 +24,8 @@ impl<'a> Model for Breaks<'a> {
 }
 
 impl<'a> Breaks<'a> {
-    /// Gives these bytes. It then fails with `ErrorKind::Interrupted` if asked to, and else with `ErrorKind::Other`.
+    /// Makes a reader of these bytes. Behind them it fails with `ErrorKind::Interrupted` if asked to, and else with
+    /// `ErrorKind::Other`.
     pub fn new(bytes: &'a [u8], interrupted: bool) -> Breaks<'a>
         ensures { result ≡ record { bytes = bytes.entry.now; interrupted = interrupted } }
     {
@@ -38,13 +39,13 @@ impl<'a> Read for Breaks<'a> {
     fn read(&mut self, buf: &mut [u8]) -> io::Result<usize>
         ensures bound { ReadsAtMost result buf.new }
         ensures bytes { ReadConsumes (Some self.old.bytes) (Some self.new.bytes) result buf.new }
-        // As many as there are and as there is room for.
+        // It returns as many bytes as there are and as there is room for.
         ensures count { (self.old.bytes ≡ [] → ⊥)
             → result ≡ Ok (min (length self.old.bytes) (length buf.old)) }
         ensures copied { IfOk result (λ n. buf.new ≡ take n self.old.bytes ++ drop n buf.old) }
         ensures rest { IfOk result (λ n.
             self.new ≡ record self.old { bytes = drop n self.old.bytes }) }
-        // It fails when all bytes were given, and changes nothing then.
+        // It fails when all bytes were returned, and changes nothing then.
         ensures fails { self.old.bytes ≡ [] → IsErrAnd result
             (λ e. error_kind e ≡ break_kind self.old.interrupted) }
         ensures unchanged { OnErr result (self.new ≡ self.old) }
@@ -89,8 +90,8 @@ impl Model for Narrow {
 }
 
 impl Narrow {
-    /// Takes at most `piece` bytes at a time, and `room` in all. It then fails if `fails`, and else takes none. An
-    /// `Err` comes only for want of memory.
+    /// Makes a writer that takes at most `piece` bytes at a time, and `room` in all. It then fails if `fails`, and else
+    /// takes none. An `Err` is returned only for want of memory.
     pub fn new(alloc: Global, piece: usize, room: usize, fails: bool) -> Result<Narrow, AllocError>
         ensures { IfOk result (λ n.
             n ≡ record { kept = []; piece = piece; room = room; fails = fails }) }
@@ -103,7 +104,7 @@ impl Narrow {
         })
     }
 
-    /// What it took.
+    /// Returns the bytes that it took.
     pub fn kept(&self) -> &[u8]
         ensures { result.now ≡ self.now.kept }
     {

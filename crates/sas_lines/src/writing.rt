@@ -5,7 +5,7 @@ ghost use Rattle.std.specs.Vec.{vec_len, vec_capacity};
 use itoa::Buffer;
 use std::alloc::AllocError;
 
-/// Appends the decimal digits of `n`. An `Err` comes only for want of memory, and then the text is as it was.
+/// Appends the decimal digits of `n`. An `Err` is returned only for want of memory, and then the text is as it was.
 pub fn push_number(out: &mut Vec<u8>, n: u128) -> Result<(), AllocError>
     ensures ok { OnOk result (out.new.items ≡ out.old.items ++ decimal n) }
     ensures err { OnErr result (out.new.items ≡ out.old.items) }
@@ -15,7 +15,7 @@ pub fn push_number(out: &mut Vec<u8>, n: u128) -> Result<(), AllocError>
     out.extend_from_slice(buffer.format(n).as_bytes())
 }
 
-/// Appends the line and its end, LF. An `Err` comes only for want of memory, and then the text is as it was.
+/// Appends the line and its end, LF. An `Err` is returned only for want of memory, and then the text is as it was.
 pub fn push_line(out: &mut Vec<u8>, line: &[u8]) -> Result<(), AllocError>
     ensures ok { OnOk result (out.new.items ≡ out.old.items ++ (line.now ++ 10 ∷ [])) }
     ensures err { OnErr result (out.new.items ≡ out.old.items) }

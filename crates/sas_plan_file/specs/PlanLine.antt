@@ -24,7 +24,7 @@ abbrev pub line_said : code.PlanLine → PlanLine
 line_said (variants.Step name) = step name.now
 line_said (variants.Cost n kind) = cost n kind
 
--- the line says what was found; or it may not stand in a plan, and the kind is that of its fault
+-- the line spells what was found; or it may not stand in a plan, and the kind is that of its fault
 abbrev pub JudgesPlanLine : List ℕ → Result code.PlanLine Kind → Type 0
 JudgesPlanLine line (Ok said) =
     Takes plan_format PlanLineFits tt plan_line_ok (line_said said)

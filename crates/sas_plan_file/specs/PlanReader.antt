@@ -1,4 +1,4 @@
--- What a reader of plans stands for.
+-- What a reader of plans represents.
 use Rattle.std.specs.Prelude.{ℕ, List}
 use Rattle.sas_core.specs.PlanParts.{PlanParts}
 use Rattle.sas_reader.specs.declared.fault.Kind.{Kind}
@@ -17,9 +17,9 @@ plan_led lines p = Leads plan_format PlanLineFits plan_node plan_start lines p
 abbrev pub plan_rejects : PlanState → List ℕ → Kind → Type 0
 plan_rejects p line k = Rejects plan_format PlanLineFits (plan_node p) line k
 
--- How a reader of plans is seen. Without a fault it stands for the bytes that it has
--- taken: their complete lines are those that it accepted, their rest is the line that has
--- begun, and their length is what it counted. With a fault, memory aside, that is theirs.
+-- How contracts view a reader of plans. Without a fault it represents the bytes that it has taken:
+-- their complete lines are those that it accepted, their rest is the line that has begun, and their
+-- length is what it counted. With a fault, memory aside, that fault is theirs.
 abbrev pub plan_view : View PlanParts PlanLine (Unit {0}) PlanReader
 plan_view = record {
   format = plan_format;

@@ -6,7 +6,8 @@ use Rattle.sas_plan_file.specs.PlanFormat.{plan_format, PlanLineFits}
 use Rattle.sas_plan_file.specs.PlanMachine.{PlanState, plan_node, plan_start, HasCost}
 use Rattle.sas_reader.specs.System.{Leads}
 
--- the lines may begin a plan and are kept as a text, and it says whether the cost is among them
+-- the lines may begin a plan and are kept as a text, and the text holds whether the cost is among
+-- them
 pub record KeepsLines (lines : List (List ℕ)) (m : PlanText) : Type 0 where
   pub state : PlanState
   pub leads : Leads plan_format PlanLineFits plan_node plan_start lines state

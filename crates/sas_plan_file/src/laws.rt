@@ -5,9 +5,9 @@ ghost use Rattle.sas_plan_file.specs.PlanFormat.{plan_format, PlanLineFits};
 ghost use Rattle.sas_plan_file.specs.PlanLaws.{PlanIsFilled};
 ghost use Rattle.sas_plan_file.specs.PlanMachine.{plan_node, plan_start};
 
-/// What holds of plan files. No byte list is a text of two plans; the texts of a plan are its lines, each ended by LF
-/// or by CR LF; bytes are live exactly where they have no fault, and have one fault at most; all bytes are read as one
-/// thing; lines that begin a plan are completed by the line `; cost = 0 (unit cost)`, where more is due.
+/// States the laws of plan files. No byte list is a text of two plans. The texts of a plan are its lines, each ended by
+/// LF or by CR LF. Bytes are live exactly where they have no fault, and have one fault at most. All bytes are read as
+/// one thing. Lines that begin a plan are completed by the line `; cost = 0 (unit cost)`, where more is due.
 pub fn plan_laws()
     ensures laws { Laws plan_format }
     ensures filled { PlanIsFilled }

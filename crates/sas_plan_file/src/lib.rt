@@ -1,4 +1,4 @@
-//! The plan file: read in pieces with each fault at its exact place, and written.
+//! The plan file, read in pieces and written. Each fault is reported at its exact place.
 #![tactic(auto)]
 
 mod laws;

@@ -13,10 +13,10 @@ use std::alloc::Global;
 use std::io::Read;
 
 /// Reads a plan from a device: in pieces of at most 4,096 bytes, to its end or to the first fault. A failed read is
-/// told as `Kind::Read`, want of memory as `Kind::Memory`. Not to be called with a device that has failed.
+/// reported as `Kind::Read`, want of memory as `Kind::Memory`. Not to be called with a device that has failed.
 ///
-/// What is said of the bytes is said of those that the device tells (`remaining`). A reader over memory tells them. A
-/// file or standard input tells none, and then nothing more is said than that there are such bytes.
+/// The clauses about bytes are about those that the device makes known (`remaining`). A reader over memory makes them
+/// known. A file or standard input makes none known, and then the clauses state only that there are such bytes.
 pub fn read_plan<R: Read>(alloc: Global, reader: &mut Watched<R>) -> Result<Plan, Fault>
     requires { reader.old.failed ≡ false }
     ensures { ReadsAll R.remaining plan_format (ValueOf plan_format) reader.old reader.new result }
@@ -34,7 +34,7 @@ pub fn read_flat_plan<R: Read>(alloc: Global, reader: &mut Watched<R>) -> Result
     Ok(machine.into_flat_plan())
 }
 
-/// Reads a plan from a device as `read_plan` does, and gives its text: its lines, each ended by LF. It keeps no plan.
+/// Reads a plan from a device as `read_plan` does, and returns its text: its lines, each ended by LF. It keeps no plan.
 /// The faults are those of `read_plan`.
 pub fn read_plan_text<R: Read>(alloc: Global, reader: &mut Watched<R>) -> Result<Vec<u8>, Fault>
     requires { reader.old.failed ≡ false }

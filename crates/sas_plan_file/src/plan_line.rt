@@ -10,14 +10,14 @@ use sas_core::{CostKind, is_name};
 use sas_lines::cost;
 use sas_reader::Kind;
 
-/// What a line of a plan file says.
+/// What a line of a plan file holds: a step, by its name, or the cost.
 #[derive(Clone, Copy, Debug, PartialEq, Eq)]
 pub enum PlanLine<'a> {
     Step(&'a [u8]),
     Cost(u64, CostKind),
 }
 
-/// What stands behind the front, where the line begins with it.
+/// Returns what stands behind the front, where the line begins with it.
 fn behind<'a>(line: &'a [u8], front: &[u8]) -> Option<&'a [u8]>
     ensures { MatchOption result (BeginsWith front.now line.now → ⊥)
         (λ rest. line.now ≡ front.now ++ rest.now) }
@@ -25,7 +25,7 @@ fn behind<'a>(line: &'a [u8], front: &[u8]) -> Option<&'a [u8]>
     line.strip_prefix(front)
 }
 
-/// What stands before the back, where the line ends with it.
+/// Returns what stands before the back, where the line ends with it.
 fn before<'a>(line: &'a [u8], back: &[u8]) -> Option<&'a [u8]>
     ensures { MatchOption result
         ((rest : List ℕ) → line.now ≡ rest ++ back.now → ⊥)
@@ -34,7 +34,7 @@ fn before<'a>(line: &'a [u8], back: &[u8]) -> Option<&'a [u8]>
     line.strip_suffix(back)
 }
 
-/// The name that stands before the closing parenthesis.
+/// Returns the name that stands before the closing parenthesis.
 fn step_name(rest: &[u8]) -> Option<&[u8]>
     ensures found { IfSome result (λ name. Names rest.now name.now) }
     ensures none { IfNone result ((name : List ℕ) → Names rest.now name → ⊥) }
@@ -45,7 +45,7 @@ fn step_name(rest: &[u8]) -> Option<&[u8]>
     }
 }
 
-/// The cost that stands before the words.
+/// Returns the cost that stands before the words.
 fn cost_before(rest: &[u8], words: &[u8]) -> Option<u64>
     ensures found { IfSome result (λ n. IsPlanCost n × (rest.now ≡ decimal n ++ words.now)) }
     ensures none { IfNone result ((n : ℕ) → IsPlanCost n → rest.now ≡ decimal n ++ words.now → ⊥) }
@@ -56,7 +56,7 @@ fn cost_before(rest: &[u8], words: &[u8]) -> Option<u64>
     }
 }
 
-/// The cost and its words.
+/// Returns the cost and its words.
 fn cost_of(rest: &[u8]) -> Option<(u64, CostKind)>
     ensures found { IfSome result (λ c. Costs rest.now c.0 c.1) }
     ensures none { IfNone result ((n : ℕ) (kind : CostKind) → Costs rest.now n kind → ⊥) }
@@ -70,7 +70,7 @@ fn cost_of(rest: &[u8]) -> Option<(u64, CostKind)>
     }
 }
 
-/// What the line says: a step or the cost, or else the kind of its fault.
+/// Returns what the line spells: a step or the cost, or else the kind of its fault.
 pub fn plan_line(line: &[u8]) -> Result<PlanLine<'_>, Kind>
     ensures { JudgesPlanLine line.now result }
 {
@@ -89,7 +89,8 @@ pub fn plan_line(line: &[u8]) -> Result<PlanLine<'_>, Kind>
     }
 }
 
-/// What stands in parentheses, which the line begins and ends with, if that is something.
+/// Returns what stands between the parentheses that the line begins and ends with. Returns `None` where there are none,
+/// or nothing stands between them.
 fn in_parentheses(line: &[u8]) -> Option<&[u8]>
     ensures { IfSome result
         (λ name. 0 < length name.now × (line.now ≡ codes "(" ++ (name.now ++ codes ")"))) }
@@ -100,8 +101,8 @@ fn in_parentheses(line: &[u8]) -> Option<&[u8]>
     }
 }
 
-/// The name of the step whose line stands first in the bytes, where that is quick to see: there is no CR before its LF.
-/// All else is left to `plan_line`.
+/// Returns the name of the step whose line stands first in the bytes, where that is quick to see: there is no CR before
+/// its LF. All else is left to `plan_line`.
 pub fn step_ahead(bytes: &[u8]) -> Option<&[u8]>
     ensures { IfSome result (λ name. StepStandsFirst bytes.now name.now) }
 {

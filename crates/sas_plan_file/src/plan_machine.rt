@@ -35,7 +35,7 @@ impl<S: StepNames> PlanMachine<S> {
     ghost use Rattle.sas_core.specs.Names.{IsName};
     ghost use Rattle.sas_plan_file.specs.PlanMachine.{closed, plan_start, HasCost, StepsOn};
 
-    /// Nothing has come: there are no steps yet.
+    /// Makes a machine that has taken no line: there are no steps yet.
     fn of_none(alloc: Global, steps: S) -> Self
         requires { S.names steps ≡ [] }
         ensures { result ≡ plan_start }
@@ -47,7 +47,7 @@ impl<S: StepNames> PlanMachine<S> {
         }
     }
 
-    /// One step more.
+    /// Adds a step behind those so far.
     fn add_step(&mut self, name: &[u8]) -> Result<(), Kind>
         requires open_still { HasCost self.old → ⊥ }
         requires name { IsName name.now }
@@ -58,7 +58,7 @@ impl<S: StepNames> PlanMachine<S> {
         Ok(())
     }
 
-    /// The steps, the cost and its words, once all lines have come.
+    /// Returns the steps, the cost and its words, once all lines have come.
     fn into_parts(self) -> (S, u64, CostKind)
         requires { HasCost self }
         ensures names { AllByRecursion IsName (S.names result.0) }
@@ -76,14 +76,14 @@ impl<S: StepNames> PlanMachine<S> {
 impl PlanMachine<Items<Items<u8>>> {
     ghost use Rattle.sas_plan_file.specs.PlanMachine.{closed, plan_start, HasCost};
 
-    /// Nothing has come.
+    /// Makes a machine that has taken no line.
     pub fn new(alloc: Global) -> Self
         ensures { result ≡ plan_start }
     {
         PlanMachine::of_none(alloc, Items::new(alloc))
     }
 
-    /// The plan whose lines have all come.
+    /// Returns the plan whose lines have all come.
     pub fn into_plan(self) -> Plan
         requires { HasCost self }
         ensures { self ≡ closed result }
@@ -96,14 +96,14 @@ impl PlanMachine<Items<Items<u8>>> {
 impl PlanMachine<Lists<u8>> {
     ghost use Rattle.sas_plan_file.specs.PlanMachine.{closed, plan_start, HasCost};
 
-    /// Nothing has come, and the names will stand in one block of memory.
+    /// Makes a machine that has taken no line, and stores the names in one block of memory.
     pub fn new_flat(alloc: Global) -> Self
         ensures { result ≡ plan_start }
     {
         PlanMachine::of_none(alloc, Lists::new(alloc))
     }
 
-    /// The plan whose lines have all come.
+    /// Returns the plan whose lines have all come.
     pub fn into_flat_plan(self) -> FlatPlan
         requires { HasCost self }
         ensures { self ≡ closed result }

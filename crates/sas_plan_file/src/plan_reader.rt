@@ -17,14 +17,14 @@ pub struct PlanReader {
 impl PlanReader {
     ghost use Rattle.sas_plan_file.specs.PlanReader.{plan_view};
 
-    /// Nothing has come, and 4 GiB may. It takes no memory.
+    /// Makes a reader that has taken nothing, and takes at most 4 GiB. It takes no memory.
     pub fn new(alloc: Global) -> Self
         ensures { Starts plan_view most_bytes result }
     {
         PlanReader::within(alloc, LIMIT)
     }
 
-    /// The same, for at most `limit` bytes.
+    /// Makes such a reader that takes at most `limit` bytes.
     pub(crate) fn within(alloc: Global, limit: u64) -> Self
         requires { limit ≤ most_bytes }
         ensures { Starts plan_view limit result }
@@ -34,14 +34,16 @@ impl PlanReader {
         }
     }
 
-    /// Takes the next piece. The first fault is answered from then on, and no byte behind it is looked at.
+    /// Takes the next piece. Once there is a fault, this call and each later one return the first fault, and no byte
+    /// behind it is looked at.
     pub fn feed(&mut self, piece: &[u8]) -> Result<(), Fault>
         ensures { Feeds plan_view self.old piece.now self.new result }
     {
         self.reader.feed(piece)
     }
 
-    /// The plan, once all has come. It takes no memory: want of memory is answered only where `feed` answered it.
+    /// Returns the plan, once all has come, or the fault. It takes no memory: want of memory is returned only where
+    /// `feed` returned it.
     pub fn finish(self) -> Result<Plan, Fault>
         ensures { Finishes plan_view self result }
     {

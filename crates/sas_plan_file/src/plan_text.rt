@@ -16,7 +16,7 @@ pub struct PlanText {
 impl PlanText {
     ghost use Rattle.sas_plan_file.specs.PlanText.{KeepsLines};
 
-    /// Nothing has come.
+    /// Makes a text without lines.
     pub fn new(alloc: Global) -> Self
         ensures { KeepsLines [] result }
     {
@@ -26,7 +26,7 @@ impl PlanText {
         }
     }
 
-    /// The text so far.
+    /// Returns the text so far.
     pub fn into_text(self) -> Vec<u8>
         ensures { result.items ≡ self.text.items }
     {

@@ -12,7 +12,7 @@ pub trait StepNames: Drop {
     /// The names, in order.
     ghost names: { Self → List (List ℕ) };
 
-    /// One name more. After an `Err` the names are as they were.
+    /// Adds a name behind those so far. After an `Err` the names are as they were.
     fn add(&mut self, alloc: Global, name: &[u8]) -> Result<(), AllocError>
         ensures ok { OnOk result (names self.new ≡ names self.old ++ name.now ∷ []) }
         ensures err { OnErr result (names self.new ≡ names self.old) };

@@ -1,4 +1,4 @@
--- What is read of a device: an answer for its bytes, or why there is none.
+-- What is read of a device: a result for its bytes, or why there is none.
 use Rattle.std.specs.Prelude.{◌≡◌, ◌≢◌, ◌↔◌, ℕ, ◌+◌, List, ◌++◌, length}
 use Rattle.std.specs.Prelude.{Option, Result, Ok, IfOk, IfErr, IsErrAnd, IsTrue}
 use Rattle.std.specs.Io.KnownBytes.{Consumes, IsAtEnd}
@@ -18,16 +18,16 @@ module _ {V I S : Type 0} (F : Format V I S) where
   abbrev pub TextOf : List ℕ → List ℕ → Type 0
   TextOf input bytes = (v : V) × ValueOf input v × (bytes ≡ text (lines_of F v))
 
-  -- Why an input is refused, by the bytes of it that were read: a read failed
-  -- behind live bytes, on the line after their complete ones; or the bytes are
-  -- all, and more was due; or they have a fault.
+  -- Why an input is refused, by the bytes of it that were read. A read failed behind live bytes, on
+  -- the line after their complete ones; or the bytes are all, and more was due; or they have a
+  -- fault.
   pub data Refuses (bytes : List ℕ) (At_end : Type 0) (f : Fault) : Type 0 where
     unread_at : Live F most_bytes bytes → f.line ≡ length (lines bytes) + 1 → f.kind ≡ kinds.Read
         → Refuses bytes At_end f
     ended_at : At_end → EndOf F most_bytes bytes f → Refuses bytes At_end f
     faulty_at : FaultOf F most_bytes bytes f → f.kind ≢ kinds.Read → Refuses bytes At_end f
 
--- `left` tells the bytes that a device has left, if it tells them.
+-- `left` maps a device to the bytes that it has left, where these are known.
 module _ {D : Type 0} (left : D → Option (List ℕ)) where
   -- these bytes were read of the device
   abbrev pub WasRead : Device D → Device D → List ℕ → Type 0
@@ -37,18 +37,18 @@ module _ {D : Type 0} (left : D → Option (List ℕ)) where
   abbrev pub WasReadWhole : Device D → Device D → List ℕ → Type 0
   WasReadWhole old new bytes = WasRead old new bytes × IsAtEnd (left new.device)
 
-  -- What a call says that reads a device to its end or to the first fault.
-  -- `Gives` says which answer is right for which bytes.
+  -- What a call promises that reads a device to its end or to the first fault. `Gives` relates
+  -- bytes to the result that is right for them.
   pub record ReadsAll {V I S A : Type 0} (F : Format V I S) (Gives : List ℕ → A → Type 0)
       (old new : Device D) (result : Result A Fault) : Type 0 where
-    -- what was read is all, and the answer is right for it
+    -- the bytes that were read are all, and the result is right for them
     pub read : IfOk result (λ a. (bytes : List ℕ) × WasReadWhole old new bytes × Gives bytes a)
-    -- or what was read shows the fault, unless memory was refused
+    -- or the bytes that were read have the fault, unless memory was refused
     pub fault : IfErr result (λ f. f.kind ≢ kinds.Memory
         → (bytes : List ℕ) × WasRead old new bytes × Refuses F bytes (IsAtEnd (left new.device)) f)
     -- memory is wanted only where more is due behind live bytes
     pub memory : IfErr result (λ f. f.kind ≡ kinds.Memory
         → (bytes piece : List ℕ) × WasRead old new (bytes ++ piece)
         × MoreIsDue F most_bytes bytes piece)
-    -- a failed read is told exactly where the device has failed
+    -- a failed read is reported exactly where the device has failed
     pub note : IsErrAnd result (λ f. f.kind ≡ kinds.Read) ↔ IsTrue new.failed

@@ -8,7 +8,7 @@ use Rattle.sas_reader.specs.declared.fault.Kind.TheVariants as kinds
 abbrev pub IsOfBytes : Kind → Type 0
 IsOfBytes k = (k ≢ kinds.End) × (k ≢ kinds.Read)
 
--- the answer of a reader with this fault
+-- what a reader with this fault returns
 abbrev pub answer : Option Fault → Result (Unit {0}) Fault
 answer None = Ok tt
 answer (Some f) = Err f

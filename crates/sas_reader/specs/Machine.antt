@@ -1,4 +1,4 @@
--- What a machine says that judges the lines of a text.
+-- What a machine promises that judges the lines of a text.
 use Rattle.std.specs.Prelude.{◌≡◌, ℕ, ◌<◌, List, ◌++◌, length, Result, IfOk, IfErr}
 use Rattle.sas_lines.specs.FirstLines.{LinesStandFirst}
 use Rattle.sas_reader.specs.declared.fault.Kind.{Kind}
@@ -10,10 +10,10 @@ pub record IsFront (first : List (List ℕ)) (bytes : List ℕ) (front : Front) 
   pub stand : LinesStandFirst bytes first front.bytes
   pub many : length first ≡ front.lines
 
--- `led_by` tells which lines led a machine where it is.
+-- `led_by` relates the lines to the machine that they led where it is.
 module _ {M : Type 0} (led_by : List (List ℕ) → M → Type 0) where
-  -- What a machine says that may take the first lines of some bytes: it took
-  -- lines that stand first in them, or nothing; only memory can be refused.
+  -- What a machine promises that may take the first lines of some bytes. It took lines that stand
+  -- first in them, or nothing. Only memory can be refused.
   pub record AcceptsAhead (old : M) (bytes : List ℕ) (new : M)
       (result : Result Front Kind) : Type 0 where
     pub took : IfOk result

@@ -1,4 +1,4 @@
--- What a reader that takes a text in pieces stands for.
+-- What a reader that takes a text in pieces represents.
 use Rattle.std.specs.Prelude.{◌≡◌, ◌≢◌, ◌⊎◌, ◌↔◌, ℕ, ◌+◌, ◌<◌, ◌≤◌, List, [], ◌∷◌, ◌++◌, length, take}
 use Rattle.std.specs.Prelude.{Option, Some, None, Result, Err, IfOk, IfErr, OnOk, IsErrAnd, IsTrue}
 use Rattle.std.specs.Io.KnownBytes.{Consumes, IsAtEnd}
@@ -10,8 +10,8 @@ use Rattle.sas_reader.specs.declared.fault.Kind.TheVariants as kinds
 use Rattle.sas_reader.specs.declared.reader.Reader.{Reader}
 use Rattle.sas_reader.specs.Faults.{IsOfBytes, answer}
 
--- A machine M is led somewhere by lines, may have ended there, and rejects
--- lines that don't lead on.
+-- A machine M is led somewhere by lines, may have ended there, and rejects lines that don't lead
+-- on.
 module _ {M : Type 0} (led_by : List (List ℕ) → M → Type 0) (ended : M → Type 0) where
   -- the complete lines of the bytes led the machine here, and nothing follows
   -- them where it has ended
@@ -19,8 +19,8 @@ module _ {M : Type 0} (led_by : List (List ℕ) → M → Type 0) (ended : M →
     pub led : led_by (lines bytes) machine
     pub rest : ended machine → unfinished bytes ≡ []
 
-  -- the reader has taken the bytes: it holds where their complete lines led,
-  -- their rest, and their length
+  -- the reader has taken the bytes: it holds where their complete lines led, their rest, and their
+  -- length
   pub record Accepted (r : Reader M) (bytes : List ℕ) : Type 0 where
     pub reached : Reached r.machine bytes
     pub pending : r.pending.pending ≡ unfinished bytes
@@ -36,8 +36,8 @@ module _ {M : Type 0} (led_by : List (List ℕ) → M → Type 0) (ended : M →
     pub line : f.line ≡ length (lines bytes) + 1
     pub kind : f.kind ≡ kinds.End
 
-  -- a line is due within the piece: the machine was led behind some front of
-  -- it, and not behind all, has not ended, and the limit leaves room
+  -- a line is due within the piece: the machine was led behind some front of it, and not behind
+  -- all, has not ended, and the limit leaves room
   pub record LineIsDue (limit : ℕ) (bytes piece : List ℕ) : Type 0 where
     pub machine : M
     pub at : ℕ
@@ -71,8 +71,8 @@ module _ {M : Type 0} (led_by : List (List ℕ) → M → Type 0) (ended : M →
   StandsAt None r bytes = Accepted led_by ended r bytes
   StandsAt (Some f) r bytes = f.kind ≢ kinds.Memory → FaultIn r.limit bytes f
 
-  -- A reader without a fault has taken the bytes. One with a fault, memory
-  -- aside, says what is wrong with them.
+  -- A reader without a fault represents the bytes that it has taken. One with a fault, memory
+  -- aside, holds what is wrong with them.
   unfoldable pub Stands : Reader M → List ℕ → Type 0
   Stands r bytes = StandsAt r.fault r bytes
 
@@ -94,7 +94,7 @@ module _ {M : Type 0} (led_by : List (List ℕ) → M → Type 0) (ended : M →
     pub memory : k ≡ kinds.Memory → (bytes : List ℕ) → Accepted led_by ended old bytes
         → LineIsDue led_by ended old.limit bytes piece
 
-  -- what a step of a reader says: it took so many bytes of the piece, or was stopped
+  -- what a step of a reader promises: it took so many bytes of the piece, or was stopped
   pub record Advances (old : Reader M) (piece : List ℕ) (new : Reader M)
       (result : Result ℕ Kind) : Type 0 where
     pub took : IfOk result (λ n. TookFront old new piece n)
@@ -104,12 +104,12 @@ module _ {M : Type 0} (led_by : List (List ℕ) → M → Type 0) (ended : M →
 
   -- ---- all pieces
 
-  -- what a reader says that takes a piece
+  -- what a call promises that feeds a reader with a piece
   pub record TakesPiece (old : Reader M) (piece : List ℕ) (new : Reader M)
       (result : Result (Unit {0}) Fault) : Type 0 where
-    -- it stands for what it stood for, followed by the piece
+    -- the reader represents what it represented, followed by the piece
     pub stands : (bytes : List ℕ) → Stands old bytes → Stands new (bytes ++ piece)
-    -- its first fault is answered from then on
+    -- the first fault is returned from then on
     pub answer : result ≡ answer new.fault
     pub kept : (f : Fault) → old.fault ≡ Some f → new.fault ≡ Some f
     -- a new fault is one that bytes show as they come
@@ -121,15 +121,15 @@ module _ {M : Type 0} (led_by : List (List ℕ) → M → Type 0) (ended : M →
     pub count : OnOk result (new.taken ≡ old.taken + length piece)
     pub limit : new.limit ≡ old.limit
 
-  -- the fault of a reader where nothing more comes; want of memory and a failed
-  -- read are only such as came before
+  -- the fault of a reader where nothing more comes; want of memory and a failed read are only
+  -- reported where they came before
   pub record FaultAtEnd (r : Reader M) (f : Fault) : Type 0 where
     pub fault : f.kind ≢ kinds.Memory → (bytes : List ℕ) → Stands r bytes
         → FaultIn r.limit bytes f ⊎ EndsEarly led_by ended r.limit bytes f
     pub memory : f.kind ≡ kinds.Memory → r.fault ≡ Some f
     pub read : f.kind ≡ kinds.Read → r.fault ≡ Some f
 
-  -- what a reader says at the end: where the lines led its machine, or its fault
+  -- what a reader promises at the end: where the lines led its machine, or its fault
   pub record ReachesEnd (r : Reader M) (result : Result M Fault) : Type 0 where
     pub at_end : IfOk result (λ m. ended m)
     pub reached : IfOk result (λ m. (bytes : List ℕ) → Stands r bytes
@@ -139,8 +139,8 @@ module _ {M : Type 0} (led_by : List (List ℕ) → M → Type 0) (ended : M →
 
   -- ---- a device
 
-  -- Why a device was not read as a whole: a read failed behind these bytes; or
-  -- they are all, and more was due; or they have a fault.
+  -- Why a device was not read as a whole. A read failed behind these bytes; or they are all, and
+  -- more was due; or they have a fault.
   pub data ReadFails (limit : ℕ) (bytes : List ℕ) (at_end : Type 0) (f : Fault) : Type 0 where
     unread : (machine : M) → Reached led_by ended machine bytes → length bytes ≤ limit
         → f.line ≡ length (lines bytes) + 1 → f.kind ≡ kinds.Read → ReadFails limit bytes at_end f
@@ -148,8 +148,8 @@ module _ {M : Type 0} (led_by : List (List ℕ) → M → Type 0) (ended : M →
     faulty : FaultIn limit bytes f → f.kind ≢ kinds.Read → ReadFails limit bytes at_end f
 
   module _ {D : Type 0} (left : D → Option (List ℕ)) where
-    -- What a call says that feeds a machine with a device, to the device's end or to
-    -- the first fault. `left` tells the bytes that a device has left, if it tells them.
+    -- What a call promises that feeds a machine from a device, to the device's end or to the first
+    -- fault. `left` maps a device to the bytes that it has left, where these are known.
     pub record FeedsMachine (limit : ℕ) (old new : Device D)
         (result : Result M Fault) : Type 0 where
       pub at_end : IfOk result (λ m. ended m)

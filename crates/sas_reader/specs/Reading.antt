@@ -1,12 +1,12 @@
--- What a reader of a format says, call by call.
+-- What a reader of a format promises, call by call.
 use Rattle.std.specs.Prelude.{◌≡◌, ◌≢◌, ℕ, List, [], ◌++◌, Option, Some, None, Result, Ok, Err, IfOk, IfErr, OnOk}
 use Rattle.sas_reader.specs.declared.fault.Fault.{Fault}
 use Rattle.sas_reader.specs.declared.fault.Kind.TheVariants as kinds
 use Rattle.sas_reader.specs.Faults.{IsOfBytes, answer}
 use Rattle.sas_reader.specs.Format.{Format, Live, FaultOf, MoreIsDue, ReadsAs}
 
--- how a reader R of a format is seen: by the byte lists that it stands for, its
--- first fault, where one has come, and the most bytes that it takes
+-- how contracts view a reader R of a format: by the byte lists that it represents, its first fault,
+-- where one has come, and the most bytes that it takes
 pub record View (V I S R : Type 0) : Type 1 where
   pub format : Format V I S
   pub Stands : R → List ℕ → Type 0
@@ -20,18 +20,18 @@ module _ {V I S R : Type 0} (view : View V I S R) where
     pub limit : view.limit reader ≡ most
     pub fault : view.fault reader ≡ None
 
-  -- what a reader says that takes a piece
+  -- what a call promises that feeds a reader with a piece
   pub record Feeds (old : R) (piece : List ℕ) (new : R)
       (result : Result (Unit {0}) Fault) : Type 0 where
-    -- it stands for what it stood for, followed by the piece
+    -- the reader represents what it represented, followed by the piece
     pub stands : (bytes : List ℕ) → view.Stands old bytes → view.Stands new (bytes ++ piece)
-    -- the answer is Ok only if all bytes so far are live
+    -- the result is Ok only if all bytes so far are live
     pub live : OnOk result ((bytes : List ℕ) → view.Stands old bytes
         → Live view.format (view.limit old) (bytes ++ piece))
     -- and a fault, want of memory aside, only if they have it
     pub fault : IfErr result (λ f. f.kind ≢ kinds.Memory → (bytes : List ℕ) → view.Stands old bytes
         → FaultOf view.format (view.limit old) (bytes ++ piece) f)
-    -- the first fault is answered for good
+    -- the first fault is returned from then on
     pub answer : result ≡ answer (view.fault new)
     pub kept : (f : Fault) → view.fault old ≡ Some f → view.fault new ≡ Some f
     -- a new fault is one that bytes show as they come
@@ -42,7 +42,7 @@ module _ {V I S R : Type 0} (view : View V I S R) where
         → MoreIsDue view.format (view.limit old) bytes piece)
     pub limit : view.limit new ≡ view.limit old
 
-  -- what a reader says at the end
+  -- what a reader promises at the end
   pub record Finishes (reader : R) (result : Result V Fault) : Type 0 where
     -- the value that the bytes are a text of
     pub read : IfOk result (λ v. (bytes : List ℕ) → view.Stands reader bytes
@@ -51,6 +51,6 @@ module _ {V I S R : Type 0} (view : View V I S R) where
     pub fault : IfErr result
         (λ f. f.kind ≢ kinds.Memory → (bytes : List ℕ) → view.Stands reader bytes
         → ReadsAs view.format (view.limit reader) bytes (Err f))
-    -- want of memory is only such as came before
+    -- want of memory is only reported where it came before
     pub memory : IfErr result (λ f. f.kind ≡ kinds.Memory → view.fault reader ≡ Some f)
     pub kept : (f : Fault) → view.fault reader ≡ Some f → result ≡ Err f

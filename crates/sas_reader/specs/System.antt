@@ -14,7 +14,7 @@ pub data Node (T V I S : Type 0) : Type 0 where
 abbrev pub IsPlain : List ℕ → Type 0
 IsPlain line = AllByRecursion (λ b. (b ≢ 10) × (b ≢ 13)) line
 
--- `Fits` says of a line that each number on it is one that the format can say.
+-- `Fits` holds of a line on which each number is one that the format can spell.
 module _ {V I S : Type 0} (F : Format V I S) (Fits : I → Type 0) where
   -- the line may stand at a slot under a test
   pub record Takes (s : S) (ok : I → Bool) (i : I) : Type 0 where
@@ -54,9 +54,9 @@ module _ {T V I S : Type 0} (F : Format V I S) (Fits : I → Type 0) where
     pub after : After node start items p
     pub spells : map F.spelled items ≡ ls
 
-  -- What ties states to a format: what leads from the start to the end is the lines of a good
-  -- value, the lines of each good value lead there, whatever came can be completed, no line of
-  -- a good value holds LF or CR, and at a slot a line has one meaning and its fault one kind.
+  -- What ties states to a format. What leads from the start to the end is the lines of a good
+  -- value, and the lines of each good value lead there. Whatever came can be completed. No line of
+  -- a good value holds LF or CR. At a slot a line has one meaning, and its fault one kind.
   pub record Grammar (node : T → Node T V I S) (start : T) : Type 0 where
     pub sound : (is : List I) (v : V) → LeadsToEnd node start is v → F.Good v × (is ≡ F.layout v)
     pub complete : (v : V) → F.Good v → LeadsToEnd node start (F.layout v) v

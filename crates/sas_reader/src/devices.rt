@@ -9,8 +9,8 @@ use sas_lines::Watched;
 use std::alloc::Global;
 use std::io::Read;
 
-/// Reads the device to its end or to the first fault, in pieces of at most 4,096 bytes, with a machine that nothing has
-/// led anywhere yet.
+/// Reads the device to its end or to the first fault, in pieces of at most 4,096 bytes. It feeds them to the machine,
+/// which no line has led anywhere yet.
 pub fn read_all<M: Machine, R: Read>(
     alloc: Global,
     machine: M,

@@ -6,12 +6,12 @@ use std::alloc::AllocError;
 /// The kinds of fault of an input.
 #[derive(Clone, Copy, Debug, PartialEq, Eq)]
 pub enum Kind {
-    /// A fixed word was due and the line isn't it; in a plan, the line begins like neither a step nor the cost.
+    /// A fixed word was due, and the line isn't it. In a plan: the line begins like neither a step nor the cost.
     Keyword,
-    /// A name was due and the line isn't one; in a plan, the line begins with `(` and isn't a step line.
+    /// A name was due, and the line isn't one. In a plan: the line begins with `(` and isn't a step line.
     Name,
-    /// The line isn't made of the numbers due, in their count and spelling; in a plan, the line begins like the cost
-    /// line and isn't one.
+    /// The line isn't made of the numbers that are due, in their count and spelling. In a plan: the line begins like
+    /// the cost line and isn't one.
     Shape,
     /// In a task: the line has its shape, and a number in it isn't allowed there.
     Value,

@@ -1,4 +1,4 @@
-//! Reads a text that comes in pieces, line by line, whichever its format: each fault at its exact place.
+//! Reads a text that comes in pieces, line by line, whichever its format. It reports each fault at its exact place.
 #![tactic(auto)]
 
 mod devices;

@@ -1,4 +1,4 @@
-// Reads a text that comes in pieces, whichever its format: a machine judges one line after another.
+// Reads a text that comes in pieces, whichever its format. A machine judges one line after another.
 ghost use Rattle.std.specs.Prelude.{◌≡◌, ◌≢◌, ◌≤◌, ◌<◌, ◌+◌, ◌-◌, ◌^◌, ◌↔◌, ℕ, List, [], ◌∷◌, ◌++◌, length};
 ghost use Rattle.std.specs.Prelude.{take, Some, None, Err, IfOk, IfErr, IfSome, IfNone, OnOk, IsTrue};
 ghost use Rattle.sas_reader.specs.Faults.{IsOfBytes};
@@ -37,11 +37,11 @@ pub trait Machine: Drop {
     /// The line may not follow, and the kind of its fault.
     ghost rejects: { Self → List ℕ → Kind → Type 0 };
 
-    /// Whether the last line has come.
+    /// Returns whether the last line has come.
     fn has_ended(&self) -> bool
         ensures { IsTrue result ↔ ended self.now };
 
-    /// Takes the next line, unless it may not stand here, or memory is refused.
+    /// Takes the next line. It returns the kind of fault where the line may not stand here, or where memory is refused.
     fn accept(&mut self, line: &[u8]) -> Result<(), Kind>
         requires { ended self.old → ⊥ }
         ensures led { OnOk result
@@ -50,8 +50,9 @@ pub trait Machine: Drop {
         ensures rejects { IfErr result (λ k. k ≢ Kind.Memory → rejects self.old line.now k) }
         ensures kind { IfErr result IsOfBytes };
 
-    /// Takes one or more of the first lines of the bytes where it is quick to see that they may stand here, and tells
-    /// how long they are. Else it takes nothing, and tells an empty front: `accept` then has to judge the next line.
+    /// Takes one or more of the first lines of the bytes where it is quick to see that they may stand here, and returns
+    /// how many lines and bytes it took. Else it takes nothing and returns an empty front: `accept` then has to judge
+    /// the next line.
     fn accept_ahead(&mut self, bytes: &[u8]) -> Result<Front, Kind>
         requires { ended self.old → ⊥ }
         ensures { AcceptsAhead led_by self.old bytes.now self.new result }
@@ -77,7 +78,7 @@ pub struct Reader<M> {
 impl<M: Machine> Reader<M> {
     ghost use Rattle.sas_reader.specs.Reader.{Stands, Advances, TakesPiece, FaultAtEnd, ReachesEnd};
 
-    /// Nothing has come yet.
+    /// Makes a reader that has taken nothing yet, and takes at most `limit` bytes.
     pub fn new(alloc: Global, machine: M, limit: u64) -> Self
         requires small { limit ≤ most_bytes }
         requires start { M.led_by [] machine }
@@ -95,7 +96,7 @@ impl<M: Machine> Reader<M> {
         }
     }
 
-    /// Takes the bytes up to and with the first LF, or all of them, behind what is pending.
+    /// Takes the bytes up to and with the first LF, or all of them, behind what is pending. Returns how many it took.
     fn go_on(&mut self, piece: &[u8]) -> Result<usize, Kind>
         requires some { 0 < length piece.now }
         requires room { self.old.taken + length piece.now ≤ self.old.limit }
@@ -114,7 +115,7 @@ impl<M: Machine> Reader<M> {
         Ok(fed.taken)
     }
 
-    /// The bytes of the piece that the limit leaves room for.
+    /// Returns the bytes of the piece that the limit leaves room for.
     fn within_limit<'a>(&self, piece: &'a [u8]) -> &'a [u8]
         ensures { result.now ≡ take (self.now.limit - self.now.taken) piece.now }
     {
@@ -122,7 +123,8 @@ impl<M: Machine> Reader<M> {
         &piece[..piece.len().min(room as usize)]
     }
 
-    /// Takes the bytes up to and with the first LF, or all of them, as far as the limit leaves room.
+    /// Takes the bytes up to and with the first LF, or all of them, as far as the limit leaves room. Returns how many
+    /// it took.
     fn take_line(&mut self, piece: &[u8]) -> Result<usize, Kind>
         requires some { 0 < length piece.now }
         ensures advances { Advances M.led_by M.ended M.rejects self.old piece.now self.new result }
@@ -135,7 +137,7 @@ impl<M: Machine> Reader<M> {
         if self.machine.has_ended() {
             return Err(Kind::Trailing);
         }
-        // A line that stands whole in the piece is judged there. Only one that is cut is copied.
+        // A line that stands whole in the piece is judged there. Only a line that is cut is copied.
         if !self.pending.pending().is_empty() {
             return self.go_on(within);
         }
@@ -148,8 +150,8 @@ impl<M: Machine> Reader<M> {
         Ok(first.taken)
     }
 
-    /// Takes some of the first lines of the piece if the machine is quick to see that they may stand here,
-    /// else nothing.
+    /// Takes some of the first lines of the piece if the machine is quick to see that they may stand here, else
+    /// nothing. Returns how many bytes it took.
     fn take_ahead(&mut self, piece: &[u8]) -> Result<usize, Kind>
         requires some { 0 < length piece.now }
         requires room { self.old.taken + length piece.now ≤ self.old.limit }
@@ -169,7 +171,7 @@ impl<M: Machine> Reader<M> {
         Ok(front.bytes)
     }
 
-    /// Takes lines ahead, as long as that goes and the limit leaves room.
+    /// Takes lines ahead, as long as that goes and the limit leaves room. Returns how many bytes it took.
     fn go_ahead(&mut self, piece: &[u8]) -> Result<usize, Kind>
         ensures { Advances M.led_by M.ended M.rejects self.old piece.now self.new result }
     {
@@ -188,7 +190,8 @@ impl<M: Machine> Reader<M> {
         Ok(at)
     }
 
-    /// Takes some bytes of the piece: the lines that can be taken ahead, and those up to and with the next LF.
+    /// Takes some bytes of the piece: the lines that can be taken ahead, and those up to and with the next LF. Returns
+    /// how many it took.
     fn advance(&mut self, piece: &[u8]) -> Result<usize, Kind>
         requires some { 0 < length piece.now }
         ensures advances { Advances M.led_by M.ended M.rejects self.old piece.now self.new result }
@@ -201,7 +204,7 @@ impl<M: Machine> Reader<M> {
         Ok(ahead + self.take_line(&piece[ahead..])?)
     }
 
-    /// Takes the next piece. The first fault is answered from then on.
+    /// Takes the next piece. Once there is a fault, this call and each later one return the first fault.
     pub fn feed(&mut self, piece: &[u8]) -> Result<(), Fault>
         ensures { TakesPiece M.led_by M.ended M.rejects self.old piece.now self.new result }
     {
@@ -225,7 +228,7 @@ impl<M: Machine> Reader<M> {
         Ok(())
     }
 
-    /// What is wrong if nothing more comes.
+    /// Returns the fault if nothing more comes, or `None` if the text is whole.
     fn end_fault(&self) -> Option<Fault>
         ensures none { IfNone result (M.ended self.now.machine × (self.now.fault ≡ None)) }
         ensures fault { IfSome result (λ f. FaultAtEnd M.led_by M.ended M.rejects self.now f) }
@@ -243,7 +246,7 @@ impl<M: Machine> Reader<M> {
         })
     }
 
-    /// Where the lines led, once all have come.
+    /// Returns the machine, led by all lines, once the last one has come. Else returns the fault.
     pub fn finish(self) -> Result<M, Fault>
         ensures { ReachesEnd M.led_by M.ended M.rejects self result }
     {
@@ -257,7 +260,7 @@ impl<M: Machine> Reader<M> {
     }
 }
 
-/// A law: the most bytes that are read are those that the definitions speak of.
+/// States the law that the most bytes that are read are those of the definitions.
 pub fn limit_law()
     ensures { LIMIT ≡ most_bytes }
 {}

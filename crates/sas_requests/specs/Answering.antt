@@ -1,4 +1,4 @@
--- What the private steps of a run say.
+-- What the private steps of a run promise.
 use Rattle.std.specs.Prelude.{◌≡◌, ◌↔◌, ◌||◌, ℕ, List, Option, Some, None, Result, Ok, Err, IfErr, IsErrOf, IsTrue}
 use Rattle.std.specs.Io.KnownBytes.{Consumes}
 use Rattle.sas_lines.specs.Device.{Device}
@@ -23,9 +23,9 @@ abbrev pub Answers : (Option Output → Type 0) → Result Answer ToolFault → 
 Answers Out (Ok answer) = Out (Some (output_of answer))
 Answers Out (Err why) = why ≡ fault.TooLong → Out None
 
--- What the answer to a request over one file says, before anything of it is written. `left` tells
--- the bytes that a device has left, if it tells them, and `FileOutput` the output about the bytes
--- of a file.
+-- What the answer to a request over one file promises, before anything of it is written. `left`
+-- maps a device to the bytes that it has left, where these are known. `FileOutput` is the output
+-- about the bytes of a file.
 module _ {D : Type 0} (left : D → Option (List ℕ))
     (FileOutput : List ℕ → Option Output → Type 0) where
   pub record AnswersFile (old new : Device D) (result : Result Answer ToolFault) : Type 0 where
@@ -38,9 +38,9 @@ module _ {D : Type 0} (left : D → Option (List ℕ))
     pub reads : IsErrOf result fault.Read ↔ IsTrue new.failed
     pub writes : IfErr result (λ e. IsWrite e → ⊥)
 
--- And what it says over two files, of which the plan is read only where the task is known to be
--- layered. `left_task` and `left_plan` tell the bytes that the devices have left, and `FilesOutput`
--- the output about the bytes of both.
+-- What it promises over two files, of which the plan is read only where the task is known to be
+-- layered. `left_task` and `left_plan` map the devices to the bytes that they have left, where
+-- these are known. `FilesOutput` is the output about the bytes of both.
 module _ {T P : Type 0} (left_task : T → Option (List ℕ)) (left_plan : P → Option (List ℕ)) where
   pub record AnswersFiles (FilesOutput : List ℕ → List ℕ → Option Output → Type 0)
       (old_task new_task : Device T)

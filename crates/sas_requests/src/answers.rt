@@ -28,7 +28,7 @@ pub enum Answer {
     Summary(Summary),
 }
 
-/// The answer about the inputs.
+/// Returns the answer to the request about the inputs.
 pub fn answer_to<T: Read, P: Read>(
     alloc: Global,
     request: Request,
@@ -62,8 +62,8 @@ pub fn answer_to<T: Read, P: Read>(
     }
 }
 
-/// Writes an answer. At an `Err` without a write nothing was written; it then comes for want of memory. Not to be
-/// called after a failure.
+/// Writes an answer, and returns its status. An `Err` is a failed write or want of memory; at want of memory nothing was
+/// written. Not to be called after a failure.
 pub fn write_answer<W: Write>(
     alloc: Global,
     answer: &Answer,
@@ -82,7 +82,7 @@ pub fn write_answer<W: Write>(
     }
 }
 
-/// The summary of a task.
+/// Returns the answer with the summary of a task.
 fn show<R: Read>(alloc: Global, reader: &mut Watched<R>) -> Result<Answer, ToolFault>
     requires { reader.old.failed ≡ false }
     ensures { AnswersFile R.remaining ShowOut reader.old reader.new result }
@@ -93,7 +93,7 @@ fn show<R: Read>(alloc: Global, reader: &mut Watched<R>) -> Result<Answer, ToolF
     }
 }
 
-/// The lines of a task.
+/// Returns the answer with the lines of a task.
 fn print<R: Read>(alloc: Global, reader: &mut Watched<R>) -> Result<Answer, ToolFault>
     requires { reader.old.failed ≡ false }
     ensures { AnswersFile R.remaining PrintOut reader.old reader.new result }
@@ -107,7 +107,7 @@ fn print<R: Read>(alloc: Global, reader: &mut Watched<R>) -> Result<Answer, Tool
     }
 }
 
-/// The steps of a plan and its cost.
+/// Returns the answer with the steps of a plan and its cost.
 fn steps<R: Read>(alloc: Global, plan: &mut Watched<R>) -> Result<Answer, ToolFault>
     requires { plan.old.failed ≡ false }
     ensures { AnswersFile R.remaining StepsOut plan.old plan.new result }
@@ -121,7 +121,7 @@ fn steps<R: Read>(alloc: Global, plan: &mut Watched<R>) -> Result<Answer, ToolFa
     }
 }
 
-/// Whether a task is layered.
+/// Returns the answer to whether a task is layered.
 fn check<R: Read>(alloc: Global, reader: &mut Watched<R>) -> Result<Answer, ToolFault>
     requires { reader.old.failed ≡ false }
     ensures { AnswersFile R.remaining CheckOut reader.old reader.new result }
@@ -133,7 +133,7 @@ fn check<R: Read>(alloc: Global, reader: &mut Watched<R>) -> Result<Answer, Tool
     Ok(Answer::Text(layers_answer(alloc, task)?))
 }
 
-/// Which mutex groups of a task are exclusive.
+/// Returns the answer to which mutex groups of a task are exclusive.
 fn mutex<R: Read>(alloc: Global, reader: &mut Watched<R>) -> Result<Answer, ToolFault>
     requires { reader.old.failed ≡ false }
     ensures { AnswersFile R.remaining MutexOut reader.old reader.new result }
@@ -145,7 +145,7 @@ fn mutex<R: Read>(alloc: Global, reader: &mut Watched<R>) -> Result<Answer, Tool
     Ok(Answer::Text(groups_answer(alloc, task)?))
 }
 
-/// The word for what is wrong with a file, or why the run ends at this kind.
+/// Returns the word for what is wrong with a file, or why the run ends at this kind.
 fn word(kind: Kind) -> Result<&'static str, ToolFault>
     ensures ok { IfOk result (λ w. word_of kind ≡ Some w.now) }
     ensures memory { IsErrOf result ToolFault.Memory ↔ (kind ≡ Kind.Memory) }
@@ -166,7 +166,7 @@ fn word(kind: Kind) -> Result<&'static str, ToolFault>
     }
 }
 
-/// The refusal of a file for its fault, or why the run ends at it.
+/// Returns the refusal of a file for its fault, or why the run ends at it.
 pub fn refuse(alloc: Global, name: &str, fault: Fault) -> Result<Answer, ToolFault>
     ensures ok { IfOk result (λ a. refusal name.now fault ≡ Some (output_of a)) }
     ensures long { IsErrOf result ToolFault.TooLong ↔ (fault.kind ≡ Kind.TooLong) }
@@ -180,7 +180,7 @@ pub fn refuse(alloc: Global, name: &str, fault: Fault) -> Result<Answer, ToolFau
     }))
 }
 
-/// The line that refuses the file of this name.
+/// Returns the line that refuses the file of this name.
 fn refusal_text(alloc: Global, name: &str, line: u64, word: &str) -> Result<Vec<u8>, AllocError>
     ensures { IfOk result (λ t. t.items ≡ refusal_line name.now line word.now) }
 {

@@ -1,4 +1,4 @@
-// Whether a plan solves a task: both are read, the plan only where it is asked for.
+// Whether a plan solves a task. Both are read, the plan only where it is asked for.
 ghost use Rattle.std.specs.Prelude.{◌≡◌, Some, IfOk, IfErr, false};
 ghost use Rattle.sas_answers.specs.Answers.{layers_refusal};
 ghost use Rattle.sas_requests.specs.Answering.{AnswersFile, AnswersFiles, output_of};
@@ -15,7 +15,7 @@ use sas_task_reader::read_flat_task;
 use std::alloc::Global;
 use std::io::Read;
 
-/// The answer about a task and a plan. The plan is read only where the task is layered.
+/// Returns the answer about a task and a plan. The plan is read only where the task is layered.
 pub fn plan_answer<T: Read, P: Read>(
     alloc: Global,
     task: &mut Watched<T>,
@@ -43,7 +43,7 @@ pub fn plan_answer<T: Read, P: Read>(
     }
 }
 
-/// The refusal of a task for a fault of its layers, in a run that can end otherwise.
+/// Returns the refusal of a task for a fault of its layers, in a run that can end otherwise.
 fn refuse_task(alloc: Global, fault: LayerFault) -> Result<Answer, ToolFault>
     ensures ok { IfOk result (λ a. layers_refusal fault ≡ Some (output_of a)) }
     ensures err { IfErr result (λ e. e ≡ ToolFault.Memory) }
@@ -51,7 +51,7 @@ fn refuse_task(alloc: Global, fault: LayerFault) -> Result<Answer, ToolFault>
     Ok(Answer::Text(refuse_layers(alloc, fault)?))
 }
 
-/// The answer about a plan of a layered task.
+/// Returns the answer about a plan of a layered task.
 fn judge<P: Read>(
     alloc: Global,
     layered: &Layered<FlatTask>,

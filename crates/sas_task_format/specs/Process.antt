@@ -1,4 +1,4 @@
--- What may still come, as a tree of reads; and parts of such a tree.
+-- What may still come, as a tree of reads, and parts of such a tree.
 use Rattle.std.specs.Prelude.{ℕ, zero, suc, Bool, List, [], ◌∷◌, ◌++◌}
 use Rattle.sas_reader.specs.System.{Node, ended, before}
 
@@ -28,13 +28,13 @@ infixl 10 ◌>>=◌
 abbrev pub ◌>>=◌ : {V I S A : Type 0} → Part V I S A → (A → Process V I S) → Process V I S
 part >>= k = part k
 
--- a part that tells nothing, and then the rest
+-- a part that yields nothing, and then the rest
 infixl 10 ◌>>◌
 abbrev pub ◌>>◌ : {V I S : Type 0} → Part V I S (Unit {0}) → Process V I S → Process V I S
 part >> p = part (λ _. p)
 
 module _ {V I S A : Type 0} where
-  -- a line at a slot, and what it says, which passes a test
+  -- a line at a slot, which passes a test, and what it holds
   abbrev pub a_line : S → (A → Bool) → (I → A) → Part V I S A
   a_line s ok back k = read s (λ i. ok (back i)) (λ i. k (back i))
 

@@ -17,7 +17,7 @@ use Rattle.sas_reader.specs.Format.{Format}
 
 -- ---- single lines
 
--- a line of a task file, by what it says
+-- a line of a task file, by what it holds
 pub data TaskLine : Type 0 where
   -- a fixed word, such as `begin_version`
   word : List ℕ → TaskLine
@@ -60,7 +60,7 @@ task_slot (head var old new) = head_slot
 abbrev pub fact_words : Fact → List (List ℕ)
 fact_words f = decimal f.var ∷ decimal f.value ∷ []
 
--- `var old new`, where an old value of `-1` says that there is none
+-- `var old new`, where an old value of `-1` represents none
 abbrev pub head_words : ℕ → Option ℕ → ℕ → List (List ℕ)
 head_words var old new = decimal var ∷ signed_decimal old ∷ decimal new ∷ []
 
@@ -106,7 +106,7 @@ TaskLineFits (head var old new) = HeadNumbers var old new
 
 -- ---- the sections
 
--- one line that says something
+-- one line, made of a value
 abbrev pub line : {A : Type 0} → (A → TaskLine) → A → List TaskLine
 line says a = says a ∷ []
 
@@ -205,7 +205,7 @@ TaskKind slot bytes kind = NumbersKind slot bytes kind
 
 -- ---- the format
 
--- task files: each says a well ranged task
+-- task files: each represents a well ranged task
 abbrev pub task_format : Format Parts TaskLine TaskSlot
 task_format = record {
   layout = task_layout;

@@ -17,11 +17,11 @@ use Rattle.sas_task_format.specs.TaskFormat.{name_slot, number_slot, signed_slot
 abbrev pub TaskProcess : Type 0
 TaskProcess = Process Parts TaskLine TaskSlot
 
--- a part of a task file that tells an A
+-- a part of a task file that yields an A
 abbrev pub TaskPart : Type 0 → Type 0
 TaskPart A = Part Parts TaskLine TaskSlot A
 
--- ---- what a line says
+-- ---- what a line holds
 
 -- the name on a line
 abbrev pub name_in : TaskLine → List ℕ
@@ -48,7 +48,7 @@ abbrev pub effect_in : TaskLine → Effect
 effect_in (effect e) = e
 effect_in _ = record { conditions = []; var = 0; old = None; new = 0 }
 
--- what a head line says: its variable, the variable's old value, if any, and its new one
+-- what a head line holds: its variable, the variable's old value, if any, and its new one
 pub record Head : Type 0 where
   pub var : ℕ
   pub old : Option ℕ

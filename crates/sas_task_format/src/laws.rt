@@ -7,9 +7,9 @@ ghost use Rattle.sas_task_format.specs.TaskFormat.{TaskSlot, task_format, TaskLi
 ghost use Rattle.sas_task_format.specs.TaskLaws.{TaskIsFilled, OneCompletion, FillingsInBytes};
 ghost use Rattle.sas_task_format.specs.TaskProcess.{task_start};
 
-/// What holds of task files. No byte list is a text of two tasks; the texts of a task are its lines, each ended by LF
-/// or by CR LF; bytes are live exactly where they have no fault, and have one fault at most; all bytes are read as one
-/// thing; lines that begin a task are completed by fillings, in one way: a name by `x`, a layer by `-1`, a fact by
+/// States the laws of task files. No byte list is a text of two tasks. The texts of a task are its lines, each ended by
+/// LF or by CR LF. Bytes are live exactly where they have no fault, and have one fault at most. All bytes are read as
+/// one thing. Lines that begin a task are completed by fillings, in one way: a name by `x`, a layer by `-1`, a fact by
 /// `0 0`, an effect by `0 0 -1 0`, a head by `0 -1 0`, the version by 3, the number of variables and a range by 1,
 /// every other number by 0.
 pub fn task_laws()

@@ -31,14 +31,14 @@ behind_operator s o =
 abbrev pub behind_rule : SoFar → Rule → SoFar
 behind_rule s r = record s { parts = with_rule s.parts r; facts = [] }
 
--- how many values the variable has was told with its lines
+-- the length of the lines and the number of values that were kept are those of the variable
 abbrev pub VariableWithRange : List ℕ → Variable → VariableKept → Type 0
 VariableWithRange bytes v kept = VariableAhead bytes v kept.front × (kept.range ≡ length v.values)
 
 module _ {K : Type 0} (keeps : List (List ℕ) → SoFar → K → Type 0) where
-  -- What a keeper says that may keep the section that stands first in some
-  -- bytes: it keeps an A that stands there, with all its lines, or it is as it
-  -- was; only memory can be refused. Its answer has the front of those lines.
+  -- What a keeper promises that may keep the section that stands first in some bytes. It keeps an A
+  -- that stands there, with all its lines, or it is as it was. Only memory can be refused. The
+  -- result has the front of those lines.
   pub record KeepsAhead {A R : Type 0} (front_in : R → Front) (Ahead : A → R → Type 0)
       (lines_of : A → List TaskLine) (behind : SoFar → A → SoFar) (old new : K)
       (result : Result R Kind) : Type 0 where

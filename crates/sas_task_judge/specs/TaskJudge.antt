@@ -1,4 +1,4 @@
--- What judges the lines of a task file stands for: what may still come, by what has come.
+-- What the judge of the lines of a task file represents: what may still come, by what has come.
 use Rattle.std.specs.Prelude.{◌≡◌, ◌≢◌, ◌⊎◌, ◌<◌, ℕ, ◌+◌, ◌-◌, Bool, List, length, take, Result, Ok, Err, codes}
 use Rattle.sas_core.specs.declared.parts.Variable.{Variable}
 use Rattle.sas_lines.specs.FirstLines.{LineStandsFirst}
@@ -92,15 +92,15 @@ SectionDue j section.Rule = (j.place ≡ at.Rules) × (0 < j.left)
 
 -- ---- one line
 
--- the judge knows of what has come what decides which lines may follow
+-- of what has come, the judge holds what decides which lines may follow
 pub record KnownTo (s : SoFar) (j : TaskJudge) : Type 0 where
   pub ranges : j.ranges ≡ ranges_of s.parts.variables
   pub valued : j.valued ≡ length s.parts.init
   -- the range of a variable counts its values, those that have come and those that are left
   pub range : j.place ≡ at.VariableValues → j.range ≡ length s.values + j.more
 
--- A part is due that tells an A. Behind it the judge is where `next` says, and
--- what has come is what `adds` says.
+-- A part is due that yields an A. Behind it the judge is where `next` leads, and what has come is
+-- what `adds` makes of it.
 abbrev pub Due : {A : Type 0} → TaskJudge → (List Variable → TaskPart A) → (A → TaskJudge)
     → (A → SoFar → SoFar)
     → Type 0
@@ -124,8 +124,8 @@ abbrev pub TakesMemory : TaskJudge → Type 0
 TakesMemory j = ((j.place ≡ at.VariableValues) × (j.more ≡ 0))
     ⊎ ((j.place ≡ at.Effects) × (0 < j.more))
 
--- The line leads from what has come to that with what it adds; or it may not follow,
--- and the kind is that of its fault; or memory was refused, where some is taken.
+-- The line leads from what has come to that with what it adds; or it may not follow, and the kind
+-- is that of its fault; or memory was refused, where some is taken.
 abbrev pub Moves : TaskJudge → List ℕ → TaskJudge → Result Event Kind → Type 0
 Moves j line k (Ok event) = (s : SoFar) → KnownTo s j
     → KnownTo (after s event k.said line) k
@@ -135,7 +135,7 @@ Moves j line k (Err kind) =
     × (kind ≡ kinds.Memory → TakesMemory j)
     × (kind ≢ kinds.Memory → RejectsLine j line kind)
 
--- a line that says this moves the judge on, where it may stand under the test
+-- a line that holds this moves the judge on, where it may stand under the test
 abbrev pub MovesBy : TaskJudge → (TaskLine → Bool) → TaskLine → TaskJudge → Event → Type 0
 MovesBy j test i k event = (line : List ℕ)
     → Takes task_format TaskLineFits (task_slot i) test i × (task_line_bytes i ≡ line)

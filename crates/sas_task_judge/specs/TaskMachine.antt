@@ -1,5 +1,5 @@
--- What the machine of task files stands for: lines that lead to what has come,
--- and what is kept of it.
+-- What the machine of task files represents: lines that lead to what has come, and what is kept of
+-- it.
 use Rattle.std.specs.Prelude.{◌≡◌, ℕ, List, []}
 use Rattle.std.specs.Global.{Global}
 use Rattle.sas_reader.specs.declared.fault.Kind.{Kind}
@@ -13,7 +13,7 @@ use Rattle.sas_task_line.specs.TaskEvents.{nothing_yet}
 use Rattle.sas_task_judge.specs.TaskJudge.{KnownTo, state_of, HasEnded, RejectsLine}
 
 module _ {K : Type 0} (keeps : List (List ℕ) → SoFar → K → Type 0) where
-  -- so much has come with these lines, the judge knows of it what it needs, and this is kept
+  -- so much has come with these lines, the judge holds of it what it needs, and this is kept
   pub record LedBy (lines : List (List ℕ)) (m : TaskMachine K) : Type 0 where
     pub so_far : SoFar
     pub leads : Leads task_format TaskLineFits process_node task_start lines

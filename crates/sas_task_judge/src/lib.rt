@@ -1,5 +1,5 @@
-//! Judges the lines of a task file, one after another, and tells what each adds to what has come; what a line adds is handed to a
-//! keeper, or a whole section at once.
+//! Judges the lines of a task file, one after another, and reports what each adds to what has come. What a line adds is
+//! handed to a keeper, or a whole section at once.
 #![tactic(auto)]
 
 mod keeper;

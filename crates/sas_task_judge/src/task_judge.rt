@@ -1,4 +1,4 @@
-// What judges the lines of a task file, one after another: whether each may stand where it stands, and what it adds.
+// Judges the lines of a task file, one after another: whether each may stand where it stands, and what it adds.
 ghost use Rattle.std.specs.Prelude.{◌≡◌, ◌≢◌, ◌<◌, ◌≤◌, ◌-◌, ◌^◌, ◌↔◌, length, nat_lt, IsTrue, [], ◌∷◌, ◌++◌};
 ghost use Rattle.sas_task_line.specs.declared.so_far.SoFar.{SoFar};
 ghost use Rattle.sas_task_format.specs.TaskFormat as format;
@@ -64,7 +64,7 @@ pub enum Place {
     RuleEnd,
 }
 
-/// The place behind the lines so far, and what of them decides which lines may follow: it keeps nothing else of a task.
+/// The place behind the lines so far, and what of them decides which lines may follow. It keeps nothing else of a task.
 #[derive(Drop)]
 pub struct TaskJudge {
     place: Place,
@@ -78,12 +78,12 @@ pub struct TaskJudge {
     ranges: Items<u32>,
     /// How many variables have their value in the state.
     valued: usize,
-    /// What the lines said last.
+    /// What the last line of each sort held.
     pub said: Said,
 }
 
 impl TaskJudge {
-    /// Nothing has come.
+    /// Makes a judge that has taken no line.
     pub fn new(alloc: Global) -> Self
         ensures place { result.place ≡ Place.VersionBegin }
         ensures ranges { result.ranges ≡ [] }
@@ -100,7 +100,7 @@ impl TaskJudge {
         }
     }
 
-    /// Whether all has come.
+    /// Returns whether all lines have come.
     pub fn has_ended(&self) -> bool
         ensures { IsTrue result ↔ HasEnded self.now }
     {
@@ -289,7 +289,7 @@ impl TaskJudge {
         Ok(Event::Group)
     }
 
-    /// How many values the next variable has that has none in the state yet.
+    /// Returns how many values the variable has whose value in the state comes next.
     fn next_range(&self) -> usize
         ensures { result ≡ range_in self.now.ranges self.now.valued }
     {
@@ -396,7 +396,7 @@ impl TaskJudge {
         Ok(self.took_effect_count(count))
     }
 
-    /// Goes on behind the effect that was said.
+    /// Goes on behind the effect that `said` holds.
     fn took_effect(&mut self) -> Event
         requires place { self.old.place ≡ Place.Effects }
         requires more { 0 < self.old.more }
@@ -459,7 +459,7 @@ impl TaskJudge {
         Ok(self.took_head(head))
     }
 
-    /// Takes the next line.
+    /// Takes the next line. Returns what it adds, or the kind of its fault.
     pub fn take(&mut self, line: &[u8]) -> Result<Event, Kind>
         requires { HasEnded self.old → ⊥ }
         ensures { Moves self.old line.now self.new result }
@@ -488,7 +488,7 @@ impl TaskJudge {
         }
     }
 
-    /// Takes the next line, where the mutex groups have come.
+    /// Takes the next line, where the mutex groups have come. Returns what it adds, or the kind of its fault.
     fn take_behind_groups(&mut self, line: &[u8]) -> Result<Event, Kind>
         requires behind { IsBehindGroups self.old.place }
         requires going_on { HasEnded self.old → ⊥ }
@@ -520,7 +520,7 @@ impl TaskJudge {
         }
     }
 
-    /// Whether each variable has its value.
+    /// Returns whether each variable has its value in the state.
     fn has_state(&self) -> bool
         ensures has { IsTrue result ↔ (length self.now.ranges ≤ self.now.valued) }
         ensures few { length self.now.ranges < 2 ^ 64 }

@@ -1,4 +1,4 @@
-// What takes the lines of a task file: it judges each, and keeps what is asked for of what they say.
+// Takes the lines of a task file: it judges each, and keeps what is asked for of what they hold.
 ghost use Rattle.std.specs.Prelude.{◌≡◌};
 
 use crate::keeper::Keeper;
@@ -19,7 +19,7 @@ impl<K: Keeper> TaskMachine<K> {
     ghost use Rattle.sas_task_judge.specs.TaskJudge.{HasEnded, SectionDue};
     ghost use Rattle.sas_task_judge.specs.TaskMachine.{LedBy, IsFresh};
 
-    /// Nothing has come.
+    /// Makes a machine that has taken no line, with this keeper.
     pub fn new(alloc: Global, kept: K) -> Self
         requires { IsFresh K.keeps kept }
         ensures led { LedBy K.keeps [] result }
@@ -30,7 +30,7 @@ impl<K: Keeper> TaskMachine<K> {
         }
     }
 
-    /// What was kept.
+    /// Returns the keeper, with what it kept.
     pub fn into_kept(self) -> K
         ensures { result ≡ self.kept }
     {
@@ -38,7 +38,7 @@ impl<K: Keeper> TaskMachine<K> {
         kept
     }
 
-    /// Has the variable kept that is due, where it stands first in the bytes, and goes on behind it.
+    /// Lets the keeper keep the variable that is due, where it stands first in the bytes, and goes on behind it.
     fn variable_ahead(&mut self, bytes: &[u8]) -> Result<Front, Kind>
         requires { SectionDue self.old.judge Section.Variable }
         ensures { AcceptsAhead (LedBy K.keeps) self.old bytes.now self.new result }
@@ -51,7 +51,7 @@ impl<K: Keeper> TaskMachine<K> {
         Ok(kept.front)
     }
 
-    /// Has the mutex group kept that is due likewise.
+    /// Lets the keeper keep the mutex group that is due likewise.
     fn group_ahead(&mut self, bytes: &[u8]) -> Result<Front, Kind>
         requires { SectionDue self.old.judge Section.Group }
         ensures { AcceptsAhead (LedBy K.keeps) self.old bytes.now self.new result }
@@ -63,7 +63,7 @@ impl<K: Keeper> TaskMachine<K> {
         Ok(front)
     }
 
-    /// Has the operator kept that is due likewise.
+    /// Lets the keeper keep the operator that is due likewise.
     fn operator_ahead(&mut self, bytes: &[u8]) -> Result<Front, Kind>
         requires { SectionDue self.old.judge Section.Operator }
         ensures { AcceptsAhead (LedBy K.keeps) self.old bytes.now self.new result }
@@ -75,7 +75,7 @@ impl<K: Keeper> TaskMachine<K> {
         Ok(front)
     }
 
-    /// Has the rule kept that is due likewise.
+    /// Lets the keeper keep the rule that is due likewise.
     fn rule_ahead(&mut self, bytes: &[u8]) -> Result<Front, Kind>
         requires { SectionDue self.old.judge Section.Rule }
         ensures { AcceptsAhead (LedBy K.keeps) self.old bytes.now self.new result }
@@ -87,8 +87,8 @@ impl<K: Keeper> TaskMachine<K> {
         Ok(front)
     }
 
-    /// Takes the whole section that is due and stands first in the bytes, if its keeper keeps it.
-    /// Else it takes nothing.
+    /// Takes the whole section that is due and stands first in the bytes, if the keeper keeps it. Else it takes
+    /// nothing.
     fn section_ahead(&mut self, bytes: &[u8]) -> Result<Front, Kind>
         ensures { AcceptsAhead (LedBy K.keeps) self.old bytes.now self.new result }
     {

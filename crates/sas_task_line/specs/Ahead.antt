@@ -8,14 +8,14 @@ use Rattle.sas_reader.specs.System.{IsPlain}
 use Rattle.sas_task_format.specs.TaskFormat.{TaskLine, task_line_bytes, TaskLineFits, head_words, HeadNumbers}
 use Rattle.sas_core.specs.declared.grounded.Change.{Change}
 
--- the bytes begin with this line, its numbers being numbers that a file can
--- say, and with its LF it takes so many of them
+-- the bytes begin with this line, which has numbers that a file can spell, and with its LF it takes
+-- so many of them
 pub record SpellsAhead (i : TaskLine) (bytes : List ℕ) (taken : ℕ) : Type 0 where
   pub fits : TaskLineFits i
   pub first : LineStandsFirst bytes (task_line_bytes i) taken
   pub before_end : task_line_bytes i ≡ take (taken - 1) bytes
 
--- the bytes are this line, its numbers being numbers that a file can say, LF, and the rest
+-- the bytes are this line, which has numbers that a file can spell, LF, and the rest
 pub record LineAhead (i : TaskLine) (bytes rest : List ℕ) : Type 0 where
   pub fits : TaskLineFits i
   pub plain : IsPlain (task_line_bytes i)

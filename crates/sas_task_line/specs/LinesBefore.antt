@@ -11,8 +11,7 @@ use Rattle.sas_flat.specs.Effects.{plain_effect}
 use Rattle.sas_task_line.specs.Sections.{spelled}
 use Rattle.sas_task_line.specs.TaskRanges.{fact_in_ranges, effect_in_ranges}
 
--- the bytes are these lines, their numbers being numbers that a file can say,
--- each with LF, and the rest
+-- the bytes are these lines, which have numbers that a file can spell, each with LF, and the rest
 pub record LinesBefore (items : List TaskLine) (bytes rest : List ℕ) : Type 0 where
   pub fits : AllByRecursion TaskLineFits items
   pub plain : AllByRecursion IsPlain (spelled items)

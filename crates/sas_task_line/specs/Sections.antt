@@ -19,8 +19,8 @@ use Rattle.sas_task_line.specs.TaskRanges.{fact_in_ranges, effect_in_ranges, cha
 abbrev pub spelled : List TaskLine → List (List ℕ)
 spelled items = map task_line_bytes items
 
--- the bytes begin with these lines, their numbers being numbers that a file can
--- say, and the front is as long as they are
+-- the bytes begin with these lines, which have numbers that a file can spell, and the front is as
+-- long as they are
 pub record LinesAhead (items : List TaskLine) (bytes : List ℕ) (front : Front) : Type 0 where
   pub fits : AllByRecursion TaskLineFits items
   pub stands : IsFront (spelled items) bytes front

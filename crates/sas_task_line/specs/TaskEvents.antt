@@ -35,7 +35,7 @@ nothing_yet alloc = record {
   effects = [];
 }
 
--- the variable, the operator and the rule that have come, of which the line says the rest
+-- the variable, the operator and the rule that have come, of which the line holds the rest
 abbrev pub variable_of : SoFar → Variable
 variable_of s = record { name = s.name; layer = s.layer; values = s.values }
 
@@ -60,7 +60,7 @@ with_operator p o = record p { operators = p.operators ++ o ∷ [] }
 abbrev pub with_rule : Parts → Rule → Parts
 with_rule p r = record p { rules = p.rules ++ r ∷ [] }
 
--- what has come behind a line that says this
+-- what has come behind a line that adds this
 abbrev pub after : SoFar → Event → Said → List ℕ → SoFar
 after s event.Nothing said line = s
 after s event.Metric said line = record s { parts = record s.parts { metric = said.number == 1 } }

@@ -10,8 +10,8 @@ use Rattle.sas_task_format.specs.TaskFormat.{TaskLine, TaskSlot, task_line_bytes
 abbrev pub IsOfLine : Kind → Type 0
 IsOfLine kind = IsOfBytes kind × (kind ≢ kinds.Memory)
 
--- What was read is what the line says, and that may stand at the slot under the
--- test; or no such line may stand there, and the kind is that of its fault.
+-- What was read is what the line holds, and that may stand at the slot under the test; or no such
+-- line may stand there, and the kind is that of its fault.
 abbrev pub Says : {A : Type 0} → TaskSlot → (TaskLine → Bool) → (A → TaskLine) → List ℕ
     → Result A Kind → Type 0
 Says slot test said line (Ok a) =
@@ -19,7 +19,7 @@ Says slot test said line (Ok a) =
 Says slot test said line (Err kind) = IsOfLine kind
     × Judged task_format TaskLineFits slot test line kind
 
--- the same where memory is taken for what the line says, and may be refused
+-- the same where memory is taken for what the line holds, and may be refused
 abbrev pub SaysOrWants : {A : Type 0} → TaskSlot → (TaskLine → Bool) → (A → TaskLine) → List ℕ
     → Result A Kind → Type 0
 SaysOrWants slot test said line (Ok a) =

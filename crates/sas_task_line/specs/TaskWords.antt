@@ -8,7 +8,7 @@ use Rattle.sas_core.specs.Numbers.{IsNumber, IsSigned}
 use Rattle.sas_lines.specs.Spelling.{signed_decimal}
 use Rattle.sas_task_format.specs.TaskFormat.{TaskLine, task_line_bytes, TaskLineFits, fact_words, head_words, FactNumbers, HeadNumbers}
 
--- the bytes are those of this line, its numbers being numbers that a file can say
+-- the bytes are those of this line, which has numbers that a file can spell
 abbrev pub Spells : TaskLine → List ℕ → Type 0
 Spells i bytes = TaskLineFits i × (task_line_bytes i ≡ bytes)
 
@@ -24,7 +24,7 @@ TakesSigned words n rest = IsSigned n × (words ≡ signed_decimal n ∷ rest)
 abbrev pub TakesFact : List (List ℕ) → Fact → List (List ℕ) → Type 0
 TakesFact words f rest = FactNumbers f × (words ≡ fact_words f ++ rest)
 
--- as many facts as the count says stand before the rest
+-- so many facts stand before the rest
 pub record TakesFacts (words : List (List ℕ)) (count : ℕ) (facts : List Fact)
     (rest : List (List ℕ)) : Type 0 where
   pub many : length facts ≡ count

@@ -1,5 +1,5 @@
-// The first line of some bytes, read straight off these, where it is quick to see that it ends with LF and says what is
-// asked for. All else is left to the functions that are given the line by itself, and tell its fault.
+// The first line of some bytes, read straight off these, where it is quick to see that it ends with LF and holds what
+// is asked for. All else is left to the functions that are given the line by itself, and report its fault.
 ghost use Rattle.std.specs.Prelude.{◌≡◌, ◌+◌, ◌<◌, ◌++◌, length, IfSome};
 ghost use Rattle.std.specs.Fmt.{decimal};
 ghost use Rattle.sas_core.specs.Names.{IsName};
@@ -10,15 +10,15 @@ ghost use Rattle.sas_flat.specs.Effects.{plain_effect};
 use memchr::memchr2;
 use sas_core::{Change, Fact};
 
-/// What the first line of some bytes says, and how many of the bytes the line takes with its LF.
+/// What the first line of some bytes holds, and how many of the bytes the line takes with its LF.
 #[derive(Clone, Copy, Debug, PartialEq, Eq)]
 pub struct Ahead<A> {
     pub said: A,
     pub taken: usize,
 }
 
-/// The number that begins with the digits of this one and goes on with those that stand before this byte, and what
-/// follows that. A number of ten digits is left to the functions that are given the line by itself.
+/// Returns the number that begins with the digits of this one and goes on with those that stand before this byte, and
+/// what follows that byte. A number of ten digits is left to the functions that are given the line by itself.
 #[inline(always)]
 fn longer_before(first: u32, bytes: &[u8], end: u8) -> Option<(u32, &[u8])>
     requires some { 0 < first }
@@ -44,7 +44,7 @@ fn longer_before(first: u32, bytes: &[u8], end: u8) -> Option<(u32, &[u8])>
     None
 }
 
-/// A number that stands before this byte, and what follows that.
+/// Returns the number that stands before this byte, and what follows that byte.
 #[inline(always)]
 pub(crate) fn number_before(bytes: &[u8], end: u8) -> Option<(u32, &[u8])>
     ensures { IfSome result (λ found. NumberAhead bytes.now found.0 end found.1.now) }
@@ -61,7 +61,7 @@ pub(crate) fn number_before(bytes: &[u8], end: u8) -> Option<(u32, &[u8])>
     }
 }
 
-/// A number, or `-1` for none, that stands before this byte, and what follows that.
+/// Returns the number, or `-1` for none, that stands before this byte, and what follows that byte.
 #[inline(always)]
 pub(crate) fn signed_before(bytes: &[u8], end: u8) -> Option<(Option<u32>, &[u8])>
     ensures { IfSome result (λ found. SignedAhead bytes.now found.0 end found.1.now) }
@@ -77,7 +77,7 @@ pub(crate) fn signed_before(bytes: &[u8], end: u8) -> Option<(Option<u32>, &[u8]
     Some((Some(number), rest))
 }
 
-/// A change that stands before LF, and what follows that.
+/// Returns the change that stands before LF, and what follows LF.
 #[inline(always)]
 pub(crate) fn change_before(bytes: &[u8]) -> Option<(Change, &[u8])>
     ensures { IfSome result (λ found. ChangeAhead bytes.now found.0 found.1.now) }
@@ -88,7 +88,7 @@ pub(crate) fn change_before(bytes: &[u8]) -> Option<(Change, &[u8])>
     Some((Change { var, old, new }, rest))
 }
 
-/// A fact that stands before LF, whether it exists or not, and what follows that.
+/// Returns the fact that stands before LF, whether it exists or not, and what follows LF.
 #[inline(always)]
 pub(crate) fn fact_before(bytes: &[u8]) -> Option<(Fact, &[u8])>
     ensures { IfSome result (λ found. LineAhead (format.fact found.0) bytes.now found.1.now) }
@@ -98,8 +98,8 @@ pub(crate) fn fact_before(bytes: &[u8]) -> Option<(Fact, &[u8])>
     Some((Fact { var, value }, rest))
 }
 
-/// An effect without conditions that stands before LF, by its change, whether its facts exist or not, and what follows
-/// that.
+/// Returns the effect without conditions that stands before LF, by its change, whether its facts exist or not, and what
+/// follows LF.
 #[inline(always)]
 pub(crate) fn effect_before(bytes: &[u8]) -> Option<(Change, &[u8])>
     ensures { IfSome result
@@ -111,7 +111,7 @@ pub(crate) fn effect_before(bytes: &[u8]) -> Option<(Change, &[u8])>
     change_before(rest)
 }
 
-/// What follows the fixed word and LF.
+/// Returns what follows the fixed word and LF, where the bytes begin with them.
 #[inline(always)]
 pub(crate) fn word_before<'a>(bytes: &'a [u8], word: &[u8]) -> Option<&'a [u8]>
     requires { IsName word.now }
@@ -123,7 +123,7 @@ pub(crate) fn word_before<'a>(bytes: &'a [u8], word: &[u8]) -> Option<&'a [u8]>
     }
 }
 
-/// A name that stands before LF, and what follows that.
+/// Returns the name that stands before LF, and what follows LF.
 pub(crate) fn name_before(bytes: &[u8]) -> Option<(&[u8], &[u8])>
     ensures { IfSome result (λ found.
         IsName found.0.now × LineAhead (format.name found.0.now) bytes.now found.1.now) }
@@ -136,7 +136,7 @@ pub(crate) fn name_before(bytes: &[u8]) -> Option<(&[u8], &[u8])>
     }
 }
 
-/// A number.
+/// Returns the number on the first line, or `None` where it isn't quick to see.
 pub fn number_ahead(bytes: &[u8]) -> Option<Ahead<u32>>
     ensures { IfSome result (λ a. SpellsAhead (format.number a.said) bytes.now a.taken) }
 {
@@ -147,7 +147,7 @@ pub fn number_ahead(bytes: &[u8]) -> Option<Ahead<u32>>
     })
 }
 
-/// A fact, whether it exists or not.
+/// Returns the fact on the first line, whether it exists or not, or `None` where it isn't quick to see.
 pub fn fact_ahead(bytes: &[u8]) -> Option<Ahead<Fact>>
     ensures { IfSome result (λ a. SpellsAhead (format.fact a.said) bytes.now a.taken) }
 {
@@ -158,7 +158,8 @@ pub fn fact_ahead(bytes: &[u8]) -> Option<Ahead<Fact>>
     })
 }
 
-/// An effect without conditions, by its change, whether its facts exist or not.
+/// Returns the effect without conditions on the first line, by its change, whether its facts exist or not. Returns
+/// `None` where it isn't quick to see.
 pub fn effect_ahead(bytes: &[u8]) -> Option<Ahead<Change>>
     ensures { IfSome result
         (λ a. SpellsAhead (format.effect (plain_effect a.said)) bytes.now a.taken) }
@@ -170,7 +171,7 @@ pub fn effect_ahead(bytes: &[u8]) -> Option<Ahead<Change>>
     })
 }
 
-/// The head of a rule, whether its facts exist or not.
+/// Returns the head of a rule on the first line, whether its facts exist or not, or `None` where it isn't quick to see.
 pub fn head_ahead(bytes: &[u8]) -> Option<Ahead<Change>>
     ensures { IfSome result
         (λ a. SpellsAhead (format.head a.said.var a.said.old a.said.new) bytes.now a.taken) }
@@ -182,7 +183,8 @@ pub fn head_ahead(bytes: &[u8]) -> Option<Ahead<Change>>
     })
 }
 
-/// The fixed word: how many of the bytes it takes with its LF.
+/// Returns how many of the bytes the fixed word takes with its LF, or `None` where it isn't quick to see that the first
+/// line is this word.
 pub fn word_ahead(bytes: &[u8], word: &[u8]) -> Option<usize>
     requires { IsName word.now }
     ensures { IfSome result (λ taken. SpellsAhead (format.word word.now) bytes.now taken) }
@@ -191,7 +193,7 @@ pub fn word_ahead(bytes: &[u8], word: &[u8]) -> Option<usize>
     Some(bytes.len() - rest.len())
 }
 
-/// A name.
+/// Returns the name on the first line, or `None` where it isn't quick to see.
 pub fn name_ahead(bytes: &[u8]) -> Option<&[u8]>
     ensures { IfSome result (λ name.
         IsName name.now × SpellsAhead (format.name name.now) bytes.now (length name.now + 1)) }

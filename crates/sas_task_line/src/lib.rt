@@ -1,5 +1,5 @@
-//! One line of a task file: what it says, or the kind of its fault; what it adds to what has come, and what keeps all of that;
-//! and whole sections that stand first in some bytes.
+//! One line of a task file: what it holds, or the kind of its fault. Also what a line adds to what has come, what stores
+//! all of that, and whole sections that stand first in some bytes.
 #![tactic(auto)]
 
 mod ahead;

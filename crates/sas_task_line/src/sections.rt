@@ -1,5 +1,5 @@
 // An operator or a rule that stands whole and first in some bytes, read in one go: most of a large file is these. All
-// else, and all faults, are left to what takes line by line.
+// else, and all faults, are left to the code that takes line by line.
 ghost use Rattle.std.specs.Prelude.{◌≡◌, [], ◌∷◌, length, codes, IsTrue, IfOk, IfSome};
 ghost use Rattle.sas_core.specs.Names.{IsName};
 ghost use Rattle.sas_task_format.specs.TaskFormat as format;
@@ -16,8 +16,8 @@ use sas_lists::Lists;
 use sas_reader::Front;
 use std::alloc::{AllocError, Global};
 
-/// Where more facts are due, the piece most likely cuts them. They are left to what takes line by line, or those in front of
-/// the cut would be read twice.
+/// Where more facts are due, the piece most likely cuts them. They are left to the code that takes line by line, or
+/// those in front of the cut would be read twice.
 const MOST_FACTS: u32 = 64;
 
 /// What was read of a section, as far as it is a list. The memory serves the next section too.
@@ -32,7 +32,7 @@ pub struct Gathered {
 }
 
 impl Gathered {
-    /// It takes no memory.
+    /// Makes empty lists. It takes no memory.
     pub fn new(alloc: Global) -> Self {
         Gathered {
             values: Lists::new(alloc),
@@ -42,7 +42,7 @@ impl Gathered {
     }
 }
 
-/// What stands first in some bytes: what an operator has beside its conditions and effects, and its lines.
+/// An operator that stands first in some bytes: what it has beside its conditions and effects, and its lines.
 #[derive(Drop)]
 pub struct OperatorFound<'a> {
     pub name: &'a [u8],
@@ -50,14 +50,14 @@ pub struct OperatorFound<'a> {
     pub front: Front,
 }
 
-/// What stands first in some bytes: the head of a rule, and its lines.
+/// A rule that stands first in some bytes: its head, and its lines.
 #[derive(Clone, Copy, Debug, PartialEq, Eq)]
 pub struct RuleFound {
     pub head: Change,
     pub front: Front,
 }
 
-/// Takes the facts that stand with their number before some rest, where each exists: the rest.
+/// Takes the facts that stand with their number before some rest, where each exists. Returns the rest.
 #[inline(always)]
 pub(crate) fn facts_before<'a>(
     ranges: &Items<u32>,
@@ -88,7 +88,7 @@ pub(crate) fn facts_before<'a>(
 }
 
 /// Takes the changes of the effects without conditions that stand with their number before some rest, where the facts
-/// of each exist: the rest.
+/// of each exist. Returns the rest.
 #[inline(always)]
 fn changes_before<'a>(
     ranges: &Items<u32>,
@@ -115,7 +115,7 @@ fn changes_before<'a>(
     Ok(Some(rest))
 }
 
-/// The cost that stands before the last word of an operator, and the rest.
+/// Returns the cost that stands before the last word of an operator, and the rest behind that word.
 #[inline(always)]
 fn end_before(bytes: &[u8]) -> Option<(u32, &[u8])>
     ensures { IfSome result (λ found.
@@ -127,7 +127,7 @@ fn end_before(bytes: &[u8]) -> Option<(u32, &[u8])>
     Some((cost, rest))
 }
 
-/// The name behind the first word of an operator, and the rest.
+/// Returns the name behind the first word of an operator, and the rest.
 #[inline(always)]
 fn begin_before(bytes: &[u8]) -> Option<(&[u8], &[u8])>
     ensures { IfSome result (λ found. IsName found.0.now
@@ -138,8 +138,9 @@ fn begin_before(bytes: &[u8]) -> Option<(&[u8], &[u8])>
     name_before(rest)
 }
 
-/// The operator that stands first in the bytes, where it is quick to see that its facts exist and its effects have no
-/// conditions. Its prevail conditions and changes are gathered. After `None` or an `Err` anything may be gathered.
+/// Returns the operator that stands first in the bytes, where it is quick to see that its facts exist and its effects
+/// have no conditions. Its prevail conditions and changes are gathered. After `None` or an `Err` anything may be
+/// gathered.
 #[inline(always)]
 pub fn operator_found<'a>(
     ranges: &Items<u32>,
@@ -169,7 +170,7 @@ pub fn operator_found<'a>(
     Ok(Some(OperatorFound { name, cost, front }))
 }
 
-/// The head of a rule whose facts exist that stands before the last word, and the rest.
+/// Returns the head of a rule that stands before the last word, where its facts exist, and the rest behind that word.
 #[inline(always)]
 fn head_before<'a>(ranges: &Items<u32>, bytes: &'a [u8]) -> Option<(Change, &'a [u8])>
     ensures { IfSome result (λ found.
@@ -185,8 +186,8 @@ fn head_before<'a>(ranges: &Items<u32>, bytes: &'a [u8]) -> Option<(Change, &'a 
     Some((head, rest))
 }
 
-/// The rule that stands first in the bytes, where it is quick to see that its facts exist. Its conditions are gathered.
-/// After `None` or an `Err` anything may be gathered.
+/// Returns the rule that stands first in the bytes, where it is quick to see that its facts exist. Its conditions are
+/// gathered. After `None` or an `Err` anything may be gathered.
 #[inline(always)]
 pub fn rule_found(
     ranges: &Items<u32>,

@@ -1,4 +1,4 @@
-// What keeps all that a task file says.
+// Stores all that a task file holds.
 ghost use Rattle.std.specs.Prelude.{◌≡◌, [], ◌∷◌, ◌++◌, IfErr, IfOk, OnOk};
 ghost use Rattle.sas_task_line.specs.declared.task_events.Event.TheVariants as event;
 ghost use Rattle.sas_task_line.specs.declared.task_events.Said.{Said};
@@ -23,7 +23,7 @@ pub struct SoFar {
     pub effects: Items<Effect>,
 }
 
-/// Pushes the item.
+/// Pushes the item onto the list.
 fn push<T: Drop>(items: &mut Items<T>, item: T) -> Result<(), Kind>
     ensures ok { OnOk result (items.new ≡ items.old ++ item ∷ []) }
     ensures err { IfErr result (λ k. k ≡ Kind.Memory) }
@@ -32,7 +32,7 @@ fn push<T: Drop>(items: &mut Items<T>, item: T) -> Result<(), Kind>
     Ok(())
 }
 
-/// A copy of the line.
+/// Returns a copy of the line.
 fn copy_of(alloc: Global, line: &[u8]) -> Result<Items<u8>, Kind>
     ensures ok { IfOk result (λ name. name ≡ line.now) }
     ensures err { IfErr result (λ k. k ≡ Kind.Memory) }
@@ -42,7 +42,7 @@ fn copy_of(alloc: Global, line: &[u8]) -> Result<Items<u8>, Kind>
 }
 
 impl SoFar {
-    /// Nothing has come.
+    /// Makes a `SoFar` of which nothing has come.
     pub fn new(alloc: Global) -> Self
         ensures { result ≡ nothing_yet alloc }
     {
@@ -65,7 +65,7 @@ impl SoFar {
         }
     }
 
-    /// The parts that have come.
+    /// Returns the parts that have come.
     pub fn into_parts(self) -> Parts
         ensures { result ≡ self.parts }
     {
@@ -78,7 +78,7 @@ impl SoFar {
             → OnOk result (self.new ≡ after self.old event.Name said line.now) }
         ensures err { IfErr result (λ k. k ≡ Kind.Memory) }
     {
-        // Where the name before was not given away, its memory serves this one.
+        // Where the name before was not moved out, its memory serves this one.
         self.name.clear();
         self.name.extend_from_slice(line)?;
         Ok(())
@@ -154,7 +154,8 @@ impl SoFar {
         push(&mut self.parts.rules, rule)
     }
 
-    /// Takes what the line says. A list that begins is empty already, which is said again here, so that it need not be known.
+    /// Adds what the line holds to what has come. A list that begins is empty already. It is set once more here, so
+    /// that this need not be known.
     pub fn add(&mut self, line: &[u8], event: Event, said: &mut Said) -> Result<(), Kind>
         ensures ok { OnOk result (self.new ≡ after self.old event said.old line.now) }
         ensures err { IfErr result (λ k. k ≡ Kind.Memory) }

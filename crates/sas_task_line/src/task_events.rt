@@ -1,11 +1,11 @@
-// What a line of a task file says.
+// What a line of a task file holds.
 ghost use Rattle.std.specs.Prelude.{◌≡◌};
 ghost use Rattle.sas_flat.specs.Effects.{plain_effect};
 
 use sas_core::{Change, Effect, Fact, Items};
 use std::alloc::Global;
 
-/// What a line adds to what has come. A name is the line itself, and other values stand beside, in `Said`.
+/// What a line adds to what has come. A name is the line itself; other values stand beside, in `Said`.
 #[derive(Clone, Copy, Debug, PartialEq, Eq)]
 pub enum Event {
     /// Nothing: a fixed word, the version, a number of variables, groups, goal facts, operators or rules.
@@ -42,7 +42,7 @@ pub enum Event {
     Rule,
 }
 
-/// What the lines said last. A field keeps its value until the next line of its sort.
+/// What the last line of each sort held. A field keeps its value until the next line of its sort.
 #[derive(Drop)]
 pub struct Said {
     /// The metric, a value in the initial state, or a cost.
@@ -55,7 +55,7 @@ pub struct Said {
 }
 
 impl Said {
-    /// Nothing was said yet.
+    /// Makes a `Said` in which no line has stored anything.
     pub fn new(alloc: Global) -> Self {
         Said {
             number: 0,
@@ -75,7 +75,7 @@ impl Said {
         }
     }
 
-    /// Says an effect without conditions. It takes no memory.
+    /// Stores an effect without conditions. It takes no memory.
     pub fn say_effect(&mut self, change: Change)
         ensures { self.new.effect ≡ plain_effect change }
     {

@@ -16,7 +16,7 @@ use std::alloc::AllocError;
 /// The version of the format.
 const VERSION: u32 = 3;
 
-/// The fixed word.
+/// Checks that the line is the fixed word. Else returns the kind of its fault.
 pub fn word_at(line: &[u8], word: &[u8]) -> Result<(), Kind>
     ensures { Says (format.word_slot word.now) (λ _. true) (λ _. format.word word.now)
         line.now result }
@@ -28,7 +28,7 @@ pub fn word_at(line: &[u8], word: &[u8]) -> Result<(), Kind>
     }
 }
 
-/// A name: the line itself.
+/// Checks that the line is a name. Else returns the kind of its fault.
 pub fn name_at(line: &[u8]) -> Result<(), Kind>
     ensures { Says format.name_slot (λ i. is_name (name_in i)) (λ _. format.name line.now)
         line.now result }
@@ -40,7 +40,7 @@ pub fn name_at(line: &[u8]) -> Result<(), Kind>
     }
 }
 
-/// A number.
+/// Returns the number on the line, or the kind of its fault.
 pub fn number_at(line: &[u8]) -> Result<u32, Kind>
     ensures { Says format.number_slot (λ i. any (number_in i)) format.number line.now result }
 {
@@ -50,7 +50,7 @@ pub fn number_at(line: &[u8]) -> Result<u32, Kind>
     }
 }
 
-/// A number that isn't 0.
+/// Returns the number on the line, which isn't 0, or the kind of its fault.
 pub fn positive_at(line: &[u8]) -> Result<u32, Kind>
     ensures { Says format.number_slot (λ i. positive (number_in i)) format.number line.now result }
 {
@@ -61,7 +61,7 @@ pub fn positive_at(line: &[u8]) -> Result<u32, Kind>
     }
 }
 
-/// A number below a bound.
+/// Returns the number on the line, which is below a bound, or the kind of its fault.
 pub fn number_below(line: &[u8], bound: usize) -> Result<u32, Kind>
     ensures { Says format.number_slot (λ i. nat_lt (number_in i) bound) format.number
         line.now result }
@@ -73,7 +73,7 @@ pub fn number_below(line: &[u8], bound: usize) -> Result<u32, Kind>
     }
 }
 
-/// The version.
+/// Returns the version on the line, or the kind of its fault.
 pub fn version_at(line: &[u8]) -> Result<u32, Kind>
     ensures { Says format.number_slot (λ i. number_in i == 3) format.number line.now result }
 {
@@ -84,7 +84,7 @@ pub fn version_at(line: &[u8]) -> Result<u32, Kind>
     }
 }
 
-/// A number, or none.
+/// Returns the number on the line, or none where `-1` stands there, or the kind of its fault.
 pub fn signed_at(line: &[u8]) -> Result<Option<u32>, Kind>
     ensures { Says format.signed_slot (λ _. true) format.signed line.now result }
 {
@@ -94,7 +94,7 @@ pub fn signed_at(line: &[u8]) -> Result<Option<u32>, Kind>
     }
 }
 
-/// The next part, as a number.
+/// Takes the next part, and returns it as a number.
 fn take_number(parts: &mut Numbers<'_>) -> Option<u32>
     ensures found { IfSome result (λ n. TakesNumber parts.old n parts.new) }
     ensures none { IfNone result
@@ -106,7 +106,7 @@ fn take_number(parts: &mut Numbers<'_>) -> Option<u32>
     }
 }
 
-/// The next part, as a number or none.
+/// Takes the next part, and returns it as a number or none.
 fn take_signed(parts: &mut Numbers<'_>) -> Option<Option<u32>>
     ensures found { IfSome result (λ n. TakesSigned parts.old n parts.new) }
     ensures none { IfNone result
@@ -118,7 +118,7 @@ fn take_signed(parts: &mut Numbers<'_>) -> Option<Option<u32>>
     }
 }
 
-/// The next two parts, as a fact.
+/// Takes the next two parts, and returns them as a fact.
 fn take_fact(parts: &mut Numbers<'_>) -> Option<Fact>
     ensures found { IfSome result (λ f. TakesFact parts.old f parts.new) }
     ensures none { IfNone result
@@ -133,8 +133,8 @@ fn take_fact(parts: &mut Numbers<'_>) -> Option<Fact>
     Some(Fact { var, value })
 }
 
-/// Takes the next parts as so many facts: whether they are. Nothing is reserved for them, since a line may say any count
-/// and hold few parts.
+/// Takes the next parts as so many facts, and returns whether they are facts. Nothing is reserved for them, since a
+/// line may hold any count and few parts.
 fn take_facts(
     facts: &mut Items<Fact>,
     parts: &mut Numbers<'_>,
@@ -155,7 +155,7 @@ fn take_facts(
     Ok(true)
 }
 
-/// The next three parts, as a change.
+/// Takes the next three parts, and returns them as a change.
 fn take_change(parts: &mut Numbers<'_>) -> Option<Change>
     ensures found { IfSome result
         (λ (c : Change). TakesHead parts.old c.var c.old c.new parts.new) }
@@ -174,14 +174,14 @@ fn take_change(parts: &mut Numbers<'_>) -> Option<Change>
     Some(Change { var, old, new })
 }
 
-/// Whether no part is left.
+/// Returns whether no part is left.
 fn is_over(parts: &mut Numbers<'_>) -> bool
     ensures { IsTrue result ↔ (parts.old ≡ []) }
 {
     parts.next().is_none()
 }
 
-/// The fact that the line spells, whether it exists or not.
+/// Returns the fact that the line spells, whether it exists or not.
 fn fact_of(line: &[u8]) -> Option<Fact>
     ensures found { IfSome result (λ f. Spells (format.fact f) line.now) }
     ensures none { IfNone result ((f : Fact) → Spells (format.fact f) line.now → ⊥) }
@@ -197,7 +197,7 @@ fn fact_of(line: &[u8]) -> Option<Fact>
     }
 }
 
-/// Takes the effect that the line spells, whether its facts exist or not: whether it spells one.
+/// Takes the effect that the line spells, whether its facts exist or not, and returns whether it spells one.
 fn effect_of(effect: &mut Effect, line: &[u8]) -> Result<bool, AllocError>
     ensures found { IfOk result
         (λ found. IsTrue found → Spells (format.effect effect.exit.now) line.now) }
@@ -220,7 +220,7 @@ fn effect_of(effect: &mut Effect, line: &[u8]) -> Result<bool, AllocError>
     Ok(is_over(&mut parts))
 }
 
-/// The change that the line spells, whether its values exist or not.
+/// Returns the change that the line spells, whether its values exist or not.
 fn change_of(line: &[u8]) -> Option<Change>
     ensures found { IfSome result
         (λ (c : Change). Spells (format.head c.var c.old c.new) line.now) }
@@ -238,7 +238,7 @@ fn change_of(line: &[u8]) -> Option<Change>
     }
 }
 
-/// Whether the variable exists and has the value, by the number of each variable's values.
+/// Returns whether the variable exists and has the value, by the number of each variable's values.
 pub fn value_in(ranges: &Items<u32>, var: u32, value: u32) -> bool
     ensures { result ≡ value_in ranges.now var value }
 {
@@ -248,7 +248,7 @@ pub fn value_in(ranges: &Items<u32>, var: u32, value: u32) -> bool
     }
 }
 
-/// Whether the variable exists and has the new value and the old one, if any.
+/// Returns whether the variable exists and has the new value and the old one, if any.
 pub fn change_in(ranges: &Items<u32>, var: u32, old: Option<u32>, new: u32) -> bool
     ensures { result ≡ change_in ranges.now var old new }
 {
@@ -258,7 +258,7 @@ pub fn change_in(ranges: &Items<u32>, var: u32, old: Option<u32>, new: u32) -> b
     }
 }
 
-/// Whether all facts exist.
+/// Returns whether all facts exist.
 fn facts_in_ranges(ranges: &Items<u32>, facts: &Items<Fact>) -> bool
     ensures { result ≡ list_all (fact_in_ranges ranges.now) facts.now }
 {
@@ -268,7 +268,7 @@ fn facts_in_ranges(ranges: &Items<u32>, facts: &Items<Fact>) -> bool
         .all(|fact| value_in(ranges, fact.var, fact.value))
 }
 
-/// Whether each fact of the effect exists.
+/// Returns whether each fact of the effect exists.
 fn effect_in_ranges(ranges: &Items<u32>, effect: &Effect) -> bool
     ensures { result ≡ effect_in_ranges ranges.now effect.now }
 {
@@ -276,7 +276,7 @@ fn effect_in_ranges(ranges: &Items<u32>, effect: &Effect) -> bool
         && change_in(ranges, effect.var, effect.old, effect.new)
 }
 
-/// A fact that exists.
+/// Returns the fact on the line, which exists, or the kind of its fault.
 pub fn fact_at(ranges: &Items<u32>, line: &[u8]) -> Result<Fact, Kind>
     ensures { Says format.fact_slot (λ i. fact_in_ranges ranges.now (fact_in i)) format.fact
         line.now result }
@@ -288,12 +288,14 @@ pub fn fact_at(ranges: &Items<u32>, line: &[u8]) -> Result<Fact, Kind>
     }
 }
 
-/// Takes an effect of which each fact exists. Its conditions use the memory of those before, where no one took it.
+/// Takes an effect of which each fact exists, or returns the kind of its fault. Its conditions use the memory of those
+/// before, where it was not moved out.
 pub fn effect_at(effect: &mut Effect, ranges: &Items<u32>, line: &[u8]) -> Result<(), Kind>
     ensures { SaysOrWants format.effect_slot (λ i. effect_in_ranges ranges.now (effect_in i))
         (λ _. format.effect effect.exit.now) line.now result }
 {
-    // The whole line is read before a fact is looked up, since a wrong shape is told before a fact that doesn't exist.
+    // The whole line is read before a fact is looked up, since a wrong shape is reported before a fact that doesn't
+    // exist.
     let found = effect_of(effect, line)?;
     if !found {
         return Err(Kind::Shape);
@@ -304,7 +306,7 @@ pub fn effect_at(effect: &mut Effect, ranges: &Items<u32>, line: &[u8]) -> Resul
     Ok(())
 }
 
-/// The head of a rule, of which each fact exists.
+/// Returns the head of a rule on the line, of which each fact exists, or the kind of its fault.
 pub fn head_at(ranges: &Items<u32>, line: &[u8]) -> Result<Change, Kind>
     ensures { Says format.head_slot (λ i. head_in_ranges ranges.now (head_in i))
         (λ (c : Change). format.head c.var c.old c.new) line.now result }

@@ -12,7 +12,7 @@ use sas_lists::Lists;
 use sas_reader::Front;
 use std::alloc::AllocError;
 
-/// What stands first in some bytes: what a variable has beside its values, and its lines.
+/// A variable that stands first in some bytes: what it has beside its values, and its lines.
 #[derive(Drop)]
 pub struct VariableFound<'a> {
     pub name: &'a [u8],
@@ -20,7 +20,7 @@ pub struct VariableFound<'a> {
     pub front: Front,
 }
 
-/// The name and the axiom layer behind the first word of a variable, and the rest.
+/// Returns the name and the axiom layer behind the first word of a variable, and the rest.
 #[inline(always)]
 fn begin_before(bytes: &[u8]) -> Option<(&[u8], Option<u32>, &[u8])>
     ensures { IfSome result (λ found. IsName found.0.now
@@ -33,7 +33,7 @@ fn begin_before(bytes: &[u8]) -> Option<(&[u8], Option<u32>, &[u8])>
     Some((name, layer, rest))
 }
 
-/// Takes the names that stand with their number before some rest, where there is one at least: the rest.
+/// Takes the names that stand with their number before some rest, where there is one at least. Returns the rest.
 #[inline(always)]
 fn names_before<'a>(bytes: &'a [u8], names: &mut Lists<u8>) -> Result<Option<&'a [u8]>, AllocError>
     ensures { IfOk result (λ found. IfSome found (λ rest. 0 < length names.new
@@ -56,8 +56,8 @@ fn names_before<'a>(bytes: &'a [u8], names: &mut Lists<u8>) -> Result<Option<&'a
     Ok(Some(rest))
 }
 
-/// The variable that stands first in the bytes, if it is quick to see. Its values are gathered. After `None` or an
-/// `Err` any may be gathered.
+/// Returns the variable that stands first in the bytes, if it is quick to see. Its values are gathered. After `None` or
+/// an `Err` any may be gathered.
 #[inline(always)]
 pub fn variable_found<'a>(
     bytes: &'a [u8],
@@ -82,8 +82,8 @@ pub fn variable_found<'a>(
     Ok(Some(VariableFound { name, layer, front }))
 }
 
-/// The lines of the mutex group that stands first in the bytes, where it is quick to see that its facts exist. These
-/// are gathered. After `None` or an `Err` any may be gathered.
+/// Returns how many lines and bytes the mutex group takes up that stands first in the bytes, where it is quick to see
+/// that its facts exist. These are gathered. After `None` or an `Err` any may be gathered.
 #[inline(always)]
 pub fn group_found(
     ranges: &Items<u32>,

@@ -1,4 +1,4 @@
--- What a reader of tasks stands for.
+-- What a reader of tasks represents.
 use Rattle.sas_core.specs.declared.parts.Parts.{Parts}
 use Rattle.sas_reader.specs.Reader as reading
 use Rattle.sas_reader.specs.Reading.{View}
@@ -6,9 +6,9 @@ use Rattle.sas_task_format.specs.TaskFormat.{TaskLine, TaskSlot, task_format}
 use Rattle.sas_task_reader.specs.declared.task_reader.TaskReader.{TaskReader}
 use Rattle.sas_task_judge.specs.TaskMachine.{LedTo, EndedAt, RejectsAt}
 
--- How a reader of tasks is seen. Without a fault it stands for the bytes that it has
--- taken: their complete lines are those that it accepted, their rest is the line that has
--- begun, and their length is what it counted. With a fault, memory aside, that is theirs.
+-- How contracts view a reader of tasks. Without a fault it represents the bytes that it has taken:
+-- their complete lines are those that it accepted, their rest is the line that has begun, and their
+-- length is what it counted. With a fault, memory aside, that fault is theirs.
 abbrev pub task_view : View Parts TaskLine TaskSlot TaskReader
 task_view = record {
   format = task_format;

@@ -1,4 +1,4 @@
-// What keeps all that a task file says, in a few blocks of memory.
+// Stores all that a task file holds, in a few blocks of memory.
 ghost use Rattle.std.specs.Prelude.{◌≡◌, ◌<◌, List, [], OnOk, IfOk};
 ghost use Rattle.sas_core.specs.declared.parts.Fact.{Fact};
 ghost use Rattle.sas_core.specs.declared.parts.Variable.{Variable};
@@ -26,7 +26,7 @@ use std::alloc::{AllocError, Global};
 use std::marker::Model;
 
 /// What has come, as `SoFar` has it: its parts, and what has come of a variable, group, operator or rule that has
-/// begun. In a contract it is the `SoFar` of the same lines.
+/// begun. In a contract it represents the `SoFar` of the same lines.
 #[derive(Drop)]
 pub struct FlatSoFar {
     alloc: Global,
@@ -66,7 +66,7 @@ impl Model for FlatSoFar {
 }
 
 impl FlatSoFar {
-    /// Nothing has come. It takes no memory.
+    /// Makes a `FlatSoFar` of which nothing has come. It takes no memory.
     pub fn new(alloc: Global) -> Self
         ensures { result ≡ nothing_yet alloc }
     {
@@ -92,7 +92,7 @@ impl FlatSoFar {
         }
     }
 
-    /// The task of the parts that have come, where they are known to be well ranged. It takes no memory.
+    /// Returns the task of the parts that have come, where they are known to be well ranged. It takes no memory.
     pub fn into_task(self) -> FlatTask
         requires { WellRanged self.parts }
         ensures { result ≡ self.parts }
@@ -102,7 +102,7 @@ impl FlatSoFar {
         FlatTask::of_parts(columns)
     }
 
-    /// The outline of the parts that have come, with these numbers of groups, operators and rules.
+    /// Returns the outline of the parts that have come, with these numbers of groups, operators and rules.
     pub fn into_outline(self, groups: u32, operators: u32, rules: u32) -> Outline
         ensures { result ≡ outline_with self.parts groups operators rules }
     {
@@ -131,7 +131,7 @@ impl FlatSoFar {
         }
     }
 
-    /// Takes the name away that has come, and keeps the memory.
+    /// Clears the name that has come, and keeps the memory.
     pub fn forget_name(&mut self)
         ensures { self.new ≡ record self.old { name = [] } }
     {
@@ -204,7 +204,7 @@ impl FlatSoFar {
         Ok(())
     }
 
-    /// Takes the variable that stands first in the bytes, all its lines at once, where it is found. It tells how long
+    /// Takes the variable that stands first in the bytes, all its lines at once, where it is found. Returns how long
     /// they are, and how many values the variable has. After an `Err` anything may have been taken.
     #[inline(always)]
     fn variable_ahead(&mut self, bytes: &[u8]) -> Result<VariableKept, AllocError>
@@ -229,7 +229,7 @@ impl FlatSoFar {
         })
     }
 
-    /// Takes the mutex group that stands first in the bytes likewise. It tells how long its lines are.
+    /// Takes the mutex group that stands first in the bytes likewise. Returns how long its lines are.
     fn group_ahead(&mut self, ranges: &Items<u32>, bytes: &[u8]) -> Result<Front, AllocError>
         ensures took { IfOk result (λ front. 0 < front.bytes
             → (facts : List Fact) × GroupAhead ranges.now bytes.now facts front
@@ -288,7 +288,7 @@ impl FlatSoFar {
         Ok(found.front)
     }
 
-    /// Takes what the line says.
+    /// Adds what the line holds to what has come.
     fn add(&mut self, line: &[u8], event: Event, said: &Said) -> Result<(), AllocError>
         ensures { OnOk result (self.new ≡ after self.old event said.now line.now) }
     {

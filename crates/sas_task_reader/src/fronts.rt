@@ -1,4 +1,4 @@
-// How far the section reaches that stands first in some bytes, for those who keep nothing of what it says.
+// How far the section reaches that stands first in some bytes, for keepers that store nothing of it.
 ghost use Rattle.std.specs.Prelude.{◌≡◌, List, IfOk, IfErr, IfSome};
 ghost use Rattle.sas_core.specs.declared.parts.Fact.{Fact};
 ghost use Rattle.sas_core.specs.declared.parts.Variable.{Variable};
@@ -18,8 +18,8 @@ pub const NO_VARIABLE: VariableKept = VariableKept {
     range: 0,
 };
 
-/// The lines of the variable that stands first in the bytes, and how many values it has, where it is found. Anything
-/// may be gathered.
+/// Returns how many lines and bytes the variable takes up that stands first in the bytes, and how many values it has,
+/// where it is found. Anything may be gathered.
 pub fn variable_front(bytes: &[u8], gathered: &mut Gathered) -> Result<Option<VariableKept>, Kind>
     ensures found { IfOk result (λ found. IfSome found (λ kept.
         (v : Variable) × VariableWithRange bytes.now v kept)) }
@@ -34,7 +34,7 @@ pub fn variable_front(bytes: &[u8], gathered: &mut Gathered) -> Result<Option<Va
     }))
 }
 
-/// The lines of the mutex group that stands first in the bytes likewise.
+/// Returns how many lines and bytes the mutex group takes up that stands first in the bytes, likewise.
 pub fn group_front(
     ranges: &Items<u32>,
     bytes: &[u8],
@@ -47,7 +47,7 @@ pub fn group_front(
     Ok(group_found(ranges, bytes, gathered)?)
 }
 
-/// The lines of the operator that stands first in the bytes likewise.
+/// Returns how many lines and bytes the operator takes up that stands first in the bytes, likewise.
 pub fn operator_front(
     ranges: &Items<u32>,
     bytes: &[u8],
@@ -63,7 +63,7 @@ pub fn operator_front(
     Ok(Some(found.front))
 }
 
-/// The lines of the rule that stands first in the bytes likewise.
+/// Returns how many lines and bytes the rule takes up that stands first in the bytes, likewise.
 pub fn rule_front(
     ranges: &Items<u32>,
     bytes: &[u8],

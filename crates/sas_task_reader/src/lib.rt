@@ -1,4 +1,4 @@
-//! The task file, read in pieces with each fault at its exact place.
+//! The task file, read in pieces. Each fault is reported at its exact place.
 #![tactic(auto)]
 
 mod flat_so_far;

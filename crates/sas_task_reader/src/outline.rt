@@ -12,8 +12,8 @@ use sas_task_judge::TaskMachine;
 use std::alloc::Global;
 use std::io::Read;
 
-/// Reads a task from a device as `read_task` does, and gives its outline. It keeps no group, operator or rule.
-/// The faults are those of `read_task`.
+/// Reads a task from a device as `read_task` does, and returns its outline. It keeps no group, operator or rule. The
+/// faults are those of `read_task`.
 pub fn read_outline<R: Read>(alloc: Global, reader: &mut Watched<R>) -> Result<Outline, Fault>
     requires { reader.old.failed ≡ false }
     ensures { ReadsAll R.remaining task_format OutlineOf reader.old reader.new result }

@@ -13,10 +13,10 @@ use std::alloc::Global;
 use std::io::Read;
 
 /// Reads a task from a device: in pieces of at most 4,096 bytes, to its end or to the first fault. A failed read is
-/// told as `Kind::Read`, want of memory as `Kind::Memory`. Not to be called with a device that has failed.
+/// reported as `Kind::Read`, want of memory as `Kind::Memory`. Not to be called with a device that has failed.
 ///
-/// What is said of the bytes is said of those that the device tells (`remaining`). A reader over memory tells them. A
-/// file or standard input tells none, and then nothing more is said than that there are such bytes.
+/// The clauses about bytes are about those that the device makes known (`remaining`). A reader over memory makes them
+/// known. A file or standard input makes none known, and then the clauses state only that there are such bytes.
 pub fn read_task<R: Read>(alloc: Global, reader: &mut Watched<R>) -> Result<Task, Fault>
     requires { reader.old.failed ≡ false }
     ensures { ReadsAll R.remaining task_format (ValueOf task_format) reader.old reader.new result }
@@ -26,7 +26,7 @@ pub fn read_task<R: Read>(alloc: Global, reader: &mut Watched<R>) -> Result<Task
     Ok(Task::of_parts(machine.into_kept().into_parts()))
 }
 
-/// Reads a task from a device as `read_task` does, and gives its text: its lines, each ended by LF. It keeps no task.
+/// Reads a task from a device as `read_task` does, and returns its text: its lines, each ended by LF. It keeps no task.
 /// The faults are those of `read_task`.
 pub fn read_task_text<R: Read>(alloc: Global, reader: &mut Watched<R>) -> Result<Vec<u8>, Fault>
     requires { reader.old.failed ≡ false }

@@ -27,7 +27,7 @@ pub struct Seen {
     rules: u32,
 }
 
-/// What keeps what was seen. In a contract it is this.
+/// The keeper of what was seen. In a contract it represents this.
 #[derive(Drop)]
 pub struct TaskOutline {
     seen: Seen,
@@ -44,7 +44,7 @@ impl Model for TaskOutline {
 }
 
 impl Seen {
-    /// A mutex group more has come.
+    /// Counts one mutex group more.
     fn group(&mut self)
         ensures { (s : SoFar) (facts : List Fact) → self.old ≡ kept_of s
             → self.new ≡ kept_of (behind_group s facts) }
@@ -52,7 +52,7 @@ impl Seen {
         self.groups = self.groups.saturating_add(1);
     }
 
-    /// An operator more has come. The name was the operator's, and goes with it.
+    /// Counts one operator more. The name was the operator's, and is cleared.
     fn operator(&mut self)
         ensures { (s : SoFar) (o : Operator) → self.old ≡ kept_of s
             → self.new ≡ kept_of (behind_operator s o) }
@@ -61,7 +61,7 @@ impl Seen {
         self.operators = self.operators.saturating_add(1);
     }
 
-    /// A rule more has come.
+    /// Counts one rule more.
     fn rule(&mut self)
         ensures { (s : SoFar) (r : Rule) → self.old ≡ kept_of s → self.new ≡ kept_of (behind_rule s r) }
     {
@@ -70,7 +70,7 @@ impl Seen {
 }
 
 impl TaskOutline {
-    /// Nothing has come.
+    /// Makes an outline of which nothing has come.
     pub fn new(alloc: Global) -> Self
         ensures { result ≡ kept_of (nothing_yet alloc) }
     {
@@ -85,7 +85,7 @@ impl TaskOutline {
         }
     }
 
-    /// The outline of what has come.
+    /// Returns the outline of what has come.
     pub fn into_outline(self) -> Outline
         ensures { result ≡ outline_in self }
     {

@@ -15,21 +15,21 @@ use std::alloc::Global;
 #[derive(Drop)]
 pub struct TaskReader {
     reader: Reader<TaskMachine<SoFar>>,
-    // It stands for some bytes: those that it has taken.
+    // It represents some bytes: those that it has taken.
     ghost some: { ∥ ((bytes : List ℕ) × reading.Stands LedTo EndedAt RejectsAt reader bytes) ∥₁ },
 }
 
 impl TaskReader {
     ghost use Rattle.sas_task_reader.specs.TaskReader.{task_view};
 
-    /// Nothing has come, and 4 GiB may. It takes no memory.
+    /// Makes a reader that has taken nothing, and takes at most 4 GiB. It takes no memory.
     pub fn new(alloc: Global) -> Self
         ensures { Starts task_view most_bytes result }
     {
         TaskReader::within(alloc, LIMIT)
     }
 
-    /// The same, for at most `limit` bytes.
+    /// Makes such a reader that takes at most `limit` bytes.
     pub(crate) fn within(alloc: Global, limit: u64) -> Self
         requires { limit ≤ most_bytes }
         ensures { Starts task_view limit result }
@@ -39,14 +39,16 @@ impl TaskReader {
         }
     }
 
-    /// Takes the next piece. The first fault is answered from then on, and no byte behind it is looked at.
+    /// Takes the next piece. Once there is a fault, this call and each later one return the first fault, and no byte
+    /// behind it is looked at.
     pub fn feed(&mut self, piece: &[u8]) -> Result<(), Fault>
         ensures { Feeds task_view self.old piece.now self.new result }
     {
         self.reader.feed(piece)
     }
 
-    /// The task, once all has come. It takes no memory: want of memory is answered only where `feed` answered it.
+    /// Returns the task, once all has come, or the fault. It takes no memory: want of memory is returned only where
+    /// `feed` returned it.
     pub fn finish(self) -> Result<Task, Fault>
         ensures { Finishes task_view self result }
     {

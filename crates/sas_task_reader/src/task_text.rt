@@ -1,4 +1,4 @@
-// What keeps the text of a task file, and nothing of the task.
+// Stores the text of a task file, and nothing else of the task.
 ghost use Rattle.std.specs.Prelude.{◌≡◌, ◌++◌, ◌≤◌, [], length, take, OnOk, IfErr};
 
 use crate::fronts::{NO_VARIABLE, group_front, operator_front, rule_front, variable_front};
@@ -10,7 +10,7 @@ use sas_task_line::{Event, Gathered, Said};
 use std::alloc::Global;
 use std::marker::Model;
 
-/// The lines so far, each ended by LF. In a contract it is this text.
+/// The lines so far, each ended by LF. In a contract it represents this text.
 #[derive(Drop)]
 pub struct TaskText {
     text: Vec<u8>,
@@ -27,7 +27,7 @@ impl Model for TaskText {
 }
 
 impl TaskText {
-    /// Nothing has come.
+    /// Makes a text without lines.
     pub fn new(alloc: Global) -> Self
         ensures { result ≡ [] }
     {
@@ -37,7 +37,7 @@ impl TaskText {
         }
     }
 
-    /// The text so far.
+    /// Returns the text so far.
     pub fn into_text(self) -> Vec<u8>
         ensures { result.items ≡ self }
     {

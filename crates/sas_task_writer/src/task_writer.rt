@@ -17,7 +17,7 @@ use std::alloc::{AllocError, Global};
 /// The version of the format.
 const VERSION: u128 = 3;
 
-/// What a task file says in lines of its own: in one, or in several between a first and a last word.
+/// What a task file holds in lines of its own: in one, or in several between a first and a last word.
 trait Encode {
     ghost lines: { Self → List TaskLine };
 
@@ -241,7 +241,7 @@ fn push_goal(out: &mut Vec<u8>, facts: &Items<Fact>) -> Result<(), AllocError>
     push_word(out, b"end_goal")
 }
 
-/// The text of a task: its lines, each ended by LF. An `Err` comes only for want of memory.
+/// Returns the text of a task: its lines, each ended by LF. An `Err` is returned only for want of memory.
 pub fn encode_task(alloc: Global, task: &Task) -> Result<Vec<u8>, AllocError>
     ensures { IfOk result (λ t. t.items ≡ text (lines_of task_format task.now)) }
 {

@@ -1,5 +1,5 @@
-//! The two formats of text, the task file and the plan file: read in pieces with each fault at its exact place,
-//! and written.
+//! The two formats of text, the task file and the plan file, read in pieces and written. Each fault is reported at its
+//! exact place.
 #![tactic(auto)]
 
 pub use sas_flat::Outline;

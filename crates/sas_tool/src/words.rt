@@ -41,7 +41,7 @@ impl From<AllocError> for WordsFault {
     }
 }
 
-/// The job that the words ask for. The first word is the program's name.
+/// Returns the job that the words ask for. The first word is the program's name.
 pub fn command(alloc: Global, words: Vec<String>) -> Result<Job, WordsFault> {
     match grammar(alloc)?.try_get_matches_from(words.as_slice()) {
         Ok(matches) => job_of(alloc, &matches)?.with_one_input(),
@@ -50,7 +50,7 @@ pub fn command(alloc: Global, words: Vec<String>) -> Result<Job, WordsFault> {
 }
 
 impl Job {
-    /// The job, unless both of its sources are standard input.
+    /// Returns the job, unless both of its sources are standard input.
     fn with_one_input(self) -> Result<Job, WordsFault> {
         match (&self.task, &self.plan) {
             (Some(Source::Input), Some(Source::Input)) => Err(WordsFault::InputTwice),
@@ -109,7 +109,7 @@ const REQUESTS: [Words; 6] = [
     },
 ];
 
-/// The words that are understood.
+/// Returns the grammar of the words that are understood.
 fn grammar<'a>(alloc: Global) -> Result<Command<'a>, AllocError> {
     let mut program = Command::new(alloc, "sas")
         .about("Reads, checks and validates task files and plan files of Fast Downward")
@@ -121,7 +121,7 @@ fn grammar<'a>(alloc: Global) -> Result<Command<'a>, AllocError> {
 }
 
 impl Words {
-    /// The words of the request.
+    /// Returns the grammar of the words of the request.
     fn command<'a>(&self, alloc: Global) -> Result<Command<'a>, AllocError> {
         let mut request = Command::new(alloc, self.name).about(self.about);
         if self.task {
@@ -146,7 +146,7 @@ fn the_plan<'a>(alloc: Global) -> Arg<'a> {
         .help("The plan file, or - for standard input")
 }
 
-/// The job of words that were understood: without a request, the steps of the plan on standard input.
+/// Returns the job of words that were understood. Without a request, it is the steps of the plan on standard input.
 fn job_of(alloc: Global, matches: &ArgMatches<'_>) -> Result<Job, AllocError> {
     match matches.subcommand() {
         Some(("show", inner)) => job_over_task(alloc, Request::Show, inner),
@@ -171,7 +171,7 @@ fn job_of(alloc: Global, matches: &ArgMatches<'_>) -> Result<Job, AllocError> {
     }
 }
 
-/// The job of a request over a task alone.
+/// Returns the job of a request over a task alone.
 fn job_over_task(
     alloc: Global,
     request: Request,
@@ -184,7 +184,7 @@ fn job_over_task(
     })
 }
 
-/// The source that stands for an argument.
+/// Returns the source that an argument names.
 fn named(alloc: Global, matches: &ArgMatches<'_>, id: &str) -> Result<Option<Source>, AllocError> {
     match matches.get_str(id) {
         Some("-") => Ok(Some(Source::Input)),

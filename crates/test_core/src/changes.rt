@@ -1,5 +1,5 @@
-// Changes of the parts of a task, in words, such as `goal 0 2` or `rule 1 new 5`:
-// so parts can be made that no file says.
+// Changes of the parts of a task, in words, such as `goal 0 2` or `rule 1 new 5`. So parts can be made that no file
+// holds.
 use sas_core::{Effect, Fact, Items, Operator, Parts, Rule, Variable};
 use std::alloc::{AllocError, Global};
 use std::mem;
@@ -78,7 +78,7 @@ fn put_back<T: Drop>(list: &mut Items<T>, items: Vec<T>) {
     drop(mem::replace(list, Items::from_vec(items)));
 }
 
-/// The list of the bytes.
+/// Returns the list of the bytes.
 fn bytes_of(alloc: Global, bytes: &[u8]) -> Result<Items<u8>, AllocError> {
     Ok(Items::from_vec(Vec::from_slice(alloc, bytes)?))
 }

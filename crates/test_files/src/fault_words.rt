@@ -1,8 +1,8 @@
-// Says on standard output what came of a file: its text or its fault.
+// Prints on standard output what came of a file: its text or its fault.
 use sas_text::{Fault, Kind};
 use test_words::{say, say_whole};
 
-/// The word for a kind of fault.
+/// Returns the word for a kind of fault.
 fn word_of(kind: Kind) -> &'static str {
     match kind {
         Kind::Keyword => "keyword",
@@ -17,7 +17,7 @@ fn word_of(kind: Kind) -> &'static str {
     }
 }
 
-/// Says a fault.
+/// Prints a fault.
 pub fn say_fault<P: Print>(out: &P, fault: Fault) {
     if fault.kind == Kind::Memory {
         return say(out, "wanting");
@@ -27,7 +27,7 @@ pub fn say_fault<P: Print>(out: &P, fault: Fault) {
     let _ = println!(out; "line {line}: {word}");
 }
 
-/// Says a text, or why there is none.
+/// Prints a text, or why there is none.
 pub fn say_read<P: Print>(out: &P, read: Result<Vec<u8>, Fault>) {
     match read {
         Ok(text) => say_whole(out, text.as_slice()),

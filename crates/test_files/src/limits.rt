@@ -6,7 +6,7 @@ use sas_task_judge::TaskMachine;
 use sas_task_line::SoFar;
 use test_words::{Asked, say};
 
-/// Makes the call, if it is one of these: whether it is. Its kind is the limit.
+/// Makes the call if it is one of these, and returns whether it is. Its kind is the limit.
 pub fn call_within_limits<R: AllocGlobal + Print>(rt: &R, asked: &Asked<'_>) -> bool {
     let limit = u64::from(asked.kind.parse::<u32>().unwrap_or(0));
     let alloc = rt.alloc();
@@ -24,7 +24,7 @@ pub fn call_within_limits<R: AllocGlobal + Print>(rt: &R, asked: &Asked<'_>) -> 
     true
 }
 
-/// Says how a reader ends that is given the bytes. It could show a definition by which a text is too long that isn't.
+/// Prints how a reader ends that is fed the bytes. It could show a definition by which a text is too long that isn't.
 fn say_end<P: Print, M: Machine>(out: &P, reader: Reader<M>, bytes: &[u8]) {
     match fault_of(reader, bytes) {
         Some(fault) => say_fault(out, fault),
@@ -32,7 +32,7 @@ fn say_end<P: Print, M: Machine>(out: &P, reader: Reader<M>, bytes: &[u8]) {
     }
 }
 
-/// The fault of the bytes, if they have one.
+/// Returns the fault of the bytes, if they have one.
 fn fault_of<M: Machine>(reader: Reader<M>, bytes: &[u8]) -> Option<Fault> {
     let mut reader = reader;
     if let Err(fault) = reader.feed(bytes) {

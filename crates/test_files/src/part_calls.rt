@@ -4,7 +4,7 @@ use sas_core::{CostKind, Parts};
 use std::alloc::AllocError;
 use test_words::{Asked, plan_of, say, say_bytes, say_either, say_number, say_whole, task_of};
 
-/// Makes the call, if it is one of these: whether it is.
+/// Makes the call if it is one of these, and returns whether it is.
 pub fn call_of_parts<R: AllocGlobal + Print>(
     rt: &R,
     asked: &Asked<'_>,
@@ -17,8 +17,8 @@ pub fn call_of_parts<R: AllocGlobal + Print>(
     Ok(true)
 }
 
-/// The parts of the plan of a file. It could show a format whose reader and writer make the same mistake, as a name
-/// that keeps its brackets.
+/// Prints the parts of the plan of a file. It could show a format whose reader and writer make the same mistake, as a
+/// name that keeps its brackets.
 fn say_plan_parts<R: AllocGlobal + Print>(rt: &R, file: &[u8]) {
     let Some(plan) = plan_of(rt.alloc(), file) else {
         return say(rt, "WRONG: no plan");
@@ -32,8 +32,8 @@ fn say_plan_parts<R: AllocGlobal + Print>(rt: &R, file: &[u8]) {
     say_number(rt, "cost", plan.cost());
 }
 
-/// The parts of the task of a file. It could show a format whose reader and writer make the same mistake, as an old
-/// value in place of a new one.
+/// Prints the parts of the task of a file. It could show a format whose reader and writer make the same mistake, as an
+/// old value in place of a new one.
 fn say_task_parts<R: AllocGlobal + Print>(rt: &R, file: &[u8]) -> Result<(), AllocError> {
     let Some(task) = task_of(rt.alloc(), file) else {
         say(rt, "WRONG: no task");
@@ -44,7 +44,7 @@ fn say_task_parts<R: AllocGlobal + Print>(rt: &R, file: &[u8]) -> Result<(), All
     said
 }
 
-/// Says the parts.
+/// Prints the parts.
 fn say_parts<R: AllocGlobal + Print>(rt: &R, parts: &Parts) -> Result<(), AllocError> {
     let text = text_of_parts(rt.alloc(), parts)?;
     say_whole(rt, text.as_slice());

@@ -8,7 +8,7 @@ use std::alloc::{AllocError, Global};
 use std::cell::Cell;
 use test_words::{Asked, NotingReader, ToldReader, longer_than, say, say_either, say_right, spend};
 
-/// Makes the call, if it is one of these: whether it is.
+/// Makes the call if it is one of these, and returns whether it is.
 pub fn call_of_readers<R: AllocGlobal + Print>(
     rt: &R,
     asked: &Asked<'_>,
@@ -26,7 +26,7 @@ pub fn call_of_readers<R: AllocGlobal + Print>(
     Ok(true)
 }
 
-/// Makes the call, if it is one of these, on fronts of files: whether it is.
+/// Makes the call if it is one of these, on fronts of files. Returns whether it is.
 fn call_of_fronts<R: AllocGlobal + Print>(rt: &R, asked: &Asked<'_>) -> Result<bool, AllocError> {
     let way = way_of(asked.kind);
     match asked.call {
@@ -37,7 +37,7 @@ fn call_of_fronts<R: AllocGlobal + Print>(rt: &R, asked: &Asked<'_>) -> Result<b
     Ok(true)
 }
 
-/// Makes the call, if it is one of these, on files in all pieces: whether it is.
+/// Makes the call if it is one of these, on files in all pieces. Returns whether it is.
 fn call_in_pieces<R: AllocGlobal + Print>(rt: &R, asked: &Asked<'_>) -> Result<bool, AllocError> {
     match asked.call {
         "cut-plan" => say_right(rt, wrong_cut::<PlanReader>(rt.alloc(), asked.bytes)?),
@@ -49,7 +49,7 @@ fn call_in_pieces<R: AllocGlobal + Print>(rt: &R, asked: &Asked<'_>) -> Result<b
     Ok(true)
 }
 
-/// The laws, each called once. It could show that one can't be called.
+/// Calls the laws, each once. It could show that one can't be called.
 fn say_laws<P: Print>(out: &P) {
     plan_laws();
     task_laws();
@@ -57,8 +57,8 @@ fn say_laws<P: Print>(out: &P) {
     say(out, "laws");
 }
 
-/// A call that reads a file from a device. It could show that it always wants memory, or an answer that changes without
-/// it.
+/// Reads a file from a device, and prints what came of it. It could show that the call always wants memory, or an
+/// answer that changes without it.
 fn read<R: AllocGlobal + Print>(
     rt: &R,
     count: usize,
@@ -74,22 +74,24 @@ fn read<R: AllocGlobal + Print>(
     Ok(())
 }
 
-/// The same, of a device that gives the bytes and then fails. It could show a fault that waits for a further read.
+/// Does the same with a device that returns the bytes and then fails. It could show a fault that waits for a further
+/// read.
 fn read_broken<R: AllocGlobal + Print>(rt: &R, way: Way, bytes: &[u8]) {
     let (read, failed) = read_from(rt.alloc(), way, Breaks::new(bytes, false));
     say_read(rt, read);
     say_either(rt, failed, "failed", "not failed");
 }
 
-/// The same, of a device that is told what to do. It could show a read that is tried again behind a failure, or a further
-/// read behind the end.
+/// Does the same with a device that follows a text. It could show a read that is tried again behind a failure, or a
+/// further read behind the end.
 fn read_told<R: AllocGlobal + Print>(rt: &R, way: Way, text: &[u8]) {
     let (read, failed) = read_from(rt.alloc(), way, ToldReader::new(text));
     say_read(rt, read);
     say_either(rt, failed, "failed", "not failed");
 }
 
-/// Whether no more than 4,096 bytes of a file are asked for at a time. It could show a reader with a larger buffer.
+/// Prints whether no more than 4,096 bytes of a file are asked for at a time. It could show a reader with a larger
+/// buffer.
 fn say_longest<R: AllocGlobal + Print>(rt: &R, way: Way, file: &[u8]) {
     let longest = Cell::new(0usize);
     let (read, _) = read_from(rt.alloc(), way, NotingReader::new(file, &longest));
@@ -97,7 +99,7 @@ fn say_longest<R: AllocGlobal + Print>(rt: &R, way: Way, file: &[u8]) {
     say_right(rt, longer_than(longest.get(), 4096));
 }
 
-/// The line that a fault at the end of these bytes has.
+/// Returns the line that a fault at the end of these bytes has.
 fn last_line(bytes: &[u8]) -> u64 {
     let mut line = 1u64;
     for byte in bytes {
@@ -108,7 +110,7 @@ fn last_line(bytes: &[u8]) -> u64 {
     line
 }
 
-/// Whether the answer is this kind of fault, on the last line of the bytes.
+/// Returns whether the answer is this kind of fault, on the last line of the bytes.
 fn is_fault_at_end(read: &Result<Vec<u8>, Fault>, bytes: &[u8], kind: Kind) -> bool {
     match read {
         Ok(_) => false,
@@ -116,8 +118,8 @@ fn is_fault_at_end(read: &Result<Vec<u8>, Fault>, bytes: &[u8], kind: Kind) -> b
     }
 }
 
-/// The length of the first front of a file that doesn't end early, on its last line. It could show a definition that
-/// counts lines otherwise, or refuses what may still become a file.
+/// Returns the length of the first front of a file that doesn't end early, on its last line. It could show a definition
+/// that counts lines otherwise, or refuses what may still become a file.
 fn wrong_front(alloc: Global, way: Way, file: &[u8]) -> Option<usize> {
     for length in 0..file.len() {
         let front = &file[..length];
@@ -129,14 +131,14 @@ fn wrong_front(alloc: Global, way: Way, file: &[u8]) -> Option<usize> {
     None
 }
 
-/// Whether a device that gives the bytes and then fails is answered so, on its last line.
+/// Returns whether a device that returns the bytes and then fails is reported so, on its last line.
 fn is_failure(alloc: Global, way: Way, bytes: &[u8], interrupted: bool) -> bool {
     let (read, failed) = read_from(alloc, way, Breaks::new(bytes, interrupted));
     failed && is_fault_at_end(&read, bytes, Kind::Read)
 }
 
-/// The length of the first front of a file with another answer where the device then fails. It could show a failure
-/// that is taken for the end, or a read that is tried again.
+/// Returns the length of the first front of a file with another result where the device then fails. It could show a
+/// failure that is taken for the end, or a read that is tried again.
 fn wrong_failure(alloc: Global, way: Way, file: &[u8]) -> Option<usize> {
     for length in 0..=file.len() {
         let front = &file[..length];
@@ -147,8 +149,8 @@ fn wrong_failure(alloc: Global, way: Way, file: &[u8]) -> Option<usize> {
     None
 }
 
-/// A reader that is given pieces, which have `|` between them: its answer to each, and at the end. Of no bytes there is
-/// no piece. It could show a fault that is told too early or too late, or that doesn't stay.
+/// Feeds a reader with pieces, which have `|` between them, and prints what it returns for each, and at the end. Of no
+/// bytes there is no piece. It could show a fault that is reported too early or too late, or that doesn't stay.
 fn feed<R: AllocGlobal + Print, F: Pieces>(
     rt: &R,
     count: usize,
@@ -168,7 +170,7 @@ fn feed<R: AllocGlobal + Print, F: Pieces>(
     Ok(())
 }
 
-/// Gives a reader these pieces: whether it takes each.
+/// Feeds a reader with these pieces, and returns whether it takes each.
 fn takes_all<F: Pieces>(reader: &mut F, pieces: &[&[u8]]) -> bool {
     for piece in pieces {
         if reader.take(piece).is_err() {
@@ -178,13 +180,13 @@ fn takes_all<F: Pieces>(reader: &mut F, pieces: &[&[u8]]) -> bool {
     true
 }
 
-/// Whether a file in these pieces is read as this text.
+/// Returns whether a file in these pieces is read as this text.
 fn is_read_as<F: Pieces>(alloc: Global, pieces: &[&[u8]], text: &[u8]) -> bool {
     let mut reader = F::start(alloc);
     takes_all(&mut reader, pieces) && is_text(&reader.text(alloc), text)
 }
 
-/// Whether this text was read.
+/// Returns whether this text was read.
 fn is_text(read: &Result<Vec<u8>, Fault>, text: &[u8]) -> bool {
     match read {
         Ok(read) => read.as_slice() == text,
@@ -192,7 +194,7 @@ fn is_text(read: &Result<Vec<u8>, Fault>, text: &[u8]) -> bool {
     }
 }
 
-/// The text of a file that comes byte by byte.
+/// Returns the text of a file that comes byte by byte.
 fn text_of_bytes<F: Pieces>(alloc: Global, file: &[u8]) -> Result<Vec<u8>, Fault> {
     let mut reader = F::start(alloc);
     for byte in file {
@@ -201,8 +203,8 @@ fn text_of_bytes<F: Pieces>(alloc: Global, file: &[u8]) -> Result<Vec<u8>, Fault
     reader.text(alloc)
 }
 
-/// The first place where a file, cut in two there, with or without an empty piece between, isn't read as it is byte by
-/// byte. It could show a line that is judged otherwise where a piece ends in it.
+/// Returns the first place where a file, cut in two there, with or without an empty piece between, isn't read as it is
+/// byte by byte. It could show a line that is judged otherwise where a piece ends in it.
 fn wrong_cut<F: Pieces>(alloc: Global, file: &[u8]) -> Result<Option<usize>, AllocError> {
     let Ok(text) = text_of_bytes::<F>(alloc, file) else {
         return Ok(Some(0));
@@ -218,8 +220,8 @@ fn wrong_cut<F: Pieces>(alloc: Global, file: &[u8]) -> Result<Option<usize>, All
     Ok(None)
 }
 
-/// The first byte that isn't refused behind a file, on the line behind its last. It could show a byte that is taken
-/// there, as a space or a CR.
+/// Returns the first byte that isn't refused behind a file, on the line behind its last. It could show a byte that is
+/// taken there, as a space or a CR.
 fn wrong_byte<F: Pieces>(alloc: Global, file: &[u8]) -> Option<usize> {
     for last in 0..=u8::MAX {
         let mut reader = F::start(alloc);

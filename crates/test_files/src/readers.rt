@@ -1,4 +1,4 @@
-// The readers of plans and tasks, each under one form: it gives a text, or a fault. What is proved of a reader stays
+// The readers of plans and tasks, each under one form: it returns a text, or a fault. What is proved of a reader stays
 // behind these calls.
 ghost use Rattle.std.specs.Prelude.{◌≡◌, false};
 
@@ -24,7 +24,7 @@ pub enum Way {
     FlatTask,
 }
 
-/// The way of this name.
+/// Returns the way of this name.
 pub fn way_of(name: &str) -> Way {
     match name {
         "plan" => Way::Plan,
@@ -37,7 +37,7 @@ pub fn way_of(name: &str) -> Way {
     }
 }
 
-/// The fault at want of memory behind a reader.
+/// Returns the fault of want of memory behind a reader.
 fn wanting(_error: AllocError) -> Fault {
     Fault {
         line: 1,
@@ -45,52 +45,52 @@ fn wanting(_error: AllocError) -> Fault {
     }
 }
 
-/// The text of a plan.
+/// Returns the text of a plan.
 fn text_of_plan(alloc: Global, plan: &Plan) -> Result<Vec<u8>, Fault> {
     encode_plan(alloc, plan).map_err(wanting)
 }
 
-/// The text of a task.
+/// Returns the text of a task.
 fn text_of_task(alloc: Global, task: &Task) -> Result<Vec<u8>, Fault> {
     encode_task(alloc, task).map_err(wanting)
 }
 
-/// Reads a plan, and gives its text.
+/// Reads a plan, and returns its text.
 fn plan_of<D: Read>(alloc: Global, device: &mut Watched<D>) -> Result<Vec<u8>, Fault>
     requires { device.old.failed ≡ false }
 {
     text_of_plan(alloc, &read_plan(alloc, device)?)
 }
 
-/// Reads a task, and gives its text.
+/// Reads a task, and returns its text.
 fn task_of<D: Read>(alloc: Global, device: &mut Watched<D>) -> Result<Vec<u8>, Fault>
     requires { device.old.failed ≡ false }
 {
     text_of_task(alloc, &read_task(alloc, device)?)
 }
 
-/// Reads an outline, and gives what it says.
+/// Reads an outline, and returns what it holds, as a text.
 fn outline_of<D: Read>(alloc: Global, device: &mut Watched<D>) -> Result<Vec<u8>, Fault>
     requires { device.old.failed ≡ false }
 {
     text_of_outline(alloc, &read_outline(alloc, device)?).map_err(wanting)
 }
 
-/// Reads a flat plan, and gives what it says.
+/// Reads a flat plan, and returns what it holds, as a text.
 fn flat_plan_of<D: Read>(alloc: Global, device: &mut Watched<D>) -> Result<Vec<u8>, Fault>
     requires { device.old.failed ≡ false }
 {
     text_of_flat_plan(alloc, &read_flat_plan(alloc, device)?).map_err(wanting)
 }
 
-/// Reads a flat task, and gives what it says.
+/// Reads a flat task, and returns what it holds, as a text.
 fn flat_task_of<D: Read>(alloc: Global, device: &mut Watched<D>) -> Result<Vec<u8>, Fault>
     requires { device.old.failed ≡ false }
 {
     text_of_flat_task(alloc, &read_flat_task(alloc, device)?).map_err(wanting)
 }
 
-/// Reads a file from a device, and gives its text.
+/// Reads a file from a device, and returns its text.
 fn read_device<D: Read>(alloc: Global, way: Way, device: &mut Watched<D>) -> Result<Vec<u8>, Fault>
     requires { device.old.failed ≡ false }
 {
@@ -105,7 +105,7 @@ fn read_device<D: Read>(alloc: Global, way: Way, device: &mut Watched<D>) -> Res
     }
 }
 
-/// Reads a file from a device: its text or its fault, and whether the device failed.
+/// Reads a file from a device. Returns its text or its fault, and whether the device failed.
 pub fn read_from<D: Read + Drop>(
     alloc: Global,
     way: Way,
@@ -117,15 +117,15 @@ pub fn read_from<D: Read + Drop>(
     (text, failed)
 }
 
-/// A reader that is given a file in pieces.
+/// A reader that is fed a file in pieces.
 pub trait Pieces: Drop {
-    /// Nothing has come yet.
+    /// Makes a reader that has taken nothing yet.
     fn start(alloc: Global) -> Self;
 
     /// Takes the next piece.
     fn take(&mut self, piece: &[u8]) -> Result<(), Fault>;
 
-    /// The text of what was read, once all has come.
+    /// Returns the text of what was read, once all has come.
     fn text(self, alloc: Global) -> Result<Vec<u8>, Fault>;
 }
 

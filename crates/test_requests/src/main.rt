@@ -1,4 +1,4 @@
-//! Makes calls of `run` over devices, for tests: standard input says which one, as `test_words` tells.
+//! Makes calls of `run` over devices, for tests. Standard input names the call, as `test_words` describes.
 #![tactic(auto)]
 
 mod run_calls;

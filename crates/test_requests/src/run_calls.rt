@@ -1,4 +1,4 @@
-// Calls of `sas_requests`: `run`, over devices that give all of a file, or fail.
+// Calls of `sas_requests`: `run`, over devices that return all of a file, or fail.
 use sas_lines::Watched;
 use sas_lines::trial::{Breaks, Narrow};
 use sas_requests::{Request, Status, ToolFault, run, run_laws};
@@ -13,7 +13,7 @@ use test_words::{
 /// More bytes than any answer here has.
 const ROOM: usize = 131_072;
 
-/// Makes the call, if it is one of these: whether it is.
+/// Makes the call if it is one of these, and returns whether it is.
 pub fn call_of_tool<R: AllocGlobal + Print>(rt: &R, asked: &Asked<'_>) -> Result<bool, AllocError> {
     let request = request_of(asked.kind);
     match asked.call {
@@ -36,7 +36,7 @@ pub fn call_of_tool<R: AllocGlobal + Print>(rt: &R, asked: &Asked<'_>) -> Result
     Ok(true)
 }
 
-/// The request of this name.
+/// Returns the request of this name.
 fn request_of(name: &str) -> Request {
     match name {
         "print" => Request::Print,
@@ -48,8 +48,8 @@ fn request_of(name: &str) -> Request {
     }
 }
 
-/// The task and the plan that bytes are: a plan, a `|` and a task where a plan is to solve a task, else both are the
-/// same file.
+/// Returns the task and the plan that bytes are: a plan, a `|` and a task where a plan is to solve a task, else both
+/// are the same file.
 fn inputs(request: Request, bytes: &[u8]) -> (&[u8], &[u8]) {
     if request == Request::Plan {
         let (plan, task) = cut(bytes, b'|');
@@ -59,7 +59,7 @@ fn inputs(request: Request, bytes: &[u8]) -> (&[u8], &[u8]) {
     }
 }
 
-/// The messages of `ToolFault`. It could show other words than those that are promised.
+/// Prints the messages of `ToolFault`. It could show other words than those that are promised.
 fn say_messages<P: Print>(out: &P) {
     let faults = [
         ToolFault::Memory,
@@ -72,13 +72,13 @@ fn say_messages<P: Print>(out: &P) {
     }
 }
 
-/// The laws of outputs. It could show that they can't be called.
+/// Calls the laws of outputs. It could show that they can't be called.
 fn say_laws<P: Print>(out: &P) {
     run_laws();
     say(out, "laws");
 }
 
-/// The answer to a request, over these devices, and the writer.
+/// Returns the answer to a request, over these devices, and the writer.
 fn answer_over<T: Read + Drop, P: Read + Drop, W: Write>(
     alloc: Global,
     request: Request,
@@ -93,7 +93,7 @@ fn answer_over<T: Read + Drop, P: Read + Drop, W: Write>(
     (result, out.into_device())
 }
 
-/// Says the answer and what was written.
+/// Prints the answer and what was written.
 fn say_answer<P: Print>(out: &P, answer: &Result<Status, ToolFault>, written: &[u8]) {
     match answer {
         Ok(Status::Yes) => say(out, "yes"),
@@ -107,14 +107,14 @@ fn say_answer<P: Print>(out: &P, answer: &Result<Status, ToolFault>, written: &[
     }
 }
 
-/// Says the answer as it is derived, and what was written.
+/// Prints the answer as its derived `Debug` writes it, and what was written.
 fn say_exactly<P: Print>(out: &P, answer: &Result<Status, ToolFault>, written: &[u8]) {
     let _ = println!(out; "{answer:?}");
     say_bytes(out, written);
     say(out, "");
 }
 
-/// `run` over these inputs, and a writer that then fails behind so many bytes. It could show that it always wants
+/// Calls `run` over these inputs, and a writer that then fails behind so many bytes. It could show that it always wants
 /// memory, writes before its answer is whole, or writes where the answer is empty.
 fn run_whole<R: AllocGlobal + Print>(
     rt: &R,
@@ -131,7 +131,7 @@ fn run_whole<R: AllocGlobal + Print>(
     Ok(())
 }
 
-/// The same, of devices that give the bytes and then fail. It could show a fault that waits for a further read.
+/// Does the same with devices that return the bytes and then fail. It could show a fault that waits for a further read.
 fn run_broken<R: AllocGlobal + Print>(
     rt: &R,
     request: Request,
@@ -144,8 +144,8 @@ fn run_broken<R: AllocGlobal + Print>(
     Ok(())
 }
 
-/// The same, where the task comes whole, and only the plan's device fails. It could show a plan that is read before the
-/// task was found to be layered.
+/// Does the same where the task comes whole, and only the plan's device fails. It could show a plan that is read before
+/// the task was found to be layered.
 fn run_broken_plan<R: AllocGlobal + Print>(
     rt: &R,
     request: Request,
@@ -159,8 +159,8 @@ fn run_broken_plan<R: AllocGlobal + Print>(
     Ok(())
 }
 
-/// The same, of devices that are told what to do. It could show a read that is tried again behind a failure, or a further read
-/// behind the end.
+/// Does the same with devices that follow a text. It could show a read that is tried again behind a failure, or a
+/// further read behind the end.
 fn run_told<R: AllocGlobal + Print>(
     rt: &R,
     request: Request,
@@ -174,8 +174,8 @@ fn run_told<R: AllocGlobal + Print>(
     Ok(())
 }
 
-/// `run`, to a writer that is told what to do: `TURNS|` before the inputs. It could show a write that is tried again where it
-/// failed or took none, and a count of bytes that didn't go out.
+/// Calls `run` with a writer that follows a text: `TURNS|` before the inputs. It could show a write that is tried again
+/// where it failed or took none, and a count of bytes that didn't go out.
 fn run_into<R: AllocGlobal + Print>(rt: &R, request: Request, bytes: &[u8]) {
     let (turns, bytes) = cut(bytes, b'|');
     let (task, plan) = inputs(request, bytes);
@@ -184,7 +184,8 @@ fn run_into<R: AllocGlobal + Print>(rt: &R, request: Request, bytes: &[u8]) {
     say_exactly(rt, &result, written.kept());
 }
 
-/// Whether no more than 4,096 bytes of the inputs are asked for at a time. It could show a reader with a larger buffer.
+/// Prints whether no more than 4,096 bytes of the inputs are asked for at a time. It could show a reader with a larger
+/// buffer.
 fn run_longest<R: AllocGlobal + Print>(
     rt: &R,
     request: Request,
@@ -203,7 +204,7 @@ fn run_longest<R: AllocGlobal + Print>(
     Ok(())
 }
 
-/// Whether a failure of the devices behind these bytes is answered so, and nothing is written.
+/// Returns whether a failure of the devices behind these bytes is reported so, and nothing is written.
 fn is_failure(
     alloc: Global,
     request: Request,
@@ -217,7 +218,7 @@ fn is_failure(
     Ok(result == Err(ToolFault::Read) && written.kept().is_empty())
 }
 
-/// Whether a failure of the plan's device alone behind these bytes is answered so.
+/// Returns whether a failure of the plan's device alone behind these bytes is reported so.
 fn is_plan_failure(
     alloc: Global,
     request: Request,
@@ -231,8 +232,8 @@ fn is_plan_failure(
     Ok(result == Err(ToolFault::Read) && written.kept().is_empty())
 }
 
-/// The length of the first front of a plan with another answer where its device then fails. It could show a failure
-/// that is passed over where the verdict is known before, or is told of the task.
+/// Returns the length of the first front of a plan with another result where its device then fails. It could show a
+/// failure that is passed over where the verdict is known before, or is reported of the task.
 fn wrong_plan_front(
     alloc: Global,
     request: Request,
@@ -250,8 +251,8 @@ fn wrong_plan_front(
     Ok(None)
 }
 
-/// The length of the first front of a file with another answer where the devices then fail. It could show a failure
-/// that is taken for the end.
+/// Returns the length of the first front of a file with another result where the devices then fail. It could show a
+/// failure that is taken for the end.
 fn wrong_front(alloc: Global, request: Request, file: &[u8]) -> Result<Option<usize>, AllocError> {
     for length in 0..=file.len() {
         let front = &file[..length];
@@ -264,7 +265,7 @@ fn wrong_front(alloc: Global, request: Request, file: &[u8]) -> Result<Option<us
     Ok(None)
 }
 
-/// Whether a writer with this room gets as much of the text as there is room, and the answer says so.
+/// Returns whether a writer with this room gets as much of the text as there is room, and the answer reports that.
 fn is_cut_off(text: &[u8], room: usize, answer: (Result<Status, ToolFault>, Narrow)) -> bool {
     let (result, written) = answer;
     let told = match result {
@@ -274,7 +275,8 @@ fn is_cut_off(text: &[u8], room: usize, answer: (Result<Status, ToolFault>, Narr
     told && written.kept().len() == room && text.starts_with(written.kept())
 }
 
-/// Whether that is so of a writer that takes so much at a time and so much in all, whether it then fails or takes none.
+/// Returns whether that is so of a writer that takes so much at a time and so much in all, whether it then fails or
+/// takes none.
 fn is_right_room(
     alloc: Global,
     request: Request,
@@ -292,8 +294,8 @@ fn is_right_room(
     )
 }
 
-/// The least room, up to that of the answer, with which a writer doesn't get so much of it, or the answer isn't that.
-/// It could show bytes that go out twice or not at all.
+/// Returns the least room, up to that of the answer, with which a writer doesn't get so much of it, or the answer isn't
+/// that. It could show bytes that go out twice or not at all.
 fn wrong_room(alloc: Global, request: Request, bytes: &[u8]) -> Result<Option<usize>, AllocError> {
     let files = inputs(request, bytes);
     let ample = Narrow::new(alloc, ROOM, ROOM, true)?;

@@ -11,9 +11,9 @@ use test_words::{
     task_of,
 };
 
-/// `Layered::new` of the task of a file, which is already known: whether it is layered, or its fault. It could show a
-/// definition that takes a task whose layers are broken or refuses another, an order of faults that isn't that of the
-/// file, or that the call always wants memory.
+/// Calls `Layered::new` of the task of a file, and prints whether it is layered, or its fault. The file is known to be
+/// a task. It could show a definition that takes a task whose layers are broken or refuses another, an order of faults
+/// that isn't that of the file, or that the call always wants memory.
 pub fn new_layered<R: AllocGlobal + Print>(
     rt: &R,
     count: usize,
@@ -32,7 +32,7 @@ pub fn new_layered<R: AllocGlobal + Print>(
     spent
 }
 
-/// Says what `Layered::new` answered about such a task.
+/// Prints what `Layered::new` returned for such a task.
 fn say_layers<P: Print>(out: &P, made: Result<Layered<Task>, (Task, LayerFault)>, given: &Task) {
     match made {
         Ok(layered) => say_layered(out, layered, given),
@@ -43,7 +43,7 @@ fn say_layers<P: Print>(out: &P, made: Result<Layered<Task>, (Task, LayerFault)>
     }
 }
 
-/// Says that a task is layered, if it is the given one before and after it is taken out again.
+/// Prints that a task is layered, if it is the given one before and after it is taken out again.
 fn say_layered<P: Print>(out: &P, layered: Layered<Task>, given: &Task) {
     say_kept(out, layered.task(), given, "layered");
     let task = layered.into_task();
@@ -51,7 +51,7 @@ fn say_layered<P: Print>(out: &P, layered: Layered<Task>, given: &Task) {
     drop(task);
 }
 
-/// Says why a task isn't layered, if it is the given one that came back.
+/// Prints why a task isn't layered, if it is the given one that came back.
 fn say_back<P: Print>(out: &P, back: &Task, given: &Task, fault: LayerFault) {
     if fault == LayerFault::Memory {
         return say_want(out, is_same_task(back, given));
@@ -60,17 +60,17 @@ fn say_back<P: Print>(out: &P, back: &Task, given: &Task, fault: LayerFault) {
     say_debug(out, &fault);
 }
 
-/// Says a value as it is derived.
+/// Prints a value as its derived `Debug` writes it.
 pub fn say_debug<P: Print, T: Debug>(out: &P, value: &T) {
     let _ = println!(out; "{value:?}");
 }
 
-/// Says this word, if the task is the given one.
+/// Prints this word, if the task is the given one.
 fn say_kept<P: Print>(out: &P, task: &Task, given: &Task, word: &str) {
     say_either(out, is_same_task(task, given), word, "WRONG: another task");
 }
 
-/// The numbers of a line.
+/// Returns the numbers of a line.
 fn numbers_of(alloc: Global, words: &[u8]) -> Result<Vec<u32>, AllocError> {
     let mut numbers = Vec::new(alloc);
     for word in words.split(|&byte| byte == b' ') {
@@ -81,7 +81,7 @@ fn numbers_of(alloc: Global, words: &[u8]) -> Result<Vec<u32>, AllocError> {
     Ok(numbers)
 }
 
-/// Says a word, and numbers behind it.
+/// Prints a word, and numbers behind it.
 pub fn say_numbers<P: Print>(out: &P, word: &str, numbers: &[u32]) {
     let _ = print!(out; "{word}");
     for number in numbers {
@@ -90,12 +90,12 @@ pub fn say_numbers<P: Print>(out: &P, word: &str, numbers: &[u32]) {
     say(out, "");
 }
 
-/// Says the values of a state.
+/// Prints the values of a state.
 pub fn say_values<P: Print>(out: &P, values: &[u32]) {
     say_numbers(out, "state", values);
 }
 
-/// Says a state, or why there is none.
+/// Prints a state, or why there is none.
 pub fn say_state<P: Print>(out: &P, state: &Result<State, StateFault>) {
     match state {
         Ok(state) => say_values(out, state.values()),
@@ -104,9 +104,9 @@ pub fn say_state<P: Print>(out: &P, state: &Result<State, StateFault>) {
     }
 }
 
-/// `State::of` such values, and what the state says of a fact, before and after it is set: `VALUES;FACT|FILE`. It could
-/// show a definition of states that takes a value too many or one out of its range, or that the call always wants
-/// memory.
+/// Calls `State::of` such values, and prints what the state holds of a fact, before and after it is set:
+/// `VALUES;FACT|FILE`. It could show a definition of states that takes a value too many or one out of its range, or
+/// that the call always wants memory.
 pub fn new_state<R: AllocGlobal + Print>(
     rt: &R,
     count: usize,
@@ -124,7 +124,7 @@ pub fn new_state<R: AllocGlobal + Print>(
     spent
 }
 
-/// Says a state, or why there is none, and of a state what it says of the fact.
+/// Prints a state, or why there is none, and of a state what it holds of the fact.
 fn say_state_and_fact<P: Print>(out: &P, made: Result<State, StateFault>, fact: &[u8]) {
     say_state(out, &made);
     if let Ok(mut state) = made {
@@ -135,7 +135,7 @@ fn say_state_and_fact<P: Print>(out: &P, made: Result<State, StateFault>, fact: 
     }
 }
 
-/// Says whether the fact holds in the state, and, where there is its variable, its value and what setting the fact
+/// Prints whether the fact holds in the state, and, where there is its variable, its value and what setting the fact
 /// changes.
 fn say_fact<P: Print>(out: &P, state: &mut State, fact: Fact) {
     say_holds(out, state, fact);
@@ -147,12 +147,12 @@ fn say_fact<P: Print>(out: &P, state: &mut State, fact: Fact) {
     }
 }
 
-/// Says whether the fact holds in the state.
+/// Prints whether the fact holds in the state.
 fn say_holds<P: Print>(out: &P, state: &State, fact: Fact) {
     say_either(out, state.holds(fact), "holds", "doesn't hold");
 }
 
-/// The state of these values.
+/// Returns the state of these values.
 fn state_of(alloc: Global, task: &Task, words: &[u8]) -> Result<State, StateFault>
     ensures { IfOk result (λ state. IsState task.now.variables state) }
 {
@@ -160,7 +160,7 @@ fn state_of(alloc: Global, task: &Task, words: &[u8]) -> Result<State, StateFaul
     State::of(alloc, task, values.as_slice())
 }
 
-/// The state of these values, settled.
+/// Returns the state of these values, settled.
 pub fn settled<E: Settle<Task>>(
     alloc: Global,
     evaluator: &mut E,
@@ -175,7 +175,8 @@ pub fn settled<E: Settle<Task>>(
     Ok(state)
 }
 
-/// `Worklist::new`, and a state that it settles: `STATE|FILE`. It could show that the call always wants memory.
+/// Calls `Worklist::new`, and prints a state that it settles: `STATE|FILE`. It could show that the call always wants
+/// memory.
 pub fn new_worklist<R: AllocGlobal + Print>(
     rt: &R,
     asked: &Asked<'_>,
@@ -194,7 +195,7 @@ pub fn new_worklist<R: AllocGlobal + Print>(
     spent
 }
 
-/// Says the state, settled by this evaluator, or that there is none. To settle it takes no memory.
+/// Prints the state, settled by this evaluator, or that there is none. To settle it takes no memory.
 fn say_settled<P: Print, E: Settle<Task> + Drop>(
     out: &P,
     made: Result<E, AllocError>,

@@ -47,7 +47,7 @@ fn call_with<R: AllocGlobal + Print, E: Settle<Task> + Drop>(
     call_with_runner(rt, asked, words, layered, evaluator)
 }
 
-/// Says each of the states, which have `;` between them, settled one after another by this evaluator. It could show a
+/// Prints each of the states, which have `;` between them, settled one after another by this evaluator. It could show a
 /// definition of settled states that counts a rule which can't fire, takes layers in another order, or lets a cycle
 /// hold itself up.
 fn settle<R: AllocGlobal + Print, E: Settle<Task>>(
@@ -63,7 +63,7 @@ fn settle<R: AllocGlobal + Print, E: Settle<Task>>(
     Ok(())
 }
 
-/// The same, of states one by one.
+/// Does the same with states one by one.
 fn settle_each<R: AllocGlobal + Print, E: Settle<Task>>(
     rt: &R,
     evaluator: &mut E,
@@ -77,7 +77,7 @@ fn settle_each<R: AllocGlobal + Print, E: Settle<Task>>(
     }
 }
 
-/// Says of each of the states whether two evaluators settle it alike. It could show a definition by which a state
+/// Prints of each of the states whether two evaluators settle it alike. It could show a definition by which a state
 /// settles to two others.
 fn compare<R: AllocGlobal + Print>(
     rt: &R,
@@ -90,7 +90,7 @@ fn compare<R: AllocGlobal + Print>(
     said
 }
 
-/// The same, of states one by one.
+/// Does the same with states one by one.
 fn compare_all<R: AllocGlobal + Print>(
     rt: &R,
     states: &[&[u8]],
@@ -102,7 +102,7 @@ fn compare_all<R: AllocGlobal + Print>(
     Ok(())
 }
 
-/// The same, with one of the evaluators.
+/// Does the same with one of the evaluators.
 fn compare_each<R: AllocGlobal + Print>(
     rt: &R,
     worklist: &mut Worklist,
@@ -119,7 +119,7 @@ fn compare_each<R: AllocGlobal + Print>(
     }
 }
 
-/// Whether both states are there, and are the same.
+/// Returns whether both states are there, and are the same.
 fn are_same(state: &Result<State, StateFault>, other: &Result<State, StateFault>) -> bool {
     match (state, other) {
         (Ok(state), Ok(other)) => state.values() == other.values(),

@@ -4,7 +4,8 @@ use sas_core::Task;
 use std::alloc::{AllocError, Global};
 use test_words::{Asked, cut, task_of};
 
-/// What stands before a `|`, and the file behind it. Of some calls the bytes are the file, and nothing else is asked.
+/// Returns what stands before a `|`, and the file behind it. Of some calls the bytes are the file, and nothing else is
+/// asked.
 pub fn words_and_file<'a>(asked: &Asked<'a>) -> (&'a [u8], &'a [u8]) {
     match asked.call {
         "layered" | "check-groups" | "counted-steps" | "new-runner" | "initial" => {
@@ -14,7 +15,7 @@ pub fn words_and_file<'a>(asked: &Asked<'a>) -> (&'a [u8], &'a [u8]) {
     }
 }
 
-/// The pieces that have `;` between them.
+/// Returns the pieces that have `;` between them.
 pub fn pieces_of(alloc: Global, bytes: &[u8]) -> Result<Vec<&[u8]>, AllocError> {
     let mut pieces = Vec::new(alloc);
     for piece in bytes.split(|&byte| byte == b';') {
@@ -23,7 +24,7 @@ pub fn pieces_of(alloc: Global, bytes: &[u8]) -> Result<Vec<&[u8]>, AllocError> 
     Ok(pieces)
 }
 
-/// The task of a file, made layered: none where it isn't.
+/// Returns the task of a file, made layered, or `None` where it isn't.
 pub fn layered_of(alloc: Global, file: &[u8]) -> Option<Layered<Task>> {
     Layered::new(alloc, task_of(alloc, file)?).ok()
 }

@@ -6,8 +6,8 @@ use sas_mutex::{Facts, Verdict, check_group, check_groups};
 use std::alloc::AllocError;
 use test_words::{cut, fact_of, number_in, say, spend};
 
-/// `check_groups` of a layered task, and `check_group` of each of its groups. It could show a definition by which an
-/// operator has to keep groups that no step of it breaks or doesn't have to keep others, a family that isn't the
+/// Calls `check_groups` of a layered task, and `check_group` of each of its groups. It could show a definition by which
+/// an operator has to keep groups that no step of it breaks or doesn't have to keep others, a family that isn't the
 /// greatest, an operator that isn't the lowest, or that the call always wants memory.
 pub fn judge_groups<R: AllocGlobal + Print>(
     rt: &R,
@@ -25,33 +25,33 @@ pub fn judge_groups<R: AllocGlobal + Print>(
     Ok(())
 }
 
-/// Says a verdict, behind a word.
+/// Prints a verdict, behind a word.
 fn say_verdict<P: Print>(out: &P, word: &str, verdict: Verdict) {
     let _ = println!(out; "{word} {verdict:?}");
 }
 
-/// Says the joint verdicts.
+/// Prints the joint verdicts.
 fn say_verdicts<P: Print>(out: &P, verdicts: &[Verdict]) {
     for verdict in verdicts {
         say_verdict(out, "joint", *verdict);
     }
 }
 
-/// Says the verdict on each group by itself. That takes no memory.
+/// Prints the verdict on each group by itself. That takes no memory.
 fn say_alone<P: Print>(out: &P, layered: &Layered<Task>) {
     for group in layered.task().parts().groups.as_slice() {
         say_verdict(out, "alone", check_group(layered, group.as_slice()));
     }
 }
 
-/// The effect of this number, if there is one.
+/// Returns the effect of this number, if there is one.
 fn effect_of<'a>(operator: &'a Operator, word: &[u8]) -> Option<&'a Effect> {
     operator.effects.as_slice().get(number_in(word)? as usize)
 }
 
-/// The items of `Facts` for an operator of the task: `OPERATOR;EFFECT;EFFECT;FACT|FILE`, where nothing stands for no
-/// effect and no fact. It could show a definition of these facts that forgets the old value of an effect that doesn't
-/// fire.
+/// Prints the items of `Facts` for an operator of the task: `OPERATOR;EFFECT;EFFECT;FACT|FILE`, where nothing stands
+/// for no effect and no fact. It could show a definition of these facts that forgets the old value of an effect that
+/// doesn't fire.
 pub fn say_facts<P: Print>(out: &P, words: &[u8], task: &Task) {
     let (number, words) = cut(words, b';');
     let Some(place) = number_in(number) else {
@@ -63,7 +63,7 @@ pub fn say_facts<P: Print>(out: &P, words: &[u8], task: &Task) {
     }
 }
 
-/// Says the facts of the operator, with the effects and the fact that are asked for.
+/// Prints the facts of the operator, with the effects and the fact that are asked for.
 fn say_each<P: Print>(out: &P, operator: &Operator, words: &[u8]) {
     let (first, words) = cut(words, b';');
     let (second, extra) = cut(words, b';');

@@ -4,7 +4,7 @@ use sas_mutex::group_laws;
 use sas_run::verdict_laws;
 use test_words::say;
 
-/// The laws, each called once. It could show that one can't be called.
+/// Calls the laws, each once. It could show that one can't be called.
 pub fn say_laws<P: Print>(out: &P) {
     meaning_laws();
     verdict_laws();

@@ -1,4 +1,4 @@
-// Calls on the layered task of a file, which is let go in one place.
+// Calls on the layered task of a file, which is dropped in one place.
 use crate::axiom_calls::new_worklist;
 use crate::evaluator_calls::call_by_kind;
 use crate::files::{layered_of, words_and_file};
@@ -24,7 +24,7 @@ pub fn call_on_layered<R: AllocGlobal + Print>(
     made
 }
 
-/// The same, on a layered task.
+/// Does the same on a layered task.
 fn call_on<R: AllocGlobal + Print>(
     rt: &R,
     asked: &Asked<'_>,

@@ -6,9 +6,9 @@ use sas_run::{PlanFault, Runner, Valid};
 use std::alloc::{AllocError, Global};
 use test_words::{plan_of, say, say_number, say_want, spend};
 
-/// `check_plan` of the plan of a file, behind the initial state. It could show a definition of valid plans that takes
-/// the last operator of a name and not the first, passes over a fact of the goal, or adds up cost lines under metric 0;
-/// and that the call always wants memory.
+/// Calls `check_plan` of the plan of a file, and prints its answer behind the initial state. It could show a definition
+/// of valid plans that takes the last operator of a name and not the first, passes over a fact of the goal, or adds up
+/// cost lines under metric 0; and that the call always wants memory.
 pub fn check_plan<R: AllocGlobal + Print, E: Settle<Task> + Drop>(
     rt: &R,
     count: usize,
@@ -24,7 +24,7 @@ pub fn check_plan<R: AllocGlobal + Print, E: Settle<Task> + Drop>(
     said
 }
 
-/// The same, of a plan.
+/// Does the same with a plan.
 fn check_behind<R: AllocGlobal + Print, E: Settle<Task> + Drop>(
     rt: &R,
     count: usize,
@@ -40,7 +40,7 @@ fn check_behind<R: AllocGlobal + Print, E: Settle<Task> + Drop>(
     spent
 }
 
-/// Says the initial state, and what `check_plan` answers.
+/// Prints the initial state, and what `check_plan` returns.
 fn say_checked<R: AllocGlobal + Print, E: Settle<Task> + Drop>(
     rt: &R,
     values: &[u32],
@@ -57,7 +57,7 @@ fn say_checked<R: AllocGlobal + Print, E: Settle<Task> + Drop>(
     }
 }
 
-/// Whether there is an answer about the plan, where memory was refused before.
+/// Returns whether there is an answer about the plan, where memory was refused before.
 fn is_checked<E: Settle<Task> + Drop>(
     alloc: Global,
     runner: &mut Runner<'_, E>,
@@ -69,14 +69,14 @@ fn is_checked<E: Settle<Task> + Drop>(
     }
 }
 
-/// Says of a valid plan its operators and its cost.
+/// Prints the operators and the cost of a valid plan.
 fn say_valid<P: Print>(out: &P, values: &[u32], valid: &Valid) {
     say_values(out, values);
     say_numbers(out, "operators", valid.operators.as_slice());
     say_number(out, "cost", valid.cost);
 }
 
-/// Says why a plan isn't valid.
+/// Prints why a plan isn't valid.
 fn say_fault<P: Print>(out: &P, values: &[u32], fault: PlanFault) {
     say_values(out, values);
     say_debug(out, &fault);

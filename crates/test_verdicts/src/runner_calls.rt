@@ -14,7 +14,7 @@ use std::alloc::{AllocError, Global};
 use std::cell::Cell;
 use test_words::{Asked, cut, number_in, say, say_either, say_want, spend, text_of};
 
-/// A runner for the task, with this evaluator.
+/// Returns a runner for the task, with this evaluator.
 fn runner_of<'a, E: Settle<Task> + Drop>(
     alloc: Global,
     layered: &'a Layered<Task>,
@@ -28,7 +28,7 @@ fn runner_of<'a, E: Settle<Task> + Drop>(
     }
 }
 
-/// Makes the call with a runner that has this evaluator. The runner is let go in one place.
+/// Makes the call with a runner that has this evaluator. The runner is dropped in one place.
 pub fn call_with_runner<R: AllocGlobal + Print, E: Settle<Task> + Drop>(
     rt: &R,
     asked: &Asked<'_>,
@@ -44,7 +44,7 @@ pub fn call_with_runner<R: AllocGlobal + Print, E: Settle<Task> + Drop>(
     made
 }
 
-/// The same, with a runner.
+/// Does the same with a runner.
 fn call_of_runner<R: AllocGlobal + Print, E: Settle<Task> + Drop>(
     rt: &R,
     asked: &Asked<'_>,
@@ -58,8 +58,8 @@ fn call_of_runner<R: AllocGlobal + Print, E: Settle<Task> + Drop>(
     }
 }
 
-/// Calls of a runner in turn, from the initial state on: `CALLS|FILE`, with `;` between the calls. It could show a
-/// definition of steps by which an effect that doesn't fire asks for no old value, effects take place one after
+/// Makes calls of a runner in turn, from the initial state on: `CALLS|FILE`, with `;` between the calls. It could show
+/// a definition of steps by which an effect that doesn't fire asks for no old value, effects take place one after
 /// another, or the last of two that conflict counts; or one of choices that compares only how names begin.
 fn make_steps<R: AllocGlobal + Print, E: Settle<Task> + Drop>(
     rt: &R,
@@ -72,7 +72,7 @@ fn make_steps<R: AllocGlobal + Print, E: Settle<Task> + Drop>(
     made
 }
 
-/// The same, of calls one by one.
+/// Does the same with calls one by one.
 fn make_calls<R: AllocGlobal + Print, E: Settle<Task> + Drop>(
     rt: &R,
     calls: &[&[u8]],
@@ -86,7 +86,7 @@ fn make_calls<R: AllocGlobal + Print, E: Settle<Task> + Drop>(
     Ok(())
 }
 
-/// Makes one of the calls, and says its answer and the state.
+/// Makes one of the calls, and prints its answer and the state.
 fn make_call<P: Print, E: Settle<Task> + Drop>(
     out: &P,
     runner: &mut Runner<'_, E>,
@@ -106,7 +106,7 @@ fn make_call<P: Print, E: Settle<Task> + Drop>(
     say_values(out, state.values());
 }
 
-/// The operator of this number, if there is one.
+/// Returns the operator of this number, if there is one.
 fn operator_of(layered: &Layered<Task>, word: &[u8]) -> Option<u32>
     ensures { IfSome result (λ operator. operator < length layered.now.operators) }
 {
@@ -118,7 +118,7 @@ fn operator_of(layered: &Layered<Task>, word: &[u8]) -> Option<u32>
     }
 }
 
-/// Says whether the operator of this number is applicable.
+/// Prints whether the operator of this number is applicable.
 fn say_applicable<P: Print, E: Settle<Task> + Drop>(
     out: &P,
     runner: &Runner<'_, E>,
@@ -133,7 +133,7 @@ fn say_applicable<P: Print, E: Settle<Task> + Drop>(
     say_either(out, runner.applicable(state, operator), "true", "false");
 }
 
-/// Makes the step of the operator of this number, and says whether there is one.
+/// Makes the step of the operator of this number, and prints whether there is one.
 fn make_step<P: Print, E: Settle<Task> + Drop>(
     out: &P,
     runner: &mut Runner<'_, E>,
@@ -149,7 +149,7 @@ fn make_step<P: Print, E: Settle<Task> + Drop>(
     say_made(out, runner.step(state, operator));
 }
 
-/// Says whether a step was made, or why not.
+/// Prints whether a step was made, or why not.
 fn say_made<P: Print>(out: &P, made: Result<(), StepFault>) {
     match made {
         Ok(()) => say(out, "made"),
@@ -157,7 +157,7 @@ fn say_made<P: Print>(out: &P, made: Result<(), StepFault>) {
     }
 }
 
-/// Counts its calls, and then settles by `Rounds`. No contract says what a cell holds.
+/// Counts its calls, and then settles by `Rounds`. No contract states what a cell holds.
 #[derive(Drop)]
 struct Counting<'a> {
     calls: &'a Cell<u64>,
@@ -173,13 +173,13 @@ impl<'a> Settle<Task> for Counting<'a> {
     }
 }
 
-/// Says whether the evaluator was called since it had so many calls.
+/// Prints whether the evaluator was called since it had so many calls.
 fn say_called<P: Print>(out: &P, calls: &Cell<u64>, before: u64) {
     say_either(out, before < calls.get(), "called", "WRONG: not called");
 }
 
-/// Whether the initial state and a step call the evaluator that a runner was given. It could show a runner that settles
-/// by another one: of that the state tells nothing.
+/// Prints whether the initial state and a step call the evaluator that a runner was given. It could show a runner that
+/// settles by another one: the state doesn't show that.
 pub fn count_steps<R: AllocGlobal + Print>(
     rt: &R,
     layered: &Layered<Task>,
@@ -191,7 +191,7 @@ pub fn count_steps<R: AllocGlobal + Print>(
     said
 }
 
-/// The same, with the runner.
+/// Does the same with the runner.
 fn say_counted<R: AllocGlobal + Print, E: Settle<Task> + Drop>(
     rt: &R,
     calls: &Cell<u64>,
@@ -205,7 +205,7 @@ fn say_counted<R: AllocGlobal + Print, E: Settle<Task> + Drop>(
     Ok(())
 }
 
-/// `Runner::new`, and the initial state. It could show that the call always wants memory.
+/// Calls `Runner::new`, and prints the initial state. It could show that the call always wants memory.
 pub fn new_runner<R: AllocGlobal + Print>(
     rt: &R,
     count: usize,
@@ -225,7 +225,7 @@ pub fn new_runner<R: AllocGlobal + Print>(
     }
 }
 
-/// An evaluator, and so many allocations behind it.
+/// Returns an evaluator, made with so many allocations behind it.
 fn worklist_behind(
     alloc: Global,
     count: usize,
@@ -243,7 +243,7 @@ fn worklist_behind(
     }
 }
 
-/// Whether the evaluator still settles the state of the state section as `Rounds` does.
+/// Returns whether the evaluator still settles the state of the state section as `Rounds` does.
 fn settles<E: Settle<Task> + Drop>(alloc: Global, layered: &Layered<Task>, evaluator: E) -> bool
     requires { E.ready evaluator layered.now }
 {
@@ -260,7 +260,7 @@ fn settles<E: Settle<Task> + Drop>(alloc: Global, layered: &Layered<Task>, evalu
     state.values() == other.values()
 }
 
-/// `initial`, and once more where memory is refused. It could show that the call always wants memory.
+/// Calls `initial`, and once more where memory is refused. It could show that the call always wants memory.
 fn say_initial<R: AllocGlobal + Print, E: Settle<Task> + Drop>(
     rt: &R,
     count: usize,

@@ -1,4 +1,4 @@
-// Calls on the task of a file, which is let go in one place.
+// Calls on the task of a file, which is dropped in one place.
 use crate::axiom_calls::{new_layered, new_state};
 use crate::files::words_and_file;
 use crate::group_calls::say_facts;
@@ -18,7 +18,7 @@ pub fn call_on_task<R: AllocGlobal + Print>(rt: &R, asked: &Asked<'_>) -> Result
     made
 }
 
-/// The same, on a task.
+/// Does the same on a task.
 fn call_on<R: AllocGlobal + Print>(
     rt: &R,
     asked: &Asked<'_>,

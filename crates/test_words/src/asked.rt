@@ -4,7 +4,7 @@ ghost use Rattle.std.specs.Prelude.{◌≤◌, length, IfSome};
 use std::alloc::{AllocError, Global};
 use std::io::Read;
 
-/// No input is longer.
+/// The most bytes that an input has.
 pub const LONGEST: usize = 65_536;
 
 /// A call: its name, of which kind it is, how many allocations come before it, and the bytes that it is about.
@@ -16,7 +16,7 @@ pub struct Asked<'a> {
     pub bytes: &'a [u8],
 }
 
-/// Reads to the end of the input, or until the buffer is full: how many bytes came.
+/// Reads to the end of the input, or until the buffer is full. Returns how many bytes came.
 fn fill<R: Read>(input: &mut R, buffer: &mut [u8]) -> Option<usize>
     ensures { IfSome result (λ n. n ≤ length buffer.new) }
 {
@@ -31,13 +31,13 @@ fn fill<R: Read>(input: &mut R, buffer: &mut [u8]) -> Option<usize>
     Some(filled)
 }
 
-/// What is asked for, on the input that is read into the buffer.
+/// Returns what the input asks for, which is read into the buffer.
 pub fn asked_by<'a, R: Read>(input: &mut R, buffer: &'a mut [u8]) -> Option<Asked<'a>> {
     let filled = fill(input, buffer)?;
     asked_in(&buffer[..filled])
 }
 
-/// What some bytes ask for.
+/// Returns what some bytes ask for.
 fn asked_in(given: &[u8]) -> Option<Asked<'_>> {
     let (line, bytes) = cut(given, b'\n');
     let (call, words) = str::from_utf8(line).ok()?.split_once(' ')?;
@@ -50,7 +50,7 @@ fn asked_in(given: &[u8]) -> Option<Asked<'_>> {
     })
 }
 
-/// What stands before the first such byte, and what stands behind it: nothing where there is none.
+/// Returns what stands before the first such byte, and what stands behind it: nothing where there is none.
 pub fn cut(bytes: &[u8], separator: u8) -> (&[u8], &[u8]) {
     match bytes.iter().position(|&byte| byte == separator) {
         Some(at) => (&bytes[..at], &bytes[at + 1..]),
@@ -58,12 +58,12 @@ pub fn cut(bytes: &[u8], separator: u8) -> (&[u8], &[u8]) {
     }
 }
 
-/// The text of some bytes, empty where they are none.
+/// Returns the text of some bytes, empty where they are none.
 pub fn text_of(bytes: &[u8]) -> &str {
     str::from_utf8(bytes).unwrap_or("")
 }
 
-/// The number that some bytes spell, if they do.
+/// Returns the number that some bytes spell, or `None` where they spell none.
 pub fn number_in(bytes: &[u8]) -> Option<u32> {
     text_of(bytes).parse().ok()
 }

@@ -1,13 +1,13 @@
-// Devices that do in turn what a text tells them. No contract says what they give or take, nor how often they are asked.
+// Devices that follow a text, step by step. No contract states what they return or take, nor how often they are called.
 use crate::asked::cut;
 use std::alloc::Global;
 use std::cell::Cell;
 use std::io;
 use std::io::{Error, ErrorKind, Read, Write};
 
-/// A reader that gives the parts of a text, which have `#` between them, one at each read. Of an empty part it gives 0
-/// bytes, at `!` it fails, and at `~` it fails as interrupted; behind each of these it goes on. A part that is longer than
-/// the buffer takes further reads. Behind the last part it gives 0 bytes.
+/// A reader that returns the parts of a text, which have `#` between them, one at each read. For an empty part it
+/// returns 0 bytes, at `!` it fails, and at `~` it fails as interrupted; behind each of these it goes on. A part that
+/// is longer than the buffer takes further reads. Behind the last part it returns 0 bytes.
 #[derive(Drop)]
 pub struct ToldReader<'a> {
     part: &'a [u8],
@@ -15,7 +15,7 @@ pub struct ToldReader<'a> {
 }
 
 impl<'a> ToldReader<'a> {
-    /// It is told this.
+    /// Makes a reader that follows this text.
     pub fn new(text: &'a [u8]) -> ToldReader<'a> {
         let (part, rest) = cut(text, b'#');
         ToldReader { part, rest }
@@ -43,7 +43,7 @@ impl<'a> Read for ToldReader<'a> {
     }
 }
 
-/// The failure that these bytes tell, if they tell one.
+/// Returns the failure that these bytes ask for, or `None` where they ask for none.
 fn failure(told: &[u8]) -> Option<ErrorKind> {
     match told {
         [b'!'] => Some(ErrorKind::Other),
@@ -52,8 +52,8 @@ fn failure(told: &[u8]) -> Option<ErrorKind> {
     }
 }
 
-/// A writer that is told by the bytes of a text what to do at each write. At a digit it takes at most so many bytes, at `!`
-/// it fails, and at `~` it fails as interrupted; behind each of these it goes on. Behind the text it takes all.
+/// A writer that follows the bytes of a text, one at each write. At a digit it takes at most so many bytes, at `!` it
+/// fails, and at `~` it fails as interrupted; behind each of these it goes on. Behind the text it takes all.
 #[derive(Drop)]
 pub struct ToldWriter<'a> {
     kept: Vec<u8>,
@@ -61,7 +61,7 @@ pub struct ToldWriter<'a> {
 }
 
 impl<'a> ToldWriter<'a> {
-    /// It is told this.
+    /// Makes a writer that follows these turns.
     pub fn new(alloc: Global, turns: &'a [u8]) -> ToldWriter<'a> {
         ToldWriter {
             kept: Vec::new(alloc),
@@ -69,7 +69,7 @@ impl<'a> ToldWriter<'a> {
         }
     }
 
-    /// What it took.
+    /// Returns the bytes that it took.
     pub fn kept(&self) -> &[u8] {
         self.kept.as_slice()
     }
@@ -96,7 +96,7 @@ impl<'a> Write for ToldWriter<'a> {
     }
 }
 
-/// A reader that gives its bytes, and notes how long the longest buffer is that it is lent.
+/// A reader that returns its bytes, and notes the length of the longest buffer that it is lent.
 #[derive(Drop)]
 pub struct NotingReader<'a> {
     bytes: &'a [u8],
@@ -104,7 +104,7 @@ pub struct NotingReader<'a> {
 }
 
 impl<'a> NotingReader<'a> {
-    /// It gives these bytes, and notes that in this cell.
+    /// Makes a reader of these bytes, which notes that length in this cell.
     pub fn new(bytes: &'a [u8], longest: &'a Cell<usize>) -> NotingReader<'a> {
         NotingReader { bytes, longest }
     }
@@ -117,7 +117,7 @@ impl<'a> Read for NotingReader<'a> {
     }
 }
 
-/// The length of a buffer that is longer than so many bytes.
+/// Returns the length of a buffer if it is longer than so many bytes.
 pub fn longer_than(length: usize, most: usize) -> Option<usize> {
     if length > most { Some(length) } else { None }
 }

@@ -7,7 +7,7 @@ use sas_lines::Watched;
 use sas_text::{read_plan, read_task};
 use std::alloc::Global;
 
-/// The fact of two numbers, as `3 1`.
+/// Returns the fact of two numbers, as `3 1`.
 pub fn fact_of(words: &[u8]) -> Option<Fact> {
     let (var, value) = cut(words, b' ');
     Some(Fact {
@@ -16,17 +16,17 @@ pub fn fact_of(words: &[u8]) -> Option<Fact> {
     })
 }
 
-/// The plan of a file: none where it isn't one.
+/// Returns the plan of a file, or `None` where it is no plan file.
 pub fn plan_of(alloc: Global, file: &[u8]) -> Option<Plan> {
     read_plan(alloc, &mut Watched::new(file)).ok()
 }
 
-/// The task of a file: none where it isn't one.
+/// Returns the task of a file, or `None` where it is no task file.
 pub fn task_of(alloc: Global, file: &[u8]) -> Option<Task> {
     read_task(alloc, &mut Watched::new(file)).ok()
 }
 
-/// Whether two tasks are equal: exactly if they say the same.
+/// Returns whether two tasks are equal: exactly if they represent the same parts.
 pub fn is_same_task(task: &Task, other: &Task) -> bool
     ensures { IsTrue result ↔ (task.now ≡ other.now) }
 {

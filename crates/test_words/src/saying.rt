@@ -1,36 +1,36 @@
-// Says on standard output what came of a call. A failure to write is left to whoever compares the output.
+// Prints on standard output what came of a call. A failure to write is left to whoever compares the output.
 use std::alloc::AllocError;
 use std::io;
 use std::io::Write;
 
-/// Says a line.
+/// Prints a line.
 pub fn say<P: Print>(out: &P, line: &str) {
     let _ = out.println(line);
 }
 
-/// Says one of two lines.
+/// Prints one of two lines.
 pub fn say_either<P: Print>(out: &P, first: bool, line: &str, other: &str) {
     say(out, if first { line } else { other });
 }
 
-/// Says a word, and a number behind it.
+/// Prints a word, and a number behind it.
 pub fn say_number<P: Print>(out: &P, word: &str, number: u64) {
     let _ = println!(out; "{word} {number}");
 }
 
-/// Says the bytes as they are.
+/// Prints the bytes as they are.
 pub fn say_bytes<P: Print>(out: &P, bytes: &[u8]) {
     let _ = io::writer(out).write_all(bytes);
 }
 
-/// Says that a text came whole, and the text, and ends its line.
+/// Prints that a text came whole, and the text, and ends its line.
 pub fn say_whole<P: Print>(out: &P, text: &[u8]) {
     say(out, "whole");
     say_bytes(out, text);
     say(out, "");
 }
 
-/// Says a text, or that there was no memory for it.
+/// Prints a text, or that there was no memory for it.
 pub fn say_text<P: Print>(out: &P, text: Result<Vec<u8>, AllocError>) {
     match text {
         Ok(text) => say_whole(out, text.as_slice()),
@@ -38,7 +38,7 @@ pub fn say_text<P: Print>(out: &P, text: Result<Vec<u8>, AllocError>) {
     }
 }
 
-/// Says that a call did as it should, or with which of its numbers it first didn't.
+/// Prints that a call did as it should, or with which of its numbers it first didn't.
 pub fn say_right<P: Print>(out: &P, wrong: Option<usize>) {
     match wrong {
         None => say(out, "right"),
@@ -46,7 +46,7 @@ pub fn say_right<P: Print>(out: &P, wrong: Option<usize>) {
     }
 }
 
-/// Says what came of a call without memory: whether all stands that has to stand then.
+/// Prints what came of a call without memory: whether all that has to hold then holds.
 pub fn say_want<P: Print>(out: &P, stands: bool) {
     if stands {
         say(out, "wanting");
@@ -55,7 +55,7 @@ pub fn say_want<P: Print>(out: &P, stands: bool) {
     }
 }
 
-/// Says why a call said nothing: it isn't known, or an allocation before it was refused.
+/// Prints why a call printed nothing: it isn't known, or an allocation before it was refused.
 pub fn say_made<P: Print>(out: &P, known: Result<bool, AllocError>) {
     match known {
         Ok(true) => {}
