@@ -12,7 +12,7 @@ use crate::verdict::Verdict;
 use sas_core::{Fact, Grounded};
 use sas_meaning::Layered;
 
-/// Whether the group is exclusive by itself, its facts alone being known to exclude each other. It takes no memory.
+/// Returns the verdict on a group by itself, where its facts alone are known to exclude each other. It takes no memory.
 ///
 /// The order is: a fact on a derived variable; two different facts that hold in the state section; the first operator
 /// that doesn't keep the group.

@@ -24,7 +24,7 @@ use sas_groups::{Premises, Verdict, before_operators};
 use sas_meaning::Layered;
 use std::alloc::{AllocError, Global};
 
-/// The joint verdict on each group of the task, in their order. Exclusive are the groups of the greatest family that is kept
+/// Returns the joint verdict on each group of the task, in their order. Exclusive are the groups of the greatest family that is kept
 /// jointly. All memory is asked for before the operators are gone through.
 pub fn check_groups<T: Grounded>(
     alloc: Global,
@@ -34,7 +34,7 @@ pub fn check_groups<T: Grounded>(
     // Of an exclusive group no reachable state holds two different facts.
     ensures invariants { IfOk result (λ verdicts. AreInvariants layered.now verdicts.items) }
 {
-    // The contract of this call tells that the task is well ranged.
+    // By the contract of this call the task is well ranged.
     let _ = layered.task();
     let mut verdicts = first_verdicts(alloc, layered)?;
     let mut family = candidates(alloc, verdicts.as_slice())?;
@@ -82,14 +82,14 @@ fn judge<T: Grounded>(
     tell_breaking(indexed, &mut family.kept, verdicts, marks);
 }
 
-/// What is said of each group before operators are asked.
+/// Returns the verdict on each group before operators are checked.
 fn first_verdicts<T: Grounded>(
     alloc: Global,
     task: &Layered<T>,
 ) -> Result<Items<Verdict>, AllocError>
     ensures { IfOk result (λ verdicts. AreFirstVerdicts task.now verdicts) }
 {
-    // The contract of this call tells that the task is well ranged.
+    // By the contract of this call the task is well ranged.
     let _ = task.task();
     let mut verdicts = Items::from_vec(Vec::with_capacity(alloc, task.groups() as usize)?);
     for group in 0..task.groups() {
@@ -146,7 +146,7 @@ fn tell_breaking<T: Grounded>(
     }
 }
 
-/// Tells of each group that fell, and of which nothing is told so far, whether the operator keeps it.
+/// Decides of each group that fell, and has no verdict so far, whether the operator keeps it.
 fn tell_broken_by<T: Grounded>(
     indexed: &IndexedTask<'_, '_, T>,
     operator: u32,
@@ -174,7 +174,7 @@ fn tell_broken_by<T: Grounded>(
     }
 }
 
-/// Tells of each group that fell, and of which nothing is told so far, whether the effect keeps it. What is known where it
+/// Decides of each group that fell, and has no verdict so far, whether the effect keeps it. What is known where it
 /// fires is noted once for all of them; if that clashes, it never fires.
 fn tell_broken_by_effect<T: Grounded>(
     firing: &Firing<'_, '_, T>,
@@ -214,7 +214,7 @@ fn tell_broken_by_effect<T: Grounded>(
     forget_known(firing.task, firing.index, &premises, marks);
 }
 
-/// Whether one of these groups fell, and nothing is told of it so far.
+/// Returns whether one of these groups fell, and has no verdict so far.
 fn some_untold(groups: &[u32], kept: &[bool], verdicts: &[Verdict]) -> bool
     requires kept { AreBelow (length kept.now) groups.now }
     requires verdicts { AreBelow (length verdicts.now) groups.now }
@@ -229,7 +229,7 @@ fn some_untold(groups: &[u32], kept: &[bool], verdicts: &[Verdict]) -> bool
     false
 }
 
-/// Whether the group fell, and nothing is told of it so far.
+/// Returns whether the group fell, and has no verdict so far.
 fn is_untold(group: u32, kept: &[bool], verdicts: &[Verdict]) -> bool
     requires kept { group < length kept.now }
     requires verdicts { group < length verdicts.now }
@@ -239,7 +239,7 @@ fn is_untold(group: u32, kept: &[bool], verdicts: &[Verdict]) -> bool
     is_exclusive(verdicts[group as usize]) && !kept[group as usize]
 }
 
-/// Tells of each of these groups, which have the fact that the effect sets, if it fell and nothing is told of it so far,
+/// Decides of each of these groups, which have the fact that the effect sets, if it fell and has no verdict so far,
 /// whether the effect keeps it, by what is noted.
 fn tell_groups<T: Grounded>(
     firing: &Firing<'_, '_, T>,
@@ -267,7 +267,7 @@ fn tell_groups<T: Grounded>(
     }
 }
 
-/// If the group fell and nothing is told of it so far, tells whether the effect keeps it, by what is noted.
+/// If the group fell and has no verdict so far, decides whether the effect keeps it, by what is noted.
 fn tell_group<T: Grounded>(
     firing: &Firing<'_, '_, T>,
     group: u32,

@@ -47,7 +47,7 @@ refusal name fault =
     (word_of fault.kind)
 
 -- the output about what the file of this name is read as: an answer about its value, or the
--- refusal. `IsAnswer` tells which outputs are answers about a value
+-- refusal. `IsAnswer` is asked which outputs are answers about a value
 abbrev pub IsAnswerOrRefusal : {V : Type 0} → List ℕ → (V → Output → Type 0) → Result V Fault
     → Option Output → Type 0
 IsAnswerOrRefusal name IsAnswer (Ok value) output =

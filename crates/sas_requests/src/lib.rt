@@ -43,8 +43,8 @@ pub enum Request {
 /// `Plan` or `Mutex` finds that the task isn't layered, where the plan isn't valid, and where a group isn't shown to be
 /// exclusive. Not to be called with a device that has failed.
 ///
-/// The theorem, `output`, holds for every reader that tells its bytes, such as one over memory. The code is generic,
-/// and so the same for a file, which tells none; that a file gives what the disk holds is trusted.
+/// The theorem, `output`, holds for every reader whose bytes are known, such as one over memory. The code is generic, and so
+/// the same for a file, whose bytes aren't; that a file gives what the disk holds is trusted.
 pub fn run<T: Read, P: Read, W: Write>(
     alloc: Global,
     request: Request,

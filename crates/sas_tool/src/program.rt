@@ -38,7 +38,7 @@ struct Places<F> {
 }
 
 /// Runs the program. In this order: its words, opening its inputs, the run, and flushing standard output. The first of
-/// these that fails is told by a line on standard error; a failure to write that line is ignored. The exit
+/// these that fails is reported by a line on standard error; a failure to write that line is ignored. The exit
 /// status is 0 for yes, 1 for no, 2 for words that aren't understood, and 3 otherwise. A read of standard
 /// input that is closed at the start fails, and so does a write to standard output that is.
 pub fn start<R: AllocGlobal + Env + Files + Input + Print + Eprint>(rt: &R) -> ExitCode {
