@@ -99,7 +99,7 @@ ten_pos zero = omega arith
 ten_pos (suc k) = let h = ten_pos k in omega (arith, h)
 
 long_onto : (k n : ℕ) (acc : List ℕ) → 10 ^ k ≤ n → length (digits_onto k 10 false n acc) ≡ k + length acc
-long_onto zero n acc l = refl
+long_onto zero n acc l = let e : length acc ≡ 0 + length acc = omega arith in e
 long_onto (suc k) n acc l =
     let power = ten_pos k in
     let more : 10 ^ k ≤ n / 10 = omega arith in

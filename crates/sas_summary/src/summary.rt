@@ -80,7 +80,7 @@ fn push_summary<W: Write>(
     ensures puts { PutsOrBreaks (W.contents out.old.device) (W.contents out.new.device)
         pieces.old pieces.new
         (numbers.now ++ text (spec.initial_lines outline.now.variables outline.now.init)
-        ++ text (spec.goal_lines outline.now.variables outline.now.goal)) result }
+        ++ text (spec.goal_fact_lines outline.now.variables outline.now.goal)) result }
     ensures empty { OnOk result (pieces.new.held ≡ []) }
     ensures note { IsErr result ↔ IsTrue out.new.failed }
 {
@@ -168,7 +168,7 @@ fn push_goal<W: Write>(
     requires { out.old.failed ≡ false }
     ensures puts { PutsOrBreaks (W.contents out.old.device) (W.contents out.new.device)
         pieces.old pieces.new
-        (text (spec.goal_lines outline.now.variables outline.now.goal)) result }
+        (text (spec.goal_fact_lines outline.now.variables outline.now.goal)) result }
     ensures note { IsErr result ↔ IsTrue out.new.failed }
 {
     for fact in outline.goal.as_slice() {
