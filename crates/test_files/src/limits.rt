@@ -1,4 +1,5 @@
-// Readers that take fewer bytes than those of files do, through the parts that they are made of.
+// Readers that take fewer bytes than those of files do, through the parts that they are made of. The constructor of a
+// `PlanReader` or a `TaskReader` that takes a limit is private to its crate.
 use crate::fault_words::say_fault;
 use sas_plan_file::PlanMachine;
 use sas_reader::{Fault, Machine, Reader};
