@@ -72,6 +72,7 @@ class Check:
         """Moves what it printed into the log, and returns whether the crate is proved."""
         with open(self.log_name(), encoding="utf-8", errors="replace") as printed:
             log.write(f"== {self.crate}\n{printed.read()}")
+        log.flush()
         os.remove(self.log_name())
         return self.process.returncode == 0
 

@@ -9,7 +9,7 @@ use Rattle.sas_core.specs.Grounded.{operator_at}
 use Rattle.sas_meaning.specs.States.{Holds, AllHold}
 use Rattle.sas_meaning.specs.Steps.{preconditions}
 use Rattle.sas_meaning.proofs.Facts.{hold_or_not}
-use Rattle.sas_run.specs.Plans.{IsApplicable, IsNamed, IsChosen}
+use Rattle.sas_run.specs.Plans.{IsApplicable, IsNamed, NoneApplicable, IsChosen}
 use Rattle.sas_run.specs.Verdicts.{IsFirstMissed}
 
 -- whether an operator has the name
@@ -68,11 +68,11 @@ chosen_below p s name (suc n) = elim (chosen_below p s name n) [
   ]
 ]
 
--- an operator is chosen, or none
-pub chosen_or_none : (p : Parts) (s name : List ℕ) → ((operator : ℕ) × IsChosen p s name operator) ⊎ ((operator : ℕ) → IsChosen p s name operator → ⊥)
+-- an operator is chosen, or none of the name is applicable
+pub chosen_or_none : (p : Parts) (s name : List ℕ) → ((operator : ℕ) × IsChosen p s name operator) ⊎ NoneApplicable p s name
 chosen_or_none p s name = elim (chosen_below p s name (length p.operators)) [
   | inl w ↦ inl w
-  | inr none ↦ inr (λ operator c. none operator c.of_name.exists c.of_name c.applicable)
+  | inr none ↦ inr (λ operator is can. none operator is.exists is can)
 ]
 
 -- all facts hold, or one is the first that fails

@@ -65,8 +65,8 @@ found_is_choice p s name first operator lowest (le, named, holds, none) = record
 pub none_is_choice : (p : Parts) (s name : List ℕ) (first : ℕ) → IsNextNamed p name 0 (Some first) → IsFirstChosen p s first None → IsChoice p s name Blocked
 none_is_choice p s name first lowest none = (
   (first, lowest.of_name),
-  λ operator chosen. elim (cases_lt operator first) [
-    | inl early ↦ lowest.first operator (omega arith) early chosen.of_name
-    | inr late ↦ none operator late (record { exists = chosen.of_name.exists; named = chosen.of_name.named ∙ sym lowest.of_name.named }) chosen.applicable
+  λ operator of_name applicable. elim (cases_lt operator first) [
+    | inl early ↦ lowest.first operator (omega arith) early of_name
+    | inr late ↦ none operator late (record { exists = of_name.exists; named = of_name.named ∙ sym lowest.of_name.named }) applicable
   ],
 )

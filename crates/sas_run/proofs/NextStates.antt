@@ -13,7 +13,7 @@ use Rattle.sas_core.specs.WellRanged.{EffectFits, OperatorFits, WellRanged}
 use Rattle.sas_core.proofs.Places.{holds_at}
 use Rattle.sas_meaning.specs.Layers.{IsBasic, IsLayered}
 use Rattle.sas_meaning.specs.Settled.{Settles}
-use Rattle.sas_meaning.specs.Steps.{Fires, preconditions, Step}
+use Rattle.sas_meaning.specs.Steps.{Fires, Agree, preconditions, Step}
 use Rattle.sas_meaning.proofs.Facts.{hold_or_not, Untouched}
 use Rattle.sas_meaning.proofs.Forced.{state_set, fact_within}
 use Rattle.sas_meaning.proofs.Exists.{settled_exists}
@@ -145,23 +145,20 @@ step_exists p s operator ranged layered state lt applicable agree =
     let b = settled_exists p a.0 ranged layered a.1.state in
     (b.0, step_from_applied p s (operator_at p operator) a.0 b.0 (effects_basic p operator layered lt) a.1 b.1)
 
--- an operator has a step or none
-pub step_or_none : (p : Parts) (s : List ℕ) (operator : ℕ) → WellRanged p → IsLayered p → IsState p.variables s → operator < length p.operators
-    → ((next : List ℕ) × Step p s (operator_at p operator) next) ⊎ ((next : List ℕ) → Step p s (operator_at p operator) next → ⊥)
-step_or_none p s operator ranged layered state lt = elim (hold_or_not (slice_index s) (preconditions (operator_at p operator))) [
-  | inr cannot ↦ inr (λ next step. cannot step.applicable)
-  | inl can ↦ elim (agree_or_not s (operator_at p operator).effects) [
-    | inr conflict ↦ inr (λ next step. conflict step.agree)
-    | inl agree ↦ inl (step_exists p s operator ranged layered state lt can agree)
-  ]
+-- an applicable operator has a step, or its effects that fire conflict
+pub step_or_conflict : (p : Parts) (s : List ℕ) (operator : ℕ) → WellRanged p → IsLayered p → IsState p.variables s → operator < length p.operators
+    → IsApplicable s (operator_at p operator) → ((next : List ℕ) × Step p s (operator_at p operator) next) ⊎ (Agree s (operator_at p operator).effects → ⊥)
+step_or_conflict p s operator ranged layered state lt can = elim (agree_or_not s (operator_at p operator).effects) [
+  | inr conflict ↦ inr conflict
+  | inl agree ↦ inl (step_exists p s operator ranged layered state lt can agree)
 ]
 
 abbrev no_effect : Effect
 no_effect = record { conditions = []; var = 0; old = None; new = 0 }
 
--- an operator that has a step has no fault
-pub fault_has_no_step : (p : Parts) (s : List ℕ) (o : Operator) (fault : StepFault) (next : List ℕ) → IsStepFault s o fault → Step p s o next → ⊥
-fault_has_no_step p s o (NotApplicable fact) next f step = f.1.missed no_fact (step.applicable f.0 no_fact f.1.exists)
-fault_has_no_step p s o (Conflict effect) next f step =
+-- the fault of an operator that is applicable is a conflict
+pub fault_is_conflict : (s : List ℕ) (o : Operator) (fault : StepFault) → IsApplicable s o → IsStepFault s o fault → Agree s o.effects → ⊥
+fault_is_conflict s o (NotApplicable fact) can f agree = f.1.missed no_fact (can f.0 no_fact f.1.exists)
+fault_is_conflict s o (Conflict effect) can f agree =
     let c = f.1 in
-    c.contradicts.new (step.agree c.earlier no_effect (let lt = c.before in let within = c.exists in omega arith) effect no_effect c.exists c.earlier_fires c.fires c.contradicts.var)
+    c.contradicts.new (agree c.earlier no_effect (let lt = c.before in let within = c.exists in omega arith) effect no_effect c.exists c.earlier_fires c.fires c.contradicts.var)

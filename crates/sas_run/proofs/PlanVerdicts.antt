@@ -8,31 +8,32 @@ use Rattle.sas_core.specs.Variables.{IsState}
 use Rattle.sas_core.specs.WellRanged.{WellRanged}
 use Rattle.sas_meaning.specs.States.{AllHold}
 use Rattle.sas_meaning.specs.Layers.{IsLayered}
-use Rattle.sas_meaning.specs.Steps.{Step}
+use Rattle.sas_meaning.specs.Steps.{Agree}
 use Rattle.sas_meaning.specs.Reachable.{IsInitial}
 use Rattle.sas_meaning.proofs.Exists.{initial_exists}
 use Rattle.sas_run.specs.declared.plan_check.PlanFault.{PlanFault}
 use Rattle.sas_run.specs.declared.plan_check.PlanFault.TheVariants.{Memory, NoOperator, NotApplicable, Conflict, GoalMissed, CostDiffers}
 use Rattle.sas_run.specs.Laws.{SomeVerdict, ValidHasNoFault, ValidIsOne, FaultIsOne}
-use Rattle.sas_run.specs.Plans.{IsNamed, IsChosen, GoThrough, LeadsTo, cost_of_all, IsValid}
+use Rattle.sas_run.specs.Plans.{IsNamed, NoneApplicable, IsChosen, GoThrough, LeadsTo, cost_of_all, IsValid}
 use Rattle.sas_run.specs.Verdicts.{ComesTo, IsFirstMissed, IsFaultOf}
 use Rattle.sas_run.proofs.Choosing.{named_or_none, chosen_or_none, hold_or_missed, first_missed_is_one, none_missed}
 use Rattle.sas_run.proofs.Determined.{chosen_is_one, GoesOn, leads_one_way, comes_on, comes_past, comes_one_way}
-use Rattle.sas_run.proofs.NextStates.{step_or_none}
+use Rattle.sas_run.proofs.NextStates.{step_or_conflict}
 
 -- why a step isn't made in a state, as the fault that tells it
 pub data Hinders (p : Parts) (s name : List ℕ) (step : ℕ) (fault : PlanFault) : Type 0 where
   nobody : ((operator : ℕ) → IsNamed p name operator → ⊥) → fault ≡ NoOperator step → Hinders p s name step fault
-  blocked : (operator : ℕ) → IsNamed p name operator → ((chosen : ℕ) → IsChosen p s name chosen → ⊥) → fault ≡ NotApplicable step → Hinders p s name step fault
-  conflicting : (operator : ℕ) → IsChosen p s name operator → ((next : List ℕ) → Step p s (operator_at p operator) next → ⊥) → fault ≡ Conflict step operator
+  blocked : (operator : ℕ) → IsNamed p name operator → NoneApplicable p s name → fault ≡ NotApplicable step → Hinders p s name step fault
+  conflicting : (operator : ℕ) → IsChosen p s name operator → (Agree s (operator_at p operator).effects → ⊥) → fault ≡ Conflict step operator
       → Hinders p s name step fault
 
 -- where that is so the name doesn't go on
 pub hindered : (p : Parts) (s name : List ℕ) (step : ℕ) (fault : PlanFault) → Hinders p s name step fault → GoesOn p s name → ⊥
 hindered p s name step fault (nobody none _) on = none on.operator on.chosen.of_name
-hindered p s name step fault (blocked operator is none _) on = none on.operator on.chosen
+hindered p s name step fault (blocked operator is none _) on = none on.operator on.chosen.of_name on.chosen.applicable
 hindered p s name step fault (conflicting operator chosen none _) on =
-    none on.next (subst (λ k. Step p s (operator_at p k) on.next) (chosen_is_one p s name on.operator operator on.chosen chosen) on.step)
+    let step = on.step in
+    none (subst (λ k. Agree s (operator_at p k).effects) (chosen_is_one p s name on.operator operator on.chosen chosen) step.agree)
 
 -- and what hinders it is one
 hinders_one : (p : Parts) (s name : List ℕ) (step : ℕ) (a b : PlanFault) → Hinders p s name step a → Hinders p s name step b → a ≡ b
@@ -41,9 +42,9 @@ hinders_one p s name step a b (nobody none e) (blocked operator is none' f) = ab
 hinders_one p s name step a b (nobody none e) (conflicting operator chosen none' f) = absurd (none operator chosen.of_name)
 hinders_one p s name step a b (blocked operator is none e) (nobody none' f) = absurd (none' operator is)
 hinders_one p s name step a b (blocked operator is none e) (blocked operator' is' none' f) = e ∙ sym f
-hinders_one p s name step a b (blocked operator is none e) (conflicting operator' chosen none' f) = absurd (none operator' chosen)
+hinders_one p s name step a b (blocked operator is none e) (conflicting operator' chosen none' f) = absurd (none operator' chosen.of_name chosen.applicable)
 hinders_one p s name step a b (conflicting operator chosen none e) (nobody none' f) = absurd (none' operator chosen.of_name)
-hinders_one p s name step a b (conflicting operator chosen none e) (blocked operator' is none' f) = absurd (none' operator chosen)
+hinders_one p s name step a b (conflicting operator chosen none e) (blocked operator' is none' f) = absurd (none' operator chosen.of_name chosen.applicable)
 hinders_one p s name step a b (conflicting operator chosen none e) (conflicting operator' chosen' none' f) =
     e ∙ (ap (λ k. Conflict step k) (chosen_is_one p s name operator operator' chosen chosen') ∙ sym f)
 
@@ -168,7 +169,7 @@ module _ (p : Parts) (ranged : WellRanged p) (layered : IsLayered p) where
   -- a name goes on in a state, or something hinders it
   pub on_or_hindered : (s name : List ℕ) → IsState p.variables s → GoesOn p s name ⊎ ((step : ℕ) → (fault : PlanFault) × Hinders p s name step fault)
   on_or_hindered s name state = elim (chosen_or_none p s name) [
-    | inl w ↦ elim (step_or_none p s w.0 ranged layered state w.1.of_name.exists) [
+    | inl w ↦ elim (step_or_conflict p s w.0 ranged layered state w.1.of_name.exists w.1.applicable) [
       | inl n ↦ inl (record { operator = w.0; chosen = w.1; next = n.0; step = n.1 })
       | inr none ↦ inr (λ step. (Conflict step w.0, conflicting w.0 w.1 none refl))
     ]

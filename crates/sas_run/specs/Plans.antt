@@ -18,7 +18,13 @@ pub record IsNamed (p : Parts) (name : List ℕ) (operator : ℕ) : Type 0 where
   pub exists : operator < length p.operators
   pub named : (operator_at p operator).name ≡ name
 
--- A step of a plan means the lowest-numbered operator of exactly that name that is applicable.
+-- no operator of this name is applicable in the state
+abbrev pub NoneApplicable : Parts → List ℕ → List ℕ → Type 0
+NoneApplicable p s name = (operator : ℕ) → IsNamed p name operator
+    → IsApplicable s (operator_at p operator) → ⊥
+
+-- A step of a plan means the lowest-numbered operator of exactly that name that is applicable. No
+-- later one is tried, even if this one has no step.
 pub record IsChosen (p : Parts) (s name : List ℕ) (operator : ℕ) : Type 0 where
   pub of_name : IsNamed p name operator
   pub applicable : IsApplicable s (operator_at p operator)

@@ -15,7 +15,7 @@ use Rattle.sas_run.specs.declared.runner.Choice.{Choice}
 use Rattle.sas_run.specs.declared.runner.Choice.TheVariants.{Unknown, Blocked, Found}
 use Rattle.sas_run.specs.declared.steps.StepFault.{StepFault}
 use Rattle.sas_run.specs.declared.steps.StepFault.TheVariants as step_fault
-use Rattle.sas_run.specs.Plans.{IsApplicable, IsNamed, IsChosen, GoThrough}
+use Rattle.sas_run.specs.Plans.{IsApplicable, IsNamed, NoneApplicable, IsChosen, GoThrough}
 use Rattle.sas_run.specs.Verdicts.{IsFirstMissed}
 
 -- which operator a name means in a state: no operator has the name, none that has it is applicable,
@@ -23,7 +23,7 @@ use Rattle.sas_run.specs.Verdicts.{IsFirstMissed}
 abbrev pub IsChoice : Parts → List ℕ → List ℕ → Choice → Type 0
 IsChoice p s name Unknown = (operator : ℕ) → IsNamed p name operator → ⊥
 IsChoice p s name Blocked = ((operator : ℕ) × IsNamed p name operator)
-    × ((operator : ℕ) → IsChosen p s name operator → ⊥)
+    × NoneApplicable p s name
 IsChoice p s name (Found operator) = IsChosen p s name operator
 
 -- the first operator from this one on that has its name and is applicable, if there is one
@@ -101,10 +101,10 @@ StopsAt p s name step (plan_fault.NoOperator at) = (at ≡ step)
     × ((operator : ℕ) → IsNamed p name operator → ⊥)
 StopsAt p s name step (plan_fault.NotApplicable at) = (at ≡ step)
     × ((operator : ℕ) × IsNamed p name operator)
-    × ((operator : ℕ) → IsChosen p s name operator → ⊥)
+    × NoneApplicable p s name
 StopsAt p s name step (plan_fault.Conflict at operator) = (at ≡ step)
     × IsChosen p s name operator
-    × ((next : List ℕ) → Step p s (operator_at p operator) next → ⊥)
+    × (Agree s (operator_at p operator).effects → ⊥)
 StopsAt p s name step (plan_fault.GoalMissed index) = ⊥
 StopsAt p s name step (plan_fault.CostDiffers sum) = ⊥
 StopsAt p s name step plan_fault.Memory = ⊥

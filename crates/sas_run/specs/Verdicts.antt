@@ -5,11 +5,11 @@ use Rattle.sas_core.specs.declared.parts.Parts.{Parts}
 use Rattle.sas_core.specs.Grounded.{operator_at}
 use Rattle.sas_core.specs.PlanParts.{PlanParts}
 use Rattle.sas_meaning.specs.States.{Holds, AllHold}
-use Rattle.sas_meaning.specs.Steps.{Step}
+use Rattle.sas_meaning.specs.Steps.{Agree}
 use Rattle.sas_run.specs.declared.plan_check.PlanFault.{PlanFault}
 use Rattle.sas_run.specs.declared.plan_check.PlanFault.TheVariants.{Memory, NoOperator, NotApplicable}
 use Rattle.sas_run.specs.declared.plan_check.PlanFault.TheVariants.{Conflict, GoalMissed, CostDiffers}
-use Rattle.sas_run.specs.Plans.{IsNamed, IsChosen, LeadsTo, cost_of_all}
+use Rattle.sas_run.specs.Plans.{IsNamed, NoneApplicable, IsChosen, LeadsTo, cost_of_all}
 
 -- the steps before this one go through and lead to the state s; this step, counted from 1, has the
 -- name
@@ -21,7 +21,7 @@ pub record ComesTo (p : Parts) (steps : List (List ℕ)) (step : ℕ) (s name : 
   pub operators : List ℕ
   pub leads : LeadsTo p before operators s
 
--- the first of the facts that doesn't hold
+-- the first of the facts that doesn't hold; d is what a place behind the last one would give
 pub record IsFirstMissed (value : ℕ → ℕ) (facts : List Fact) (index : ℕ) : Type 0 where
   pub exists : index < length facts
   pub missed : (d : Fact) → Holds value (slice_index_or facts index d) → ⊥
@@ -38,12 +38,12 @@ IsFaultOf p plan (NoOperator step) = (s name : List ℕ)
 IsFaultOf p plan (NotApplicable step) = (s name : List ℕ)
     × ComesTo p plan.steps step s name
     × ((operator : ℕ) × IsNamed p name operator)
-    × ((operator : ℕ) → IsChosen p s name operator → ⊥)
--- the chosen operator has no step: two of its effects conflict
+    × NoneApplicable p s name
+-- effects of the chosen operator that fire conflict
 IsFaultOf p plan (Conflict step operator) = (s name : List ℕ)
     × ComesTo p plan.steps step s name
     × IsChosen p s name operator
-    × ((next : List ℕ) → Step p s (operator_at p operator) next → ⊥)
+    × (Agree s (operator_at p operator).effects → ⊥)
 -- all steps go through, and a fact of the goal doesn't hold
 IsFaultOf p plan (GoalMissed index) = (operators last : List ℕ)
     × LeadsTo p plan.steps operators last

@@ -5,6 +5,7 @@ use Rattle.sas_core.specs.declared.parts.Parts.{Parts}
 use Rattle.sas_groups.specs.declared.verdict.Verdict.{Verdict}
 use Rattle.sas_groups.specs.declared.verdict.Verdict.TheVariants.{Exclusive, Derived, Initial, Broken}
 use Rattle.sas_groups.specs.Verdicts.{IsFirstVerdict, IsVerdictAlone}
+use Rattle.sas_groups.proofs.Invariance.{exclusive_alone_is_invariant}
 use Rattle.sas_groups.proofs.group.check_group.Goals as goal
 
 -- what speaks against a group before operators are asked is the verdict on it
@@ -14,12 +15,19 @@ first_is_last p group Derived not h = h
 first_is_last p group Initial not h = h
 first_is_last p group (Broken operator) not h = elim h [ ]
 
-pub returns-in-Some : goal.returns-in-Some
-returns-in-Some g c = (c.in-Exclusive.ensures.basic, c.in-Exclusive.ensures.initial, c.in-Some.ensures.some)
+pub returns-in-Some-clause-verdict : goal.returns-in-Some-clause-verdict
+returns-in-Some-clause-verdict g c = (c.in-Exclusive.ensures.basic, c.in-Exclusive.ensures.initial, c.in-Some.ensures.some)
 
-pub returns-in-None : goal.returns-in-None
-returns-in-None g c = (c.in-Exclusive.ensures.basic, c.in-Exclusive.ensures.initial, c.in-None.ensures.none)
+pub returns-in-None-clause-verdict : goal.returns-in-None-clause-verdict
+returns-in-None-clause-verdict g c = (c.in-Exclusive.ensures.basic, c.in-Exclusive.ensures.initial, c.in-None.ensures.none)
 
-pub returns-in_default : goal.returns-in_default
-returns-in_default g c = first_is_last c.args.layered.now c.args.group.now c.before_operators.result
+pub returns-in-None-clause-invariant : goal.returns-in-None-clause-invariant
+returns-in-None-clause-invariant g c = λ e. exclusive_alone_is_invariant c.args.layered.now c.args.group.now
+    (c.in-Exclusive.ensures.basic, c.in-Exclusive.ensures.initial, c.in-None.ensures.none)
+
+pub returns-in_default-clause-verdict : goal.returns-in_default-clause-verdict
+returns-in_default-clause-verdict g c = first_is_last c.args.layered.now c.args.group.now c.before_operators.result
     c.in_default.not-Exclusive c.before_operators.ensures
+
+pub returns-in_default-clause-invariant : goal.returns-in_default-clause-invariant
+returns-in_default-clause-invariant g c = λ e. absurd (c.in_default.not-Exclusive e)

@@ -8,6 +8,7 @@ use Rattle.sas_mutex.specs.Alone.{IsOfNone}
 use Rattle.sas_mutex.specs.Joint.{verdict_at}
 use Rattle.sas_mutex.proofs.Counting.{count_within}
 use Rattle.sas_mutex.proofs.Telling.{candidates_from}
+use Rattle.sas_mutex.proofs.JointLists.{listed_invariants}
 use Rattle.sas_mutex.proofs.joint.check_groups.Goals as goal
 
 pub judge-requires-clause-room : goal.judge-requires-clause-room
@@ -30,3 +31,6 @@ judge-requires-clause-candidates g c =
     candidates_from _ c.in_ok-verdicts.verdicts kept c.in_ok-verdicts.ensures
     (subst (λ (xs : List Verdict). (place : ℕ) → place < length xs → IsTrue (family_of kept place) ↔ (verdict_at xs place ≡ Exclusive))
     c.as_slice.ensures family.ensures.exclusive)
+
+pub returns-clause-invariants : goal.returns-clause-invariants
+returns-clause-invariants g c = listed_invariants c.args.layered.now c.judge.new.verdicts.items c.judge.ensures
