@@ -4,7 +4,7 @@ use Rattle.sas_run.specs.declared.plan_check.PlanFault.{PlanFault}
 use Rattle.sas_run.specs.declared.plan_check.PlanFault.TheVariants.{Memory, NoOperator, NotApplicable}
 use Rattle.sas_run.specs.declared.plan_check.PlanFault.TheVariants.{Conflict, GoalMissed, CostDiffers}
 
--- `plan valid: S steps, cost C`
+-- `plan valid: S steps, cost C`, with the LF behind it
 abbrev pub valid_line : ℕ → ℕ → List ℕ
 valid_line steps cost =
     codes "plan valid: " ++ decimal steps ++ codes " steps, cost " ++ decimal cost ++ codes "\n"

@@ -17,7 +17,8 @@ use Rattle.sas_core.specs.Numbers.{IsNumber, is_number, IsSigned}
 use Rattle.sas_core.specs.Variables.{range_of, HasValue, has_value, MayHaveValue, FactExists, IsState}
 use Rattle.sas_core.specs.WellRanged.{Listed, VariableFits, EffectFits, OperatorFits, RuleFits, WellRanged}
 use Rattle.sas_core.proofs.Passing.{Pass, by_test, split_row, join_row, and_then}
-use Rattle.sas_core.specs.Checks.{Check, first_fault, check, listed, name_checks, signed_checks, variable_checks, fact_checks, change_checks, effect_checks, operator_checks, rule_checks, values_in_range, state_checks, checks, ChecksAreTheRules}
+use Rattle.sas_core.specs.Checks.{name_checks, signed_checks, variable_checks, fact_checks, change_checks, effect_checks, operator_checks, rule_checks, values_in_range, state_checks, checks, ChecksAreTheRules}
+use Rattle.sas_core.specs.FirstFault.{Check, first_fault, check, listed}
 
 number : (n : ℕ) (e : PartsFault) → Pass (check (is_number n) e) ↔ IsNumber n
 number n e = by_test (is_number n) e (IsNumber n) (ltb-true n (2 ^ 31), lt-ltb n (2 ^ 31))

@@ -5,7 +5,7 @@ use Rattle.std.proofs.lemmas.List.{drop_all}
 use Rattle.sas_core.specs.declared.checks.PartsFault.{PartsFault}
 use Rattle.sas_core.specs.declared.checks.PartsFault.TheVariants.{TooMany}
 use Rattle.sas_core.specs.Numbers.{is_number}
-use Rattle.sas_core.specs.Checks.{Check, first_fault, check, listed}
+use Rattle.sas_core.specs.FirstFault.{Check, first_fault, check, listed}
 
 fails_first : {F : Type 0} (passes : Bool) (d e : F) (rest whole : Option F) → (Some e ≡ rest → Some e ≡ whole) → Some e ≡ (if passes then rest else Some d) → Some e ≡ (if passes then whole else Some d)
 fails_first true d e rest whole later some = later some

@@ -1,6 +1,6 @@
 -- Where no check of a row fails: a check and its rule, and some checks behind others.
 use Rattle.std.proofs.Common.{◌≡◌, ◌↔◌, Bool, true, false, if◌then◌else◌, List, [], ◌∷◌, ◌++◌, Option, Some, None, refl}
-use Rattle.sas_core.specs.Checks.{Check, first_fault, check}
+use Rattle.sas_core.specs.FirstFault.{Check, first_fault, check}
 
 -- no check of these fails
 pub record Pass {F : Type 0} (row : List (Check F)) : Type 0 where

@@ -1,6 +1,6 @@
 -- The rules of a task file as tests in the order of the file, each with the fault that it reports.
-use Rattle.std.specs.Prelude.{◌≡◌, ℕ, ◌↔◌, ◌==◌, Bool, not, nat_lt, if◌then◌else◌}
-use Rattle.std.specs.Prelude.{List, [], ◌∷◌, ◌++◌, length, zip, flat_map, Option, Some, None}
+use Rattle.std.specs.Prelude.{◌≡◌, ℕ, ◌↔◌, ◌==◌, Bool, not, nat_lt}
+use Rattle.std.specs.Prelude.{List, [], ◌++◌, length, zip, Option, Some, None}
 use Rattle.std.specs.List.{list_all}
 use Rattle.sas_core.specs.declared.checks.PartsFault.{PartsFault}
 use Rattle.sas_core.specs.declared.checks.PartsFault.TheVariants.{NoVariable, TooMany, BadName, BadNumber}
@@ -11,30 +11,11 @@ use Rattle.sas_core.specs.declared.parts.Effect.{Effect}
 use Rattle.sas_core.specs.declared.parts.Operator.{Operator}
 use Rattle.sas_core.specs.declared.parts.Rule.{Rule}
 use Rattle.sas_core.specs.declared.parts.Parts.{Parts}
+use Rattle.sas_core.specs.FirstFault.{Check, first_fault, check, listed}
 use Rattle.sas_core.specs.Names.{is_name}
 use Rattle.sas_core.specs.Numbers.{is_number}
 use Rattle.sas_core.specs.Variables.{has_value, fact_exists}
 use Rattle.sas_core.specs.WellRanged.{WellRanged}
-
--- a test of some parts, and the fault that it reports where it fails
-pub record Check (F : Type 0) : Type 0 where
-  pub passes : Bool
-  pub fault : F
-
--- the fault of the first check that fails
-abbrev pub first_fault : {F : Type 0} → List (Check F) → Option F
-first_fault [] = None
-first_fault (check ∷ checks) = if check.passes then first_fault checks else Some check.fault
-
--- one check
-abbrev pub check : {F : Type 0} → Bool → F → List (Check F)
-check passes fault = record { passes = passes; fault = fault } ∷ []
-
--- a list behind its count: the count first, and its fault where it isn't a number, then each item
--- in turn
-abbrev pub listed : {F A : Type 0} → F → (A → List (Check F)) → List A → List (Check F)
-listed too_many checks_of items =
-    check (is_number (length items)) too_many ++ flat_map checks_of items
 
 abbrev pub name_checks : List ℕ → List (Check PartsFault)
 name_checks name = check (is_name name) BadName

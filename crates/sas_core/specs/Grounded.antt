@@ -1,6 +1,5 @@
 -- The contents of a task, item by item. Each item is named by its place, counted from 0.
 use Rattle.std.specs.Prelude.{ℕ, List, [], slice_index_or, None}
-use Rattle.sas_core.specs.declared.grounded.Change.{Change}
 use Rattle.sas_core.specs.declared.parts.Fact.{Fact}
 use Rattle.sas_core.specs.declared.parts.Effect.{Effect}
 use Rattle.sas_core.specs.declared.parts.Operator.{Operator}
@@ -25,10 +24,3 @@ rule_at p rule =
 -- the mutex group at this place; behind the last group, the empty group
 abbrev pub group_at : Parts → ℕ → List Fact
 group_at p group = slice_index_or p.groups group []
-
--- what an effect or a rule changes
-abbrev pub effect_change : Effect → Change
-effect_change e = record { var = e.var; old = e.old; new = e.new }
-
-abbrev pub rule_change : Rule → Change
-rule_change r = record { var = r.var; old = r.old; new = r.new }

@@ -4,7 +4,9 @@ pub mod PlanParts
 pub mod Plans
 pub mod Variables
 pub mod WellRanged
+pub mod FirstFault
 pub mod Checks
 pub mod Tasks
 pub mod Grounded
+pub mod Changes
 pub mod Stepwise

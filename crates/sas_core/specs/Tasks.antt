@@ -1,4 +1,4 @@
--- What a task's numbers mean.
+-- What an operator costs.
 use Rattle.std.specs.Prelude.{ℕ, if◌then◌else◌, slice_get}
 use Rattle.std.specs.Option.{option_map_or}
 use Rattle.sas_core.specs.declared.parts.Operator.{Operator}

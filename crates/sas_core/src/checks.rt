@@ -6,7 +6,8 @@ ghost use Rattle.std.specs.Result.{result_err};
 ghost use Rattle.sas_core.specs.Numbers.{is_number};
 ghost use Rattle.sas_core.specs.declared.checks.PartsFault.TheVariants.{TooMany};
 ghost use Rattle.sas_core.specs.Variables as spec;
-ghost use Rattle.sas_core.specs.Checks.{first_fault, check, listed, name_checks, signed_checks};
+ghost use Rattle.sas_core.specs.Checks.{name_checks, signed_checks};
+ghost use Rattle.sas_core.specs.FirstFault.{first_fault, check, listed};
 ghost use Rattle.sas_core.specs.Checks.{variable_checks, fact_checks, change_checks, effect_checks};
 ghost use Rattle.sas_core.specs.Checks.{operator_checks, rule_checks, state_checks, values_in_range, checks};
 
@@ -40,7 +41,7 @@ trait Checked {
     ghost use Rattle.std.specs.Result.{result_err};
     ghost use Rattle.sas_core.specs.declared.checks.PartsFault.{PartsFault};
     ghost use Rattle.sas_core.specs.declared.parts.Variable.{Variable};
-    ghost use Rattle.sas_core.specs.Checks.{Check, first_fault};
+    ghost use Rattle.sas_core.specs.FirstFault.{Check, first_fault};
 
     /// Its checks in a task with these variables, in order.
     ghost checks_of: { List Variable → Self → List (Check PartsFault) };

@@ -32,7 +32,8 @@ pub trait Grounded {
     ghost use Rattle.std.specs.Prelude.{◌≡◌, ◌<◌, length, slice_index};
     ghost use Rattle.sas_core.specs.declared.parts.Parts.{Parts};
     ghost use Rattle.sas_core.specs.Grounded.{operator_at, effect_at, rule_at};
-    ghost use Rattle.sas_core.specs.Grounded.{group_at, effect_change, rule_change};
+    ghost use Rattle.sas_core.specs.Grounded.{group_at};
+    ghost use Rattle.sas_core.specs.Changes.{effect_change, rule_change};
     ghost use Rattle.sas_core.specs.Tasks.{cost_of};
     ghost use Rattle.sas_core.specs.Variables.{range_of, layer_of};
     ghost use Rattle.sas_core.specs.WellRanged.{WellRanged};

@@ -1,7 +1,8 @@
 // Tasks: parts that follow all the rules of a task file.
 ghost use Rattle.std.specs.Prelude.{◌≡◌, ◌<◌, ◌↔◌, length, IsTrue, IsOk, IfOk, IfErr, option_map};
 ghost use Rattle.std.specs.Result.{result_err};
-ghost use Rattle.sas_core.specs.Checks.{first_fault, checks, ChecksAreTheRules};
+ghost use Rattle.sas_core.specs.Checks.{checks, ChecksAreTheRules};
+ghost use Rattle.sas_core.specs.FirstFault.{first_fault};
 ghost use Rattle.sas_core.specs.Tasks.{cost_of};
 ghost use Rattle.sas_core.specs.Variables.{range_of, IsDerived, FactExists};
 ghost use Rattle.sas_core.specs.WellRanged.{WellRanged};

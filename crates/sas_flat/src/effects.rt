@@ -1,6 +1,7 @@
 // Effects in a few blocks of memory.
 ghost use Rattle.std.specs.Prelude.{◌≡◌, ◌<◌, ◌≤◌, [], ◌∷◌, ◌++◌, length, take, OnOk, OnErr};
 ghost use Rattle.sas_core.specs.Grounded as grounded;
+ghost use Rattle.sas_core.specs.Changes as changes;
 ghost use Rattle.sas_flat.specs.Effects.{effect, plain_effects, effect_in};
 
 use sas_core::{Change, Fact};
@@ -51,7 +52,7 @@ impl Effects {
     /// Returns what the effect changes.
     pub(crate) fn change(&self, index: usize) -> Change
         requires { index < length self.now }
-        ensures { result ≡ grounded.effect_change (effect_in self.now index) }
+        ensures { result ≡ changes.effect_change (effect_in self.now index) }
     {
         self.changes.as_slice()[index]
     }

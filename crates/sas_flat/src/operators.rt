@@ -1,6 +1,7 @@
 // Operators in a few blocks of memory.
 ghost use Rattle.std.specs.Prelude.{◌≡◌, ◌<◌, ◌≤◌, [], ◌∷◌, ◌++◌, length, take, OnOk, OnErr};
 ghost use Rattle.sas_core.specs.Grounded as grounded;
+ghost use Rattle.sas_core.specs.Changes as changes;
 ghost use Rattle.sas_flat.specs.Effects.{effect_in, plain_effects};
 ghost use Rattle.sas_flat.specs.Growing.{Kept};
 ghost use Rattle.sas_lists.specs.Lists.{start_of};
@@ -227,7 +228,7 @@ impl Operators {
         requires operator { operator < length self.now }
         requires effect { effect < length (operator_in self.now operator).effects }
         ensures { result
-            ≡ grounded.effect_change (effect_in (operator_in self.now operator).effects effect) }
+            ≡ changes.effect_change (effect_in (operator_in self.now operator).effects effect) }
     {
         // There are no more effects than a `usize` counts, so the place of this one fits.
         let _effects = self.columns.effects.len();

@@ -1,6 +1,7 @@
 // Rules in a few blocks of memory.
 ghost use Rattle.std.specs.Prelude.{◌≡◌, ◌<◌, [], ◌∷◌, ◌++◌, length, OnOk, OnErr};
 ghost use Rattle.sas_core.specs.Grounded as grounded;
+ghost use Rattle.sas_core.specs.Changes as changes;
 ghost use Rattle.sas_flat.specs.Rules.{rule, rule_in};
 
 use crate::effects::Effects;
@@ -45,7 +46,7 @@ impl Rules {
     /// Returns what the rule changes.
     pub(crate) fn change(&self, index: usize) -> Change
         requires { index < length self.now }
-        ensures { result ≡ grounded.rule_change (rule_in self.now index) }
+        ensures { result ≡ changes.rule_change (rule_in self.now index) }
     {
         self.effects.change(index)
     }

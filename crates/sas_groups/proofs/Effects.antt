@@ -8,7 +8,8 @@ use Rattle.sas_core.specs.declared.grounded.Change.{Change}
 use Rattle.sas_core.specs.declared.parts.Fact.{Fact}
 use Rattle.sas_core.specs.declared.parts.Effect.{Effect}
 use Rattle.sas_core.specs.declared.parts.Operator.{Operator}
-use Rattle.sas_core.specs.Grounded.{effect_at, effect_change}
+use Rattle.sas_core.specs.Grounded.{effect_at}
+use Rattle.sas_core.specs.Changes.{effect_change}
 use Rattle.sas_groups.specs.Clashes.{Keeps, IsRemoved, sets}
 use Rattle.sas_groups.specs.Checks.{Alone, Removes, OfEffects, NotBoth, IsGone, IsSingle, RemovesAll}
 use Rattle.sas_groups.specs.Lists.{known}

@@ -8,7 +8,7 @@ use Rattle.sas_core.specs.declared.parts.Parts.{Parts}
 use Rattle.sas_core.specs.Grounded.{group_at}
 use Rattle.sas_meaning.specs.Steps.{preconditions}
 use Rattle.sas_groups.specs.Clashes.{Clash, Keeps}
-use Rattle.sas_groups.specs.Groups.{MayBeExclusive}
+use Rattle.sas_groups.specs.Families.{MayBeExclusive}
 use Rattle.sas_groups.specs.Families.{IsIn, IsGroupOf, IsGroupOfOr, AllKeep, IsKeptJointly}
 use Rattle.sas_groups.specs.Laws.{FamiliesUnite, GreatestIsOne, GreatestHasAlone, OutsideIsBroken}
 

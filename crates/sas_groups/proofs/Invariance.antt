@@ -14,7 +14,8 @@ use Rattle.sas_meaning.specs.Steps.{preconditions, Fires, Step}
 use Rattle.sas_meaning.specs.Reachable.{IsInitial, Reachable, Initial, Next}
 use Rattle.sas_meaning.proofs.Facts.{SetBy, Untouched, set_or_kept}
 use Rattle.sas_groups.specs.Clashes.{Clash, sets, Keeps}
-use Rattle.sas_groups.specs.Groups.{IsExclusiveIn, MayBeExclusive}
+use Rattle.sas_groups.specs.Groups.{IsExclusiveIn}
+use Rattle.sas_groups.specs.Families.{MayBeExclusive}
 use Rattle.sas_groups.specs.Families.{IsGroupOf, AllKeep, IsKeptJointly}
 use Rattle.sas_groups.specs.Laws.{JointlyKeptIsInvariant, ExclusiveAloneIsInvariant, ExclusiveJointlyIsInvariant}
 

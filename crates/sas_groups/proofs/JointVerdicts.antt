@@ -9,7 +9,8 @@ use Rattle.sas_core.specs.Grounded.{operator_at, group_at}
 use Rattle.sas_groups.specs.declared.verdict.Verdict.TheVariants.{Exclusive, Derived, Initial, Broken}
 use Rattle.sas_groups.specs.Clashes.{Keeps}
 use Rattle.sas_groups.specs.Families.{IsIn, AllKeep, IsKeptJointly, IsGreatest, IsGroupOfOr}
-use Rattle.sas_groups.specs.Groups.{IsExclusiveIn, IsOnBasic, MayBeExclusive}
+use Rattle.sas_groups.specs.Groups.{IsExclusiveIn}
+use Rattle.sas_groups.specs.Families.{IsOnBasic, MayBeExclusive}
 use Rattle.sas_groups.specs.Verdicts.{IsFirstBreaking}
 use Rattle.sas_groups.specs.Laws.{GreatestExists, JointVerdictIsOne, SomeJointVerdict}
 use Rattle.sas_groups.proofs.GreatestFamily.{keeps_more, group_of_larger, in_first, in_second, families_unite, greatest_is_one, outside_is_broken}

@@ -4,9 +4,14 @@ use Rattle.std.specs.Prelude.{◌≡◌, ◌≢◌, ◌⊎◌, ℕ, ◌<◌, len
 use Rattle.sas_core.specs.declared.parts.Fact.{Fact}
 use Rattle.sas_core.specs.declared.parts.Effect.{Effect}
 use Rattle.sas_core.specs.declared.parts.Operator.{Operator}
+use Rattle.sas_core.specs.declared.parts.Parts.{Parts}
 use Rattle.sas_core.specs.Grounded.{effect_at}
 use Rattle.sas_meaning.specs.States.{Holds}
+use Rattle.sas_groups.specs.declared.verdict.Verdict.{Verdict}
+use Rattle.sas_groups.specs.declared.verdict.Verdict.TheVariants.{Exclusive, Derived, Initial, Broken}
 use Rattle.sas_groups.specs.Clashes.{Clash, IsRemoved, sets}
+use Rattle.sas_groups.specs.Groups.{IsExclusiveIn}
+use Rattle.sas_groups.specs.Families.{IsOnBasic, MayBeExclusive}
 use Rattle.sas_groups.specs.Lists.{known}
 
 -- only this group counts
@@ -49,3 +54,11 @@ RemovesAll Counts o group e = Contains group (sets e) → All (IsGone Counts o e
 -- the second fact holds in the state section only if it is the first one
 abbrev pub IsOnlyOne : List ℕ → Fact → Fact → Type 0
 IsOnlyOne init f g = Holds (slice_index init) g → f ≡ g
+
+-- the verdict on a group before operators are checked; `Exclusive` then means that no reason
+-- against the group was found so far
+abbrev pub IsFirstVerdict : Parts → List Fact → Verdict → Type 0
+IsFirstVerdict p group Derived = IsOnBasic p group → ⊥
+IsFirstVerdict p group Initial = IsOnBasic p group × (IsExclusiveIn p.init group → ⊥)
+IsFirstVerdict p group (Broken operator) = ⊥
+IsFirstVerdict p group Exclusive = MayBeExclusive p group

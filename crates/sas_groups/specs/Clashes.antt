@@ -1,5 +1,6 @@
 -- Which facts can't hold together, and which operators keep a group. Groups are lists of facts,
--- taken as sets. A condition on groups, `Counts`, decides which of them count.
+-- taken as sets. A condition on groups, `Counts`, decides which of them count: of these it is taken
+-- for granted that two different facts don't hold together before a step.
 use Rattle.std.specs.Prelude.{◌≡◌, ◌≢◌, ◌⊎◌, List, [], ◌∷◌, ◌++◌, All, Contains}
 use Rattle.sas_core.specs.declared.parts.Fact.{Fact}
 use Rattle.sas_core.specs.declared.parts.Effect.{Effect}

@@ -5,7 +5,18 @@ use Rattle.sas_core.specs.declared.parts.Operator.{Operator}
 use Rattle.sas_core.specs.declared.parts.Parts.{Parts}
 use Rattle.sas_core.specs.Grounded.{group_at}
 use Rattle.sas_groups.specs.Clashes.{Keeps}
-use Rattle.sas_groups.specs.Groups.{MayBeExclusive}
+use Rattle.sas_meaning.specs.Layers.{IsBasic}
+use Rattle.sas_groups.specs.Groups.{IsExclusiveIn}
+
+-- no fact of the group is on a derived variable
+abbrev pub IsOnBasic : Parts → List Fact → Type 0
+IsOnBasic p group = All (λ (f : Fact). IsBasic p f.var) group
+
+-- what the criterion asks first: the facts are on basic variables, and no two different ones hold
+-- in the state section
+pub record MayBeExclusive (p : Parts) (group : List Fact) : Type 0 where
+  pub basic : IsOnBasic p group
+  pub initial : IsExclusiveIn p.init group
 
 -- a place of the family
 pub record IsIn (p : Parts) (family : ℕ → Bool) (place : ℕ) : Type 0 where

@@ -1,9 +1,8 @@
 -- Which groups of facts a state holds at most one fact of, and which are invariants of a task.
-use Rattle.std.specs.Prelude.{◌≡◌, List, ℕ, All, Contains, slice_index}
+use Rattle.std.specs.Prelude.{◌≡◌, List, ℕ, Contains, slice_index}
 use Rattle.sas_core.specs.declared.parts.Fact.{Fact}
 use Rattle.sas_core.specs.declared.parts.Parts.{Parts}
 use Rattle.sas_meaning.specs.States.{Holds}
-use Rattle.sas_meaning.specs.Layers.{IsBasic}
 use Rattle.sas_meaning.specs.Reachable.{Reachable}
 
 -- no two different facts of the group hold in the state; a fact that the group repeats counts once
@@ -14,13 +13,3 @@ IsExclusiveIn s group = (f g : Fact) → Contains group f → Contains group g
 -- a group is an invariant of the task if no reachable state holds two different facts of it
 abbrev pub IsInvariant : Parts → List Fact → Type 0
 IsInvariant p group = (s : List ℕ) → Reachable p s → IsExclusiveIn s group
-
--- no fact of the group is on a derived variable
-abbrev pub IsOnBasic : Parts → List Fact → Type 0
-IsOnBasic p group = All (λ (f : Fact). IsBasic p f.var) group
-
--- what the criterion asks first: the facts are on basic variables, and no two different ones hold
--- in the state section
-pub record MayBeExclusive (p : Parts) (group : List Fact) : Type 0 where
-  pub basic : IsOnBasic p group
-  pub initial : IsExclusiveIn p.init group

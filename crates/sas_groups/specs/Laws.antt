@@ -5,8 +5,8 @@ use Rattle.sas_core.specs.declared.parts.Parts.{Parts}
 use Rattle.sas_core.specs.Grounded.{group_at}
 use Rattle.sas_groups.specs.declared.verdict.Verdict.{Verdict}
 use Rattle.sas_groups.specs.declared.verdict.Verdict.TheVariants.{Exclusive}
-use Rattle.sas_groups.specs.Groups.{IsInvariant, MayBeExclusive}
-use Rattle.sas_groups.specs.Families.{IsIn, IsGroupOfOr, AllKeep, IsKeptJointly, IsGreatest}
+use Rattle.sas_groups.specs.Groups.{IsInvariant}
+use Rattle.sas_groups.specs.Families.{MayBeExclusive, IsIn, IsGroupOfOr, AllKeep, IsKeptJointly, IsGreatest}
 use Rattle.sas_groups.specs.Verdicts.{IsVerdictAlone, IsJointVerdict}
 
 -- Invariance: each group of a family that is kept jointly is an invariant

@@ -6,8 +6,8 @@ use Rattle.sas_core.specs.Grounded.{operator_at, group_at}
 use Rattle.sas_groups.specs.declared.verdict.Verdict.{Verdict}
 use Rattle.sas_groups.specs.declared.verdict.Verdict.TheVariants.{Exclusive, Derived, Initial, Broken}
 use Rattle.sas_groups.specs.Clashes.{Keeps}
-use Rattle.sas_groups.specs.Groups.{IsExclusiveIn, IsOnBasic, MayBeExclusive}
-use Rattle.sas_groups.specs.Families.{IsIn, AllKeep, IsGreatest, IsGroupOfOr}
+use Rattle.sas_groups.specs.Groups.{IsExclusiveIn}
+use Rattle.sas_groups.specs.Families.{IsIn, IsOnBasic, AllKeep, IsGreatest, IsGroupOfOr}
 
 -- the lowest-numbered operator that doesn't keep the group
 pub record IsFirstBreaking (p : Parts) (Counts : List Fact → Type 0) (group : List Fact)
@@ -15,14 +15,6 @@ pub record IsFirstBreaking (p : Parts) (Counts : List Fact → Type 0) (group : 
   pub exists : operator < length p.operators
   pub breaks : Keeps Counts (operator_at p operator) group → ⊥
   pub first : (lower : ℕ) → lower < operator → Keeps Counts (operator_at p lower) group
-
--- the verdict on a group before operators are checked; `Exclusive` then means that no reason
--- against the group was found so far
-abbrev pub IsFirstVerdict : Parts → List Fact → Verdict → Type 0
-IsFirstVerdict p group Derived = IsOnBasic p group → ⊥
-IsFirstVerdict p group Initial = IsOnBasic p group × (IsExclusiveIn p.init group → ⊥)
-IsFirstVerdict p group (Broken operator) = ⊥
-IsFirstVerdict p group Exclusive = MayBeExclusive p group
 
 -- the verdict on a group by itself: the group alone counts
 abbrev pub IsVerdictAlone : Parts → List Fact → Verdict → Type 0

@@ -2,9 +2,11 @@
 ghost use Rattle.std.specs.Prelude.{◌≡◌, ◌<◌, ◌↔◌, length, All, Contains, IsTrue, IsFalse, IfSome, IfNone, slice_index};
 ghost use Rattle.sas_core.specs.Variables.{FactExists};
 ghost use Rattle.sas_meaning.specs.States.{Holds};
-ghost use Rattle.sas_groups.specs.Groups.{IsExclusiveIn, IsInvariant, IsOnBasic};
+ghost use Rattle.sas_groups.specs.Groups.{IsExclusiveIn, IsInvariant};
+ghost use Rattle.sas_groups.specs.Families.{IsOnBasic};
 ghost use Rattle.sas_groups.specs.Families.{AllKeep};
-ghost use Rattle.sas_groups.specs.Verdicts.{IsFirstVerdict, IsVerdictAlone, IsFirstBreaking};
+ghost use Rattle.sas_groups.specs.Verdicts.{IsVerdictAlone, IsFirstBreaking};
+ghost use Rattle.sas_groups.specs.Checks.{IsFirstVerdict};
 ghost use Rattle.sas_groups.specs.Checks.{Alone, IsOnlyOne};
 
 use crate::keeping::keeps;

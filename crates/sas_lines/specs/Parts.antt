@@ -1,4 +1,4 @@
--- What stands between separators.
+-- What stands between separators. These parts have nothing to do with the `Parts` of a task.
 use Rattle.std.specs.Prelude.{◌≡◌, ◌≢◌, ℕ, ◌<◌, ◌==◌, if◌then◌else◌, Option, Some, None}
 use Rattle.std.specs.Prelude.{List, [], ◌∷◌, length, take, slice_index}
 use Rattle.std.specs.List.{AllByRecursion}

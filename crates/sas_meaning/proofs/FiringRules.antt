@@ -5,8 +5,9 @@ use Rattle.sas_core.specs.declared.grounded.Change.{Change}
 use Rattle.sas_core.specs.declared.parts.Rule.{Rule}
 use Rattle.sas_core.specs.declared.parts.Variable.{Variable}
 use Rattle.sas_core.specs.declared.parts.Parts.{Parts}
-use Rattle.sas_core.specs.Checks.{Check, first_fault, check}
-use Rattle.sas_core.specs.Grounded.{rule_at, rule_change}
+use Rattle.sas_core.specs.FirstFault.{Check, first_fault, check}
+use Rattle.sas_core.specs.Grounded.{rule_at}
+use Rattle.sas_core.specs.Changes.{rule_change}
 use Rattle.sas_core.specs.Variables.{range_of}
 use Rattle.sas_core.specs.WellRanged.{RuleFits, WellRanged}
 use Rattle.sas_core.proofs.FirstFaults.{fails_before, decides_after}

@@ -20,18 +20,20 @@ IsOnLayer p layer var = layer_of p.variables var ≡ Some layer
 abbrev pub default_of : Parts → ℕ → ℕ
 default_of p var = slice_index p.init var
 
--- a rule can fire if its new value isn't its variable's default
+-- a rule can fire if its new value isn't its variable's default; one that sets the default changes
+-- nothing
 abbrev pub CanFire : Parts → Rule → Type 0
 CanFire p rule = rule.new ≢ default_of p rule.var
 
 abbrev pub can_fire : Parts → Rule → Bool
 can_fire p rule = not (rule.new == default_of p rule.var)
 
--- a condition of a rule for this variable, where it is on a derived variable: that is on the same
--- layer or on a lower one, and on a lower one where its default is asked for
+-- where a condition of a rule for this variable is on a derived variable, that one is on the same
+-- layer or on a lower one, and on a lower one if its default is asked for
 abbrev pub LooksDown : Parts → ℕ → Fact → Type 0
-LooksDown p var condition = (here its : ℕ) → IsOnLayer p here var → IsOnLayer p its condition.var
-    → (its ≤ here) × (condition.value ≡ default_of p condition.var → its < here)
+LooksDown p var condition = (here there : ℕ) → IsOnLayer p here var
+    → IsOnLayer p there condition.var
+    → (there ≤ here) × (condition.value ≡ default_of p condition.var → there < here)
 
 -- what a layered task asks of a rule that can fire
 pub record IsLayeredRule (p : Parts) (rule : Rule) : Type 0 where

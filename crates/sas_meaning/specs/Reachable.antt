@@ -5,7 +5,8 @@ use Rattle.sas_core.specs.declared.parts.Parts.{Parts}
 use Rattle.sas_meaning.specs.Settled.{Settles}
 use Rattle.sas_meaning.specs.Steps.{Step}
 
--- the initial state is the settled state with the basic values of the state section
+-- The initial state has the values of the state section for the basic variables, those without a
+-- layer. It is settled: the rules give the derived ones their values.
 abbrev pub IsInitial : Parts → List ℕ → Type 0
 IsInitial p s = Settles p p.init s
 

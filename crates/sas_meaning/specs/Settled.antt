@@ -16,8 +16,8 @@ use Rattle.sas_meaning.specs.Layers.{IsBasic, IsOnLayer, default_of, CanFire, ca
 abbrev pub is_on_layer : Parts → ℕ → ℕ → Bool
 is_on_layer p layer var = option_map_or (λ its. its == layer) (layer_of p.variables var) false
 
--- the new value of the variable's rules that can fire, of which a layered task has one; where none
--- can, the default
+-- the new value of the variable's rules that can fire, which is the same for all of them in a
+-- layered task; where none can, the default
 abbrev pub new_value_of : Parts → ℕ → ℕ
 new_value_of p var = option_map_or (λ (rule : Rule). rule.new)
     (find (λ (rule : Rule). (rule.var == var) && can_fire p rule) p.rules) (default_of p var)

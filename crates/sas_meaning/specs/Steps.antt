@@ -21,7 +21,8 @@ preconditions o = o.prevail ++ filter_map old_fact o.effects
 abbrev pub Fires : List ℕ → Effect → Type 0
 Fires s e = AllHold (slice_index s) e.conditions
 
--- no two effects that fire set one variable to different values
+-- no two effects that fire set one variable to different values. Where two do, an operator has no
+-- step; a planner in which the last of them wins reaches states that are not reachable here.
 abbrev pub Agree : List ℕ → List Effect → Type 0
 Agree s effects = All (λ (e : Effect). All (λ (f : Effect). Fires s e → Fires s f
     → e.var ≡ f.var → e.new ≡ f.new) effects) effects
@@ -30,7 +31,7 @@ Agree s effects = All (λ (e : Effect). All (λ (f : Effect). Fires s e → Fire
 pub record Step (p : Parts) (s : List ℕ) (o : Operator) (s' : List ℕ) : Type 0 where
   -- its preconditions hold in s
   pub applicable : AllHold (slice_index s) (preconditions o)
-  -- and its effects that fire in s agree
+  -- its effects that fire in s agree, as `set` asks in other words
   pub agree : Agree s o.effects
   -- s' is a settled state of the task
   pub state : IsState p.variables s'

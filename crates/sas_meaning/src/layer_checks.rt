@@ -2,8 +2,9 @@
 ghost use Rattle.std.specs.Prelude.{◌≡◌, ◌≢◌, ◌==◌, ◌<◌, ◌+◌, length, slice_index_or, true, Some, None, IfOk};
 ghost use Rattle.std.specs.Option.{option_map_or};
 ghost use Rattle.std.specs.Result.{result_err};
-ghost use Rattle.sas_core.specs.Checks.{first_fault, check};
-ghost use Rattle.sas_core.specs.Grounded.{operator_at, rule_at, rule_change};
+ghost use Rattle.sas_core.specs.FirstFault.{first_fault, check};
+ghost use Rattle.sas_core.specs.Grounded.{operator_at, rule_at};
+ghost use Rattle.sas_core.specs.Changes.{rule_change};
 ghost use Rattle.sas_core.specs.WellRanged.{WellRanged};
 ghost use Rattle.sas_meaning.specs.LayerChecks as spec;
 ghost use Rattle.sas_meaning.specs.Layers.{CanFire};

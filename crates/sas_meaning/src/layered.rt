@@ -1,6 +1,6 @@
 // Which tasks are layered.
 ghost use Rattle.std.specs.Prelude.{◌≡◌, ◌≢◌, Some, IfOk, IfErr};
-ghost use Rattle.sas_core.specs.Checks.{first_fault};
+ghost use Rattle.sas_core.specs.FirstFault.{first_fault};
 ghost use Rattle.sas_meaning.specs.LayerChecks.{layer_checks};
 ghost use Rattle.sas_meaning.specs.Layers.{IsLayered};
 

@@ -12,9 +12,10 @@ use Rattle.sas_core.specs.Grounded.{operator_at, effect_at, group_at}
 use Rattle.sas_groups.specs.declared.verdict.Verdict.{Verdict}
 use Rattle.sas_groups.specs.declared.verdict.Verdict.TheVariants.{Exclusive, Derived, Initial, Broken}
 use Rattle.sas_groups.specs.Clashes.{Clash, Keeps, sets}
-use Rattle.sas_groups.specs.Groups.{MayBeExclusive}
+use Rattle.sas_groups.specs.Families.{MayBeExclusive}
 use Rattle.sas_groups.specs.Families.{IsIn, IsGroupOfOr, IsGreatest}
-use Rattle.sas_groups.specs.Verdicts.{IsFirstVerdict, IsJointVerdict}
+use Rattle.sas_groups.specs.Verdicts.{IsJointVerdict}
+use Rattle.sas_groups.specs.Checks.{IsFirstVerdict}
 use Rattle.sas_groups.proofs.GreatestFamily.{outside_is_broken, clash_more}
 use Rattle.sas_mutex.specs.declared.marks.Marks.{Marks}
 use Rattle.sas_mutex.specs.declared.marks.Noted.TheVariants.{Several}

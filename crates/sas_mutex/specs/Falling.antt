@@ -4,7 +4,7 @@ use Rattle.sas_core.specs.declared.parts.Parts.{Parts}
 use Rattle.sas_core.specs.Grounded.{operator_at, effect_at, group_at}
 use Rattle.sas_groups.specs.Clashes.{sets}
 use Rattle.sas_groups.specs.Families.{IsIn, IsKeptJointly}
-use Rattle.sas_groups.specs.Groups.{MayBeExclusive}
+use Rattle.sas_groups.specs.Families.{MayBeExclusive}
 use Rattle.sas_mutex.specs.declared.family.Family.{Family}
 use Rattle.sas_mutex.specs.Effects.{family_of, KeepsAt, IsPlain}
 use Rattle.sas_mutex.specs.Alone.{KeepsEachAlone, IsOfNone}

@@ -6,8 +6,9 @@ use Rattle.sas_groups.specs.declared.verdict.Verdict.{Verdict}
 use Rattle.sas_groups.specs.declared.verdict.Verdict.TheVariants.{Exclusive, Derived, Initial, Broken}
 use Rattle.sas_groups.specs.Clashes.{sets, Keeps}
 use Rattle.sas_groups.specs.Families.{IsIn, IsGroupOfOr}
-use Rattle.sas_groups.specs.Groups.{MayBeExclusive}
-use Rattle.sas_groups.specs.Verdicts.{IsFirstVerdict, IsJointVerdict}
+use Rattle.sas_groups.specs.Families.{MayBeExclusive}
+use Rattle.sas_groups.specs.Verdicts.{IsJointVerdict}
+use Rattle.sas_groups.specs.Checks.{IsFirstVerdict}
 use Rattle.sas_mutex.specs.Effects.{family_of, KeepsWithItself}
 use Rattle.sas_mutex.specs.Joint.{verdict_at}
 

@@ -24,7 +24,8 @@ module _ {V I S : Type 0} (F : Format V I S) where
   abbrev pub lines_of : V → List (List ℕ)
   lines_of v = map F.spelled (F.layout v)
 
-  -- the bytes are a text of the value: their complete lines are its lines, and nothing follows
+  -- the bytes are a text of the value: their complete lines are its lines, and nothing follows. So
+  -- the last line has its end, too.
   pub record Reads (bytes : List ℕ) (v : V) : Type 0 where
     pub good : F.Good v
     pub lines : lines bytes ≡ lines_of v
@@ -34,8 +35,9 @@ module _ {V I S : Type 0} (F : Format V I S) where
   abbrev pub IsBegun : List (List ℕ) → Type 0
   IsBegun begun = (v : V) × (more : List (List ℕ)) × F.Good v × (lines_of v ≡ begun ++ more)
 
-  -- the bytes are no longer than the limit, and begin some text: their complete lines
-  -- begin some value's lines and, where they are all lines of a value, nothing follows
+  -- No line of the bytes is wrong so far: they are no longer than the limit, their complete lines
+  -- begin some value's lines and, where they are all lines of a value, nothing follows. What stands
+  -- behind the last line end may be anything, until that line ends.
   pub record Live (limit : ℕ) (bytes : List ℕ) : Type 0 where
     pub short : length bytes ≤ limit
     pub begun : IsBegun (lines bytes)

@@ -1,8 +1,9 @@
 -- What a planner relies on.
 --
--- A run of `plan` that meets no memory or device fault prints `plan valid` exactly if the two
--- inputs are texts of a layered task and a plan whose steps, each taken by the first applicable
--- operator of its name, lead from the initial state to a goal state at the printed cost.
+-- A run of `plan` that ends well (memory sufficed, no read or write failed, no input is longer than
+-- the limit) prints `plan valid` exactly if the two inputs are texts of a layered task and a plan
+-- whose steps, each taken by the first applicable operator of its name, lead from the initial state
+-- to a goal state at the printed cost.
 --
 -- And where such a run of `mutex` prints `group K exclusive`, the input is a text of a layered task,
 -- and no reachable state of the task holds two different facts of group K.

@@ -2,7 +2,7 @@
 use Rattle.std.specs.Prelude.{◌≡◌, ◌⊎◌, ℕ, ◌<◌, Bool, true, false, IsTrue, List, ◌++◌, length}
 use Rattle.std.specs.Prelude.{codes, decimal, Option, Some, None, option_map, Result, Ok, Err}
 use Rattle.sas_core.specs.declared.parts.Parts.{Parts}
-use Rattle.sas_core.specs.Checks.{first_fault}
+use Rattle.sas_core.specs.FirstFault.{first_fault}
 use Rattle.sas_meaning.specs.declared.layered.LayerFault.{LayerFault}
 use Rattle.sas_meaning.specs.Layers.{IsLayered}
 use Rattle.sas_meaning.specs.LayerChecks.{layer_checks}
@@ -105,8 +105,8 @@ abbrev pub PlanOut : List ℕ → List ℕ → Option Output → Type 0
 PlanOut b c output =
     (read : Result Parts Fault) × ReadsAs task_format most_bytes b read × JudgedOut read c output
 
--- the output for the bytes b of the task and c of the plan, where a file that decides it isn't too
--- long; else none
+-- the output for the bytes b of the task and c of the plan, or none if the file that decides it is
+-- too long
 abbrev pub Out : Request → List ℕ → List ℕ → Option Output → Type 0
 Out Show b c output = ShowOut b output
 Out Print b c output = PrintOut b output
@@ -139,7 +139,7 @@ reads_plan Mutex = false
 abbrev pub IsLayeredText : List ℕ → Type 0
 IsLayeredText b = (p : Parts) × ReadsAs task_format most_bytes b (Ok p) × IsLayered p
 
--- they have these bytes: b the task, c the plan
+-- the inputs that the request reads have these bytes: b the task, c the plan
 abbrev pub AreInputs : Request → Option (List ℕ) → Option (List ℕ) → List ℕ → List ℕ → Type 0
 AreInputs request task plan b c =
     (IsTrue (reads_task request) → task ≡ Some b) × (IsTrue (reads_plan request) → plan ≡ Some c)

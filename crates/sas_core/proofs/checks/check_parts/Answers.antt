@@ -1,7 +1,8 @@
 -- The first section that fails decides.
 use Rattle.std.proofs.Common.{rules, ◌≡◌, ◌∙◌, Some}
 use Rattle.std.specs.Result.{result_err}
-use Rattle.sas_core.specs.Checks.{first_fault, checks}
+use Rattle.sas_core.specs.Checks.{checks}
+use Rattle.sas_core.specs.FirstFault.{first_fault}
 use Rattle.sas_core.proofs.FirstFaults.{fails_before, decides_after}
 use Rattle.sas_core.proofs.checks.check_parts.Goals as goal
 

@@ -4,7 +4,8 @@ use Rattle.sas_core.specs.declared.parts.Fact.{Fact}
 use Rattle.sas_core.specs.declared.parts.Parts.{Parts}
 use Rattle.sas_groups.specs.declared.verdict.Verdict.{Verdict}
 use Rattle.sas_groups.specs.declared.verdict.Verdict.TheVariants.{Exclusive, Derived, Initial, Broken}
-use Rattle.sas_groups.specs.Verdicts.{IsFirstVerdict, IsVerdictAlone}
+use Rattle.sas_groups.specs.Verdicts.{IsVerdictAlone}
+use Rattle.sas_groups.specs.Checks.{IsFirstVerdict}
 use Rattle.sas_groups.proofs.Invariance.{exclusive_alone_is_invariant}
 use Rattle.sas_groups.proofs.group.check_group.Goals as goal
 

@@ -1,5 +1,5 @@
 -- The conditions so far pass.
-use Rattle.sas_core.specs.Checks.{check}
+use Rattle.sas_core.specs.FirstFault.{check}
 use Rattle.sas_core.specs.Grounded.{rule_at}
 use Rattle.sas_meaning.specs.declared.layered.LayerFault.TheVariants.{LayerOrder}
 use Rattle.sas_meaning.specs.LayerChecks.{looks_down}

@@ -4,8 +4,9 @@ use Rattle.std.specs.Option.{is_some}
 use Rattle.std.specs.Result.{result_err}
 use Rattle.sas_core.specs.declared.grounded.Change.{Change}
 use Rattle.sas_core.specs.declared.parts.Parts.{Parts}
-use Rattle.sas_core.specs.Checks.{first_fault, check}
-use Rattle.sas_core.specs.Grounded.{operator_at, effect_at, effect_change}
+use Rattle.sas_core.specs.FirstFault.{first_fault, check}
+use Rattle.sas_core.specs.Grounded.{operator_at, effect_at}
+use Rattle.sas_core.specs.Changes.{effect_change}
 use Rattle.sas_core.specs.Variables.{layer_of}
 use Rattle.sas_meaning.specs.declared.layered.LayerFault.{LayerFault}
 use Rattle.sas_meaning.specs.declared.layered.LayerFault.TheVariants.{EffectOnDerived}

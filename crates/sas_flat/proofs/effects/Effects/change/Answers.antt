@@ -1,5 +1,5 @@
 use Rattle.std.proofs.Common.{◌<◌, length, sym, ap, ◌∙◌, arith}
-use Rattle.sas_core.specs.Grounded.{effect_change}
+use Rattle.sas_core.specs.Changes.{effect_change}
 use Rattle.sas_flat.specs.Effects.{change_in}
 use Rattle.sas_flat.proofs.EffectRows.{effect_count, effect_at_place}
 use Rattle.sas_flat.proofs.effects.Effects.change.Goals as goal

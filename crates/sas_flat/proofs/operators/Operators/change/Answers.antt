@@ -1,5 +1,5 @@
 use Rattle.std.proofs.Common.{◌+◌, sym, ap, ◌∙◌, arith}
-use Rattle.sas_core.specs.Grounded.{effect_change}
+use Rattle.sas_core.specs.Changes.{effect_change}
 use Rattle.sas_flat.specs.Effects.{effect_in}
 use Rattle.sas_flat.proofs.FoundOperators.{as_many, effect_within, effect_found}
 use Rattle.sas_flat.proofs.operators.Operators.change.Goals as goal
