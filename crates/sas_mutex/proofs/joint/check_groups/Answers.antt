@@ -1,11 +1,11 @@
 -- The family begins with all groups that may be exclusive, and there is room for all that may fall.
-use Rattle.std.proofs.Common.{◌≡◌, ◌<◌, ℕ, ◌∙◌, List, length, ap, subst, arith}
+use Rattle.std.proofs.Common.{◌≡◌, ◌<◌, ℕ, ◌∙◌, List, length, sym, ap, subst, arith}
 use Rattle.std.specs.Prelude.{◌↔◌, IsTrue}
 use Rattle.sas_groups.specs.declared.verdict.Verdict.{Verdict}
 use Rattle.sas_groups.specs.declared.verdict.Verdict.TheVariants.{Exclusive}
 use Rattle.sas_mutex.specs.Effects.{family_of}
 use Rattle.sas_mutex.specs.Alone.{IsOfNone}
-use Rattle.sas_mutex.specs.Joint.{verdict_at}
+use Rattle.sas_mutex.specs.Joint.{verdict_at, AreInvariants}
 use Rattle.sas_mutex.proofs.Counting.{count_within}
 use Rattle.sas_mutex.proofs.Telling.{candidates_from}
 use Rattle.sas_mutex.proofs.JointLists.{listed_invariants}
@@ -33,4 +33,5 @@ judge-requires-clause-candidates g c =
     c.as_slice.ensures family.ensures.exclusive)
 
 pub returns-clause-invariants : goal.returns-clause-invariants
-returns-clause-invariants g c = listed_invariants c.args.layered.now c.judge.new.verdicts.items c.judge.ensures
+returns-clause-invariants g c =
+    subst (AreInvariants c.args.layered.now) (sym c.into_vec.ensures) (listed_invariants c.args.layered.now c.judge.new.verdicts c.judge.ensures)
