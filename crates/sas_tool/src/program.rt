@@ -1,5 +1,5 @@
 // The program: its words, its devices and how it ends.
-ghost use Rattle.std.specs.Prelude.{◌≡◌, false, IfOk};
+ghost use Rattle.std.specs.Prelude.{◌≡◌, false};
 
 use crate::words::{Job, Source, WordsFault, command};
 use crate::{Status, ToolFault, run};
@@ -54,12 +54,14 @@ pub fn start<R: AllocGlobal + Env + Files + Input + Print + Eprint>(rt: &R) -> E
 
 /// Opens the inputs of the job, runs it and flushes standard output.
 fn run_job<R: AllocGlobal + Files + Input + Print + Eprint>(rt: &R, job: Job) -> ExitCode {
-    let Ok(mut task) = open_source(rt, job.task) else {
+    let mut task = Watched::new(Opened::Nothing);
+    if open_source(rt, job.task, &mut task).is_err() {
         return stop(rt, FAULT, "sas: cannot open the task");
-    };
-    let Ok(mut plan) = open_source(rt, job.plan) else {
+    }
+    let mut plan = Watched::new(Opened::Nothing);
+    if open_source(rt, job.plan, &mut plan).is_err() {
         return stop(rt, FAULT, "sas: cannot open the plan");
-    };
+    }
     let mut out = Watched::new(io::writer(rt));
     let result = run(rt.alloc(), job.request, &mut task, &mut plan, &mut out);
     if result.is_ok() && out.into_device().flush().is_err() {
@@ -71,7 +73,7 @@ fn run_job<R: AllocGlobal + Files + Input + Print + Eprint>(rt: &R, job: Job) ->
     }
 }
 
-/// The job that the words ask for, or the exit status where they ask for none.
+/// Returns the job that the words ask for, or the exit status where they ask for none.
 fn job_of_words<R: AllocGlobal + Env + Eprint>(rt: &R) -> Result<Job, ExitCode> {
     let words = match env::args(rt) {
         Ok(words) => words,
@@ -113,7 +115,7 @@ fn ending(outcome: &Result<Status, ToolFault>) -> (u8, Option<&'static str>) {
     }
 }
 
-/// Says the line on standard error, and gives the exit status.
+/// Prints the line on standard error, and returns the exit status.
 fn stop<R: Eprint>(rt: &R, status: u8, line: &str) -> ExitCode {
     let _ = rt.eprintln(line);
     ExitCode::from(status)
@@ -136,18 +138,23 @@ fn take_place<R: Files>(rt: &R) -> Option<R::File> {
     fs::open(rt, FOLDER).ok()
 }
 
-/// Opens an input of the program. What the request doesn't read is nothing. It isn't inlined, as `take_place` isn't.
+/// Opens an input of the program, in this place. What the request doesn't read stays nothing. An input has a buffer of 8 kB, so it is
+/// made where it stays: a copy of it would keep its place on the stack while the program runs. So would one that is inlined.
 #[inline(never)]
 fn open_source<R: Files + Input>(
     rt: &R,
     source: Option<Source>,
-) -> io::Result<Watched<Opened<R::File, R::Reader>>>
-    ensures { IfOk result (λ w. w.failed ≡ false) }
+    input: &mut Watched<Opened<R::File, R::Reader>>,
+) -> io::Result<()>
+    requires { input.old.failed ≡ false }
+    ensures { input.new.failed ≡ false }
 {
-    let input = match source {
-        None => Opened::Nothing,
-        Some(Source::Input) => Opened::Standard(rt.reader()),
-        Some(Source::File(name)) => Opened::File(fs::open(rt, name.as_str())?),
-    };
-    Ok(Watched::new(input))
+    match source {
+        None => {}
+        Some(Source::Input) => *input = Watched::new(Opened::Standard(rt.reader())),
+        Some(Source::File(name)) => {
+            *input = Watched::new(Opened::File(fs::open(rt, name.as_str())?));
+        }
+    }
+    Ok(())
 }
