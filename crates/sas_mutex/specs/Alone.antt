@@ -35,6 +35,16 @@ abbrev pub KeepsEachAlone : Parts → List Bool → ℕ → Type 0
 KeepsEachAlone p kept operator = (effect : ℕ) → effect < length (operator_at p operator).effects
     → EffectKeepsEachAlone p kept operator effect
 
+-- no group of the family has the fact that the effect sets
+abbrev pub SetsNone : Parts → List Bool → ℕ → ℕ → Type 0
+SetsNone p kept operator effect = (place : ℕ) → IsIn p (family_of kept) place
+    → Contains (group_at p place) (sets (effect_at (operator_at p operator) effect)) → ⊥
+
+-- the same for those of the operator's first effects that have no conditions
+abbrev pub PlainSetNone : Parts → List Bool → ℕ → ℕ → Type 0
+PlainSetNone p kept operator effects = (effect : ℕ) → effect < effects → IsPlain p operator effect
+    → SetsNone p kept operator effect
+
 -- a list with a place for each of this many groups, which keeps none of them
 pub record IsOfNone (groups : ℕ) (none : List Bool) : Type 0 where
   pub one_each : length none ≡ groups

@@ -11,6 +11,7 @@ ghost use Rattle.sas_mutex.specs.Marks.{IsWide};
 ghost use Rattle.sas_mutex.specs.Noting.{AreBelow, HasNotedGroup, IsAgainst, IsMet, SomeRemoves, Removes};
 ghost use Rattle.sas_mutex.specs.Noting.{IsNotedAt, KeepsGroup, KeepsGroupItself, BothClashAt, NotBothAt};
 ghost use Rattle.sas_mutex.specs.Noting.{IsSingleAt, IsGoneAt, AreGoneAt, IsUnknownAt, IsDecidedByFirst};
+ghost use Rattle.sas_mutex.specs.Alone.{SetsNone};
 
 use crate::marks::{Marks, Noted, forget_known, note_known};
 use sas_core::{Fact, Grounded, Items};
@@ -48,6 +49,21 @@ impl<'a, 'b, T: Grounded> Model for Firing<'a, 'b, T> {
 }
 
 impl<'a, 'b, T: Grounded> Firing<'a, 'b, T> {
+    /// Returns whether a group of the family has the fact that the effect sets.
+    pub fn sets_one_of(&self, kept: &[bool]) -> bool
+        requires { length kept.now ≡ length self.now.task.groups }
+        ensures { let f = self.now in
+            IsFalse result → SetsNone f.task kept.now f.operator f.effect }
+    {
+        let change = self.task.effect_change(self.operator, self.effect);
+        let set = Fact {
+            var: change.var,
+            value: change.new,
+        };
+        let groups = self.index.groups_of(set);
+        some_kept(groups, kept)
+    }
+
     /// Returns whether the effect keeps the group, which is in the family. The known facts where it fires are noted, and
     /// don't clash.
     pub fn keeps_by_notes(&self, kept: &[bool], group: u32, marks: &mut Marks) -> bool
@@ -349,4 +365,17 @@ fn is_met(condition: Fact, fact: Fact, marks: &Marks) -> bool
     ensures no { IsFalse result → IsMet marks.now fact condition → ⊥ }
 {
     condition == fact || marks.values.as_slice()[condition.var as usize] == Some(condition.value)
+}
+
+/// Returns whether one of these groups is in the family.
+fn some_kept(groups: &[u32], kept: &[bool]) -> bool
+    requires { AreBelow (length kept.now) groups.now }
+    ensures { IsFalse result → All (λ (place : ℕ). IsFalse (family_of kept.now place)) groups.now }
+{
+    for group in groups {
+        if kept[*group as usize] {
+            return true;
+        }
+    }
+    false
 }

@@ -10,7 +10,7 @@ ghost use Rattle.sas_mutex.specs.Marks.{IsClean};
 ghost use Rattle.sas_mutex.specs.Noting.{AreNoted, IsNotedAt};
 ghost use Rattle.sas_mutex.specs.Falling.{count, HasRoom, AreCandidates, newly, Falls, looked_at, AreLookedAt};
 ghost use Rattle.sas_mutex.specs.Falling.{IsAtRest, IsEffectAtRest, ArePlainAtRest, RestsAt, IsNotedOnce};
-ghost use Rattle.sas_mutex.specs.Alone.{KeptAlone, KeepsEachAlone, EffectKeepsEachAlone, PlainKeepEachAlone};
+ghost use Rattle.sas_mutex.specs.Alone.{KeptAlone, KeepsEachAlone, EffectKeepsEachAlone, PlainKeepEachAlone, PlainSetNone};
 
 use crate::effects::Firing;
 use crate::indexed::IndexedTask;
@@ -199,7 +199,7 @@ fn look_at<T: Grounded>(
                 operator,
                 effect,
             };
-            alone &= look_at_effect(&firing, family, marks);
+            alone &= look_at_setting(&firing, family, marks);
         }
     }
     alone
@@ -226,7 +226,7 @@ fn look_at_plain<T: Grounded>(
     ensures room { HasRoom indexed.now family.new }
     ensures clean { IsClean indexed.now marks.new }
 {
-    if !has_plain(indexed.task, operator) {
+    if !plain_sets_one(indexed, operator, family.kept.as_slice()) {
         return true;
     }
     let premises = Premises {
@@ -286,17 +286,29 @@ fn look_at_each_plain<T: Grounded>(
     alone
 }
 
-/// Returns whether some effect of the operator has no conditions.
-fn has_plain<T: Grounded>(task: &Layered<T>, operator: u32) -> bool
-    requires { operator < length task.now.operators }
-    ensures { IsFalse result
-        → (effect : ℕ) → effect < length (operator_at task.now operator).effects
-        → IsPlain task.now operator effect → ⊥ }
+/// Returns whether some effect of the operator without conditions sets a fact of a group of the family.
+fn plain_sets_one<T: Grounded>(
+    indexed: &IndexedTask<'_, '_, T>,
+    operator: u32,
+    kept: &[bool],
+) -> bool
+    requires operator { operator < length indexed.now.operators }
+    requires one_each { length kept.now ≡ length indexed.now.groups }
+    ensures { IsFalse result → PlainSetNone indexed.now kept.now operator
+        (length (operator_at indexed.now operator).effects) }
 {
-    let effects = task.effects(operator);
+    let effects = indexed.task.effects(operator);
     for effect in 0..effects {
-        if is_plain(task, operator, effect) {
-            return true;
+        if is_plain(indexed.task, operator, effect) {
+            let firing = Firing {
+                task: indexed.task,
+                index: indexed.index,
+                operator,
+                effect,
+            };
+            if firing.sets_one_of(kept) {
+                return true;
+            }
         }
     }
     false
@@ -310,6 +322,29 @@ fn is_plain<T: Grounded>(task: &Layered<T>, operator: u32, effect: u32) -> bool
     ensures no { IsFalse result → IsPlain task.now operator effect → ⊥ }
 {
     task.effect_conditions(operator, effect).is_empty()
+}
+
+/// Removes from the family the groups that the effect doesn't keep. Returns true only if it keeps each group that is left by
+/// that group alone. Where no group of the family has the fact that the effect sets, nothing is noted.
+fn look_at_setting<T: Grounded>(
+    firing: &Firing<'_, '_, T>,
+    family: &mut Family,
+    marks: &mut Marks,
+) -> bool
+    requires room { HasRoom firing.now.task family.old }
+    requires clean { IsClean firing.now.task marks.old }
+    ensures falls { Falls firing.now.task family.old family.new }
+    ensures rest { let f = firing.now in IsEffectAtRest f.task family.new.kept
+        (newly family.old family.new) f.operator f.effect }
+    ensures alone { let f = firing.now in IsTrue result
+        → EffectKeepsEachAlone f.task family.new.kept f.operator f.effect }
+    ensures room { HasRoom firing.now.task family.new }
+    ensures clean { IsClean firing.now.task marks.new }
+{
+    if !firing.sets_one_of(family.kept.as_slice()) {
+        return true;
+    }
+    look_at_effect(firing, family, marks)
 }
 
 /// Removes from the family the groups that the effect doesn't keep. Returns true only if it keeps each group that is left by

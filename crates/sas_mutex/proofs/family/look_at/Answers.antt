@@ -23,14 +23,14 @@ loop-effect-preserved g c =
     let count = subst (λ (q : Parts). c.effects-effect-end.result ≡ length (operator_at q c.args.operator).effects) c.indexed.view_is c.effects-effect-end.ensures in
     elim c.if-not-is_plain.branch [
       | then-not-is_plain w ↦
-          (let after = w.look_at_effect-alone.new.family in
-          let turn = w.look_at_effect-alone.ensures in
+          (let after = w.look_at_setting-alone.new.family in
+          let turn = w.look_at_setting-alone.ensures in
           let falls = subst (λ (q : Parts). Falls q before after) is turn.falls in
-          let both = and_parts c.loop-effect.alone w.look_at_effect-alone.result in
+          let both = and_parts c.loop-effect.alone w.look_at_setting-alone.result in
           rw (w.family-is, w.marks-is, w.alone-is) record {
             falls = falls_then p start before after inv.falls falls;
             room = subst (λ (q : Parts). HasRoom q after) is turn.room;
-            clean = subst (λ (q : Parts). IsClean q w.look_at_effect-alone.new.marks) is turn.clean;
+            clean = subst (λ (q : Parts). IsClean q w.look_at_setting-alone.new.marks) is turn.clean;
             plain = λ k lt without. effect_since p start before after c.args.operator k c.requires.operator lt inv.falls falls (inv.plain k lt without);
             rest = below_more _ _
                 (λ k lt. effect_since p start before after c.args.operator k c.requires.operator (omega (arith, count)) inv.falls falls (inv.rest k lt))
