@@ -5,9 +5,10 @@
 # make clean  removes what was built, and the inputs of `make bench`
 #
 # `rt`, the command of the toolchain, has to be on the PATH, and python3; `make test` wants a C compiler, $CC or cc, too. JOBS is
-# how many processors `make` uses; each crate that is being proved takes one to four GB.
+# how many crates are begun at a time. One that waits for others counts too, so it is more than there are processors; each that is
+# proved takes one to four GB.
 
-JOBS ?= $(shell nproc)
+JOBS ?= $(shell expr $(shell nproc) + 4)
 
 .PHONY: program test bench clean
 

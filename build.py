@@ -1,13 +1,14 @@
 #!/usr/bin/env python3
-"""Proves what the program needs and builds it, to ./sas; a line for each crate on the screen, and all that the prover prints in build.log.
+"""Proves what the program needs and builds it, to ./sas. Prints a line for each crate, and writes all that the prover prints to
+build.log.
 
     python3 build.py JOBS
 
-JOBS is how many processors there are for it. A check can use several processors. All crates wait for the longest chain in the end. So
-a crate begins as soon as those below it are proved, the one with most code above it first, and that one gets the processors that the
-others leave.
+JOBS is how many crates are begun at a time. A check can use several processors, but under `rt all` each has one. So the lowest
+crates, for which all others wait, are proved first by themselves. So are the last ones, which wait for all others.
 """
 import os
+import re
 import shutil
 import subprocess
 import sys
@@ -16,11 +17,15 @@ import time
 TOP = os.path.dirname(os.path.abspath(__file__))
 CRATES = f"{TOP}/crates"
 PROGRAM = "sas"
+# the crate on which the program and its words stand, and these three, which are proved one behind the other in the end
+REQUESTS = "sas_requests"
+LAST = [REQUESTS, "sas_tool", PROGRAM]
+PROCESSORS = str(os.cpu_count())
 BEGAN = time.monotonic()
 
 
 def libraries():
-    """The crates of the repository that each crate of it uses."""
+    """Returns the crates of the repository that each crate of it uses."""
     with open(f"{TOP}/crates.txt", encoding="utf-8") as file:
         lines = [line.split(":") for line in file if line.strip() and not line.startswith("#")]
     names = [name for name, _ in lines]
@@ -28,93 +33,84 @@ def libraries():
 
 
 def with_those_below(name, used):
-    """A crate and those that it stands on."""
+    """Returns a crate and those that it stands on."""
     found = [name]
     for crate in found:
         found += [it for it in used[crate] if it not in found]
     return found
 
 
+class Progress:
+    """Which crates are done, of which, and whether one of them isn't proved."""
+
+    def __init__(self, names):
+        self.names, self.done, self.failed = names, set(), False
+
+    def tell(self, crate, is_proved):
+        """Prints of a crate, once, whether it is proved."""
+        if crate in self.done or crate not in self.names:
+            return
+        self.done.add(crate)
+        self.failed |= not is_proved
+        told = "proved" if is_proved else "not proved"
+        print(f"{crate} ({len(self.done)} of {len(self.names)}): {told}, {time.monotonic() - BEGAN:.0f} s after the start", flush=True)
+
+
+def begin(command, crate, given=subprocess.DEVNULL):
+    """Begins a command in a crate's folder, and returns it."""
+    streams = {"stdin": given, "stdout": subprocess.PIPE, "stderr": subprocess.STDOUT}
+    return subprocess.Popen(command, cwd=f"{CRATES}/{crate}", encoding="utf-8", errors="replace", **streams)
+
+
+def prove_lowest(used, progress, log):
+    """Proves the crates that stand on no other, the largest by more processors. Returns whether all are proved."""
+    lowest = sorted((it for it in progress.names if not used[it]), key=size_of)
+    jobs = {it: "1" for it in lowest} | {lowest[-1]: str(max(1, os.cpu_count() - len(lowest) + 1))}
+    begun = {it: begin(["rt", "lib", "--jobs", jobs[it]], it) for it in lowest}
+    for crate, process in begun.items():
+        log.write(f"== {crate}\n{process.communicate()[0]}")
+        progress.tell(crate, process.returncode == 0)
+    return all(it.returncode == 0 for it in begun.values())
+
+
 def size_of(crate):
-    """How many bytes of code a crate has."""
+    """Returns how many bytes of code a crate has."""
     folder = f"{CRATES}/{crate}/src"
     return sum(os.path.getsize(f"{folder}/{it}") for it in os.listdir(folder))
 
 
-def heights(used):
-    """How much code stands on each crate, with its own, along the chain that has most."""
-    height = {}
-    for name in sorted(used, key=lambda it: len(with_those_below(it, used)), reverse=True):
-        height[name] = size_of(name) + max((height[it] for it in height if name in used[it]), default=0)
-    return height
+def prove_below(jobs, progress, log):
+    """Proves the crates below the requests, and reports each as soon as it is proved. The check of the requests is stopped: what builds the
+    program proves them anyway, by all processors. Returns whether all below are proved."""
+    crate, below = None, len(progress.names) - len(LAST)
+    with begin(["rt", "all", "check", "--jobs", jobs], REQUESTS) as process:
+        for line in process.stdout:
+            log.write(line)
+            begins = re.match(r"== (\w+)$", line)
+            crate = begins[1] if begins else crate
+            if crate and line.startswith("logic="):
+                progress.tell(crate, line.startswith("logic=proved "))
+            if len(progress.done) == below:
+                process.terminate()
+                return not progress.failed
+    return False
 
 
-class Check:
-    """The check of a crate, which runs. What it prints goes to a file, so that it never waits for somebody who reads it."""
-
-    def __init__(self, crate, jobs):
-        self.crate, self.jobs = crate, jobs
-        verb = "run" if crate == PROGRAM else "lib"
-        with open(self.log_name(), "w", encoding="utf-8") as log, open(self.given(), "rb") as given:
-            streams = {"stdin": given, "stdout": log, "stderr": subprocess.STDOUT}
-            self.process = subprocess.Popen(["rt", verb, "--jobs", str(jobs)], cwd=f"{CRATES}/{crate}", **streams)
-
-    def log_name(self):
-        """The file of what it prints."""
-        return f"{TOP}/build-{self.crate}.log"
-
-    def given(self):
-        """The file that it reads: the program, which is run once, has one."""
-        name = f"{CRATES}/{self.crate}/stdin"
-        return name if os.path.exists(name) else os.devnull
-
-    def end(self, log):
-        """Moves what it printed into the log, and returns whether the crate is proved."""
-        with open(self.log_name(), encoding="utf-8", errors="replace") as printed:
-            log.write(f"== {self.crate}\n{printed.read()}")
-        log.flush()
-        os.remove(self.log_name())
-        return self.process.returncode == 0
-
-
-def next_check(used, proved, running, jobs):
-    """Begins the check of the next crate, if one is ready and a processor is free."""
-    begun = proved | {check.crate for check in running}
-    ready = [it for it in used if it not in begun and proved.issuperset(used[it])]
-    free = jobs - sum(check.jobs for check in running)
-    if not ready or free < 1:
-        return None
-    height = heights(used)
-    tallest = max(height[it] for it in used if it not in proved)
-    crate = max(ready, key=lambda it: height[it])
-    share = max(1, free - len(ready) + 1)
-    return Check(crate, max(share, min(2, jobs)) if height[crate] == tallest else share)
-
-
-def prove(used, jobs, log):
-    """Proves all the crates, and builds the program and runs it once. Returns whether all that went well. Behind one that isn't proved
-    no other begins, and those that run go on to their end."""
-    proved, failed, running = set(), False, []
-    while running or not failed and len(proved) < len(used):
-        while not failed and (check := next_check(used, proved, running, jobs)):
-            running.append(check)
-        ended = [check for check in running if check.process.poll() is not None]
-        for check in ended:
-            running.remove(check)
-            well = check.end(log)
-            proved |= {check.crate} if well else set()
-            failed |= not well
-            place = f"{check.crate} ({len(proved)} of {len(used)})" if well else check.crate
-            print(f"{place}: {'proved' if well else 'not proved'}, {time.monotonic() - BEGAN:.0f} s after the start", flush=True)
-        time.sleep(0 if ended else 0.1)
-    return not failed
+def build(progress, log):
+    """Proves what is above, builds the program and runs it once. Returns whether that went well."""
+    with open(f"{CRATES}/{PROGRAM}/stdin", "rb") as given:
+        process = begin(["rt", "run", "--jobs", PROCESSORS], PROGRAM, given)
+        log.write(process.communicate()[0])
+    for crate in reversed(progress.names) if process.returncode == 0 else ():
+        progress.tell(crate, True)
+    return process.returncode == 0
 
 
 def main():
-    libs = libraries()
-    used = {name: libs[name] for name in with_those_below(PROGRAM, libs)}
+    used = libraries()
+    progress = Progress(with_those_below(PROGRAM, used))
     with open(f"{TOP}/build.log", "w", encoding="utf-8") as log:
-        well = prove(used, int(sys.argv[1]), log)
+        well = prove_lowest(used, progress, log) and prove_below(sys.argv[1], progress, log) and build(progress, log)
     if not well:
         sys.exit("not built; build.log says why")
     shutil.copy(f"{CRATES}/{PROGRAM}/out/{PROGRAM}", f"{TOP}/{PROGRAM}")

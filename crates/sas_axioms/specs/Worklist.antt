@@ -17,7 +17,8 @@ use Rattle.sas_axioms.specs.Resting.{IsResting}
 
 -- a variable on the stack still counts with its default
 abbrev pub value_seen : Parts → List ℕ → List ℕ → ℕ → ℕ
-value_seen p s stack var = if occurrences var stack == 0 then slice_index s var else default_of p var
+value_seen p s stack var =
+    if occurrences var stack == 0 then slice_index s var else default_of p var
 
 -- the stack has variables of the layer that have been given their rules' value, each once
 pub record IsRunning (p : Parts) (layer : ℕ) (s stack : List ℕ) : Type 0 where

@@ -61,7 +61,8 @@ rule_layer_checks p place rule =
 
 -- all the checks of some parts: the operators first, then the rules
 abbrev pub layer_checks : Parts → List (Check LayerFault)
-layer_checks p = numbered (operator_layer_checks p) p.operators ++ numbered (rule_layer_checks p) p.rules
+layer_checks p =
+    numbered (operator_layer_checks p) p.operators ++ numbered (rule_layer_checks p) p.rules
 
 -- the task is layered exactly where no check fails
 abbrev pub LayerChecksAreTheRules : Type 0

@@ -1,7 +1,7 @@
 -- Which facts hold in a state. A state of a task is the list of its variables' values, one for each
 -- and in its range (`IsState` of sas_core). Facts are also asked of values that come from
 -- elsewhere, so they are asked of any function that gives each variable a value; that of a state s
--- is `slice_index s`. It is asked of facts that exist: past the end of a list `slice_index` gives 0.
+-- is `slice_index s`. It is asked of facts that exist: past the end of a list `slice_index` is 0.
 use Rattle.std.specs.Prelude.{◌≡◌, ℕ, List, All}
 use Rattle.sas_core.specs.declared.parts.Fact.{Fact}
 

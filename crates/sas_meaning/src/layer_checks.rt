@@ -46,7 +46,8 @@ fn check_operator<T: Grounded>(task: &T, operator: u32) -> Result<(), LayerFault
     requires operator { operator < length (T.says task.now).operators }
     ensures { result_err result
         ≡ first_fault
-        (spec.operator_layer_checks (T.says task.now) operator (operator_at (T.says task.now) operator)) }
+        (spec.operator_layer_checks (T.says task.now) operator
+        (operator_at (T.says task.now) operator)) }
 {
     for effect in 0..task.effects(operator) {
         let change = task.effect_change(operator, effect);
@@ -63,7 +64,8 @@ fn check_rules<T: Grounded>(task: &T, new_values: &mut Items<Option<u32>>) -> Re
     requires well_ranged { WellRanged (T.says task.now) }
     requires known { NewValues (T.says task.now) 0 new_values.old }
     ensures { result_err result
-        ≡ first_fault (spec.numbered (spec.rule_layer_checks (T.says task.now)) (T.says task.now).rules) }
+        ≡ first_fault (spec.numbered (spec.rule_layer_checks (T.says task.now))
+        (T.says task.now).rules) }
 {
     for rule in 0..task.rules() {
         check_rule(task, rule, new_values)?;
@@ -81,7 +83,8 @@ fn check_rule<T: Grounded>(
     requires rule { rule < length (T.says task.now).rules }
     requires known { NewValues (T.says task.now) rule new_values.old }
     ensures first { result_err result
-        ≡ first_fault (spec.rule_layer_checks (T.says task.now) rule (rule_at (T.says task.now) rule)) }
+        ≡ first_fault (spec.rule_layer_checks (T.says task.now) rule
+        (rule_at (T.says task.now) rule)) }
     ensures known { IfOk result (λ _. NewValues (T.says task.now) (rule + 1) new_values.new) }
 {
     let change = task.rule_change(rule);

@@ -5,8 +5,8 @@
 -- whose steps, each taken by the first applicable operator of its name, lead from the initial state
 -- to a goal state at the printed cost.
 --
--- And where such a run of `mutex` prints `group K exclusive`, the input is a text of a layered task,
--- and no reachable state of the task holds two different facts of group K.
+-- And where such a run of `mutex` prints `group K exclusive`, the input is a text of a layered
+-- task, and no reachable state of the task holds two different facts of group K.
 use Rattle.std.specs.Prelude.{◌≡◌, ◌↔◌, ℕ, ◌<◌, List, length, Contains}
 use Rattle.sas_core.specs.declared.parts.Parts.{Parts}
 use Rattle.sas_core.specs.PlanParts.{PlanParts}

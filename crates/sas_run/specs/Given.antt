@@ -39,7 +39,8 @@ pub record IsGivenTo (p : Parts) (o : Operator) (given : List (Option ℕ)) : Ty
 
 -- the variable was given nothing or this value, and is given it now; the others are given what
 -- they were
-pub record GivesValue (given : List (Option ℕ)) (var value : ℕ) (given' : List (Option ℕ)) : Type 0 where
+pub record GivesValue (given : List (Option ℕ)) (var value : ℕ) (given' : List (Option ℕ))
+    : Type 0 where
   pub before : (earlier : ℕ) → given_to given var ≡ Some earlier → earlier ≡ value
   pub now : given' ≡ slice_set given var (Some value)
 

@@ -106,8 +106,8 @@ TaskLineFits (head var old new) = HeadNumbers var old new
 
 -- ---- the sections
 
--- one line, by its sort and what it holds: `line number 3` is the line `3`, and `line fact` makes the
--- line of a fact
+-- one line, by its sort and what it holds: `line number 3` is the line `3`, and `line fact` makes
+-- the line of a fact
 abbrev pub line : {A : Type 0} → (A → TaskLine) → A → List TaskLine
 line says a = says a ∷ []
 

@@ -63,7 +63,8 @@ impl Seen {
 
     /// Counts one rule more.
     fn rule(&mut self)
-        ensures { (s : SoFar) (r : Rule) → self.old ≡ kept_of s → self.new ≡ kept_of (behind_rule s r) }
+        ensures { (s : SoFar) (r : Rule) → self.old ≡ kept_of s
+            → self.new ≡ kept_of (behind_rule s r) }
     {
         self.rules = self.rules.saturating_add(1);
     }
