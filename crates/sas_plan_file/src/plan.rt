@@ -8,7 +8,7 @@ use crate::plan_text::PlanText;
 use sas_core::Plan;
 use sas_flat::FlatPlan;
 use sas_lines::Watched;
-use sas_reader::{Fault, LIMIT, read_all};
+use sas_reader::{Fault, LIMIT, read_all, read_all_large};
 use std::alloc::Global;
 use std::io::Read;
 
@@ -25,22 +25,22 @@ pub fn read_plan<R: Read>(alloc: Global, reader: &mut Watched<R>) -> Result<Plan
     Ok(machine.into_plan())
 }
 
-/// Reads a plan from a device as `read_plan` does, into one block of memory for all names.
+/// Reads a plan from a device as `read_plan` does, in pieces of at most 65,536 bytes, into one block of memory for all names.
 pub fn read_flat_plan<R: Read>(alloc: Global, reader: &mut Watched<R>) -> Result<FlatPlan, Fault>
     requires { reader.old.failed ≡ false }
     ensures { ReadsAll R.remaining plan_format (ValueOf plan_format) reader.old reader.new result }
 {
-    let machine = read_all(alloc, PlanMachine::new_flat(alloc), LIMIT, reader)?;
+    let machine = read_all_large(alloc, PlanMachine::new_flat(alloc), LIMIT, reader)?;
     Ok(machine.into_flat_plan())
 }
 
-/// Reads a plan from a device as `read_plan` does, and returns its text: its lines, each ended by LF. It keeps no plan.
-/// The faults are those of `read_plan`.
+/// Reads a plan from a device as `read_plan` does, in pieces of at most 65,536 bytes, and returns its text: its lines, each
+/// ended by LF. It keeps no plan. The faults are those of `read_plan`.
 pub fn read_plan_text<R: Read>(alloc: Global, reader: &mut Watched<R>) -> Result<Vec<u8>, Fault>
     requires { reader.old.failed ≡ false }
     ensures { ReadsAll R.remaining plan_format (λ b t. TextOf plan_format b t.items)
         reader.old reader.new result }
 {
-    let machine = read_all(alloc, PlanText::new(alloc), LIMIT, reader)?;
+    let machine = read_all_large(alloc, PlanText::new(alloc), LIMIT, reader)?;
     Ok(machine.into_text())
 }

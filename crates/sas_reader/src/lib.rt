@@ -5,6 +5,6 @@ mod devices;
 mod fault;
 mod reader;
 
-pub use devices::read_all;
+pub use devices::{read_all, read_all_large};
 pub use fault::{Fault, Kind};
 pub use reader::{Front, LIMIT, Machine, Reader, limit_law};

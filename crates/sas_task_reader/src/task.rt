@@ -6,7 +6,7 @@ ghost use Rattle.sas_task_format.specs.TaskFormat.{task_format};
 use crate::task_text::TaskText;
 use sas_core::Task;
 use sas_lines::Watched;
-use sas_reader::{Fault, LIMIT, read_all};
+use sas_reader::{Fault, LIMIT, read_all, read_all_large};
 use sas_task_judge::TaskMachine;
 use sas_task_line::SoFar;
 use std::alloc::Global;
@@ -26,14 +26,14 @@ pub fn read_task<R: Read>(alloc: Global, reader: &mut Watched<R>) -> Result<Task
     Ok(Task::of_parts(machine.into_kept().into_parts()))
 }
 
-/// Reads a task from a device as `read_task` does, and returns its text: its lines, each ended by LF. It keeps no task.
-/// The faults are those of `read_task`.
+/// Reads a task from a device as `read_task` does, in pieces of at most 65,536 bytes, and returns its text: its lines, each
+/// ended by LF. It keeps no task. The faults are those of `read_task`.
 pub fn read_task_text<R: Read>(alloc: Global, reader: &mut Watched<R>) -> Result<Vec<u8>, Fault>
     requires { reader.old.failed ≡ false }
     ensures { ReadsAll R.remaining task_format (λ b t. TextOf task_format b t.items)
         reader.old reader.new result }
 {
     let start = TaskMachine::new(alloc, TaskText::new(alloc));
-    let machine = read_all(alloc, start, LIMIT, reader)?;
+    let machine = read_all_large(alloc, start, LIMIT, reader)?;
     Ok(machine.into_kept().into_text())
 }

@@ -1,15 +1,16 @@
-use Rattle.std.proofs.Common.{◌≡◌, ◌-◌, ℕ, List, None, false}
+use Rattle.std.proofs.Common.{◌≡◌, ◌-◌, ◌<◌, ℕ, List, length, None, false}
 use Rattle.std.specs.Io.KnownBytes.{Consumes}
 use Rattle.sas_reader.specs.Reader.{Stands}
-use Rattle.sas_reader.proofs.devices.read_all.Given as goal
+use Rattle.sas_reader.proofs.devices.feed_all.Given as goal
 
 -- what was read is what the reader stands for
 abbrev pub invariant-loop-n : goal.invariant-loop-n
 invariant-loop-n g l =
     record {
       note : l.device.failed ≡ false;
+      room : 0 < length l.buffer;
       fault : l.reader.fault ≡ None;
-      limit : l.reader.limit ≡ l.limit;
+      limit : l.reader.limit ≡ l.fn.reader.limit;
       read : (b : List ℕ) × Consumes (g.R.Read.remaining l.initial.device.device) (g.R.Read.remaining l.device.device) b × Stands g.M.Machine.led_by g.M.Machine.ended g.M.Machine.rejects l.reader b;
     }
 

@@ -11,7 +11,7 @@ use Rattle.sas_reader.specs.declared.reader.Reader.{Reader}
 use Rattle.sas_reader.specs.Faults.{answer}
 use Rattle.sas_reader.specs.Reader.{LineIsDue, EndsEarly, FaultIn, Stands, ReadFails, unread, early, faulty, ReachesEnd, FeedsMachine}
 use Rattle.sas_reader.proofs.Standing.{accepted_of, fault_of}
-use Rattle.sas_reader.proofs.devices.read_all.Goals as goal
+use Rattle.sas_reader.proofs.devices.feed_all.Goals as goal
 
 module _ {M D : Type 0} (led_by : List (List ℕ) → M → Type 0) (ended : M → Type 0) (rejects : M → List ℕ → Kind → Type 0) (left : D → Option (List ℕ)) where
   -- what a reader at the end of its device finds wrong
@@ -65,7 +65,7 @@ returns-then-taken-eq0 g c =
     let v = c.loop-n.invariant in
     let b = v.read.0 in
     let whole : Consumes _ _ b = subst (Consumes _ _) (ap (λ (n : ℕ). b ++ take n c.take.new.buffer) c.if-taken-eq0.true ∙ append-nil b) (Consumes-trans _ _ _ b _ v.read.1 c.in-Ok.ensures.bytes.0) in
-    ended_so g.M.Machine.led_by g.M.Machine.ended g.M.Machine.rejects g.R.Read.remaining c.args.limit _ _ b c.loop-n.reader c.finish.result c.finish.ensures v.read.2 v.fault v.limit whole (c.in-Ok.ensures.bytes.1 c.if-taken-eq0.true (omega (arith, c.take.auto.buffer))) (λ t. let e = c.in-Ok.ensures.note.1 t in cc)
+    ended_so g.M.Machine.led_by g.M.Machine.ended g.M.Machine.rejects g.R.Read.remaining c.args.reader.limit _ _ b c.loop-n.reader c.finish.result c.finish.ensures v.read.2 v.fault v.limit whole (c.in-Ok.ensures.bytes.1 c.if-taken-eq0.true (let room = v.room in omega (arith, c.take.auto.buffer))) (λ t. let e = c.in-Ok.ensures.note.1 t in cc)
 
 pub returns-in_err-feed : goal.returns-in_err-feed
 returns-in_err-feed g c =
@@ -77,7 +77,7 @@ returns-in_err-feed g c =
     let not_read : f.kind ≢ kinds.Read = λ e. (c.in_err-feed.ensures.kind v.fault).1 e in
     let same : c.from_residual.result ≡ Err f = search rules in
     let was : c.feed.result ≡ Err f = search rules in
-    subst (FeedsMachine g.M.Machine.led_by g.M.Machine.ended g.M.Machine.rejects g.R.Read.remaining c.args.limit c.args.device.now _) (sym same) (record {
+    subst (FeedsMachine g.M.Machine.led_by g.M.Machine.ended g.M.Machine.rejects g.R.Read.remaining c.args.reader.limit c.args.device.now _) (sym same) (record {
       at_end = tt;
       reached = tt;
       fault = λ ne. (b ++ piece, Consumes-trans _ _ _ b piece v.read.1 c.in-Ok.ensures.bytes.0, faulty (subst (λ (l : ℕ). FaultIn g.M.Machine.led_by g.M.Machine.ended g.M.Machine.rejects l (b ++ piece) f) (c.feed.ensures.limit ∙ v.limit) (fault_of g.M.Machine.led_by g.M.Machine.ended g.M.Machine.rejects _ f (b ++ piece) (answer_err c.feed.new.self.fault f (sym c.feed.ensures.answer ∙ was)) s ne)) not_read);
