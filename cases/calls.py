@@ -170,7 +170,7 @@ def wide_file_cases(what, text, about):
 
 def longest_cases(task, plan, about):
     """Yields the calls that show how much is read at a time of a long task and of a long plan. They could show a reader with
-    a buffer of more than 4,096 bytes."""
+    a buffer that is longer than allowed."""
     for ways, requests, file in ((TASK_WAYS, TASK_REQUESTS, task), (PLAN_WAYS, PLAN_REQUESTS, plan)):
         for way in ways:
             yield case(FILES, f"longest {way}", file, "read\nright\n", about)

@@ -4,7 +4,7 @@ what another case has.
 
 A task is wide that has so many of everything: values of a variable, facts of a group, goal facts, prevail conditions, effects
 of an operator, conditions of an effect, rules, and conditions of a rule. The constants of the code that are lengths are 64
-facts read at once, 4,096 bytes read and 65,536 bytes written at a time, and 8 digits read at once: some case has more of
+facts read at once, 65,536 bytes read and written at a time, and 8 digits read at once: some case has more of
 each, and where it is a border, one has exactly as many.
 
 Each answer is said here from how the task was made. For narrow tasks it is compared with what the meaning of a task gives.
@@ -15,8 +15,8 @@ from steps import verdict
 from texts import as_bytes, with_line
 
 WIDTHS = (64, 65, 130, 513)
-# wide tasks are shifted in their files by so many bytes, so that reads of 4,096 bytes cut them elsewhere
-SHIFTS = range(0, 4096, 317)
+# wide tasks are shifted in their files by so many bytes, so that reads of 65,536 bytes cut them elsewhere
+SHIFTS = range(0, 65_536, 5_041)
 MANY = 10_001
 LINES = 1_000_000
 STEPS = 200_001
@@ -169,7 +169,7 @@ def wide_cases():
 
 
 def cut_cases():
-    """Wide tasks, of files in which reads of 4,096 bytes cut other lists each time. They could show an operator, a rule or a
+    """Wide tasks, of files in which reads of 65,536 bytes cut other lists each time. They could show an operator, a rule or a
     group that is read twice, or not at all, where a piece ends in it."""
     for width in WIDTHS[:3]:
         task = wide_task(width)

@@ -90,13 +90,21 @@ fn read_told<R: AllocGlobal + Print>(rt: &R, way: Way, text: &[u8]) {
     say_either(rt, failed, "failed", "not failed");
 }
 
-/// Prints whether no more than 4,096 bytes of a file are asked for at a time. It could show a reader with a larger
+/// Returns how many bytes of a file are asked for at a time, at most.
+fn longest_read(way: Way) -> usize {
+    match way {
+        Way::Plan | Way::Task => 4096,
+        _ => 65_536,
+    }
+}
+
+/// Prints whether no more bytes of a file are asked for at a time than the way allows. It could show a reader with a larger
 /// buffer.
 fn say_longest<R: AllocGlobal + Print>(rt: &R, way: Way, file: &[u8]) {
     let longest = Cell::new(0usize);
     let (read, _) = read_from(rt.alloc(), way, NotingReader::new(file, &longest));
     say_either(rt, read.is_ok(), "read", "WRONG: not read");
-    say_right(rt, longer_than(longest.get(), 4096));
+    say_right(rt, longer_than(longest.get(), longest_read(way)));
 }
 
 /// Returns the line that a fault at the end of these bytes has.

@@ -184,7 +184,7 @@ fn run_into<R: AllocGlobal + Print>(rt: &R, request: Request, bytes: &[u8]) {
     say_exactly(rt, &result, written.kept());
 }
 
-/// Prints whether no more than 4,096 bytes of the inputs are asked for at a time. It could show a reader with a larger
+/// Prints whether no more than 65,536 bytes of the inputs are asked for at a time. It could show a reader with a larger
 /// buffer.
 fn run_longest<R: AllocGlobal + Print>(
     rt: &R,
@@ -200,7 +200,7 @@ fn run_longest<R: AllocGlobal + Print>(
     let out = Narrow::new(rt.alloc(), ROOM, ROOM, true)?;
     let (result, _) = answer_over(rt.alloc(), request, task, plan, out);
     say_either(rt, result.is_ok(), "answered", "WRONG: no answer");
-    say_right(rt, longer_than(longest.get(), 4096));
+    say_right(rt, longer_than(longest.get(), 65_536));
     Ok(())
 }
 
