@@ -15,8 +15,8 @@ from steps import verdict
 from texts import as_bytes, with_line
 
 WIDTHS = (64, 65, 130, 513)
-# wide tasks are shifted in their files by so many bytes, so that reads of 65,536 bytes cut them elsewhere
-SHIFTS = range(0, 65_536, 5_041)
+# how many bytes are read at a time, and how many times a wide task is cut elsewhere by that
+READ, CUTS = 65_536, 13
 MANY = 10_001
 LINES = 1_000_000
 STEPS = 200_001
@@ -168,13 +168,19 @@ def wide_cases():
             yield over_input(name, "steps", plan_text(names, cost), plan_text(names, cost))
 
 
+def shifts(length):
+    """Yields by how many bytes a text of this length, which is shorter than a read, is shifted to be cut elsewhere each time."""
+    for part in range(1, CUTS + 1):
+        yield READ - length * part // (CUTS + 1)
+
+
 def cut_cases():
     """Wide tasks, of files in which reads of 65,536 bytes cut other lists each time. They could show an operator, a rule or a
     group that is read twice, or not at all, where a piece ends in it."""
     for width in WIDTHS[:3]:
         task = wide_task(width)
         groups = groups_said(width)
-        for shift in SHIFTS:
+        for shift in shifts(len(text_of(task))):
             text = text_of(task).replace("var0\n", f"var0{'-' * shift}\n", 1)
             answers = {"print": (text, 0), "show": (summary(task), 0), "check": ("task layered\n", 0), "mutex": (groups, 1)}
             for request, (output, status) in answers.items():
