@@ -1,4 +1,4 @@
-"""Mutex groups computed from the meaning of a task, for small tasks made at random from a fixed seed and for three larger ones:
+"""Mutex groups computed from the meaning of a task, for small tasks made at random from a fixed seed and for five larger ones:
 what `mutex` prints of each, and the verdict on each group by itself.
 
 A task here is as in walks.py, and has
@@ -29,6 +29,8 @@ TASKS = 300
 MANY = 2000
 # groups that share facts, and operators over these
 SHARING, SWAPPING = 4000, 600
+# effects of one operator, none of which sets a fact of a group
+EFFECTS = 40_000
 
 
 def contradict(f, g, family):
@@ -241,6 +243,19 @@ def sharing_groups():
     }
 
 
+def effects_of_no_group(groups):
+    """Returns a task of one operator with many effects, each with a condition and an old value, whose facts are in none of the
+    groups."""
+    return {
+        "ranges": [2] * (EFFECTS + 2),
+        "layers": [None] * (EFFECTS + 2),
+        "defaults": [0] * (EFFECTS + 2),
+        "rules": [],
+        "groups": groups,
+        "operators": [("all", [], [([(EFFECTS, 0)], var, 0, 1) for var in range(EFFECTS)], 1)],
+    }
+
+
 def line_of(place, verdict):
     """Returns the line that `mutex` prints of a group with this verdict."""
     words = {"Exclusive": "exclusive", "Derived": "derived", "Initial": "not shown: initial state"}
@@ -269,6 +284,13 @@ def grouped_tasks():
         for group, said in zip(task["groups"], zip(joint, alone)):
             assert "Exclusive" not in said or is_invariant(states, group)
         yield judged(f"groups of random task {number}", task, joint, alone)
+
+
+def idle_effects():
+    """Returns two tasks whose operator has many effects that set no fact of a group: in the first there is no group, in the
+    second one that stays. Where what is known is noted anew for each effect, no answer comes in time."""
+    yield judged("many effects and no group", effects_of_no_group([]), [], [])
+    yield judged("many effects beside a group", effects_of_no_group([[(EFFECTS, 0), (EFFECTS + 1, 1)]]), *[["Exclusive"]] * 2)
 
 
 def long_chains():

@@ -67,7 +67,7 @@ import threading
 from concurrent.futures import ThreadPoolExecutor
 
 import report
-from families import grouped_tasks, long_chains
+from families import grouped_tasks, idle_effects, long_chains
 from large import large_cases
 from texts import TOP, as_bytes, changed_lines, early_end, table
 from walks import walked_plans
@@ -180,7 +180,7 @@ def group_cases():
         yield {"name": f"{name}, mutex of a file", "words": ["mutex", "t.sas"], "files": {"t.sas": held}, **answer}
         for ends, given in (("LF", held), ("CR LF", held.replace(b"\n", b"\r\n"))):
             yield over_task(f"{name}, mutex with {ends}", "mutex", given, **answer)
-    for made in (*grouped_tasks(), *long_chains()):
+    for made in (*grouped_tasks(), *long_chains(), *idle_effects()):
         yield over_task(made["name"], "mutex", made["task"], made["output"], made["status"])
 
 
