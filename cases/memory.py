@@ -124,8 +124,9 @@ def letter(end, was_refused, answer):
 def wrong_with_call(library, call):
     """Returns what is wrong with a call."""
     came = "".join(letter(*run, call["answer"]) for run in runs(library, call["command"], call["given"], call["first"]))
-    # the first one shows that none of the call was left alone; a reader does without memory for large pieces, which it asks for first
-    return [] if re.fullmatch("b+A?w+A*a", came) else [came]
+    # The first one shows that none of the call was left alone. Each of two inputs is read without memory for large pieces,
+    # which is asked for before all other.
+    return [] if re.fullmatch("b+(A?w+){1,2}A*a", came) else [came]
 
 
 def wrong_with_request(library, call):
