@@ -11,7 +11,7 @@ use Rattle.sas_group_index.specs.declared.index.Index.{Index}
 use Rattle.sas_group_index.specs.Index.{IsIndexOf, Mentions, MentionsFact, operators_of}
 use Rattle.sas_group_index.proofs.Entering.{group_fact_exists}
 use Rattle.sas_mutex.specs.Falling.{fell_at, looked_at}
-use Rattle.sas_mutex.proofs.FallingGroups.{falls_then, fallen_grow}
+use Rattle.sas_mutex.proofs.FallingGroups.{falls_then}
 use Rattle.sas_mutex.proofs.family.look_at_mentioning.Goals as goal
 use Rattle.sas_mutex.proofs.family.look_at_mentioning.Given.{Over}
 use Rattle.sas_mutex.proofs.family.look_at_mentioning.Goals.{After-operators_of-operators}
@@ -60,12 +60,6 @@ now g c =
     (mentioning q c.indexed.inside.index.now group n c.group-fact-items.result.now operators c.indexed.invariant.0 c.indexed.invariant.1
     (behind c.args.indexed.now q group (fell_at c.args.family.now c.args.place) c.indexed.view_is is c.requires.group)
     c.group-fact-items.ensures c.loop-fact-test.true c.operators_of-operators.ensures))
-
-pub group-fact-items-requires : goal.group-fact-items-requires
-group-fact-items-requires g c =
-    let group = c.index-group.result.now in
-    behind c.args.indexed.now c.indexed.inside.task.now group (fell_at c.args.family.now c.args.place) c.indexed.view_is
-    (read c.args.family.now.fallen.items c.args.place group c.requires.place c.index-group.ensures) c.requires.group
 
 pub look_at_each-requires-clause-exist : goal.look_at_each-requires-clause-exist
 look_at_each-requires-clause-exist g c = (now g (goal.at.look_at_each-requires-clause-exist g c).After-operators_of-operators).exist
