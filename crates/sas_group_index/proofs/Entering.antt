@@ -1,10 +1,10 @@
--- The entries of groups under the numbers of their facts.
-use Rattle.std.proofs.Common.{◌≡◌, ℕ, ◌+◌, ◌-◌, ◌<◌, ◌≤◌, ◌↔◌, List, [], ◌∷◌, ◌++◌, length, get_or, append_assoc, take, refl, sym, ap, subst, ◌∙◌, inl, inr, arith}
-use Rattle.std.specs.List.{All, Contains}
+-- The entries of places under the numbers of facts: of groups under those that they have, of operators under those that they mention.
+use Rattle.std.proofs.Common.{◌≡◌, ℕ, ◌+◌, ◌-◌, ◌<◌, ◌≤◌, ◌↔◌, List, [], ◌++◌, length, get_or, refl, sym, ap, subst, ◌∙◌, inl, inr, arith}
+use Rattle.std.specs.List.{All, AllByRecursion, Contains}
 use Rattle.std.specs.List.Sorted.{IsNonDecreasingBy}
 use Rattle.std.proofs.lemmas.Bool.{cases_eq, cases_lt}
-use Rattle.std.proofs.lemmas.List.{map_more, get_or_append_left, get_or-append_right, length-append}
-use Rattle.std.proofs.lemmas.List.Elements.{Contains-get_or, Contains-append_left, Contains-append_right, Contains-append_cases}
+use Rattle.std.proofs.lemmas.List.{get_or_append_left, get_or-append_right, length-append}
+use Rattle.std.proofs.lemmas.List.Elements.{All-from_recursion, All-weaker, Contains-get_or, Contains-append_left, Contains-append_right, Contains-append_cases}
 use Rattle.sas_core.specs.declared.parts.Fact.{Fact}
 use Rattle.sas_core.specs.declared.parts.Parts.{Parts}
 use Rattle.sas_core.specs.Grounded.{group_at}
@@ -15,9 +15,8 @@ use Rattle.sas_lists.specs.declared.by_key.Entry.{Entry}
 use Rattle.sas_lists.specs.ByKey.{by_key}
 use Rattle.sas_lists.proofs.ByKey.{under_holds, under_ascends}
 use Rattle.sas_meaning.proofs.Forced.{fact_within}
-use Rattle.sas_group_index.specs.declared.index.Index.{Index}
-use Rattle.sas_group_index.specs.Index.{facts_below, number, entries_of_group, AreFirstNumbers, AreGroupsByFact, HasFact, under, groups_of}
-use Rattle.sas_group_index.proofs.Lists.{in_none, in_map, from_map}
+use Rattle.sas_group_index.specs.Index.{facts_below, number, entries_of, AreFirstNumbers, AreByFact, HasFact, under}
+use Rattle.sas_group_index.proofs.Lists.{in_map, from_map}
 use Rattle.sas_group_index.proofs.Numbering.{number_low, one_number}
 
 -- the facts of groups exist
@@ -26,14 +25,19 @@ group_fact_exists p group fact ranged lt there =
     let listed : Listed (FactExists p.variables) (group_at p group) = holds_at (Listed (FactExists p.variables)) [] p.groups ranged.groups.each group lt in
     subst (FactExists p.variables) there.2 (holds_at (FactExists p.variables) fact (group_at p group) listed.each there.0 there.1)
 
--- the entries of the first `k` groups
-pub record EnteredUpTo (p : Parts) (k : ℕ) (entries : List (Entry ℕ)) : Type 0 where
-  pub only : (e : Entry ℕ) → Contains entries e → (e.item < k) × ((f : Fact) × Contains (group_at p e.item) f × (number p f ≡ e.key))
-  pub each : (group : ℕ) (f : Fact) → group < k → Contains (group_at p group) f → Contains entries (record { key = number p f; item = group })
-  pub ascending : IsNonDecreasingBy (λ (e : Entry ℕ). e.item) entries
+-- facts that exist are on variables that have a first number
+pub on_numbered : (p : Parts) (firsts : List ℕ) (facts : List Fact) → length firsts ≡ length p.variables → AllByRecursion (FactExists p.variables) facts
+    → All (λ (f : Fact). f.var < length firsts) facts
+on_numbered p firsts facts one_each each = subst (λ (n : ℕ). All (λ (f : Fact). f.var < n) facts) (sym one_each)
+    (All-weaker (FactExists p.variables) (λ (f : Fact). f.var < length p.variables) (λ f exists. fact_within p f.var f.value exists) facts
+    (All-from_recursion (FactExists p.variables) facts each))
 
-pub entered_none : (p : Parts) → EnteredUpTo p 0 []
-entered_none p = record { only = λ e there. absurd (in_none e there); each = λ group f lt there. absurd (omega arith); ascending = λ i j d le lt. absurd (omega arith) }
+-- and so are those of groups
+pub group_numbered : (p : Parts) (firsts : List ℕ) (group : ℕ) → WellRanged p → length firsts ≡ length p.variables → group < length p.groups
+    → All (λ (f : Fact). f.var < length firsts) (group_at p group)
+group_numbered p firsts group ranged one_each lt =
+    let listed : Listed (FactExists p.variables) (group_at p group) = holds_at (Listed (FactExists p.variables)) [] p.groups ranged.groups.each group lt in
+    on_numbered p firsts (group_at p group) one_each listed.each
 
 -- entries of higher items come behind the others
 ascends_append : (k : ℕ) (entries more : List (Entry ℕ)) → IsNonDecreasingBy (λ (e : Entry ℕ). e.item) entries → ((e : Entry ℕ) → Contains entries e → e.item < k)
@@ -57,71 +61,71 @@ ascends_append k entries more up low high i j d le lt = elim (cases_lt j (length
         ap (λ (e : Entry ℕ). e.item) (get_or-append_right entries more (length entries) n d refl from)
         ∙ high (get_or more (n - length entries) d) (Contains-get_or more (n - length entries) d there)
 
--- the entry that stands for a group's fact
-abbrev entry_of : Parts → ℕ → Fact → Entry ℕ
-entry_of p group fact = record { key = number p fact; item = group }
+-- the entry of a place for a fact
+abbrev entry_of : List ℕ → ℕ → Fact → Entry ℕ
+entry_of firsts place fact = record { key = number firsts fact; item = place }
 
-pub entered_more : (p : Parts) (k : ℕ) (entries : List (Entry ℕ)) → EnteredUpTo p k entries → EnteredUpTo p (k + 1) (entries ++ entries_of_group p k (group_at p k))
-entered_more p k entries up = record {
-  only = λ e there. elim (Contains-append_cases entries (entries_of_group p k (group_at p k)) e there) [
+-- the entries of the first `k` places; each has these facts
+pub record EnteredUpTo (firsts : List ℕ) (facts_of : ℕ → List Fact) (k : ℕ) (entries : List (Entry ℕ)) : Type 0 where
+  pub only : (e : Entry ℕ) → Contains entries e → (e.item < k) × ((f : Fact) × Contains (facts_of e.item) f × (number firsts f ≡ e.key))
+  pub each : (place : ℕ) (f : Fact) → place < k → Contains (facts_of place) f → Contains entries (record { key = number firsts f; item = place })
+  pub ascending : IsNonDecreasingBy (λ (e : Entry ℕ). e.item) entries
+
+pub entered_more : (firsts : List ℕ) (facts_of : ℕ → List Fact) (k : ℕ) (entries : List (Entry ℕ)) → EnteredUpTo firsts facts_of k entries
+    → EnteredUpTo firsts facts_of (k + 1) (entries ++ entries_of firsts k (facts_of k))
+entered_more firsts facts_of k entries up = record {
+  only = λ e there. elim (Contains-append_cases entries (entries_of firsts k (facts_of k)) e there) [
     | inl before ↦ (let h = up.only e before in ((let lt = h.0 in omega arith), h.1))
-    | inr new ↦ (let h = from_map (entry_of p k) (group_at p k) e (record { var = 0; value = 0 }) new in
+    | inr new ↦ (let h = from_map (entry_of firsts k) (facts_of k) e (record { var = 0; value = 0 }) new in
         let its : k ≡ e.item = ap (λ (x : Entry ℕ). x.item) h.2 in
-        ((let i = its in omega arith), (h.0, subst (λ g. Contains (group_at p g) h.0) its h.1, ap (λ (x : Entry ℕ). x.key) h.2)))
+        ((let i = its in omega arith), (h.0, subst (λ n. Contains (facts_of n) h.0) its h.1, ap (λ (x : Entry ℕ). x.key) h.2)))
   ];
-  each = λ group f lt there. elim (cases_eq group k) [
-    | inl e ↦ Contains-append_right entries (entries_of_group p k (group_at p k)) (entry_of p group f)
-        (subst (λ g. Contains (entries_of_group p k (group_at p k)) (entry_of p g f)) (sym e)
-        (in_map (entry_of p k) (group_at p k) f (subst (λ g. Contains (group_at p g) f) e there)))
-    | inr ne ↦ Contains-append_left entries (entries_of_group p k (group_at p k)) (entry_of p group f) (up.each group f (omega arith) there)
+  each = λ place f lt there. elim (cases_eq place k) [
+    | inl e ↦ Contains-append_right entries (entries_of firsts k (facts_of k)) (entry_of firsts place f)
+        (subst (λ n. Contains (entries_of firsts k (facts_of k)) (entry_of firsts n f)) (sym e)
+        (in_map (entry_of firsts k) (facts_of k) f (subst (λ n. Contains (facts_of n) f) e there)))
+    | inr ne ↦ Contains-append_left entries (entries_of firsts k (facts_of k)) (entry_of firsts place f) (up.each place f (omega arith) there)
   ];
-  ascending = ascends_append k entries (entries_of_group p k (group_at p k)) up.ascending (λ e there. (up.only e there).0)
-      (λ e there. (let h = from_map (entry_of p k) (group_at p k) e (record { var = 0; value = 0 }) there in ap (λ (x : Entry ℕ). x.item) (sym h.2)));
+  ascending = ascends_append k entries (entries_of firsts k (facts_of k)) up.ascending (λ e there. (up.only e there).0)
+      (λ e there. (let h = from_map (entry_of firsts k) (facts_of k) e (record { var = 0; value = 0 }) there in ap (λ (x : Entry ℕ). x.item) (sym h.2)));
 }
 
+-- the facts of the first `n` places exist
+abbrev pub AllExist : Parts → (ℕ → List Fact) → ℕ → Type 0
+AllExist p facts_of n = (place : ℕ) (f : Fact) → place < n → Contains (facts_of place) f → FactExists p.variables f
+
 -- the keys are numbers of facts
-pub entered_low : (p : Parts) (entries : List (Entry ℕ)) → WellRanged p → EnteredUpTo p (length p.groups) entries
-    → All (λ (e : Entry ℕ). e.key < facts_below p (length p.variables)) entries
-entered_low p entries ranged up k d lt =
+pub entered_low : (p : Parts) (firsts : List ℕ) (facts_of : ℕ → List Fact) (n : ℕ) (entries : List (Entry ℕ)) → AreFirstNumbers p firsts → AllExist p facts_of n
+    → EnteredUpTo firsts facts_of n entries → All (λ (e : Entry ℕ). e.key < facts_below p (length p.variables)) entries
+entered_low p firsts facts_of n entries are exist up k d lt =
     let e = get_or entries k d in
     let h = up.only e (Contains-get_or entries k d lt) in
-    let f = h.1.0 in
-    let exists = group_fact_exists p e.item f ranged h.0 h.1.1 in
-    let low = number_low p f exists in
+    let low = number_low p firsts h.1.0 are (exist e.item h.1.0 h.0 h.1.1) in
     let is = h.1.2 in
     omega arith
 
--- by key, these entries have the groups of each fact under the fact's number, in ascending order
-pub entered_groups : (p : Parts) (entries : List (Entry ℕ)) → WellRanged p → EnteredUpTo p (length p.groups) entries
-    → AreGroupsByFact p (by_key entries (facts_below p (length p.variables)))
-entered_groups p entries ranged up = record {
+-- by key, these entries have the places of each fact under the fact's number, in ascending order
+pub entered_by_fact : (p : Parts) (firsts : List ℕ) (facts_of : ℕ → List Fact) (n : ℕ) (entries : List (Entry ℕ)) (Has : ℕ → Fact → Type 0) → AreFirstNumbers p firsts
+    → AllExist p facts_of n → ((place : ℕ) (f : Fact) → Has place f ↔ ((place < n) × Contains (facts_of place) f)) → EnteredUpTo firsts facts_of n entries
+    → AreByFact p firsts Has (by_key entries (facts_below p (length p.variables)))
+entered_by_fact p firsts facts_of n entries Has are exist has up = record {
   are = λ fact exists place. (
-    (λ there. (let h = up.only (entry_of p place fact) ((holds fact place).0 there) in
-        let other = group_fact_exists p place h.1.0 ranged h.0 h.1.1 in
-        let same = one_number p h.1.0 fact other exists h.1.2 in
-        record { exists = h.0; among = subst (λ f. Contains (group_at p place) f) same h.1.1 })),
-    (λ has. (holds fact place).1 (up.each place fact has.exists has.among)),
+    (λ there. (let h = up.only (entry_of firsts place fact) ((holds fact place).0 there) in
+        let other = exist place h.1.0 h.0 h.1.1 in
+        let same = one_number p firsts h.1.0 fact are other exists h.1.2 in
+        (has place fact).1 (h.0, subst (λ f. Contains (facts_of place) f) same h.1.1))),
+    (λ its. (let h = (has place fact).0 its in (holds fact place).1 (up.each place fact h.0 h.1))),
   );
-  ascending = λ key. under_ascends entries (facts_below p (length p.variables)) key (entered_low p entries ranged up) up.ascending;
+  ascending = λ key. under_ascends entries (facts_below p (length p.variables)) key (entered_low p firsts facts_of n entries are exist up) up.ascending;
 }
   where
-    holds : (fact : Fact) (place : ℕ) → Contains (under (by_key entries (facts_below p (length p.variables))) (number p fact)) place ↔ Contains entries (entry_of p place fact)
-    holds fact place = under_holds entries (facts_below p (length p.variables)) (number p fact) place (entered_low p entries ranged up)
+    holds : (fact : Fact) (place : ℕ)
+        → Contains (under (by_key entries (facts_below p (length p.variables))) (number firsts fact)) place ↔ Contains entries (entry_of firsts place fact)
+    holds fact place = under_holds entries (facts_below p (length p.variables)) (number firsts fact) place (entered_low p firsts facts_of n entries are exist up)
 
--- a fact's groups are those under its number
-pub groups_by_number : (p : Parts) (index : Index) → AreFirstNumbers p index.firsts.items → AreGroupsByFact p index.groups → (fact : Fact) → FactExists p.variables fact
-    → (place : ℕ) → Contains (groups_of index fact) place ↔ HasFact p place fact
-groups_by_number p index firsts by_fact fact exists place =
-    let key : get_or index.firsts.items fact.var 0 + fact.value ≡ number p fact = ap (λ first. first + fact.value) (firsts.are fact.var (fact_within p fact.var fact.value exists)) in
-    subst (λ k. Contains (under index.groups k) place ↔ HasFact p place fact) (sym key) (by_fact.are fact exists place)
+-- the facts of the groups
+pub group_facts_exist : (p : Parts) → WellRanged p → AllExist p (group_at p) (length p.groups)
+group_facts_exist p ranged group f lt there = group_fact_exists p group f ranged lt there
 
--- one more fact is entered under its number
-pub entered_fact : (p : Parts) (firsts : List ℕ) (group place : ℕ) (d : Fact) (before entries : List (Entry ℕ)) (facts : List Fact) → AreFirstNumbers p firsts
-    → place < length facts → FactExists p.variables (get_or facts place d) → entries ≡ before ++ entries_of_group p group (take place facts)
-    → entries ++ record { key = get_or firsts (get_or facts place d).var 0 + (get_or facts place d).value; item = group } ∷ []
-    ≡ before ++ entries_of_group p group (take (place + 1) facts)
-entered_fact p firsts group place d before entries facts are lt exists so_far =
-    let fact = get_or facts place d in
-    let first : get_or firsts fact.var 0 ≡ facts_below p fact.var = are.are fact.var (fact_within p fact.var fact.value exists) in
-    let more : entries_of_group p group (take (place + 1) facts) ≡ entries_of_group p group (take place facts) ++ entry_of p group fact ∷ [] = map_more (entry_of p group) facts place d lt in
-    rw (first, so_far, more) (append_assoc before (entries_of_group p group (take place facts)) (entry_of p group fact ∷ []))
+pub group_has : (p : Parts) (group : ℕ) (f : Fact) → HasFact p group f ↔ ((group < length p.groups) × Contains (group_at p group) f)
+group_has p group f = ((λ has. (has.exists, has.among)), (λ h. record { exists = h.0; among = h.1 }))

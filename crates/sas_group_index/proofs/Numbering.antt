@@ -8,7 +8,7 @@ use Rattle.sas_core.specs.declared.parts.Variable.{Variable}
 use Rattle.sas_core.specs.Variables.{FactExists, range_of}
 use Rattle.sas_core.specs.WellRanged.{WellRanged, VariableFits}
 use Rattle.sas_meaning.proofs.Forced.{fact_within}
-use Rattle.sas_group_index.specs.Index.{facts_below, number}
+use Rattle.sas_group_index.specs.Index.{facts_below, number, AreFirstNumbers}
 
 -- a variable has fewer than 2^31 values
 range_low : (variables : List Variable) (var : ℕ) → AllByRecursion VariableFits variables → range_of variables var < 2 ^ 31
@@ -42,9 +42,15 @@ below_up p low (suc var) lt = elim (cases_lt low var) [
   | inr le ↦ (let e : low ≡ var = omega arith in subst (λ v. facts_below p low + range_of p.variables low ≤ facts_below p v + range_of p.variables v) e (omega arith))
 ]
 
--- each fact of the task has a number below how many there are
-pub number_low : (p : Parts) (fact : Fact) → FactExists p.variables fact → number p fact < facts_below p (length p.variables)
-number_low p fact exists =
+-- the number of a fact of the task
+number_is : (p : Parts) (firsts : List ℕ) (fact : Fact) → AreFirstNumbers p firsts → FactExists p.variables fact → number firsts fact ≡ facts_below p fact.var + fact.value
+number_is p firsts fact are exists = ap (λ first. first + fact.value) (are.are fact.var (fact_within p fact.var fact.value exists))
+
+-- it is below how many there are
+pub number_low : (p : Parts) (firsts : List ℕ) (fact : Fact) → AreFirstNumbers p firsts → FactExists p.variables fact
+    → number firsts fact < facts_below p (length p.variables)
+number_low p firsts fact are exists =
+    let is = number_is p firsts fact are exists in
     let within = fact_within p fact.var fact.value exists in
     let up = below_up p fact.var (length p.variables) within in
     omega arith
@@ -55,13 +61,17 @@ same_fact f g on is =
     moved ∙ ap (λ x. let h : Fact = record { var = g.var; value = x } in h) is
 
 -- facts of the task with one number are one
-pub one_number : (p : Parts) (f g : Fact) → FactExists p.variables f → FactExists p.variables g → number p f ≡ number p g → f ≡ g
-one_number p f g here there same = elim (cases_lt f.var g.var) [
-  | inl less ↦ (let up = below_up p f.var g.var less in absurd (omega arith))
-  | inr le ↦ elim (cases_lt g.var f.var) [
-    | inl less ↦ (let up = below_up p g.var f.var less in absurd (omega arith))
-    | inr ge ↦ (let on : f.var ≡ g.var = omega arith in
-        let below : facts_below p f.var ≡ facts_below p g.var = ap (facts_below p) on in
-        same_fact f g on (omega arith))
-  ]
-]
+pub one_number : (p : Parts) (firsts : List ℕ) (f g : Fact) → AreFirstNumbers p firsts → FactExists p.variables f → FactExists p.variables g
+    → number firsts f ≡ number firsts g → f ≡ g
+one_number p firsts f g are here there same =
+    let its = number_is p firsts f are here in
+    let other = number_is p firsts g are there in
+    elim (cases_lt f.var g.var) [
+      | inl less ↦ (let up = below_up p f.var g.var less in absurd (omega arith))
+      | inr le ↦ elim (cases_lt g.var f.var) [
+        | inl less ↦ (let up = below_up p g.var f.var less in absurd (omega arith))
+        | inr ge ↦ (let on : f.var ≡ g.var = omega arith in
+            let below : facts_below p f.var ≡ facts_below p g.var = ap (facts_below p) on in
+            same_fact f g on (omega arith))
+      ]
+    ]

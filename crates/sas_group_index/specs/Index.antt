@@ -1,4 +1,4 @@
--- Which groups have a fact, and which operators mention a fact of a group.
+-- Which groups have a fact, and which operators mention one.
 use Rattle.std.specs.Prelude.{◌≡◌, ℕ, zero, suc, ◌+◌, ◌<◌, ◌≤◌, ◌^◌, ◌⊎◌, ◌↔◌, List, [], ◌++◌, length, map, slice_index, slice_index_or, All, Contains}
 use Rattle.std.specs.List.{flat_map}
 use Rattle.std.specs.List.Sorted.{IsNonDecreasing}
@@ -20,50 +20,30 @@ abbrev pub facts_below : Parts → ℕ → ℕ
 facts_below p zero = 0
 facts_below p (suc var) = facts_below p var + range_of p.variables var
 
--- the number of the fact
-abbrev pub number : Parts → Fact → ℕ
-number p fact = facts_below p fact.var + fact.value
-
 -- the numbers of the variables' first facts
 pub record AreFirstNumbers (p : Parts) (firsts : List ℕ) : Type 0 where
   pub one_each : length firsts ≡ length p.variables
   pub are : (var : ℕ) → var < length p.variables → slice_index firsts var ≡ facts_below p var
+
+-- the number of the fact, where these are the numbers of the variables' first facts; on a variable
+-- that doesn't exist facts are numbered as if that were 0
+abbrev pub number : List ℕ → Fact → ℕ
+number firsts fact = slice_index_or firsts fact.var 0 + fact.value
 
 -- the group at this place has the fact
 pub record HasFact (p : Parts) (place : ℕ) (fact : Fact) : Type 0 where
   pub exists : place < length p.groups
   pub among : Contains (group_at p place) fact
 
--- the list under this key; behind the last list it is empty
-abbrev pub under : List (List ℕ) → ℕ → List ℕ
-under lists key = slice_index_or lists key []
-
--- the groups under the number of the fact
-abbrev pub groups_of : Index → Fact → List ℕ
-groups_of index fact =
-    under index.groups (slice_index_or index.firsts.items fact.var 0 + fact.value)
-
--- under the number of each fact of the task the groups that have it, and under each number the
--- groups in ascending order
-pub record AreGroupsByFact (p : Parts) (groups : List (List ℕ)) : Type 0 where
-  pub are : (fact : Fact) → FactExists p.variables fact
-      → (place : ℕ) → Contains (under groups (number p fact)) place ↔ HasFact p place fact
-  pub ascending : (key : ℕ) → IsNonDecreasing (under groups key)
-
--- for each fact of the task, the groups that have it; and how the facts of each group fall into
--- runs on one variable
-pub record IsIndexOf (p : Parts) (index : Index) : Type 0 where
-  pub firsts : AreFirstNumbers p index.firsts.items
-  pub low : All (λ (first : ℕ). first ≤ 2 ^ 62) index.firsts.items
-  pub groups : (fact : Fact) → FactExists p.variables fact
-      → (place : ℕ) → Contains (groups_of index fact) place ↔ HasFact p place fact
-  pub ascending : (fact : Fact) → IsNonDecreasing (groups_of index fact)
-  pub runs : AreRunsOf p index.runs
-
 -- the operator mentions the fact: as a precondition, or as a condition of an effect
 abbrev pub Mentions : Operator → Fact → Type 0
 Mentions o fact = Contains (preconditions o) fact
     ⊎ ((e : Effect) × Contains o.effects e × Contains e.conditions fact)
+
+-- the operator at this place mentions the fact
+pub record MentionsFact (p : Parts) (operator : ℕ) (fact : Fact) : Type 0 where
+  pub exists : operator < length p.operators
+  pub mentions : Mentions (operator_at p operator) fact
 
 -- the operator mentions a fact of the group at this place
 pub record MentionsGroup (p : Parts) (operator place : ℕ) : Type 0 where
@@ -72,23 +52,43 @@ pub record MentionsGroup (p : Parts) (operator place : ℕ) : Type 0 where
   pub mentions : Mentions (operator_at p operator) fact
   pub among : Contains (group_at p place) fact
 
--- for each group, the operators that mention a fact of it
-abbrev pub AreMentions : Parts → List (List ℕ) → Type 0
-AreMentions p mentions = (place : ℕ) → place < length p.groups
-    → (operator : ℕ) → Contains (under mentions place) operator ↔ MentionsGroup p operator place
+-- the list under this key; behind the last list it is empty
+abbrev pub under : List (List ℕ) → ℕ → List ℕ
+under lists key = slice_index_or lists key []
 
--- an entry for each of the group's facts, under the fact's number
-abbrev pub entries_of_group : Parts → ℕ → List Fact → List (Entry ℕ)
-entries_of_group p group facts =
-    map (λ (fact : Fact). record { key = number p fact; item = group }) facts
+-- the groups under the number of the fact
+abbrev pub groups_of : Index → Fact → List ℕ
+groups_of index fact = under index.groups (number index.firsts.items fact)
 
--- an entry of the operator for each group that has the fact
-abbrev pub entries_of_fact : Index → ℕ → Fact → List (Entry ℕ)
-entries_of_fact index operator fact =
-    map (λ (group : ℕ). record { key = group; item = operator }) (groups_of index fact)
+-- the operators under the number of the fact
+abbrev pub operators_of : Index → Fact → List ℕ
+operators_of index fact = under index.operators (number index.firsts.items fact)
 
-abbrev pub entries_of_facts : Index → ℕ → List Fact → List (Entry ℕ)
-entries_of_facts index operator facts = flat_map (entries_of_fact index operator) facts
+-- under the number of each fact of the task the places that have it: those of the groups that have
+-- the fact, or of the operators that mention it; and under each number the places in ascending order
+pub record AreByFact (p : Parts) (firsts : List ℕ) (Has : ℕ → Fact → Type 0)
+    (lists : List (List ℕ))
+    : Type 0 where
+  pub are : (fact : Fact) → FactExists p.variables fact
+      → (place : ℕ) → Contains (under lists (number firsts fact)) place ↔ Has place fact
+  pub ascending : (key : ℕ) → IsNonDecreasing (under lists key)
+
+-- for each fact of the task, the groups that have it and the operators that mention it; and how the
+-- facts of each group fall into runs on one variable
+pub record IsIndexOf (p : Parts) (index : Index) : Type 0 where
+  pub firsts : AreFirstNumbers p index.firsts.items
+  pub low : All (λ (first : ℕ). first ≤ 2 ^ 62) index.firsts.items
+  pub groups : (fact : Fact) → FactExists p.variables fact
+      → (place : ℕ) → Contains (groups_of index fact) place ↔ HasFact p place fact
+  pub ascending : (fact : Fact) → IsNonDecreasing (groups_of index fact)
+  pub operators : (fact : Fact) → FactExists p.variables fact
+      → (operator : ℕ) → Contains (operators_of index fact) operator ↔ MentionsFact p operator fact
+  pub runs : AreRunsOf p index.runs
+
+-- an entry of the item for each of the facts, under the fact's number
+abbrev pub entries_of : List ℕ → ℕ → List Fact → List (Entry ℕ)
+entries_of firsts item facts =
+    map (λ (fact : Fact). record { key = number firsts fact; item = item }) facts
 
 -- the facts that the effect mentions: its variable's old value, if it requires one, and its
 -- conditions

@@ -1,10 +1,9 @@
-//! Which groups of a task have which facts, how the facts of a group fall into runs on one variable, and which operators
-//! mention facts of a group.
+//! Which groups of a task have which facts, which operators mention which, and how the facts of a group fall into runs on one
+//! variable.
 #![tactic(auto)]
 
+mod by_fact;
 mod index;
-mod mentions;
 mod runs;
 
-pub use index::{Index, under};
-pub use mentions::mentions_of;
+pub use index::Index;

@@ -2,7 +2,7 @@
 use Rattle.std.proofs.Common.{◌≡◌, ◌≢◌, ℕ, ◌+◌, ◌<◌, ◌≤◌, Bool, true, false, List, [], ◌∷◌, ◌++◌, length, get_or, set, drop, refl, sym, ◌∙◌, ap, subst, inl, inr, arith}
 use Rattle.std.proofs.lemmas.Bool.{cases_eq, cases_Bool, both_ways}
 use Rattle.std.proofs.lemmas.List.{append-nil, append_assoc, drop_all, drop_at, drop-append-le, length-append, length-drop, length-set, get_or-drop, get_or-set_same, get_or-set_other, get_or_append_left, get_or_default}
-use Rattle.std.proofs.lemmas.List.Elements.{All-nil, All-cons, All-append, All-contains_itself, All-weaker, All-from_get_or, Contains-append_left, Contains-append_right, Contains-push}
+use Rattle.std.proofs.lemmas.List.Elements.{All-nil, All-cons, All-append, All-from_get_or, Contains-append_left, Contains-append_right, Contains-push}
 use Rattle.std.specs.List.{All, Contains}
 use Rattle.sas_core.specs.declared.parts.Operator.{Operator}
 use Rattle.sas_core.specs.declared.parts.Parts.{Parts}
@@ -14,7 +14,7 @@ use Rattle.sas_mutex.specs.declared.family.Family.{Family}
 use Rattle.sas_mutex.specs.Effects.{family_of, IsKept, EffectKeeps, KeepsAt, KeepsWithItself}
 use Rattle.sas_mutex.specs.Alone.{KeepsAlone, EffectKeepsEachAlone, KeepsEachAlone, IsOfNone}
 use Rattle.sas_mutex.specs.Falling.{MentionsNone, IsEffectAtRest, IsAtRest, RestsAt, AreCandidates, newly, Falls, looked_at, WasLookedAt, AreLookedAt, IsNotedOnce}
-use Rattle.sas_group_index.specs.Index.{under, MentionsGroup, AreMentions}
+use Rattle.sas_group_index.specs.Index.{MentionsGroup}
 use Rattle.sas_mutex.proofs.Keeping.{keeps_from_effects, effect_of_keeps, effect_keeps_more, effect_keeps_still}
 
 module _ (p : Parts) where
@@ -267,12 +267,6 @@ module _ (p : Parts) where
       broken (effect_of_keeps (IsKept p kept) (operator_at p operator) (group_at p place)
       (keeps_more (IsGroupOf p other) (IsKept p kept) (operator_at p operator) (group_at p place) (group_of_larger p other (family_of kept) smaller)
       (jointly.kept place w operator _ exists)) effect within has)
-
-  -- the operators that mention a fact of a group exist
-  pub mentioning_exist : (mentions : List (List ℕ)) (place : ℕ) → AreMentions p mentions → place < length p.groups
-      → All (λ (operator : ℕ). operator < length p.operators) (under mentions place)
-  mentioning_exist mentions place are exists = All-weaker (Contains (under mentions place)) (λ (operator : ℕ). operator < length p.operators)
-      (λ operator w. ((are place exists operator).0 w).exists) (under mentions place) (All-contains_itself (under mentions place))
 
   -- all that fell exist
   pub fallen_exist : (before after : Family) → Falls p before after → All (λ (place : ℕ). place < length p.groups) before.fallen.items

@@ -67,6 +67,10 @@ AreCandidates p kept = (place : ℕ) → place < length p.groups
 abbrev pub newly : Family → Family → List ℕ
 newly before after = drop (length before.fallen.items) after.fallen.items
 
+-- the group at this place among those that fell
+abbrev pub fell_at : Family → ℕ → ℕ
+fell_at family place = slice_index_or family.fallen.items place 0
+
 -- Some groups of the family fell, and these are noted. No family that is kept jointly, and lay in
 -- the family before, has one of them.
 pub record Falls (p : Parts) (before after : Family) : Type 0 where

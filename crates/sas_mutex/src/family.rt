@@ -1,6 +1,7 @@
 // The greatest family of groups that is kept jointly.
 ghost use Rattle.std.specs.Prelude.{◌≡◌, ◌<◌, ◌≤◌, ℕ, ◌+◌, ◌++◌, [], ◌∷◌, false, length, All, Contains, IsTrue, IsFalse, slice_set, vec_capacity};
 ghost use Rattle.sas_core.specs.Grounded.{operator_at, group_at};
+ghost use Rattle.sas_group_index.specs.Index.{MentionsGroup};
 ghost use Rattle.sas_groups.specs.Clashes.{sets};
 ghost use Rattle.sas_groups.specs.Families.{IsGreatest};
 ghost use Rattle.sas_groups.specs.Lists.{known};
@@ -8,7 +9,7 @@ ghost use Rattle.sas_mutex.specs.Effects.{family_of, IsPlain};
 ghost use Rattle.sas_mutex.specs.Firing.{effect_of};
 ghost use Rattle.sas_mutex.specs.Marks.{IsClean};
 ghost use Rattle.sas_mutex.specs.Noting.{AreNoted, IsNotedAt};
-ghost use Rattle.sas_mutex.specs.Falling.{count, HasRoom, AreCandidates, newly, Falls, looked_at, AreLookedAt};
+ghost use Rattle.sas_mutex.specs.Falling.{count, HasRoom, AreCandidates, newly, fell_at, Falls, looked_at, AreLookedAt};
 ghost use Rattle.sas_mutex.specs.Falling.{IsAtRest, IsEffectAtRest, ArePlainAtRest, RestsAt, IsNotedOnce};
 ghost use Rattle.sas_mutex.specs.Alone.{KeptAlone, KeepsEachAlone, EffectKeepsEachAlone, PlainKeepEachAlone, PlainSetNone};
 
@@ -16,7 +17,6 @@ use crate::effects::Firing;
 use crate::indexed::IndexedTask;
 use crate::marks::{Marks, forget_known, note_known};
 use sas_core::{Fact, Grounded, Items};
-use sas_group_index::under;
 use sas_groups::Premises;
 use sas_meaning::Layered;
 
@@ -32,7 +32,7 @@ pub struct Family {
     pub none: Items<bool>,
 }
 
-/// A group that fell: its place among those that did, and the operators that mention a fact of it.
+/// A group that fell: its place among those that did, and the operators that mention one fact of it.
 #[derive(Drop)]
 struct Fallen<'a> {
     place: usize,
@@ -104,14 +104,40 @@ fn look_again<T: Grounded>(
 {
     let mut next = 0;
     while next < family.fallen.len() {
-        let group = family.fallen[next];
-        let operators = under(indexed.mentions, group as usize);
-        let fallen = Fallen {
-            place: next,
-            operators,
-        };
-        look_at_each(indexed, &fallen, looked, family, marks);
+        look_at_mentioning(indexed, next, looked, family, marks);
         next += 1;
+    }
+}
+
+/// Looks at the operators that mention a fact of the group at this place among those that fell, and that weren't looked at
+/// since it fell.
+fn look_at_mentioning<T: Grounded>(
+    indexed: &IndexedTask<'_, '_, T>,
+    place: usize,
+    looked: &mut Items<u32>,
+    family: &mut Family,
+    marks: &mut Marks,
+)
+    requires place { place < length family.old.fallen.items }
+    requires group { fell_at family.old place < length indexed.now.groups }
+    requires looked { AreLookedAt indexed.now family.old looked.old }
+    requires room { HasRoom indexed.now family.old }
+    requires clean { IsClean indexed.now marks.old }
+    ensures falls { Falls indexed.now family.old family.new }
+    ensures looked { AreLookedAt indexed.now family.new looked.new }
+    ensures later { (operator : ℕ)
+        → looked_at looked.old operator ≤ looked_at looked.new operator }
+    ensures past { (operator : ℕ)
+        → MentionsGroup indexed.now operator (fell_at family.old place)
+        → place < looked_at looked.new operator }
+    ensures room { HasRoom indexed.now family.new }
+    ensures clean { IsClean indexed.now marks.new }
+{
+    let group = family.fallen[place];
+    for fact in indexed.task.group(group) {
+        let operators = indexed.index.operators_of(*fact);
+        let fallen = Fallen { place, operators };
+        look_at_each(indexed, &fallen, looked, family, marks);
     }
 }
 

@@ -1,29 +1,25 @@
-// A task with the indexes that are used for it again and again.
+// A task with the index that is used for it again and again.
 use sas_core::Grounded;
 use sas_group_index::Index;
-use sas_lists::Lists;
 use sas_meaning::Layered;
 use std::marker::Model;
 
-/// A task, which groups have which of its facts, and which operators mention facts of a group. In a contract its value is the
-/// parts that the task represents.
+/// A task, which groups have which of its facts, and which operators mention which. In a contract its value is the parts that
+/// the task represents.
 #[derive(Drop)]
 pub struct IndexedTask<'a, 'b, T: Grounded> {
     pub task: &'a Layered<T>,
     pub index: &'b Index,
-    pub mentions: &'b Lists<u32>,
 }
 
 impl<'a, 'b, T: Grounded> Model for IndexedTask<'a, 'b, T> {
     ghost use Rattle.sas_core.specs.declared.parts.Parts.{Parts};
     ghost use Rattle.sas_core.specs.WellRanged.{WellRanged};
-    ghost use Rattle.sas_group_index.specs.Index.{IsIndexOf, AreMentions};
+    ghost use Rattle.sas_group_index.specs.Index.{IsIndexOf};
 
     ghost Value = { Parts };
 
     ghost view = { λ i. i.task.now };
 
-    ghost invariant = { λ i. WellRanged i.task.now
-        × IsIndexOf i.task.now i.index.now
-        × AreMentions i.task.now i.mentions.now };
+    ghost invariant = { λ i. WellRanged i.task.now × IsIndexOf i.task.now i.index.now };
 }

@@ -19,7 +19,7 @@ use crate::family::{Family, find_greatest};
 use crate::indexed::IndexedTask;
 use crate::marks::{Marks, forget_known, note_known};
 use sas_core::{Fact, Grounded, Items};
-use sas_group_index::{Index, mentions_of};
+use sas_group_index::Index;
 use sas_groups::{Premises, Verdict, before_operators};
 use sas_meaning::Layered;
 use std::alloc::{AllocError, Global};
@@ -39,13 +39,11 @@ pub fn check_groups<T: Grounded>(
     let mut verdicts = first_verdicts(alloc, layered)?;
     let mut family = candidates(alloc, verdicts.as_slice())?;
     let mut marks = Marks::new(alloc, layered)?;
-    let index = Index::new(alloc, layered)?;
-    let mentions = mentions_of(alloc, layered, &index)?;
     let mut looked = Items::from_vec(vec![in alloc; 0; layered.operators() as usize]?);
+    let index = Index::new(alloc, layered)?;
     let indexed = IndexedTask {
         task: layered,
         index: &index,
-        mentions: &mentions,
     };
     judge(
         &indexed,
@@ -54,9 +52,8 @@ pub fn check_groups<T: Grounded>(
         &mut family,
         &mut marks,
     );
-    drop(looked);
-    drop(mentions);
     drop(index);
+    drop(looked);
     drop(marks);
     drop(family);
     Ok(verdicts.into_vec())

@@ -1,19 +1,19 @@
--- A fact's groups are those under its number.
-use Rattle.std.proofs.Common.{◌+◌, get_or}
-use Rattle.sas_group_index.specs.declared.index.Index.{Index}
-use Rattle.sas_group_index.proofs.Entering.{groups_by_number}
+-- Each part is what the call that makes it promises.
+use Rattle.std.proofs.Common.{ℕ, List, subst}
+use Rattle.sas_group_index.specs.Index.{number, HasFact, MentionsFact, AreByFact}
 use Rattle.sas_group_index.proofs.index.Index.new.Goals as goal
 
 pub returns : goal.returns
 returns g c =
     let p = c.args.task.now in
-    let index : Index = record { firsts = c.number_facts.new.firsts; groups = c.in_ok-groups.groups; runs = c.in_ok-runs.runs } in
-    let firsts = c.in_ok-facts.ensures.firsts in
-    let by_fact = c.in_ok-groups.ensures in
+    let firsts = c.number_facts.new.firsts.items in
+    let groups = subst (λ (numbers : List ℕ). AreByFact p numbers (HasFact p) c.in_ok-groups.groups) c.as_slice.ensures.value c.in_ok-groups.ensures in
+    let operators = subst (λ (numbers : List ℕ). AreByFact p numbers (MentionsFact p) c.in_ok-operators.operators) c.as_slice-2.ensures.value c.in_ok-operators.ensures in
     record {
-      firsts = firsts;
+      firsts = c.in_ok-facts.ensures.firsts;
       low = c.in_ok-facts.ensures.low;
-      groups = groups_by_number p index firsts by_fact;
-      ascending = λ fact. by_fact.ascending (get_or index.firsts.items fact.var 0 + fact.value);
+      groups = groups.are;
+      ascending = λ fact. groups.ascending (number firsts fact);
+      operators = operators.are;
       runs = c.in_ok-runs.ensures;
     }

@@ -1,6 +1,0 @@
--- The entries of the first groups.
-use Rattle.sas_group_index.proofs.Entering.{EnteredUpTo}
-use Rattle.sas_group_index.proofs.index.groups_by_fact.Given as goal
-
-abbrev pub invariant-loop-group : goal.invariant-loop-group
-invariant-loop-group g l = EnteredUpTo l.task l.group l.entries.items
