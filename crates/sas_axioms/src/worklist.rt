@@ -52,20 +52,32 @@ impl Worklist {
 
 impl<T: Grounded> Settle<T> for Worklist {
     ghost use Rattle.sas_axioms.specs.Worklist.{IsReadyFor};
+    ghost use Rattle.sas_axioms.specs.Following.{IsFollowed};
 
     ghost ready = { λ w p. IsReadyFor p w };
 
+    ghost follows = { λ w p s. IsFollowed p s w.firing.work };
+
     fn settle(&mut self, layered: &Layered<T>, state: &mut State) {
         settle_by_layers(self, layered, state);
+    }
+
+    fn settle_on(&mut self, layered: &Layered<T>, gone: &[Fact], state: &mut State) {
+        if self.firing.follow(layered, gone, state).is_err() {
+            settle_by_layers(self, layered, state);
+        }
     }
 }
 
 impl<T: Grounded> ByLayers<T> for Worklist {
     ghost use Rattle.sas_axioms.specs.Worklist.{IsReadyFor, IsReadyFrom};
+    ghost use Rattle.sas_axioms.specs.Following.{IsFollowed};
 
     ghost ready = { λ w p. IsReadyFor p w };
 
     ghost stands = { λ w p layer s. IsReadyFrom p layer s w };
+
+    ghost follows = { λ w p s. IsFollowed p s w.firing.work };
 
     fn begin(&mut self, layered: &Layered<T>, state: &mut State) {
         set_defaults(layered, self.derived.as_slice(), state);

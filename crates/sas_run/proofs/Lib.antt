@@ -7,6 +7,7 @@ pub mod NamesFrom
 pub mod Ranges
 pub mod Missed
 pub mod Giving
+pub mod Gone
 pub mod NamedAlike
 pub mod Going
 pub mod PlanStates

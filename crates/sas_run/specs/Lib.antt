@@ -6,3 +6,4 @@ pub mod Names
 pub mod NameTable
 pub mod Running
 pub mod Given
+pub mod Walking
