@@ -47,28 +47,28 @@ impl Agenda {
         })
     }
 
-    /// Empties the agenda, and allows the share of a state, if it is this state's turn to be tried.
-    pub fn begin(&mut self) -> Result<(), TooMuch>
+    /// Empties the agenda, and allows the share of a state. A state that is passed over may still be one at which there is
+    /// nothing to do.
+    pub fn begin(&mut self)
         ensures { IsEmpty self.new }
     {
         self.noted.clear();
         self.ready.clear();
-        self.left = self.share;
-        if self.passes > 0 {
-            self.passes -= 1;
-            return Err(TooMuch);
-        }
-        Ok(())
+        self.left = if self.passes == 0 { self.share } else { 0 };
     }
 
     /// Takes note of how the try ended. After one that took too much, states are passed over, and twice as many each time that
-    /// the next one does so too. So the tries that fail cost little.
+    /// the next one does so too. So the tries that fail cost little. A state at which there was nothing to do tells nothing.
     pub fn end(&mut self, tried: Result<(), TooMuch>) {
-        if tried.is_ok() {
-            self.next_passes = 1;
-        } else {
+        if self.passes > 0 {
+            if tried.is_err() {
+                self.passes -= 1;
+            }
+        } else if tried.is_err() {
             self.passes = self.next_passes;
             self.next_passes = MOST_PASSES.min(self.next_passes.saturating_mul(2));
+        } else if self.left < self.share {
+            self.next_passes = 1;
         }
     }
 

@@ -7,7 +7,7 @@ use sas_meaning::{Layered, State};
 
 /// An evaluator that settles the layers of a task in turn, from the lowest one on.
 pub trait ByLayers<T: Grounded> {
-    ghost use Rattle.std.specs.Prelude.{◌≡◌, ◌+◌, ◌≤◌, ℕ, List, IfSome, IfNone};
+    ghost use Rattle.std.specs.Prelude.{◌≡◌, ◌+◌, ◌≤◌, ℕ, List, ⊤, IfSome, IfNone};
     ghost use Rattle.sas_core.specs.declared.parts.Parts.{Parts};
     ghost use Rattle.sas_core.specs.Variables.{IsState};
     ghost use Rattle.sas_meaning.specs.Settled.{SameBasic, IsSettled};
@@ -21,7 +21,7 @@ pub trait ByLayers<T: Grounded> {
     ghost stands: { Self → Parts → ℕ → List ℕ → Type 0 };
 
     /// It settled this state last, and can go on from there.
-    ghost follows: { Self → Parts → List ℕ → Type 0 };
+    ghost follows: { Self → Parts → List ℕ → Type 0 } = { λ _ _ _. ⊤ };
 
     /// Sets the derived variables to their default.
     fn begin(&mut self, layered: &Layered<T>, state: &mut State)

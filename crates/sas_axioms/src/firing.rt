@@ -120,7 +120,7 @@ impl Firing {
         ensures basic { SameBasic task.now state.old state.new }
         ensures followed { OnOk result (IsFollowed task.now state.new self.new.work) }
     {
-        self.work.agenda.begin()?;
+        self.work.agenda.begin();
         let followed = self.follow_on(task, gone, state);
         self.work.agenda.end(followed);
         followed

@@ -19,8 +19,6 @@ pub struct Rounds;
 impl<T: Grounded> Settle<T> for Rounds {
     ghost ready = { λ _ _. Unit {0} };
 
-    ghost follows = { λ _ _ _. Unit {0} };
-
     fn settle(&mut self, layered: &Layered<T>, state: &mut State) {
         settle_by_layers(self, layered, state);
     }
@@ -30,8 +28,6 @@ impl<T: Grounded> ByLayers<T> for Rounds {
     ghost ready = { λ _ _. Unit {0} };
 
     ghost stands = { λ _ _ _ _. Unit {0} };
-
-    ghost follows = { λ _ _ _. Unit {0} };
 
     fn begin(&mut self, layered: &Layered<T>, state: &mut State) {
         set_defaults(layered, state);

@@ -5,7 +5,7 @@ use sas_core::{Fact, Grounded};
 
 /// An evaluator, which settles states of a task: it sets the derived variables to the values that follow by the rules.
 pub trait Settle<T: Grounded> {
-    ghost use Rattle.std.specs.Prelude.{ℕ, List};
+    ghost use Rattle.std.specs.Prelude.{ℕ, List, ⊤};
     ghost use Rattle.sas_core.specs.declared.parts.Parts.{Parts};
     ghost use Rattle.sas_core.specs.Variables.{IsState};
     ghost use Rattle.sas_meaning.specs.Settled.{Settles};
@@ -14,8 +14,8 @@ pub trait Settle<T: Grounded> {
     /// The evaluator can settle states of this task.
     ghost ready: { Self → Parts → Type 0 };
 
-    /// The evaluator settled this state last, and can go on from there.
-    ghost follows: { Self → Parts → List ℕ → Type 0 };
+    /// The evaluator settled this state last, and can go on from there. One that never does need not say anything of it.
+    ghost follows: { Self → Parts → List ℕ → Type 0 } = { λ _ _ _. ⊤ };
 
     /// Settles the state, which has to fit the task.
     fn settle(&mut self, layered: &Layered<T>, state: &mut State)
