@@ -66,11 +66,19 @@ notes_more p layer rule a a' is notes = record {
   only = λ k d lt. elim (contains_cases (entry_for layer rule) (get_or (heap_items a'.noted) k d) (heap_items a.noted)
       (Contains-permutation (heap_items a'.noted) (entry_for layer rule ∷ heap_items a.noted) (get_or (heap_items a'.noted) k d)
       (IsPermutation-sym (entry_for layer rule ∷ heap_items a.noted) (heap_items a'.noted) notes.noted) (Contains-get_or (heap_items a'.noted) k d lt))) [
-    | inl there ↦ inl there
-    | inr e ↦ inr (subst (λ (r : Reverse LayerRule). IsRuleOn p r.0.layer r.0.rule) e is, sym (ap (λ (r : Reverse LayerRule). r.0.rule) e))
-  ];
+        | inl there ↦ inl there
+        | inr e ↦ inr (subst (λ (r : Reverse LayerRule). IsRuleOn p r.0.layer r.0.rule) e is, sym (ap (λ (r : Reverse LayerRule). r.0.rule) e))
+      ];
   ordered = notes.ordered;
   ready = notes.ready;
+}
+
+pub notes_paid : (layer rule price : ℕ) (a b a' : Agenda) → heap_items b.noted ≡ heap_items a.noted → b.ready ≡ a.ready → b.left + price ≡ a.left → Notes layer rule b a' → Notes layer rule a a'
+notes_paid layer rule price a b a' noted ready left notes = record {
+  noted = subst (λ (es : List (Reverse LayerRule)). IsPermutation (entry_for layer rule ∷ es) (heap_items a'.noted)) noted notes.noted;
+  ordered = notes.ordered;
+  ready = notes.ready ∙ ready;
+  left = let l = notes.left in omega arith;
 }
 
 pub notes_left : (layer rule : ℕ) (a a' : Agenda) → Notes layer rule a a' → work_left a' ≤ work_left a + 2

@@ -53,7 +53,7 @@ module _ (p : Parts) (layer : ℕ) (s sources : List ℕ) (layered : IsLayered p
     by_rank (suc n) v lt on d =
         let source = given.have.source v on d in
         subst (λ u. set u ≡ true) source.sets (closed (get_or sources v 0) no_rule source.is.exists source.is.on source.is.can
-            (condition_holds v on d (λ u less on_u d_u. by_rank n u (omega arith) on_u d_u)))
+        (condition_holds v on d (λ u less on_u d_u. by_rank n u (omega arith) on_u d_u)))
 
   pub forced_when_given : OnlyForced p layer s
   forced_when_given = record {

@@ -57,7 +57,7 @@ pub record Notes (layer rule : ℕ) (a a' : Agenda) : Type 0 where
   pub noted : IsPermutation (entry_for layer rule ∷ heap_items a.noted) (heap_items a'.noted)
   pub ordered : IsOrdered a'
   pub ready : a'.ready ≡ a.ready
-  pub left : a'.left ≡ a.left
+  pub left : a'.left ≤ a.left
 
 -- the rule of the layer was noted or ready, and is taken off; nothing else goes
 pub record Takes (layer rule : ℕ) (a a' : Agenda) : Type 0 where

@@ -19,15 +19,18 @@ pub struct Agenda {
     pub noted: BinaryHeap<Reverse<LayerRule>>,
     /// Rules of the layer at hand that may set their variable, once all that falls on it has fallen.
     pub ready: Vec<u32>,
-    /// How many entries of lists may still be gone through.
+    /// How many entries of lists may still be gone through. To note a rule counts as `NOTING` of them.
     pub left: usize,
-    /// How many there are for each state.
+    /// How many may be for each state.
     pub share: usize,
     /// How many of the next states are to be settled anew without a try.
     pub passes: usize,
     /// How many it will be when a try takes too much again.
     pub next_passes: usize,
 }
+
+/// To note a rule, take it off again and set its variable takes about as long as to count so many rules anew.
+const NOTING: usize = 8;
 
 /// At most so many states are settled anew before the next try.
 const MOST_PASSES: usize = 16;
@@ -38,7 +41,7 @@ impl Agenda {
         ensures { IfOk result IsEmpty }
     {
         Ok(Agenda {
-            noted: BinaryHeap::with_capacity(alloc, share)?,
+            noted: BinaryHeap::with_capacity(alloc, share / NOTING)?,
             ready: Vec::with_capacity(alloc, share)?,
             left: 0,
             share,
@@ -87,6 +90,15 @@ impl Agenda {
 
     /// Notes the rule. It takes no memory.
     pub fn note(&mut self, entry: LayerRule) -> Result<(), TooMuch>
+        requires { IsOrdered self.old }
+        ensures { OnOk result (Notes entry.layer entry.rule self.old self.new) }
+    {
+        self.pay(NOTING)?;
+        self.push(entry)
+    }
+
+    /// Notes the rule, for which the price was paid.
+    fn push(&mut self, entry: LayerRule) -> Result<(), TooMuch>
         requires { IsOrdered self.old }
         ensures { OnOk result (Notes entry.layer entry.rule self.old self.new) }
     {

@@ -57,8 +57,13 @@ pub struct Firing {
 }
 
 impl Firing {
-    /// Returns an evaluator for the task. All memory that it needs is reserved here.
-    pub fn new<T: Grounded>(alloc: Global, task: &Layered<T>) -> Result<Firing, AllocError>
+    /// Returns an evaluator for the task, which follows a state as long as no more entries than its share are gone through. All
+    /// memory that it needs is reserved here.
+    pub fn new<T: Grounded>(
+        alloc: Global,
+        task: &Layered<T>,
+        share: usize,
+    ) -> Result<Firing, AllocError>
         ensures { IfOk result (λ firing. IsPrepared task.now firing) }
     {
         let work = Work {
@@ -66,8 +71,7 @@ impl Firing {
             counters: Items::from_vec(vec![in alloc; 0u32; task.rules() as usize]?),
             stack: Vec::with_capacity(alloc, task.variables() as usize)?,
             sources: Items::from_vec(vec![in alloc; 0u32; task.variables() as usize]?),
-            // Where more conditions than rules are looked at, to settle the state anew takes less.
-            agenda: Agenda::new(alloc, task.rules() as usize)?,
+            agenda: Agenda::new(alloc, share)?,
         };
         Ok(Firing {
             index: index_of_own_layers(alloc, task)?,

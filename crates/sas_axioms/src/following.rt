@@ -144,7 +144,8 @@ fn has_lost<T: Grounded>(task: &Layered<T>, rule: u32, work: &Work, state: &Stat
     // By its contract the task is well ranged and layered.
     let _ = task.task();
     let var = task.rule_change(rule).var;
-    if work.counters.as_slice()[rule as usize] == 0 || work.sources.as_slice()[var as usize] != rule
+    if work.counters.as_slice()[rule as usize] == 0
+        || work.sources.as_slice()[var as usize] != rule
     {
         return false;
     }

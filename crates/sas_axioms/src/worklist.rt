@@ -39,13 +39,16 @@ impl Worklist {
     {
         let rules = ranked_rules(alloc, layered)?;
         let spans = spans_of(alloc, rules.as_slice())?;
+        let derived = derived_variables(alloc, layered)?;
+        // To settle a state anew each derived variable and each rule is looked at.
+        let share = derived.len().saturating_add(rules.len());
         Ok(Worklist {
-            derived: derived_variables(alloc, layered)?,
+            derived,
             rules,
             spans,
             next: 0,
             start: 0,
-            firing: Firing::new(alloc, layered)?,
+            firing: Firing::new(alloc, layered, share)?,
         })
     }
 }

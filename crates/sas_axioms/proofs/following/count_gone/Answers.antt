@@ -54,9 +54,11 @@ loop-fact-preserved g c =
             let here : HaveGone p (f ∷ rest) so_far.0 state = rw next at so_far.1 in
             let within : f.var < length so_far.0 = (let e = so_far.2.counts.known in let x = All-head (λ (h : Fact). h.var < length p.variables) f rest here.exist in omega arith) in
             let value_is : c.value.result ≡ get_or state f.var 0 = c.value.ensures in
-            let moves = w.in_ok-recount.ensures.moves so_far.0 so_far.2.counts (All-head (Holds (λ v. get_or so_far.0 v 0)) f rest here.held) in
-            (set so_far.0 f.var (get_or state f.var 0), gone_one p f rest so_far.0 state here within,
-                counted_more p s so_far.0 c.loop-fact.work w.recount.new.work f.var (get_or state f.var 0) (All-head (λ (h : Fact). IsBasic p h.var) f rest here.basic) w.recount.ensures.same.sources so_far.2 (rw value_is at moves)));
+            let moves = w.in_ok-recount.ensures.moves so_far.0 so_far.2.counts (All-head (Holds (λ v. get_or so_far.0 v 0)) f rest here.held) in (
+              set so_far.0 f.var (get_or state f.var 0),
+              gone_one p f rest so_far.0 state here within,
+              counted_more p s so_far.0 c.loop-fact.work w.recount.new.work f.var (get_or state f.var 0) (All-head (λ (h : Fact). IsBasic p h.var) f rest here.basic) w.recount.ensures.same.sources so_far.2 (rw value_is at moves),
+            ));
       }
       | else-moved w ↦ rw w.work-is record {
         same = inv.same;

@@ -120,13 +120,13 @@ loop-rule-preserved-in-Continue-branch-2 g c =
     let var_is = ap (λ (x : Change). x.var) c.rule_change-var.ensures in
     let value_is : c.initial_value-value.result ≡ default_of p (rule_at p rule).var = c.initial_value-value.ensures ∙ ap (λ v. default_of p v) var_is in
     let state_is : c.set_to.new.state ≡ set s (rule_at p rule).var (default_of p (rule_at p rule).var) =
-        c.set_to.ensures.state ∙ (ap (λ v. set s v c.initial_value-value.result) var_is ∙ ap (λ x. set s (rule_at p rule).var x) value_is) in
+    c.set_to.ensures.state ∙ (ap (λ v. set s v c.initial_value-value.result) var_is ∙ ap (λ x. set s (rule_at p rule).var x) value_is) in
     let state : IsState p.variables (set s (rule_at p rule).var (default_of p (rule_at p rule).var)) =
-        state_set p s (rule_at p rule).var (default_of p (rule_at p rule).var) b.track.state (c.task.ensures.well_ranged.init.in_range (rule_at p rule).var (within g i)) in
+    state_set p s (rule_at p rule).var (default_of p (rule_at p rule).var) b.track.state (c.task.ensures.well_ranged.init.in_range (rule_at p rule).var (within g i)) in
     let moves = rw (var_is, state_is) at c.in_ok-set_to.ensures.moves in
     let all : All (λ (r : ℕ). IsRuleOn p work.layer r) c.get.result.now = rw (c.get.ensures, var_is) (c.requires.rules.only work.layer (rule_at p rule).var b.is.on) in
     let each : (other : ℕ) → IsRuleOn p work.layer other → (rule_at p other).var ≡ (rule_at p rule).var → Contains c.get.result.now other =
-        λ other on e. rw (c.get.ensures, var_is) (subst (λ v. Contains (get_or c.args.rules_of.now v []) other) e (c.requires.rules.each work.layer other on)) in
+    λ other on e. rw (c.get.ensures, var_is) (subst (λ v. Contains (get_or c.args.rules_of.now v []) other) e (c.requires.rules.each work.layer other on)) in
     rw state_is record {
       same = record {
         layer = c.set_to.ensures.same.layer ∙ inv.same.layer;
@@ -137,7 +137,7 @@ loop-rule-preserved-in-Continue-branch-2 g c =
       state = state;
       off = off_step p c.args.work.now.layer work.layer c.args.state.now s (set s (rule_at p rule).var (default_of p (rule_at p rule).var)) (rule_at p rule).var (default_of p (rule_at p rule).var) inv.same.layer inv.off b.is.on refl;
       falling = λ s0 falling. falling_fell p s0 s rule taken c.set_to.new.work c.make_ready.new.agenda c.get.result.now c.task.ensures.layered (but g i s0 falling)
-        (omega (arith, within g i, b.track.state.one_each)) state c.set_to.ensures.same moves all each c.in_ok-make_ready.ensures;
+          (omega (arith, within g i, b.track.state.one_each)) state c.set_to.ensures.same moves all each c.in_ok-make_ready.ensures;
       left = inl (less work.agenda c.args.work.now.agenda c.make_ready.new.agenda inv.left (let a = c.in-Some.ensures.left in let d = moves.left in let e = c.in_ok-make_ready.ensures.left in omega arith));
     }
 
@@ -151,7 +151,7 @@ loop-rule-preserved g c =
     let work = c.loop-rule.work in
     let b = some g i in
     let holds : get_or work.sources (rule_at p rule).var 0 ≡ rule → differs p s (rule_at p rule).var ≡ true → IsHolding p s rule = λ source d.
-        holding_when_zero p work.layer rule s work.counters b.track.counts b.is (c.has_lost.ensures.no c.if-has_lost.false source d) in
+    holding_when_zero p work.layer rule s work.counters b.track.counts b.is (c.has_lost.ensures.no c.if-has_lost.false source d) in
     record {
       same = record { layer = inv.same.layer; stack = inv.same.stack; one_each = inv.same.one_each; sources = inv.same.sources };
       state = inv.state;

@@ -26,7 +26,7 @@ recount_waiting-requires-clause-enough g c =
     let p = c.args.task.now in
     let counts = c.requires.counts in
     rw c.get.ensures (enough p c.args.index.now c.args.var c.task.ensures.well_ranged c.requires.index c.requires.exists counts.0 c.args.work.now.counters counts.1
-        c.args.moved.value (λ e. c.requires.differ (sym counts.2 ∙ e)))
+    c.args.moved.value (λ e. c.requires.differ (sym counts.2 ∙ e)))
 
 pub returns-clause-moves : goal.returns-clause-moves
 returns-clause-moves g c = on_ok_weaker c.recount_waiting.result (λ recounts s counts is.

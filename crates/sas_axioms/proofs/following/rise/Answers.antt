@@ -116,7 +116,7 @@ loop-rule-preserved g c =
     let work = c.loop-rule.work in
     let b = some g i in
     let done : IsHolding p s rule → differs p s (rule_at p rule).var ≡ true = λ hold. differs_true p s (rule_at p rule).var (λ e.
-        b.is.can (sym (c.has_to_set.ensures.no c.if-has_to_set.false (zero_when_holding p work.layer rule s work.counters b.track.counts b.is hold)) ∙ e)) in
+    b.is.can (sym (c.has_to_set.ensures.no c.if-has_to_set.false (zero_when_holding p work.layer rule s work.counters b.track.counts b.is hold)) ∙ e)) in
     record {
       room = record { layer = inv.room.layer; stack = inv.room.stack; one_each = inv.room.one_each; sources = inv.room.sources };
       sources = inv.sources;

@@ -55,9 +55,11 @@ loop-layer-preserved g c =
       state = c.rise.ensures.state;
       basic = λ v b. inv.basic v b ∙ basic_off p layer c.loop-layer.state c.rise.new.state c.task.ensures.layered off v b;
       between = λ s0 start.
-          (let b = inv.between s0 start in
-          (layer + 1, between_again p s0 c.loop-layer.state c.rise.new.state b.0 layer c.loop-layer.work c.rise.new.work c.task.ensures.layered b.1 (at_hand g i s0 b.0 b.1) c.in-Some.ensures.some.from
-              (c.rise.ensures.stands.layer ∙ c.fall.ensures.same.layer) off
-              (λ v not. c.in_ok-rise.ensures.sources v (subst (λ n. IsOnLayer p n v → ⊥) (sym c.fall.ensures.same.layer) not) ∙ ap (λ xs. get_or xs v 0) c.fall.ensures.same.sources)
-              (c.in_ok-rise.ensures.risen s0 (c.in_ok-fall.ensures.rising s0 (begins g i s0 start)))));
+          (let b = inv.between s0 start in (
+            layer + 1,
+            between_again p s0 c.loop-layer.state c.rise.new.state b.0 layer c.loop-layer.work c.rise.new.work c.task.ensures.layered b.1 (at_hand g i s0 b.0 b.1) c.in-Some.ensures.some.from
+                (c.rise.ensures.stands.layer ∙ c.fall.ensures.same.layer) off
+                (λ v not. c.in_ok-rise.ensures.sources v (subst (λ n. IsOnLayer p n v → ⊥) (sym c.fall.ensures.same.layer) not) ∙ ap (λ xs. get_or xs v 0) c.fall.ensures.same.sources)
+                (c.in_ok-rise.ensures.risen s0 (c.in_ok-fall.ensures.rising s0 (begins g i s0 start))),
+          ));
     }
