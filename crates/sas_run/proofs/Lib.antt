@@ -2,6 +2,7 @@ pub mod Determined
 pub mod Choosing
 pub mod NextStates
 pub mod PlanVerdicts
+pub mod NameHashing
 pub mod NameKeys
 pub mod NamesFrom
 pub mod Ranges
