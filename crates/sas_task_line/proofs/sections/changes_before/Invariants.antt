@@ -4,4 +4,4 @@ use Rattle.sas_task_line.specs.LinesBefore.{ChangesBefore}
 use Rattle.sas_task_line.proofs.sections.changes_before.Given as goal
 
 abbrev pub invariant-loop-i : goal.invariant-loop-i
-invariant-loop-i l = ChangesBefore l.fn.ranges l.count l.changes l.fn.bytes l.rest × (length l.changes ≡ l._i)
+invariant-loop-i l = ChangesBefore l.fn.ending l.fn.ranges l.count l.changes l.fn.bytes l.rest × (length l.changes ≡ l._i)

@@ -4,4 +4,4 @@ use Rattle.sas_task_line.specs.LinesBefore.{FactsBefore}
 use Rattle.sas_task_line.proofs.sections.facts_before.Given as goal
 
 abbrev pub invariant-loop-i : goal.invariant-loop-i
-invariant-loop-i l = FactsBefore l.fn.ranges l.count l.facts l.fn.bytes l.rest × (length l.facts ≡ l._i)
+invariant-loop-i l = FactsBefore l.fn.ending l.fn.ranges l.count l.facts l.fn.bytes l.rest × (length l.facts ≡ l._i)

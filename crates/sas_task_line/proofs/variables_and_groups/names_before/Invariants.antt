@@ -4,4 +4,4 @@ use Rattle.sas_task_line.specs.LinesBefore.{NamesBefore}
 use Rattle.sas_task_line.proofs.variables_and_groups.names_before.Given as goal
 
 abbrev pub invariant-loop-i : goal.invariant-loop-i
-invariant-loop-i l = NamesBefore l.count l.names l.fn.bytes l.rest × (length l.names ≡ l._i)
+invariant-loop-i l = NamesBefore l.fn.ending l.count l.names l.fn.bytes l.rest × (length l.names ≡ l._i)
