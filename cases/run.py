@@ -21,7 +21,7 @@ plans.json: plan files. Each is given to `steps` twice, as a file and as standar
 standard error. One with `cut_off` ends early wherever it is cut off.
 
 verdicts.json: plans of tasks. Each is given to `plan` as two files, with the task as standard input, and with the plan as
-standard input; those that walks.py makes at random as two files.
+standard input; those that walks.py and following.py make at random as two files.
 
     task, plan   the files, as texts
     output       standard output, exactly
@@ -68,6 +68,7 @@ from concurrent.futures import ThreadPoolExecutor
 
 import report
 from families import grouped_tasks, idle_effects, long_chains
+from following import long_runs
 from large import large_cases
 from texts import TOP, as_bytes, changed_lines, early_end, table
 from walks import walked_plans
@@ -168,7 +169,7 @@ def verdict_cases():
         yield verdict_case(made, ["t.sas", "p.txt"], files={**task, **plan})
         yield verdict_case(made, ["-", "p.txt"], files=plan, input=made["task"])
         yield verdict_case(made, ["t.sas", "-"], files=task, input=made["plan"])
-    for made in walked_plans():
+    for made in (*walked_plans(), *long_runs()):
         yield verdict_case(made, ["t.sas", "p.txt"], files={"t.sas": made["task"], "p.txt": made["plan"]})
 
 
