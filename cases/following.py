@@ -20,10 +20,12 @@ from walks import plan_text
 SEED = 31
 # how many tasks, and of how many steps the runs over them are: those of the program, and those of calls, which tell each state
 TASKS, STEPS = 40, 2000
-CALLED_TASKS, CALLED_STEPS = 120, 300
+CALLED_TASKS, CALLED_STEPS = 80, 300
 STORMS, STORM_STEPS = 4, 1500
 LAYERS = ((0,), (0, 1), (0, 1, 2), (2, 3, 5, 2147483647))
 TURNS = tuple(f"turn {place}" for place in range(6))
+# how many conditions a rule has, most often one or two
+COUNTS = (0, 1, 1, 1, 1, 1, 1, 2, 2, 2, 2, 3, 3)
 # how many variables each rise and fall where `main` is turned, and how many are in a small net
 CHAIN, SMALL, NETS = 30, 3, 6
 
@@ -76,12 +78,13 @@ def condition(chance, task, asked, news, layer):
 
 
 def rules_of(chance, task, asked, news):
-    """Yields rules of a layered task which set these new values. Some variables have none, and some rules can't fire."""
+    """Yields rules of a layered task which set these new values. Some variables have none, some rules can't fire, and some ask
+    for nothing, or for one fact twice."""
     for var in sorted(news):
         layer, default = task["layers"][var], task["defaults"][var]
         for _ in range(chance.choice((0, 1, 2, 2, 3, 3, 4))):
-            facts = [condition(chance, task, asked, news, layer) for _ in range(chance.choice((1, 1, 1, 2, 2, 3)))]
-            if chance.random() < 0.1:
+            facts = [condition(chance, task, asked, news, layer) for _ in range(chance.choice(COUNTS))]
+            if facts and chance.random() < 0.1:
                 facts.append(chance.choice(facts))
             yield facts, var, chance.choice((-1, -1, default)), default if chance.random() < 0.05 else news[var]
 
