@@ -53,7 +53,7 @@ fn call_of_runner<R: AllocGlobal + Print, E: Settle<Task> + Drop>(
 ) -> Result<(), AllocError> {
     match asked.call {
         "steps" => make_steps(rt, words, runner),
-        "plan" => check_plan(rt, asked.number, words, runner),
+        "plan" | "walk" => check_plan(rt, asked.number, words, runner),
         _ => say_initial(rt, asked.number, runner),
     }
 }
@@ -165,6 +165,8 @@ struct Counting<'a> {
 
 impl<'a> Settle<Task> for Counting<'a> {
     ghost ready = { λ _ _. Unit {0} };
+
+    ghost follows = { λ _ _ _. Unit {0} };
 
     fn settle(&mut self, layered: &Layered<Task>, state: &mut State) {
         self.calls.set(self.calls.get().saturating_add(1));
