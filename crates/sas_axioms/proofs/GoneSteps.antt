@@ -11,19 +11,19 @@ use Rattle.sas_core.specs.declared.parts.Parts.{Parts}
 use Rattle.sas_core.specs.Grounded.{rule_at}
 use Rattle.sas_core.specs.Variables.{IsState}
 use Rattle.sas_meaning.specs.Following.{HaveGone}
-use Rattle.sas_meaning.specs.Layers.{IsBasic, IsOnLayer}
-use Rattle.sas_meaning.specs.Settled.{IsSettledAt}
+use Rattle.sas_meaning.specs.Layers.{IsBasic, IsOnLayer, IsLayered}
+use Rattle.sas_meaning.specs.Settled.{IsSettledAt, Settles}
 use Rattle.sas_meaning.specs.States.{Holds, AllHold}
 use Rattle.sas_axioms.specs.declared.firing.Work.{Work}
 use Rattle.sas_axioms.specs.declared.layer_rules.LayerRule.{LayerRule}
 use Rattle.sas_axioms.specs.Agenda.{IsEmpty, IsNoted}
 use Rattle.sas_axioms.specs.Conditions.{AreCounted}
-use Rattle.sas_axioms.specs.Sources.{IsHolding, SourcesHold}
+use Rattle.sas_axioms.specs.Sources.{IsHolding, SourcesHold, AreGiven}
 use Rattle.sas_axioms.specs.Following.{AreNoted, SameFrom, SameWork, Moves, IsFollowed, IsOnTrack, CountedSoFar, IsBetween}
 use Rattle.sas_axioms.specs.LayerRules.{IsRuleOn}
 use Rattle.sas_axioms.proofs.Counters.{open_same}
 use Rattle.sas_axioms.proofs.FallingSteps.{noted_moved}
-use Rattle.sas_axioms.proofs.Sources.{sources_same}
+use Rattle.sas_axioms.proofs.Sources.{sources_same, settled_when_given}
 use Rattle.sas_meaning.proofs.Forced.{differs_true, differs_not}
 
 -- ---- the facts that are gone
@@ -132,3 +132,35 @@ between_begins p s0 m s w state followed have w' sources so_far = record {
 
     from_state : (rule : ℕ) → IsHolding p s rule → IsHolding p m rule
     from_state rule hold j e lt = value_is (get_or (rule_at p rule).conditions j e).var ∙ hold j e lt
+
+-- ---- where no rule can fire
+
+-- a state is settled as it stands, and followed with what was counted before
+pub idle_followed : (p : Parts) (gone : List Fact) (s s' : List ℕ) (w : Work) → IsLayered p → ((layer rule : ℕ) → IsRuleOn p layer rule → ⊥) → IsState p.variables s'
+    → IsFollowed p s w → HaveGone p gone s s' → IsFollowed p s' w
+idle_followed p gone s s' w layered none state followed have = record {
+  state = state;
+  settled = λ layer. settled_when_given p layer s' w.sources layered (given layer) (λ rule is hold. absurd (none layer rule is));
+  counts = record { one_each = followed.counts.one_each; known = state.one_each; exact = λ layer rule is. absurd (none layer rule is) };
+  places = followed.places;
+  given = given;
+}
+  where
+    kept : (layer v : ℕ) → IsOnLayer p layer v → get_or s' v 0 ≡ get_or s v 0
+    kept layer v on = have.others v (λ k d lt e.
+        (let a = subst (λ x. IsOnLayer p layer x) (sym e) on in let b : IsBasic p (get_or gone k d).var = have.basic k d lt in cc))
+
+    given : (layer : ℕ) → AreGiven p layer s' w.sources
+    given layer = record {
+      have = sources_same p layer s s' w.sources w.sources (kept layer) (λ v on. refl) (followed.given layer).have;
+      hold = λ v on d. absurd (none layer (get_or w.sources v 0)
+          ((followed.given layer).have.source v on (differs_true p s v (λ e. differs_not p s' v d (kept layer v on ∙ e)))).is);
+    }
+
+pub idle_settles : (p : Parts) (gone : List Fact) (s s' : List ℕ) (w : Work) → IsLayered p → ((layer rule : ℕ) → IsRuleOn p layer rule → ⊥) → IsState p.variables s'
+    → IsFollowed p s w → HaveGone p gone s s' → Settles p s' s'
+idle_settles p gone s s' w layered none state followed have = record {
+  state = state;
+  basic = λ v b. refl;
+  settled = (idle_followed p gone s s' w layered none state followed have).settled;
+}

@@ -66,6 +66,12 @@ impl<T: Grounded> Settle<T> for Worklist {
     }
 
     fn settle_on(&mut self, layered: &Layered<T>, gone: &[Fact], state: &mut State) {
+        // By its contract the task is well ranged and layered.
+        let _ = layered.task();
+        if self.rules.is_empty() {
+            // No rule can fire, so the state is settled as it stands.
+            return;
+        }
         if self.firing.follow(layered, gone, state).is_err() {
             settle_by_layers(self, layered, state);
         }
