@@ -11,9 +11,9 @@ ghost use Rattle.sas_mutex.specs.Marks.{IsWide};
 ghost use Rattle.sas_mutex.specs.Noting.{AreBelow, HasNotedGroup, IsAgainst, IsMet, SomeRemoves, Removes};
 ghost use Rattle.sas_mutex.specs.Noting.{IsNotedAt, KeepsGroup, KeepsGroupItself, BothClashAt, NotBothAt};
 ghost use Rattle.sas_mutex.specs.Noting.{IsSingleAt, IsGoneAt, AreGoneAt, IsUnknownAt, IsDecidedByFirst};
-ghost use Rattle.sas_mutex.specs.Alone.{SetsNone};
+ghost use Rattle.sas_mutex.specs.Basis.{SetsNone};
 
-use crate::marks::{Marks, Noted, forget_known, note_known};
+use crate::marks::{Marks, forget_known, note_known};
 use sas_core::{Fact, Grounded, Items};
 use sas_group_index::Index;
 use sas_groups::Premises;
@@ -76,12 +76,11 @@ impl<'a, 'b, T: Grounded> Firing<'a, 'b, T> {
         self.is_single(kept, group, marks) && self.removes_others(kept, group, marks)
     }
 
-    /// Returns whether the effect keeps the group, which isn't in the family, under the family and the group itself, by what
-    /// is noted. In the end the family is as it was.
+    /// Returns whether the effect keeps the group under the family and the group itself, by what is noted. In the end the
+    /// family is as it was.
     pub fn keeps_with_itself(&self, group: u32, kept: &mut Items<bool>, marks: &mut Marks) -> bool
         requires notes { IsNotedAt self.now kept.old marks.old }
         requires group { group < length self.now.task.groups }
-        requires outside { IsFalse (family_of kept.old group) }
         ensures yes { IsTrue result → KeepsGroupItself self.now kept.old group }
         ensures no { IsFalse result → KeepsGroupItself self.now kept.old group → ⊥ }
         ensures kept { kept.new ≡ kept.old }
@@ -91,9 +90,10 @@ impl<'a, 'b, T: Grounded> Firing<'a, 'b, T> {
         if marks.groups.as_slice()[group as usize].is_several() {
             return true;
         }
+        let counts = kept.as_slice()[group as usize];
         kept.set(group as usize, true);
         let keeps = self.keeps_by_notes(kept.as_slice(), group, marks);
-        kept.set(group as usize, false);
+        kept.set(group as usize, counts);
         keeps
     }
 
@@ -283,19 +283,20 @@ fn contradicts(index: &Index, kept: &[bool], fact: Fact, marks: &Marks) -> bool
 {
     match marks.values.as_slice()[fact.var as usize] {
         Some(value) => value != fact.value,
-        None => has_noted(index.groups_of(fact), kept, &marks.groups),
+        None => has_noted(index.groups_of(fact), kept, marks),
     }
 }
 
 /// Returns whether a fact is noted for one of these groups that is kept.
-fn has_noted(groups: &[u32], kept: &[bool], noted: &Items<Noted>) -> bool
+fn has_noted(groups: &[u32], kept: &[bool], marks: &Marks) -> bool
     requires kept { AreBelow (length kept.now) groups.now }
-    requires noted { AreBelow (length noted.now) groups.now }
-    ensures yes { IsTrue result → HasNotedGroup groups.now kept.now noted.now }
-    ensures no { IsFalse result → HasNotedGroup groups.now kept.now noted.now → ⊥ }
+    requires noted { AreBelow (length marks.now.groups) groups.now }
+    ensures yes { IsTrue result → HasNotedGroup groups.now kept.now marks.now.groups }
+    ensures no { IsFalse result → HasNotedGroup groups.now kept.now marks.now.groups → ⊥ }
 {
     for group in groups {
-        if kept[*group as usize] && !noted.as_slice()[*group as usize].is_nothing() {
+        if kept[*group as usize] && !marks.groups.as_slice()[*group as usize].is_nothing() {
+            marks.deciding.set(*group);
             return true;
         }
     }
