@@ -13,6 +13,7 @@ closed, no step changes what a rule asks about, though each asks whether a floor
 With n floors there are 24.1 n variables, 23.8 n operators and 22 n rules.
 """
 from mixing import mixed
+from sas_text import both
 
 CLOSED, OPEN = 0, 1
 HOLDS, NOT = 0, 1
@@ -143,11 +144,6 @@ def bouncing(turn):
     """Returns on which of its floors a worker is that has gone so many steps."""
     place = turn % (2 * (STRETCH - 1))
     return min(place, 2 * (STRETCH - 1) - place)
-
-
-def both(layer, atom):
-    """Returns a variable that represents whether an atom holds."""
-    return layer, ["Atom " + atom, "NegatedAtom " + atom]
 
 
 def close_switch(kind, place):

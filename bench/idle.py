@@ -7,6 +7,8 @@ and the lamps stay as they are. Each class has one thing in great number that a 
 
 A task of n objects has n + 2 or n + 3 variables, n or n + 1 of them derived, and three operators.
 """
+from sas_text import both
+
 DOOR, MAIN, FIRST = 0, 1, 2
 HOLDS, NOT = 0, 1
 
@@ -80,8 +82,3 @@ class Below(Idle):
         others = range(FIRST + 1, FIRST + 1 + self.objects)
         above = [([(FIRST, HOLDS), (MAIN, HOLDS)], (lamp, NOT, HOLDS)) for lamp in others]
         return [([(MAIN, HOLDS)], (FIRST, NOT, HOLDS)), *above]
-
-
-def both(layer, atom):
-    """Returns a variable that represents whether an atom holds."""
-    return layer, ["Atom " + atom, "NegatedAtom " + atom]

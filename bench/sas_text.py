@@ -17,6 +17,11 @@ where -1 is no old value. Everything is under metric 0, so each operator's cost 
 HEAD = "begin_version\n3\nend_version\nbegin_metric\n0\nend_metric\n"
 
 
+def both(layer, atom):
+    """Returns a variable that represents whether an atom holds."""
+    return layer, ["Atom " + atom, "NegatedAtom " + atom]
+
+
 def fact_lines(facts):
     """Returns how many facts, and a line for each."""
     return "%d\n" % len(facts) + "".join(["%d %d\n" % fact for fact in facts])

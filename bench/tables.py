@@ -12,6 +12,7 @@ On each table the blocks are a tower at first, and in the end. With n tables the
 rules.
 """
 from mixing import mixed
+from sas_text import both
 
 BLOCKS = 3
 TABLE = BLOCKS - 1
@@ -144,11 +145,6 @@ def rules_of_table():
 
 
 RULES = list(rules_of_table())
-
-
-def both(layer, atom):
-    """Returns a variable that represents whether an atom holds."""
-    return layer, ["Atom " + atom, "NegatedAtom " + atom]
 
 
 def rebuilt(table, blocks):

@@ -283,34 +283,39 @@ def stepped(task, run):
     return lines_of([state_line(initial(task)), *(line for _, state in run for line in ("made", state_line(state)))])
 
 
-def facts_in_turn(chance, task, count):
-    """Returns a state and facts of basic variables, as the words of the call `follow`, and what it prints. Of a fact in three it
-    holds before it is set."""
+def fact_on(chance, task, state, var):
+    """Returns a fact on a variable; a third of them hold."""
+    return var, state[var] if chance.random() < 0.3 else chance.randrange(task["ranges"][var])
+
+
+def pairs_in_turn(chance, task, count):
+    """Returns a state and pairs of facts on basic variables, as the words of the call `follow`, and what it prints."""
     states, basic = States(task), on_layers(task, lambda layer: layer is None)
     start = [chance.randrange(size) for size in task["ranges"]]
-    state, facts = states.behind(start, ("", [], [], 0)), []
-    said = [state_line(state)]
+    state = states.behind(start, ("", [], [], 0))
+    words, said = [" ".join(map(str, start))], [state_line(state)]
     for _ in range(count):
-        var = chance.choice(basic)
-        facts.append((var, state[var] if chance.random() < 0.3 else chance.randrange(task["ranges"][var])))
-        state = states.behind(state, ("", [], [([], var, -1, facts[-1][1])], 0))
+        pair = [fact_on(chance, task, state, var) for var in chance.sample(basic, 2)]
+        state = states.behind(state, ("", [], [([], var, -1, value) for var, value in pair], 0))
+        words.append(",".join(f"{var} {value}" for var, value in pair))
         said.append(state_line(state))
-    return ";".join([" ".join(map(str, start)), *(f"{var} {value}" for var, value in facts)]), lines_of(said)
+    return ";".join(words), lines_of(said)
 
 
 def called_runs():
     """Yields runs over tasks, as texts, each with what calls print of it, which tell each state: of the plan, of its steps one by
-    one, where each state is settled by itself, and of facts that are set in turn. They could show the same as the long runs."""
+    one, where each state is settled by itself, and of pairs of facts that are set in turn. They could show the same as the long
+    runs."""
     chance = random.Random(SEED + 1)
     made = (*made_runs(chance, CALLED_TASKS, CALLED_STEPS), *storm_runs(chance, STORM_STEPS))
     for number, (task, _, run) in enumerate(made):
-        facts, followed = facts_in_turn(chance, task, CALLED_STEPS)
+        pairs, followed = pairs_in_turn(chance, task, CALLED_STEPS)
         yield {
             "name": f"run {number}",
             "task": text_of(task),
             "calls": {
                 "walk": (plan_text(names_of(task, run), cost_of_run(task, run)), walked(task, run)),
                 "steps": (";".join(f"step {operator}" for operator, _ in run), stepped(task, run)),
-                "follow": (facts, followed),
+                "follow": (pairs, followed),
             },
         }
