@@ -1,5 +1,5 @@
 -- The words were given, and their digest: that is what the name gives.
-use Rattle.std.proofs.Common.{◌≡◌, ap, ◌∙◌, length}
+use Rattle.std.proofs.Common.{ap, ◌∙◌}
 use Rattle.std.specs.Hash.{u64}
 use Rattle.std.specs.List.{fold}
 use Rattle.sas_run.specs.NameHash.{digest_with}
