@@ -166,8 +166,6 @@ struct Counting<'a> {
 impl<'a> Settle<Task> for Counting<'a> {
     ghost ready = { λ _ _. Unit {0} };
 
-    ghost follows = { λ _ _ _. Unit {0} };
-
     fn settle(&mut self, layered: &Layered<Task>, state: &mut State) {
         self.calls.set(self.calls.get().saturating_add(1));
         let mut rounds = Rounds;
