@@ -4,6 +4,7 @@ ghost use Rattle.sas_core.specs.Grounded.{operator_at, effect_at};
 ghost use Rattle.sas_core.specs.Variables.{FactExists};
 ghost use Rattle.sas_groups.specs.Families.{IsIn};
 ghost use Rattle.sas_group_index.specs.Index.{groups_of};
+ghost use Rattle.sas_group_index.specs.ByVariable.{AreOn};
 ghost use Rattle.sas_group_index.specs.Runs.{AreOnOne};
 ghost use Rattle.sas_mutex.specs.Effects.{family_of};
 ghost use Rattle.sas_mutex.specs.Firing.{operator_of, effect_of};
@@ -265,8 +266,20 @@ impl<'a, 'b, T: Grounded> Firing<'a, 'b, T> {
         if self.task.effect_change(self.operator, self.effect).var == fact.var {
             return true;
         }
-        contradicts(self.index, kept, fact, marks)
-            || is_removed(self.task, self.operator, fact, marks)
+        contradicts(self.index, kept, fact, marks) || self.is_removed(fact, marks)
+    }
+
+    /// Returns whether an effect of the operator, each of whose conditions is this fact or noted, sets the variable of the
+    /// fact to another value. Of a large operator only effects on that variable are looked at.
+    fn is_removed(&self, fact: Fact, marks: &Marks) -> bool
+        requires wide { IsWide self.now.task marks.now }
+        ensures yes { IsTrue result → SomeRemoves (operator_of self.now) marks.now fact }
+        ensures no { IsFalse result → SomeRemoves (operator_of self.now) marks.now fact → ⊥ }
+    {
+        match self.index.effects_on(self.task, self.operator, fact.var) {
+            Some(effects) => one_removes(self.task, self.operator, effects, fact, marks),
+            None => some_removes(self.task, self.operator, fact, marks),
+        }
     }
 }
 
@@ -305,7 +318,7 @@ fn has_noted(groups: &[u32], kept: &[bool], marks: &Marks) -> bool
 
 /// Returns whether an effect of the operator, each of whose conditions is this fact or noted, sets the variable of the fact
 /// to another value.
-fn is_removed<T: Grounded>(task: &Layered<T>, operator: u32, fact: Fact, marks: &Marks) -> bool
+fn some_removes<T: Grounded>(task: &Layered<T>, operator: u32, fact: Fact, marks: &Marks) -> bool
     requires wide { IsWide task.now marks.now }
     requires operator { operator < length task.now.operators }
     ensures yes { IsTrue result → SomeRemoves (operator_at task.now operator) marks.now fact }
@@ -313,6 +326,29 @@ fn is_removed<T: Grounded>(task: &Layered<T>, operator: u32, fact: Fact, marks: 
 {
     for effect in 0..task.effects(operator) {
         if removes(task, operator, effect, fact, marks) {
+            return true;
+        }
+    }
+    false
+}
+
+/// Returns whether one of these effects removes the fact so. They are all effects of the operator on the fact's variable, and
+/// maybe others.
+fn one_removes<T: Grounded>(
+    task: &Layered<T>,
+    operator: u32,
+    effects: &[u32],
+    fact: Fact,
+    marks: &Marks,
+) -> bool
+    requires wide { IsWide task.now marks.now }
+    requires operator { operator < length task.now.operators }
+    requires all { AreOn task.now operator fact.var effects.now }
+    ensures yes { IsTrue result → SomeRemoves (operator_at task.now operator) marks.now fact }
+    ensures no { IsFalse result → SomeRemoves (operator_at task.now operator) marks.now fact → ⊥ }
+{
+    for effect in effects {
+        if *effect < task.effects(operator) && removes(task, operator, *effect, fact, marks) {
             return true;
         }
     }
