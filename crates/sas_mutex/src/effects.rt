@@ -11,6 +11,7 @@ ghost use Rattle.sas_mutex.specs.Firing.{operator_of, effect_of};
 ghost use Rattle.sas_mutex.specs.Marks.{IsWide};
 ghost use Rattle.sas_mutex.specs.Noting.{AreBelow, HasNotedGroup, IsAgainst, IsMet, SomeRemoves, Removes};
 ghost use Rattle.sas_mutex.specs.Noting.{IsNotedAt, KeepsGroup, KeepsGroupItself, BothClashAt, NotBothAt};
+ghost use Rattle.sas_mutex.specs.Noting.{ClashesAt, SomeClashesAt};
 ghost use Rattle.sas_mutex.specs.Noting.{IsSingleAt, IsGoneAt, AreGoneAt, IsUnknownAt, IsDecidedByFirst};
 ghost use Rattle.sas_mutex.specs.Basis.{SetsNone};
 
@@ -148,6 +149,9 @@ impl<'a, 'b, T: Grounded> Firing<'a, 'b, T> {
         if second.is_empty() {
             return false;
         }
+        if self.some_clashes(kept, second, marks) {
+            return true;
+        }
         let one = Premises {
             operator: self.operator,
             first,
@@ -163,6 +167,33 @@ impl<'a, 'b, T: Grounded> Firing<'a, 'b, T> {
         forget_known(self.task, self.index, &both, marks);
         let _ = note_known(self.task, self.index, kept, &one, marks);
         clash
+    }
+
+    /// Returns whether one of these facts clashes with the known facts where this effect fires.
+    fn some_clashes(&self, kept: &[bool], facts: &[Fact], marks: &Marks) -> bool
+        requires notes { IsNotedAt self.now kept.now marks.now }
+        requires exist { All (FactExists self.now.task.variables) facts.now }
+        ensures { IsTrue result → SomeClashesAt self.now kept.now facts.now }
+    {
+        // Naming a field makes the invariant of the effect available.
+        let _ = &self.task;
+        for fact in facts {
+            if self.clashes(kept, *fact, marks) {
+                return true;
+            }
+        }
+        false
+    }
+
+    /// Returns whether the fact clashes with the known facts where this effect fires.
+    fn clashes(&self, kept: &[bool], fact: Fact, marks: &Marks) -> bool
+        requires notes { IsNotedAt self.now kept.now marks.now }
+        requires fact { FactExists self.now.task.variables fact }
+        ensures { IsTrue result → ClashesAt self.now kept.now fact }
+    {
+        // Naming a field makes the invariant of the effect available.
+        let _ = &self.task;
+        contradicts(self.index, kept, fact, marks)
     }
 
     /// Returns whether no other fact of the group stays where this effect fires. Mostly an old value decides this at once.
