@@ -13,6 +13,9 @@ use sas_lists::Lists;
 use sas_meaning::Layered;
 use std::alloc::{AllocError, Global};
 
+/// Among so few groups one is sooner found by a look at each.
+const FEW_GROUPS: usize = 4;
+
 /// Which groups have which fact, and which operators mention which. Facts are numbered, variable after variable, so one is
 /// looked up in a fixed time.
 #[derive(Drop)]
@@ -90,7 +93,12 @@ impl Index {
         requires ascending { IsNonDecreasing (spec.groups_of self.now fact) }
         ensures { IsTrue result ↔ Contains (spec.groups_of self.now fact) group }
     {
-        self.groups_of(fact).binary_search(&group).is_ok()
+        let groups = self.groups_of(fact);
+        if groups.len() <= FEW_GROUPS {
+            groups.contains(&group)
+        } else {
+            groups.binary_search(&group).is_ok()
+        }
     }
 
     /// Returns the number of the fact. A variable that doesn't exist has no first number. Its facts are numbered as if that
