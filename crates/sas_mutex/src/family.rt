@@ -186,14 +186,14 @@ fn look_at_each<T: Grounded>(
 {
     for operator in fallen.operators {
         if looks.fallen.as_slice()[*operator as usize] as usize <= fallen.place {
-            look_once(indexed, *operator, looks, family, marks);
+            look_unless_supported(indexed, *operator, looks, family, marks);
         }
     }
 }
 
-/// Looks at the operator, unless its support is in the family, and stores how many groups had fallen before, or that it need
-/// never be looked at again.
-fn look_once<T: Grounded>(
+/// Looks at the operator again, unless its support is in the family, and stores how many groups had fallen before, or that it
+/// need never be looked at again.
+fn look_unless_supported<T: Grounded>(
     indexed: &IndexedTask<'_, '_, T>,
     operator: u32,
     looks: &mut Looks,
@@ -220,15 +220,40 @@ fn look_once<T: Grounded>(
         looks.fallen.set(operator as usize, fallen);
         return;
     }
+    look_once(indexed, operator, looks, family, marks);
+}
+
+/// Looks at the operator, and stores how many groups had fallen before, or that it need never be looked at again.
+fn look_once<T: Grounded>(
+    indexed: &IndexedTask<'_, '_, T>,
+    operator: u32,
+    looks: &mut Looks,
+    family: &mut Family,
+    marks: &mut Marks,
+)
+    requires operator { operator < length indexed.now.operators }
+    requires supported { AreSupported indexed.now family.old looks.old }
+    requires ready { IsReady indexed.now family.old }
+    requires clean { IsClean indexed.now marks.old }
+    ensures falls { Falls indexed.now family.old family.new }
+    ensures rest { IsAtRest indexed.now family.new.kept
+        (newly family.old family.new) operator }
+    ensures looked { IsNotedOnce indexed.now family.old family.new operator
+        looks.old.fallen looks.new.fallen }
+    ensures supported { AreSupported indexed.now family.new looks.new }
+    ensures ready { IsReady indexed.now family.new }
+    ensures clean { IsClean indexed.now marks.new }
+{
+    // By its contract the task is well ranged, so the number of its groups fits in a `u32`.
+    let _ = indexed.task.task();
+    let fallen = family.fallen.len() as u32;
     marks.deciding.set(NO_GROUP);
-    let alone = look_at(indexed, operator, family, marks);
-    let mut support = NO_GROUP;
-    if !alone {
-        support = support_of(indexed, operator, family, marks);
+    if look_at(indexed, operator, family, marks) {
+        looks.fallen.set(operator as usize, FOR_GOOD);
+        return;
     }
-    looks
-        .fallen
-        .set(operator as usize, if alone { FOR_GOOD } else { fallen });
+    let support = support_of(indexed, operator, family, marks);
+    looks.fallen.set(operator as usize, fallen);
     looks.supports.set(operator as usize, support);
 }
 

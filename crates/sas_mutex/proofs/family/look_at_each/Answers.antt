@@ -16,11 +16,11 @@ loop-operator-preserved g c =
     let inv = c.loop-operator.invariant in
     elim c.if-as_slice-operator.branch [
       | then-as_slice-operator w ↦
-          (let after = w.look_once.new.family in
-          let turn = w.look_once.ensures in
+          (let after = w.look_unless_supported.new.family in
+          let turn = w.look_unless_supported.ensures in
           let exists = All-get_or (λ (o : ℕ). o < length p.operators) c.args.fallen.now.operators.now c.loop-operator.operator-index 0 c.loop-operator-test.true c.requires.exist in
           let below : operator < length looked = (let each = inv.looked.supported.as_many in omega arith) in
-          let looked' = w.look_once.new.looks.fallen in
+          let looked' = w.look_unless_supported.new.looks.fallen in
           let earlier : looked_at looked operator ≤ length before.fallen.items =
           (let at = w.if-as_slice-operator.true in let same = ap (λ (xs : List ℕ). get_or xs operator 0) c.as_slice.ensures in
           let grown = fallen_grow p start before inv.falls in let place = c.requires.place in omega arith) in
