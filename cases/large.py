@@ -165,7 +165,8 @@ def wide_cases():
         yield over_input(name, "mutex", text, groups_said(width), 1)
         for names, cost, said in wide_plans(width):
             yield over_plan(f"{name}, {said}", text, names, cost, f"{said}\n", 1 if "invalid" in said else 0)
-            yield over_input(name, "steps", plan_text(names, cost), plan_text(names, cost))
+            for ends, plan in ended(plan_text(names, cost)):
+                yield over_input(f"{name}, {ends}", "steps", plan, plan_text(names, cost))
 
 
 def shifts(length):
@@ -174,18 +175,28 @@ def shifts(length):
         yield READ - length * part // (CUTS + 1)
 
 
+def ended(text):
+    """Yields a text with other line ends: how they are called, and what the file holds."""
+    yield "LF", text
+    yield "CR LF", text.replace("\n", "\r\n")
+    yield "CR LF in each third line", "".join(
+        line.replace("\n", "\r\n") if place % 3 == 0 else line for place, line in enumerate(text.splitlines(keepends=True))
+    )
+
+
 def cut_cases():
     """Wide tasks, of files in which reads of 65,536 bytes cut other lists each time. They could show an operator, a rule or a
-    group that is read twice, or not at all, where a piece ends in it."""
+    group that is read twice, or not at all, where a piece ends in it, or a line end that counts as part of a line."""
     for width in WIDTHS[:3]:
         task = wide_task(width)
         groups = groups_said(width)
         for shift in shifts(len(text_of(task))):
             text = text_of(task).replace("var0\n", f"var0{'-' * shift}\n", 1)
             answers = {"print": (text, 0), "show": (summary(task), 0), "check": ("task layered\n", 0), "mutex": (groups, 1)}
-            for request, (output, status) in answers.items():
-                name = f"{width} of everything, {shift} bytes further, {request}"
-                yield case(name, [request, "t.sas"], output, status, files={"t.sas": text})
+            for ends, file in ended(text):
+                for request, (output, status) in answers.items():
+                    name = f"{width} of everything, {shift} bytes further, {ends}, {request}"
+                    yield case(name, [request, "t.sas"], output, status, files={"t.sas": file})
 
 
 def stack_cases():

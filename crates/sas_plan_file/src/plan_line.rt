@@ -1,5 +1,5 @@
 // One line of a plan file.
-ghost use Rattle.std.specs.Prelude.{◌≡◌, ◌<◌, ◌++◌, ℕ, List, codes, length, MatchOption, IfSome, IfNone};
+ghost use Rattle.std.specs.Prelude.{◌≡◌, ◌<◌, ◌++◌, ℕ, List, codes, length, drop, MatchOption, IfSome, IfNone};
 ghost use Rattle.std.specs.Fmt.{decimal};
 ghost use Rattle.sas_core.specs.Numbers.{IsPlanCost};
 ghost use Rattle.sas_plan_file.specs.PlanFormat.{BeginsWith};
@@ -108,12 +108,16 @@ fn in_parentheses(line: &[u8]) -> Option<&[u8]>
     }
 }
 
-/// Returns how many bytes the line end takes that the bytes begin with: LF, or CR LF.
-fn end_of_line(bytes: &[u8]) -> Option<usize>
-    ensures { IfSome result (λ taken. EndsLine bytes.now taken) }
+/// Returns how many bytes the line end takes that stands at this place: LF, or CR LF.
+#[inline(always)]
+fn end_of_line(bytes: &[u8], place: usize) -> Option<usize>
+    requires { place < length bytes.now }
+    ensures { IfSome result (λ taken. EndsLine (drop place bytes.now) taken) }
 {
-    match bytes {
-        [b'\n', ..] => Some(1),
+    if bytes[place] == b'\n' {
+        return Some(1);
+    }
+    match &bytes[place..] {
         [b'\r', b'\n', ..] => Some(2),
         _ => None,
     }
@@ -126,7 +130,7 @@ pub fn step_ahead(bytes: &[u8]) -> Option<StepAhead<'_>>
 {
     let end = memchr2(b'\n', b'\r', bytes)?;
     let name = in_parentheses(&bytes[..end])?;
-    let end_taken = end_of_line(&bytes[end..])?;
+    let end_taken = end_of_line(bytes, end)?;
     Some(StepAhead {
         name,
         taken: end + end_taken,

@@ -1,5 +1,5 @@
 -- What the code reads off the first line of some bytes, up to and with its end.
-use Rattle.std.specs.Prelude.{◌≡◌, ℕ, ◌-◌, List, [], take, ◌∷◌, ◌++◌, Option}
+use Rattle.std.specs.Prelude.{◌≡◌, ℕ, ◌==◌, if◌then◌else◌, ◌-◌, List, [], take, ◌∷◌, ◌++◌, Option}
 use Rattle.std.specs.Fmt.{decimal}
 use Rattle.sas_core.specs.Numbers.{IsNumber, IsSigned}
 use Rattle.sas_lines.specs.FirstLines.{LineStandsFirst}
@@ -16,6 +16,10 @@ pub record SpellsAhead (i : TaskLine) (bytes : List ℕ) (taken : ℕ) : Type 0 
   pub fits : TaskLineFits i
   pub first : LineStandsFirst bytes (task_line_bytes i) taken
   pub before_end : task_line_bytes i ≡ take (taken - 1) bytes
+
+-- how lines end whose ends begin with this byte, LF or CR
+abbrev pub ending_with : ℕ → Ending
+ending_with first = if first == 13 then ending.CrLf else ending.Lf
 
 -- the bytes of such a line end, and the first of them
 abbrev pub end_bytes : Ending → List ℕ

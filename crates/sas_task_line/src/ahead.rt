@@ -5,11 +5,17 @@ ghost use Rattle.std.specs.Fmt.{decimal};
 ghost use Rattle.sas_core.specs.Names.{IsName};
 ghost use Rattle.sas_task_format.specs.TaskFormat as format;
 ghost use Rattle.sas_task_line.specs.Ahead.{SpellsAhead, LineAhead, NumberAhead, SignedAhead, ChangeAhead};
-ghost use Rattle.sas_task_line.specs.Ahead.{end_bytes, end_byte};
+ghost use Rattle.sas_task_line.specs.Ahead.{end_bytes, end_byte, ending_with};
 ghost use Rattle.sas_flat.specs.Effects.{plain_effect};
 
 use memchr::memchr2;
 use sas_core::{Change, Fact};
+
+/// What the ends of lines begin with: LF, which is an end by itself, or CR, with LF behind it. Functions that read lines with
+/// their ends have it as a parameter that is constant, so that neither sort of file pays for the other.
+pub(crate) const LF: u8 = b'\n';
+
+pub(crate) const CR: u8 = b'\r';
 
 /// How a line ends.
 #[derive(Clone, Copy, Debug, PartialEq, Eq)]
@@ -21,6 +27,18 @@ pub enum Ending {
 }
 
 impl Ending {
+    /// Returns how lines end whose ends begin with this byte, LF or CR.
+    #[inline(always)]
+    pub(crate) fn with(first: u8) -> Ending
+        ensures { result ≡ ending_with first }
+    {
+        if first == CR {
+            Ending::CrLf
+        } else {
+            Ending::Lf
+        }
+    }
+
     /// Returns the first byte of such an end.
     #[inline(always)]
     fn byte(self) -> u8
@@ -113,84 +131,88 @@ pub(crate) fn signed_before(bytes: &[u8], end: u8) -> Option<(Option<u32>, &[u8]
     Some((Some(number), rest))
 }
 
-/// Returns the number that stands before such an end, and what follows the end.
+/// Returns the number that stands before the end of a line, which has a CR or none, and what follows the end.
 #[inline(always)]
-pub(crate) fn number_line(ending: Ending, bytes: &[u8]) -> Option<(u32, &[u8])>
+pub(crate) fn number_line<const END: u8>(bytes: &[u8]) -> Option<(u32, &[u8])>
     ensures { IfSome result
-        (λ found. LineAhead ending (format.number found.0) bytes.now found.1.now) }
+        (λ found. LineAhead (ending_with END) (format.number found.0) bytes.now found.1.now) }
 {
+    let ending = Ending::with(END);
     let (number, rest) = number_before(bytes, ending.byte())?;
     let rest = ending.rest(rest)?;
     Some((number, rest))
 }
 
-/// Returns the number, or `-1` for none, that stands before such an end, and what follows the end.
+/// Returns the number, or `-1` for none, that stands before the end of a line, which has a CR or none, and what follows the end.
 #[inline(always)]
-pub(crate) fn signed_line(ending: Ending, bytes: &[u8]) -> Option<(Option<u32>, &[u8])>
+pub(crate) fn signed_line<const END: u8>(bytes: &[u8]) -> Option<(Option<u32>, &[u8])>
     ensures { IfSome result
-        (λ found. LineAhead ending (format.signed found.0) bytes.now found.1.now) }
+        (λ found. LineAhead (ending_with END) (format.signed found.0) bytes.now found.1.now) }
 {
+    let ending = Ending::with(END);
     let (number, rest) = signed_before(bytes, ending.byte())?;
     let rest = ending.rest(rest)?;
     Some((number, rest))
 }
 
-/// Returns the change that stands before such an end, and what follows the end.
+/// Returns the change that stands before the end of a line, which has a CR or none, and what follows the end.
 #[inline(always)]
-pub(crate) fn change_line(ending: Ending, bytes: &[u8]) -> Option<(Change, &[u8])>
-    ensures { IfSome result (λ found. ChangeAhead ending bytes.now found.0 found.1.now) }
+pub(crate) fn change_line<const END: u8>(bytes: &[u8]) -> Option<(Change, &[u8])>
+    ensures { IfSome result (λ found. ChangeAhead (ending_with END) bytes.now found.0 found.1.now) }
 {
     let (var, rest) = number_before(bytes, b' ')?;
     let (old, rest) = signed_before(rest, b' ')?;
-    let (new, rest) = number_line(ending, rest)?;
+    let (new, rest) = number_line::<END>(rest)?;
     Some((Change { var, old, new }, rest))
 }
 
-/// Returns the fact that stands before such an end, whether it exists or not, and what follows the end.
+/// Returns the fact that stands before the end of a line, which has a CR or none, whether it exists or not, and what follows the end.
 #[inline(always)]
-pub(crate) fn fact_line(ending: Ending, bytes: &[u8]) -> Option<(Fact, &[u8])>
-    ensures { IfSome result (λ found. LineAhead ending (format.fact found.0) bytes.now found.1.now) }
+pub(crate) fn fact_line<const END: u8>(bytes: &[u8]) -> Option<(Fact, &[u8])>
+    ensures { IfSome result (λ found. LineAhead (ending_with END) (format.fact found.0) bytes.now found.1.now) }
 {
     let (var, rest) = number_before(bytes, b' ')?;
-    let (value, rest) = number_line(ending, rest)?;
+    let (value, rest) = number_line::<END>(rest)?;
     Some((Fact { var, value }, rest))
 }
 
-/// Returns the effect without conditions that stands before such an end, by its change, whether its facts exist or not, and
+/// Returns the effect without conditions that stands before the end of a line, which has a CR or none, by its change, whether its facts exist or not, and
 /// what follows the end.
 #[inline(always)]
-pub(crate) fn effect_line(ending: Ending, bytes: &[u8]) -> Option<(Change, &[u8])>
+pub(crate) fn effect_line<const END: u8>(bytes: &[u8]) -> Option<(Change, &[u8])>
     ensures { IfSome result
-        (λ found. LineAhead ending (format.effect (plain_effect found.0)) bytes.now found.1.now) }
+        (λ found. LineAhead (ending_with END) (format.effect (plain_effect found.0)) bytes.now found.1.now) }
 {
     let [b'0', b' ', rest @ ..] = bytes else {
         return None;
     };
-    change_line(ending, rest)
+    change_line::<END>(rest)
 }
 
 /// Returns what follows the fixed word and such an end, where the bytes begin with them.
 #[inline(always)]
-pub(crate) fn word_line<'a>(ending: Ending, bytes: &'a [u8], word: &[u8]) -> Option<&'a [u8]>
+pub(crate) fn word_line<'a, const END: u8>(bytes: &'a [u8], word: &[u8]) -> Option<&'a [u8]>
     requires { IsName word.now }
-    ensures { IfSome result (λ rest. LineAhead ending (format.word word.now) bytes.now rest.now) }
+    ensures { IfSome result (λ rest. LineAhead (ending_with END) (format.word word.now) bytes.now rest.now) }
 {
     let [byte, rest @ ..] = bytes.strip_prefix(word)? else {
         return None;
     };
+    let ending = Ending::with(END);
     if *byte != ending.byte() {
         return None;
     }
     ending.rest(rest)
 }
 
-/// Returns the name that stands before such an end, and what follows the end.
+/// Returns the name that stands before the end of a line, which has a CR or none, and what follows the end.
 #[inline(always)]
-pub(crate) fn name_line(ending: Ending, bytes: &[u8]) -> Option<(&[u8], &[u8])>
+pub(crate) fn name_line<const END: u8>(bytes: &[u8]) -> Option<(&[u8], &[u8])>
     ensures { IfSome result (λ found.
-        IsName found.0.now × LineAhead ending (format.name found.0.now) bytes.now found.1.now) }
+        IsName found.0.now × LineAhead (ending_with END) (format.name found.0.now) bytes.now found.1.now) }
 {
     let end = memchr2(b'\n', b'\r', bytes)?;
+    let ending = Ending::with(END);
     if end == 0 || bytes[end] != ending.byte() {
         return None;
     }
@@ -202,7 +224,7 @@ pub(crate) fn name_line(ending: Ending, bytes: &[u8]) -> Option<(&[u8], &[u8])>
 pub fn number_ahead(bytes: &[u8]) -> Option<Ahead<u32>>
     ensures { IfSome result (λ a. SpellsAhead (format.number a.said) bytes.now a.taken) }
 {
-    let (said, rest) = number_line(Ending::Lf, bytes)?;
+    let (said, rest) = number_line::<LF>(bytes)?;
     Some(Ahead {
         said,
         taken: bytes.len() - rest.len(),
@@ -213,7 +235,7 @@ pub fn number_ahead(bytes: &[u8]) -> Option<Ahead<u32>>
 pub fn fact_ahead(bytes: &[u8]) -> Option<Ahead<Fact>>
     ensures { IfSome result (λ a. SpellsAhead (format.fact a.said) bytes.now a.taken) }
 {
-    let (said, rest) = fact_line(Ending::Lf, bytes)?;
+    let (said, rest) = fact_line::<LF>(bytes)?;
     Some(Ahead {
         said,
         taken: bytes.len() - rest.len(),
@@ -226,7 +248,7 @@ pub fn effect_ahead(bytes: &[u8]) -> Option<Ahead<Change>>
     ensures { IfSome result
         (λ a. SpellsAhead (format.effect (plain_effect a.said)) bytes.now a.taken) }
 {
-    let (said, rest) = effect_line(Ending::Lf, bytes)?;
+    let (said, rest) = effect_line::<LF>(bytes)?;
     Some(Ahead {
         said,
         taken: bytes.len() - rest.len(),
@@ -238,7 +260,7 @@ pub fn head_ahead(bytes: &[u8]) -> Option<Ahead<Change>>
     ensures { IfSome result
         (λ a. SpellsAhead (format.head a.said.var a.said.old a.said.new) bytes.now a.taken) }
 {
-    let (said, rest) = change_line(Ending::Lf, bytes)?;
+    let (said, rest) = change_line::<LF>(bytes)?;
     Some(Ahead {
         said,
         taken: bytes.len() - rest.len(),
@@ -251,7 +273,7 @@ pub fn word_ahead(bytes: &[u8], word: &[u8]) -> Option<usize>
     requires { IsName word.now }
     ensures { IfSome result (λ taken. SpellsAhead (format.word word.now) bytes.now taken) }
 {
-    let rest = word_line(Ending::Lf, bytes, word)?;
+    let rest = word_line::<LF>(bytes, word)?;
     Some(bytes.len() - rest.len())
 }
 
@@ -260,6 +282,6 @@ pub fn name_ahead(bytes: &[u8]) -> Option<&[u8]>
     ensures { IfSome result (λ name.
         IsName name.now × SpellsAhead (format.name name.now) bytes.now (length name.now + 1)) }
 {
-    let (name, _) = name_line(Ending::Lf, bytes)?;
+    let (name, _) = name_line::<LF>(bytes)?;
     Some(name)
 }

@@ -2,10 +2,11 @@
 ghost use Rattle.std.specs.Prelude.{◌<◌, [], ◌∷◌, length, codes, IfOk, IfSome};
 ghost use Rattle.sas_core.specs.Names.{IsName};
 ghost use Rattle.sas_task_format.specs.TaskFormat as format;
+ghost use Rattle.sas_task_line.specs.Ahead.{ending_with};
 ghost use Rattle.sas_task_line.specs.LinesBefore.{LinesBefore, NamesBefore};
 ghost use Rattle.sas_task_line.specs.Sections.{VariableAhead, GroupAhead, EndsSo, gathered_variable};
 
-use crate::ahead::{Ending, name_line, number_line, signed_line, word_line};
+use crate::ahead::{CR, Ending, LF, name_line, number_line, signed_line, word_line};
 use crate::sections::{Gathered, facts_before};
 use sas_core::Items;
 use sas_lists::Lists;
@@ -30,36 +31,35 @@ pub struct GroupFound {
 
 /// Returns the name and the axiom layer behind the first word of a variable, and the rest.
 #[inline(always)]
-fn begin_before(ending: Ending, bytes: &[u8]) -> Option<(&[u8], Option<u32>, &[u8])>
+fn begin_before<const END: u8>(bytes: &[u8]) -> Option<(&[u8], Option<u32>, &[u8])>
     ensures { IfSome result (λ found. IsName found.0.now
-        × LinesBefore ending (format.word (codes "begin_variable")
+        × LinesBefore (ending_with END) (format.word (codes "begin_variable")
         ∷ format.name found.0.now ∷ format.signed found.1 ∷ []) bytes.now found.2.now) }
 {
-    let rest = word_line(ending, bytes, b"begin_variable")?;
-    let (name, rest) = name_line(ending, rest)?;
-    let (layer, rest) = signed_line(ending, rest)?;
+    let rest = word_line::<END>(bytes, b"begin_variable")?;
+    let (name, rest) = name_line::<END>(rest)?;
+    let (layer, rest) = signed_line::<END>(rest)?;
     Some((name, layer, rest))
 }
 
 /// Takes the names that stand with their number before some rest, where there is one at least. Returns the rest.
 #[inline(always)]
-fn names_before<'a>(
-    ending: Ending,
+fn names_before<'a, const END: u8>(
     bytes: &'a [u8],
     names: &mut Lists<u8>,
 ) -> Result<Option<&'a [u8]>, AllocError>
     ensures { IfOk result (λ found. IfSome found (λ rest. 0 < length names.new
-        × NamesBefore ending (length names.new) names.new bytes.now rest.now)) }
+        × NamesBefore (ending_with END) (length names.new) names.new bytes.now rest.now)) }
 {
     names.clear();
-    let Some((count, mut rest)) = number_line(ending, bytes) else {
+    let Some((count, mut rest)) = number_line::<END>(bytes) else {
         return Ok(None);
     };
     if count == 0 {
         return Ok(None);
     }
     for _i in 0..count {
-        let Some((name, more)) = name_line(ending, rest) else {
+        let Some((name, more)) = name_line::<END>(rest) else {
             return Ok(None);
         };
         names.push(name)?;
@@ -70,8 +70,7 @@ fn names_before<'a>(
 
 /// Returns the variable that stands first in the bytes, where its lines end so, as `variable_found` does.
 #[inline(always)]
-fn variable_ended<'a>(
-    ending: Ending,
+fn variable_ended<'a, const END: u8>(
     bytes: &'a [u8],
     gathered: &mut Gathered,
 ) -> Result<Option<VariableFound<'a>>, AllocError>
@@ -79,13 +78,13 @@ fn variable_ended<'a>(
         VariableAhead bytes.now (gathered_variable v.name.now v.layer gathered.new) v.front
         × EndsSo v.ending bytes.now v.front)) }
 {
-    let Some((name, layer, rest)) = begin_before(ending, bytes) else {
+    let Some((name, layer, rest)) = begin_before::<END>(bytes) else {
         return Ok(None);
     };
-    let Some(rest) = names_before(ending, rest, &mut gathered.values)? else {
+    let Some(rest) = names_before::<END>(rest, &mut gathered.values)? else {
         return Ok(None);
     };
-    let Some(rest) = word_line(ending, rest, b"end_variable") else {
+    let Some(rest) = word_line::<END>(rest, b"end_variable") else {
         return Ok(None);
     };
     let front = Front {
@@ -96,7 +95,7 @@ fn variable_ended<'a>(
         name,
         layer,
         front,
-        ending,
+        ending: Ending::with(END),
     }))
 }
 
@@ -111,17 +110,16 @@ pub fn variable_found<'a>(
         VariableAhead bytes.now (gathered_variable v.name.now v.layer gathered.new) v.front
         × EndsSo v.ending bytes.now v.front)) }
 {
-    match variable_ended(Ending::Lf, bytes, gathered)? {
+    match variable_ended::<LF>(bytes, gathered)? {
         Some(found) => Ok(Some(found)),
-        None => variable_ended(Ending::CrLf, bytes, gathered),
+        None => variable_ended::<CR>(bytes, gathered),
     }
 }
 
 /// Returns how many lines and bytes the mutex group takes up that stands first in the bytes, where its lines end so, as
 /// `group_found` does.
 #[inline(always)]
-fn group_ended(
-    ending: Ending,
+fn group_ended<const END: u8>(
     ranges: &Items<u32>,
     bytes: &[u8],
     gathered: &mut Gathered,
@@ -130,20 +128,23 @@ fn group_ended(
         GroupAhead ranges.now bytes.now gathered.new.facts g.front
         × EndsSo g.ending bytes.now g.front)) }
 {
-    let Some(rest) = word_line(ending, bytes, b"begin_mutex_group") else {
+    let Some(rest) = word_line::<END>(bytes, b"begin_mutex_group") else {
         return Ok(None);
     };
-    let Some(rest) = facts_before(ending, ranges, rest, &mut gathered.facts)? else {
+    let Some(rest) = facts_before::<END>(ranges, rest, &mut gathered.facts)? else {
         return Ok(None);
     };
-    let Some(rest) = word_line(ending, rest, b"end_mutex_group") else {
+    let Some(rest) = word_line::<END>(rest, b"end_mutex_group") else {
         return Ok(None);
     };
     let front = Front {
         lines: 3 + gathered.facts.len() as u64,
         bytes: bytes.len() - rest.len(),
     };
-    Ok(Some(GroupFound { front, ending }))
+    Ok(Some(GroupFound {
+        front,
+        ending: Ending::with(END),
+    }))
 }
 
 /// Returns how many lines and bytes the mutex group takes up that stands first in the bytes, where all its lines end alike, and
@@ -158,8 +159,8 @@ pub fn group_found(
         GroupAhead ranges.now bytes.now gathered.new.facts g.front
         × EndsSo g.ending bytes.now g.front)) }
 {
-    match group_ended(Ending::Lf, ranges, bytes, gathered)? {
+    match group_ended::<LF>(ranges, bytes, gathered)? {
         Some(found) => Ok(Some(found)),
-        None => group_ended(Ending::CrLf, ranges, bytes, gathered),
+        None => group_ended::<CR>(ranges, bytes, gathered),
     }
 }

@@ -1,4 +1,3 @@
-use Rattle.std.proofs.lemmas.List.{take_rest}
 use Rattle.sas_plan_file.proofs.PlanAhead.{step_before_end}
 use Rattle.sas_plan_file.proofs.plan_line.step_ahead.Goals as goal
 
@@ -7,4 +6,4 @@ returns c =
     let bytes = c.args.bytes.now in
     let end = c.in_ok-end.end in
     let name = c.in_ok-name in
-    step_before_end bytes end c.in_ok-end.ensures.0 name.name.now name.ensures.1 name.ensures.0 c.in_ok-end_taken.end_taken (rw (take_rest bytes end) at c.in_ok-end_taken.ensures)
+    step_before_end bytes end c.in_ok-end.ensures.0 name.name.now name.ensures.1 name.ensures.0 c.in_ok-end_taken.end_taken c.in_ok-end_taken.ensures

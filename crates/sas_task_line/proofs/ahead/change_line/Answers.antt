@@ -3,4 +3,4 @@ use Rattle.std.proofs.lemmas.Grind.{common_steps}
 use Rattle.sas_task_line.proofs.ahead.change_line.Goals as goal
 
 pub returns : goal.returns
-returns c = grind (arith, common_steps)
+returns g c = grind (arith, common_steps)

@@ -1,11 +1,12 @@
-use Rattle.std.proofs.Common.{◌+◌, ◌∙◌, arith}
+use Rattle.std.proofs.Common.{◌+◌, ◌∙◌, ap, arith}
 use Rattle.std.proofs.lemmas.List.{take_rest}
+use Rattle.sas_task_line.specs.Ahead.{end_byte, ending_with}
 use Rattle.sas_task_line.proofs.AheadReading.{name_is_ahead}
 use Rattle.sas_task_line.proofs.ahead.name_line.Goals as goal
 
 pub returns : goal.returns
-returns c =
+returns g c =
     let bytes = c.args.bytes.now in
     let end = c.in_ok-end.end in
-    let here = c.if-bytes-end.false ∙ c.byte.ensures in
-    name_is_ahead c.args.ending bytes c.in_ok-rest.rest.now end (omega (arith, c.if-end-eq0.false)) c.in_ok-end.ensures.0 here (rw (take_rest bytes (end + 1)) at c.in_ok-rest.ensures)
+    let here = c.if-bytes-end.false ∙ c.byte.ensures ∙ ap end_byte c.with-ending.ensures in
+    name_is_ahead (ending_with g.row.END) bytes c.in_ok-rest.rest.now end (omega (arith, c.if-end-eq0.false)) c.in_ok-end.ensures.0 here (rw (take_rest bytes (end + 1), c.with-ending.ensures) at c.in_ok-rest.ensures)

@@ -6,10 +6,10 @@ use Rattle.sas_task_line.proofs.LinesReading.{none_yet, one_change_more}
 use Rattle.sas_task_line.proofs.sections.changes_before.Goals as goal
 
 pub loop-i-init : goal.loop-i-init
-loop-i-init c = rw c.clear.ensures (none_yet _ _ c.in-Some.count c.in-Some.ensures, refl)
+loop-i-init g c = rw c.clear.ensures (none_yet _ _ c.in-Some.count c.in-Some.ensures, refl)
 
 pub loop-i-preserved : goal.loop-i-preserved
-loop-i-preserved c =
+loop-i-preserved g c =
     let change = c.in-Some-effect_line.change in
     let exist : IsTrue (change_in c.args.ranges.now change.var change.old change.new) = let looked = c.change_in.ensures in let there = c.if-not-change_in.false in cc in
     let so_far = c.loop-i.invariant in
