@@ -3,9 +3,9 @@
 
     bench/ends.py ./sas FOLDER [--scale F]
 
-The inputs are made in FOLDER if they aren't there. For each request the instructions over the files with LF are printed, those over
-the files with CR LF, and the ratio, the second over the first. The answer has to be the same. The exit status is 1 if a ratio
-is above 1.3, or an answer isn't right. It needs valgrind.
+The inputs are made in FOLDER if they aren't there. For each request the instructions over the files with LF are printed, those
+over the files with CR LF, and the ratio, the second over the first. The answer has to be the same. The exit status is 1 if a
+ratio is above 1.3, or an answer isn't right. It needs valgrind.
 """
 import argparse
 import os

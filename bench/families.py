@@ -4,7 +4,7 @@
     bench/families.py ./sas FOLDER [--only TEXT] [--scale F] [--at-once N]
 
 A family is tasks of one shape in any size, each with one thing in great number that might make a cost grow as a square; a plan
-grows as its task does. The inputs are made in FOLDER if they aren't there, some 20 MB. Growth is the instructions a byte at the
+grows as its task does. The inputs are made in FOLDER if they aren't there, some 35 MB. Growth is the instructions a byte at the
 second size over those at the first. Near 1 is linear; the second size is four times the first, so a square shows as nearly 4.
 The exit status is 1 if one is above 1.15, or an answer isn't right. N families are counted side by side (as many as there are
 processors), which changes no count. It needs valgrind.
@@ -36,7 +36,7 @@ FAMILIES = [
     Family("idle steps, layers", "plan", Layers, 4000, 10),
     Family("idle steps, rules over a lower layer", "plan", Below, 4000, 10),
     Family("steps that change one net of many", "plan", Tables, 250, 20),
-    Family("groups that list a fact many times", "mutex", Repeated, 1000),
+    Family("groups that list a fact many times", "mutex", Repeated, 500),
     Family("groups that share a fact and stay", "mutex", Shared, 2000),
     Family("groups that share a fact and fall at once", "mutex", Spoiled, 2000),
     Family("groups that share a fact and fall one after another", "mutex", Chained, 500),
@@ -69,7 +69,7 @@ def family_row(given, family):
     sizes = [size_of(family, made) for made in inputs]
     counts = [counted([given.sas, family.request, *files_of(family, made)]) for made in inputs]
     each = [count.instructions / size.bytes for count, size in zip(counts, sizes)]
-    words = [told(family, *each) for each in zip(domains, inputs, counts)]
+    words = [told(family, *answered) for answered in zip(domains, inputs, counts)]
     word = next((word for word in words if word != "right"), "right")
     growth = each[1] / each[0]
     is_linear = growth <= LINEAR

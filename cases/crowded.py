@@ -1,9 +1,9 @@
-"""Large tasks with mutex groups, each with one thing in great number that the search for exclusive groups might go through for each
-of another: cases as in program.json, for run.py.
+"""Large tasks with mutex groups, each with one thing in great number that the search for exclusive groups might go through for
+each of another: cases as in program.json, for run.py.
 
 No proof speaks of time. A program that takes the square of these numbers, or the cube, is proved, too. Where the comment on a
-number says nothing else, a case is so large that such a program takes some minutes over it, and run.py stops it; one that looks only
-at what may change a verdict takes a second or less.
+number says nothing else, a case is so large that such a program takes some minutes over it, and run.py stops it; one that looks
+only at what may change a verdict takes a second or less.
 """
 from axioms import text_of
 from families import line_of
@@ -44,7 +44,7 @@ def setting(var, value=0):
 
 
 def listed_cases():
-    """One group that lists facts very often. Each operator sets another fact of it, and removes these. They could show a program
+    """One group that lists facts very often. Each operator sets a fact of it, and removes all others. They could show a program
     that at each effect goes through the facts as they are listed."""
     often = [(0, 0)] * LISTED + [(1, 0)]
     swap = "go", [], [([], 0, 1, 0), setting(1, 1)], 1
@@ -55,9 +55,9 @@ def listed_cases():
 
 
 def conditional_cases():
-    """One group, and one operator whose effects set each fact of it under a condition of its own and remove it where it holds. They
-    could show a program that looks at all effects for each pair of facts, which is the cube of their number. The square may have to
-    be taken: when an effect fires, all other facts of the group have to go."""
+    """One group, and one operator whose effects set each fact of it under a condition of its own and remove it where it holds.
+    They could show a program that looks at all effects for each pair of facts, which is the cube of their number. The square may
+    have to be taken: when an effect fires, all other facts of the group have to go."""
     count = CONDITIONAL
     chosen = [([(0, var - 1)], var, -1, 0) for var in range(1, count + 1)]
     removed = [([(var, 0)], var, -1, 1) for var in range(1, count + 1)]
@@ -72,8 +72,8 @@ def conditional_cases():
 
 
 def sharing_task(count, effects, asked):
-    """A task of so many groups, each of a fact that all share, 0, and one of its own. An operator of each sets the group's own fact,
-    has these effects too, and asks for fact 0 and for the own facts of so many groups behind it."""
+    """A task of so many groups, each of a fact that all share, 0, and one of its own. An operator of each sets the group's own
+    fact, has these effects too, and asks for fact 0 and for the own facts of so many groups behind it."""
     own = [(place, 0) for place in range(1, count + 1)]
     operators = [
         ("go", [(0, 0), *own[place : place + asked]], [*effects, setting(place)], 1) for place in range(1, count + 1)
@@ -83,8 +83,8 @@ def sharing_task(count, effects, asked):
 
 def sharing_cases():
     """Groups that share a fact, and operators that ask for it. All groups stay, or all fall at once, or one after another: an
-    operator that asks for the own fact of the next group keeps its group until that one falls. They could show a program that goes
-    through all groups of a fact for each operator that asks for it."""
+    operator that asks for the own fact of the next group keeps its group until that one falls. They could show a program that
+    goes through all groups of a fact for each operator that asks for it."""
     stay, fall = ["Exclusive"] * SHARING, [broken(place) for place in range(SHARING)]
     yield groups_case("many groups of a fact, which stay", sharing_task(SHARING, [setting(0, 1)], 0), stay)
     yield groups_case("many groups of a fact, which fall", sharing_task(SHARING, [], 0), fall)
@@ -92,9 +92,9 @@ def sharing_cases():
 
 
 def resting_cases():
-    """Groups that share facts and fall one after another, as each rests on the next, and operators that mention such a fact and rest
-    on another group, which stays: they ask for two facts of it. They could show a program that looks at each of these operators as
-    each group falls."""
+    """Groups that share facts and fall one after another, as each rests on the next, and operators that mention such a fact and
+    rest on another group, which stays: they ask for two facts of it. They could show a program that looks at each of these
+    operators as each group falls."""
     own = [(place, 0) for place in range(2, FALLEN + 2)]
     pair = [(FALLEN + 2, 0), (FALLEN + 3, 0)]
     rest = "rest", [(1, 0), *pair], [setting(0)], 1

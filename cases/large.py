@@ -301,9 +301,9 @@ def long_name_cases():
 
 
 def alike_name_cases():
-    """Operators whose names have different fronts of eight bytes, and then the factor of the hasher. Given a name at once, it forgets
-    all in front of that, so that all names share a hash. They could show a map of names in which each of these is compared with all
-    others: that takes minutes."""
+    """Operators whose names have different fronts of eight bytes, and then the factor of the hasher. Given a name at once, it
+    forgets all in front of that, so that all names share a hash. They could show a map of names by such a hash: each name is
+    compared there with all others, which takes minutes."""
     names = [f"{place:07} {FACTOR}" for place in range(ALIKE)]
     task = task_with([2], operators=[(name, [], [], 1) for name in names])
     yield over_plan("names that end alike", text_of(task), names, ALIKE, f"plan valid: {ALIKE} steps, cost {ALIKE}\n")
