@@ -9,7 +9,8 @@ from axioms import text_of
 from families import line_of
 from large import over_input, task_with
 
-# how often a group lists a fact, or two by turns, and how many operators there are beside it; few, as the square is taken
+# how often a group lists a fact, or two by turns, and how many operators there are beside it; few, as the square is taken of the
+# first, and the cube of the second
 LISTED, BY_TURNS = 4000, 1000
 # how many effects an operator has that set a fact of one group; few, as the cube is taken
 CONDITIONAL = 400
