@@ -56,7 +56,7 @@ def write(path, pieces):
     size, lines, check = 0, 0, 0
     with open(path, "wb") as file:
         for text in in_batches(pieces):
-            data = text.encode("ascii")
+            data = text.encode("latin-1")
             file.write(data)
             size, lines, check = size + len(data), lines + data.count(b"\n"), zlib.crc32(data, check)
     return {"bytes": size, "lines": lines, "crc32": "%08x" % check}

@@ -23,6 +23,8 @@ STEPS = 200_001
 # the most bytes that are read, and the length of the names of operators that fill them
 LIMIT, NAME = 4_294_967_296, 65_536
 PIECE = 65_536
+# operators whose names end in the factor of the map's hasher
+ALIKE, FACTOR = 200_000, (0x9E3779B97F4A7C15).to_bytes(8, "little").decode("latin-1")
 # the stack that README promises to serve; with 48 kB some runs fail, as the place of the stack varies
 STACK = 65_536
 MINIMAL = "cases/tasks/minimal.sas"
@@ -309,6 +311,15 @@ def long_name_cases():
     yield over_input(name, "steps", plan_text(names, 2), plan_text(names, 2))
 
 
+def alike_name_cases():
+    """Operators whose names have different fronts of eight bytes, and then the factor of the hasher. Given a name at once, it
+    forgets all in front of that, so that all names share a hash. They could show a map of names by such a hash: each name is
+    compared there with all others, which takes minutes."""
+    names = [f"{place:07} {FACTOR}" for place in range(ALIKE)]
+    task = task_with([2], operators=[(name, [], [], 1) for name in names])
+    yield over_plan("names that end alike", text_of(task), names, ALIKE, f"plan valid: {ALIKE} steps, cost {ALIKE}\n")
+
+
 def piece_cases():
     """Summaries of about as many bytes as are written at a time, and with a name of so many. They could show a byte that is lost,
     or comes twice, where a piece is just full."""
@@ -444,6 +455,7 @@ def large_cases():
     yield from late_layer_cases()
     yield from digit_cases()
     yield from long_name_cases()
+    yield from alike_name_cases()
     yield from piece_cases()
     yield from stack_cases()
     yield from full_file_cases()

@@ -29,7 +29,7 @@ standard input; those that walks.py and following.py make at random as two files
     initial      the initial state, and
     call         what the call `check_plan` answers; both for calls.py, and left out where a file is refused or too long
 
-large.py and idle.py make large tasks and plans, as cases of program.json.
+large.py, idle.py and crowded.py make large tasks and plans, as cases of program.json.
 
 groups.json: tasks. Each is given to `mutex` as a file and as standard input, and there with CR LF at the end of each line
 too; those that families.py makes at random, and its larger ones, as standard input.
@@ -67,6 +67,7 @@ import threading
 from concurrent.futures import ThreadPoolExecutor
 
 import report
+from crowded import crowded_cases
 from families import grouped_tasks, idle_effects, long_chains
 from following import long_runs
 from idle import idle_cases, nets_cases
@@ -308,7 +309,7 @@ def main():
     with tempfile.TemporaryDirectory() as plans, tempfile.TemporaryDirectory() as folder:
         files = (*task_cases(), *line_cases(), *plan_cases(plans), *verdict_cases(), *group_cases())
         # those that take longest first
-        cases = [*nets_cases(), *idle_cases(), *large_cases(), *files, *table("program.json")]
+        cases = [*nets_cases(), *idle_cases(), *crowded_cases(), *large_cases(), *files, *table("program.json")]
         with ThreadPoolExecutor(os.cpu_count()) as pool:
             wrong = list(pool.map(lambda case: faults(program, case, folder), cases))
     report.end(cases, wrong)
