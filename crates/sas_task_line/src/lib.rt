@@ -10,7 +10,7 @@ mod task_line;
 mod variables_and_groups;
 
 pub use ahead::{
-    Ahead, Ending, effect_ahead, fact_ahead, head_ahead, name_ahead, number_ahead, word_ahead,
+    Ahead, effect_ahead, fact_ahead, head_ahead, name_ahead, number_ahead, word_ahead,
 };
 pub use sections::{Gathered, OperatorFound, RuleFound, operator_found, rule_found};
 pub use so_far::SoFar;
@@ -19,4 +19,4 @@ pub use task_line::{
     change_in, effect_at, fact_at, head_at, name_at, number_at, number_below, positive_at,
     signed_at, value_in, version_at, word_at,
 };
-pub use variables_and_groups::{GroupFound, VariableFound, group_found, variable_found};
+pub use variables_and_groups::{VariableFound, group_found, variable_found};

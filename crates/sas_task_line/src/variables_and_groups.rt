@@ -2,11 +2,10 @@
 ghost use Rattle.std.specs.Prelude.{◌<◌, [], ◌∷◌, length, codes, IfOk, IfSome};
 ghost use Rattle.sas_core.specs.Names.{IsName};
 ghost use Rattle.sas_task_format.specs.TaskFormat as format;
-ghost use Rattle.sas_task_line.specs.Ahead.{ending_with};
 ghost use Rattle.sas_task_line.specs.LinesBefore.{LinesBefore, NamesBefore};
-ghost use Rattle.sas_task_line.specs.Sections.{VariableAhead, GroupAhead, EndsSo, gathered_variable};
+ghost use Rattle.sas_task_line.specs.Sections.{VariableAhead, GroupAhead, gathered_variable};
 
-use crate::ahead::{CR, Ending, LF, name_line, number_line, signed_line, word_line};
+use crate::ahead::{name_before, number_before, signed_before, word_before};
 use crate::sections::{Gathered, facts_before};
 use sas_core::Items;
 use sas_lists::Lists;
@@ -19,47 +18,36 @@ pub struct VariableFound<'a> {
     pub name: &'a [u8],
     pub layer: Option<u32>,
     pub front: Front,
-    pub ending: Ending,
-}
-
-/// A mutex group that stands first in some bytes: its lines.
-#[derive(Clone, Copy, Debug, PartialEq, Eq)]
-pub struct GroupFound {
-    pub front: Front,
-    pub ending: Ending,
 }
 
 /// Returns the name and the axiom layer behind the first word of a variable, and the rest.
 #[inline(always)]
-fn begin_before<const END: u8>(bytes: &[u8]) -> Option<(&[u8], Option<u32>, &[u8])>
+fn begin_before(bytes: &[u8]) -> Option<(&[u8], Option<u32>, &[u8])>
     ensures { IfSome result (λ found. IsName found.0.now
-        × LinesBefore (ending_with END) (format.word (codes "begin_variable")
+        × LinesBefore (format.word (codes "begin_variable")
         ∷ format.name found.0.now ∷ format.signed found.1 ∷ []) bytes.now found.2.now) }
 {
-    let rest = word_line::<END>(bytes, b"begin_variable")?;
-    let (name, rest) = name_line::<END>(rest)?;
-    let (layer, rest) = signed_line::<END>(rest)?;
+    let rest = word_before(bytes, b"begin_variable")?;
+    let (name, rest) = name_before(rest)?;
+    let (layer, rest) = signed_before(rest, b'\n')?;
     Some((name, layer, rest))
 }
 
 /// Takes the names that stand with their number before some rest, where there is one at least. Returns the rest.
 #[inline(always)]
-fn names_before<'a, const END: u8>(
-    bytes: &'a [u8],
-    names: &mut Lists<u8>,
-) -> Result<Option<&'a [u8]>, AllocError>
+fn names_before<'a>(bytes: &'a [u8], names: &mut Lists<u8>) -> Result<Option<&'a [u8]>, AllocError>
     ensures { IfOk result (λ found. IfSome found (λ rest. 0 < length names.new
-        × NamesBefore (ending_with END) (length names.new) names.new bytes.now rest.now)) }
+        × NamesBefore (length names.new) names.new bytes.now rest.now)) }
 {
     names.clear();
-    let Some((count, mut rest)) = number_line::<END>(bytes) else {
+    let Some((count, mut rest)) = number_before(bytes, b'\n') else {
         return Ok(None);
     };
     if count == 0 {
         return Ok(None);
     }
     for _i in 0..count {
-        let Some((name, more)) = name_line::<END>(rest) else {
+        let Some((name, more)) = name_before(rest) else {
             return Ok(None);
         };
         names.push(name)?;
@@ -68,99 +56,55 @@ fn names_before<'a, const END: u8>(
     Ok(Some(rest))
 }
 
-/// Returns the variable that stands first in the bytes, where its lines end so, as `variable_found` does.
-#[inline(always)]
-fn variable_ended<'a, const END: u8>(
-    bytes: &'a [u8],
-    gathered: &mut Gathered,
-) -> Result<Option<VariableFound<'a>>, AllocError>
-    ensures { IfOk result (λ found. IfSome found (λ v.
-        VariableAhead bytes.now (gathered_variable v.name.now v.layer gathered.new) v.front
-        × EndsSo v.ending bytes.now v.front)) }
-{
-    let Some((name, layer, rest)) = begin_before::<END>(bytes) else {
-        return Ok(None);
-    };
-    let Some(rest) = names_before::<END>(rest, &mut gathered.values)? else {
-        return Ok(None);
-    };
-    let Some(rest) = word_line::<END>(rest, b"end_variable") else {
-        return Ok(None);
-    };
-    let front = Front {
-        lines: 5 + gathered.values.len() as u64,
-        bytes: bytes.len() - rest.len(),
-    };
-    Ok(Some(VariableFound {
-        name,
-        layer,
-        front,
-        ending: Ending::with(END),
-    }))
-}
-
-/// Returns the variable that stands first in the bytes, where all its lines end alike, if it is quick to see. Its values are
-/// gathered. After `None` or an `Err` any may be gathered.
+/// Returns the variable that stands first in the bytes, if it is quick to see. Its values are gathered. After `None` or
+/// an `Err` any may be gathered.
 #[inline(always)]
 pub fn variable_found<'a>(
     bytes: &'a [u8],
     gathered: &mut Gathered,
 ) -> Result<Option<VariableFound<'a>>, AllocError>
     ensures { IfOk result (λ found. IfSome found (λ v.
-        VariableAhead bytes.now (gathered_variable v.name.now v.layer gathered.new) v.front
-        × EndsSo v.ending bytes.now v.front)) }
+        VariableAhead bytes.now (gathered_variable v.name.now v.layer gathered.new) v.front)) }
 {
-    match variable_ended::<LF>(bytes, gathered)? {
-        Some(found) => Ok(Some(found)),
-        None => variable_ended::<CR>(bytes, gathered),
-    }
+    let Some((name, layer, rest)) = begin_before(bytes) else {
+        return Ok(None);
+    };
+    let Some(rest) = names_before(rest, &mut gathered.values)? else {
+        return Ok(None);
+    };
+    let Some(rest) = word_before(rest, b"end_variable") else {
+        return Ok(None);
+    };
+    let front = Front {
+        lines: 5 + gathered.values.len() as u64,
+        bytes: bytes.len() - rest.len(),
+    };
+    Ok(Some(VariableFound { name, layer, front }))
 }
 
-/// Returns how many lines and bytes the mutex group takes up that stands first in the bytes, where its lines end so, as
-/// `group_found` does.
+/// Returns how many lines and bytes the mutex group takes up that stands first in the bytes, where it is quick to see
+/// that its facts exist. These are gathered. After `None` or an `Err` any may be gathered.
 #[inline(always)]
-fn group_ended<const END: u8>(
+pub fn group_found(
     ranges: &Items<u32>,
     bytes: &[u8],
     gathered: &mut Gathered,
-) -> Result<Option<GroupFound>, AllocError>
-    ensures { IfOk result (λ found. IfSome found (λ g.
-        GroupAhead ranges.now bytes.now gathered.new.facts g.front
-        × EndsSo g.ending bytes.now g.front)) }
+) -> Result<Option<Front>, AllocError>
+    ensures { IfOk result (λ found. IfSome found (λ front.
+        GroupAhead ranges.now bytes.now gathered.new.facts front)) }
 {
-    let Some(rest) = word_line::<END>(bytes, b"begin_mutex_group") else {
+    let Some(rest) = word_before(bytes, b"begin_mutex_group") else {
         return Ok(None);
     };
-    let Some(rest) = facts_before::<END>(ranges, rest, &mut gathered.facts)? else {
+    let Some(rest) = facts_before(ranges, rest, &mut gathered.facts)? else {
         return Ok(None);
     };
-    let Some(rest) = word_line::<END>(rest, b"end_mutex_group") else {
+    let Some(rest) = word_before(rest, b"end_mutex_group") else {
         return Ok(None);
     };
     let front = Front {
         lines: 3 + gathered.facts.len() as u64,
         bytes: bytes.len() - rest.len(),
     };
-    Ok(Some(GroupFound {
-        front,
-        ending: Ending::with(END),
-    }))
-}
-
-/// Returns how many lines and bytes the mutex group takes up that stands first in the bytes, where all its lines end alike, and
-/// it is quick to see that its facts exist. These are gathered. After `None` or an `Err` any may be gathered.
-#[inline(always)]
-pub fn group_found(
-    ranges: &Items<u32>,
-    bytes: &[u8],
-    gathered: &mut Gathered,
-) -> Result<Option<GroupFound>, AllocError>
-    ensures { IfOk result (λ found. IfSome found (λ g.
-        GroupAhead ranges.now bytes.now gathered.new.facts g.front
-        × EndsSo g.ending bytes.now g.front)) }
-{
-    match group_ended::<LF>(ranges, bytes, gathered)? {
-        Some(found) => Ok(Some(found)),
-        None => group_ended::<CR>(ranges, bytes, gathered),
-    }
+    Ok(Some(front))
 }

@@ -237,14 +237,14 @@ impl FlatSoFar {
         ensures none { IfOk result (λ front. front.bytes ≡ 0 → self.new ≡ self.old) }
     {
         let found = group_found(ranges, bytes, &mut self.begun.gathered)?;
-        let Some(found) = found else {
+        let Some(front) = found else {
             return Ok(Front::EMPTY);
         };
         self.columns
             .groups
             .push(self.begun.gathered.facts.as_slice())?;
         self.begun.facts.clear();
-        Ok(found.front)
+        Ok(front)
     }
 
     /// Takes the operator that stands first in the bytes likewise.

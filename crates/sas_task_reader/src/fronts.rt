@@ -5,12 +5,12 @@ ghost use Rattle.sas_core.specs.declared.parts.Variable.{Variable};
 ghost use Rattle.sas_core.specs.declared.parts.Operator.{Operator};
 ghost use Rattle.sas_core.specs.declared.parts.Rule.{Rule};
 ghost use Rattle.sas_task_judge.specs.Sections.{VariableWithRange};
-ghost use Rattle.sas_task_line.specs.Sections.{GroupAhead, OperatorAhead, RuleAhead, EndsSo};
+ghost use Rattle.sas_task_line.specs.Sections.{GroupAhead, OperatorAhead, RuleAhead};
 
 use sas_core::Items;
 use sas_reader::{Front, Kind};
 use sas_task_judge::VariableKept;
-use sas_task_line::{Ending, Gathered, group_found, operator_found, rule_found, variable_found};
+use sas_task_line::{Gathered, group_found, operator_found, rule_found, variable_found};
 
 /// No variable was kept.
 pub const NO_VARIABLE: VariableKept = VariableKept {
@@ -18,25 +18,20 @@ pub const NO_VARIABLE: VariableKept = VariableKept {
     range: 0,
 };
 
-/// Returns how many lines and bytes the variable takes up that stands first in the bytes, how many values it has, and how its
-/// lines end, where it is found. Anything may be gathered.
-pub fn variable_front(
-    bytes: &[u8],
-    gathered: &mut Gathered,
-) -> Result<Option<(VariableKept, Ending)>, Kind>
+/// Returns how many lines and bytes the variable takes up that stands first in the bytes, and how many values it has,
+/// where it is found. Anything may be gathered.
+pub fn variable_front(bytes: &[u8], gathered: &mut Gathered) -> Result<Option<VariableKept>, Kind>
     ensures found { IfOk result (λ found. IfSome found (λ kept.
-        ((v : Variable) × VariableWithRange bytes.now v kept.0)
-        × EndsSo kept.1 bytes.now kept.0.front)) }
+        (v : Variable) × VariableWithRange bytes.now v kept)) }
     ensures err { IfErr result (λ k. k ≡ Kind.Memory) }
 {
     let Some(found) = variable_found(bytes, gathered)? else {
         return Ok(None);
     };
-    let kept = VariableKept {
+    Ok(Some(VariableKept {
         front: found.front,
         range: gathered.values.len() as u32,
-    };
-    Ok(Some((kept, found.ending)))
+    }))
 }
 
 /// Returns how many lines and bytes the mutex group takes up that stands first in the bytes, likewise.
@@ -44,16 +39,12 @@ pub fn group_front(
     ranges: &Items<u32>,
     bytes: &[u8],
     gathered: &mut Gathered,
-) -> Result<Option<(Front, Ending)>, Kind>
-    ensures found { IfOk result (λ found. IfSome found (λ kept.
-        ((facts : List Fact) × GroupAhead ranges.now bytes.now facts kept.0)
-        × EndsSo kept.1 bytes.now kept.0)) }
+) -> Result<Option<Front>, Kind>
+    ensures found { IfOk result (λ found. IfSome found (λ front.
+        (facts : List Fact) × GroupAhead ranges.now bytes.now facts front)) }
     ensures err { IfErr result (λ k. k ≡ Kind.Memory) }
 {
-    let Some(found) = group_found(ranges, bytes, gathered)? else {
-        return Ok(None);
-    };
-    Ok(Some((found.front, found.ending)))
+    Ok(group_found(ranges, bytes, gathered)?)
 }
 
 /// Returns how many lines and bytes the operator takes up that stands first in the bytes, likewise.
@@ -61,16 +52,15 @@ pub fn operator_front(
     ranges: &Items<u32>,
     bytes: &[u8],
     gathered: &mut Gathered,
-) -> Result<Option<(Front, Ending)>, Kind>
-    ensures found { IfOk result (λ found. IfSome found (λ kept.
-        ((o : Operator) × OperatorAhead ranges.now bytes.now o kept.0)
-        × EndsSo kept.1 bytes.now kept.0)) }
+) -> Result<Option<Front>, Kind>
+    ensures found { IfOk result (λ found. IfSome found (λ front.
+        (o : Operator) × OperatorAhead ranges.now bytes.now o front)) }
     ensures err { IfErr result (λ k. k ≡ Kind.Memory) }
 {
     let Some(found) = operator_found(ranges, bytes, gathered)? else {
         return Ok(None);
     };
-    Ok(Some((found.front, found.ending)))
+    Ok(Some(found.front))
 }
 
 /// Returns how many lines and bytes the rule takes up that stands first in the bytes, likewise.
@@ -78,14 +68,13 @@ pub fn rule_front(
     ranges: &Items<u32>,
     bytes: &[u8],
     gathered: &mut Gathered,
-) -> Result<Option<(Front, Ending)>, Kind>
-    ensures found { IfOk result (λ found. IfSome found (λ kept.
-        ((r : Rule) × RuleAhead ranges.now bytes.now r kept.0)
-        × EndsSo kept.1 bytes.now kept.0)) }
+) -> Result<Option<Front>, Kind>
+    ensures found { IfOk result (λ found. IfSome found (λ front.
+        (r : Rule) × RuleAhead ranges.now bytes.now r front)) }
     ensures err { IfErr result (λ k. k ≡ Kind.Memory) }
 {
     let Some(found) = rule_found(ranges, bytes, gathered)? else {
         return Ok(None);
     };
-    Ok(Some((found.front, found.ending)))
+    Ok(Some(found.front))
 }

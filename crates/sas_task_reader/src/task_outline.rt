@@ -123,7 +123,7 @@ impl Keeper for TaskOutline {
     }
 
     fn keep_group(&mut self, ranges: &Items<u32>, bytes: &[u8]) -> Result<Front, Kind> {
-        let Some((front, _)) = group_front(ranges, bytes, &mut self.gathered)? else {
+        let Some(front) = group_front(ranges, bytes, &mut self.gathered)? else {
             return Ok(Front::EMPTY);
         };
         self.seen.group();
@@ -131,7 +131,7 @@ impl Keeper for TaskOutline {
     }
 
     fn keep_operator(&mut self, ranges: &Items<u32>, bytes: &[u8]) -> Result<Front, Kind> {
-        let Some((front, _)) = operator_front(ranges, bytes, &mut self.gathered)? else {
+        let Some(front) = operator_front(ranges, bytes, &mut self.gathered)? else {
             return Ok(Front::EMPTY);
         };
         self.seen.operator();
@@ -139,7 +139,7 @@ impl Keeper for TaskOutline {
     }
 
     fn keep_rule(&mut self, ranges: &Items<u32>, bytes: &[u8]) -> Result<Front, Kind> {
-        let Some((front, _)) = rule_front(ranges, bytes, &mut self.gathered)? else {
+        let Some(front) = rule_front(ranges, bytes, &mut self.gathered)? else {
             return Ok(Front::EMPTY);
         };
         self.seen.rule();

@@ -1,15 +1,13 @@
 // Stores the text of a task file, and nothing else of the task.
 ghost use Rattle.std.specs.Prelude.{◌≡◌, ◌++◌, ◌≤◌, [], length, take, OnOk, IfErr};
-ghost use Rattle.sas_lines.specs.Lines.{text, lines};
-ghost use Rattle.sas_task_line.specs.Sections.{EndsSo};
 
 use crate::fronts::{NO_VARIABLE, group_front, operator_front, rule_front, variable_front};
 use sas_core::Items;
-use sas_lines::{first_line, push_line};
+use sas_lines::push_line;
 use sas_reader::{Front, Kind};
 use sas_task_judge::{Keeper, VariableKept};
-use sas_task_line::{Ending, Event, Gathered, Said};
-use std::alloc::{AllocError, Global};
+use sas_task_line::{Event, Gathered, Said};
+use std::alloc::Global;
 use std::marker::Model;
 
 /// The lines so far, each ended by LF. In a contract it represents this text.
@@ -26,18 +24,6 @@ impl Model for TaskText {
     ghost Value = { List ℕ };
 
     ghost view = { λ t. t.text.items };
-}
-
-/// Appends all complete lines of the bytes, each with LF as its end. After an `Err` some may be there.
-fn push_lines(out: &mut Vec<u8>, bytes: &[u8]) -> Result<(), AllocError>
-    ensures { OnOk result (out.new.items ≡ out.old.items ++ text (lines bytes.now)) }
-{
-    let mut rest = bytes;
-    while let Some(first) = first_line(rest) {
-        push_line(out, first.line)?;
-        rest = &rest[first.taken..];
-    }
-    Ok(())
 }
 
 impl TaskText {
@@ -59,19 +45,13 @@ impl TaskText {
         text
     }
 
-    /// Takes the lines in front of the bytes, which end so.
-    fn take(&mut self, bytes: &[u8], front: Front, ending: Ending) -> Result<(), Kind>
-        requires within { front.bytes ≤ length bytes.now }
-        requires ends { EndsSo ending bytes.now front }
-        ensures ok { OnOk result
-            (self.new ≡ self.old ++ text (lines (take front.bytes bytes.now))) }
+    /// Takes so many of the bytes, which are whole lines.
+    fn take(&mut self, bytes: &[u8], count: usize) -> Result<(), Kind>
+        requires { count ≤ length bytes.now }
+        ensures ok { OnOk result (self.new ≡ self.old ++ take count bytes.now) }
         ensures err { IfErr result (λ k. k ≡ Kind.Memory) }
     {
-        let section = &bytes[..front.bytes];
-        match ending {
-            Ending::Lf => self.text.extend_from_slice(section)?,
-            Ending::CrLf => push_lines(&mut self.text, section)?,
-        }
+        self.text.extend_from_slice(&bytes[..count])?;
         Ok(())
     }
 }
@@ -88,34 +68,34 @@ impl Keeper for TaskText {
     }
 
     fn keep_variable(&mut self, bytes: &[u8]) -> Result<VariableKept, Kind> {
-        let Some((kept, ending)) = variable_front(bytes, &mut self.gathered)? else {
+        let Some(kept) = variable_front(bytes, &mut self.gathered)? else {
             return Ok(NO_VARIABLE);
         };
-        self.take(bytes, kept.front, ending)?;
+        self.take(bytes, kept.front.bytes)?;
         Ok(kept)
     }
 
     fn keep_group(&mut self, ranges: &Items<u32>, bytes: &[u8]) -> Result<Front, Kind> {
-        let Some((front, ending)) = group_front(ranges, bytes, &mut self.gathered)? else {
+        let Some(front) = group_front(ranges, bytes, &mut self.gathered)? else {
             return Ok(Front::EMPTY);
         };
-        self.take(bytes, front, ending)?;
+        self.take(bytes, front.bytes)?;
         Ok(front)
     }
 
     fn keep_operator(&mut self, ranges: &Items<u32>, bytes: &[u8]) -> Result<Front, Kind> {
-        let Some((front, ending)) = operator_front(ranges, bytes, &mut self.gathered)? else {
+        let Some(front) = operator_front(ranges, bytes, &mut self.gathered)? else {
             return Ok(Front::EMPTY);
         };
-        self.take(bytes, front, ending)?;
+        self.take(bytes, front.bytes)?;
         Ok(front)
     }
 
     fn keep_rule(&mut self, ranges: &Items<u32>, bytes: &[u8]) -> Result<Front, Kind> {
-        let Some((front, ending)) = rule_front(ranges, bytes, &mut self.gathered)? else {
+        let Some(front) = rule_front(ranges, bytes, &mut self.gathered)? else {
             return Ok(Front::EMPTY);
         };
-        self.take(bytes, front, ending)?;
+        self.take(bytes, front.bytes)?;
         Ok(front)
     }
 }
