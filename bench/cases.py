@@ -16,8 +16,10 @@ CASES = [
     Case("check power, 30 MB", "check", "power", 30, "MB", enlarged=5),
     Case("plan gripper, 100k operators, 1M steps", "plan", "gripper", 100000, "operators", 1000000, True, 4),
     Case("plan blocks, 20k operators, 1M steps", "plan", "blocks", 20000, "operators", 1000000, True, 8),
-    # a step costs what the rules cost, so the steps stay as they are
+    # a step may let nearly all fall and rise, and so cost what the rules cost: the steps stay as they are
     Case("plan power, 100k rules, 400 steps", "plan", "power", 100000, "rules", 400, enlarged=2),
+    Case("plan tables, 100k rules, 20k steps", "plan", "tables", 100000, "rules", 20000, True, 4),
+    Case("plan building, 100k rules, 20k steps", "plan", "building", 100000, "rules", 20000, True, 4),
     Case("mutex gripper, 2000 groups", "mutex", "gripper", 2000, "groups", enlarged=25),
     Case("mutex blocks, 20 MB", "mutex", "blocks", 20, "MB", enlarged=5),
 ]

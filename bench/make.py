@@ -4,9 +4,9 @@
     bench/make.py FOLDER [--scale F] [--only TEXT]          the inputs of all cases, or of those with TEXT in their name
     bench/make.py FOLDER DOMAIN SIZE [--steps N]            one input; with N, a plan of N steps or as many as it needs
 
-DOMAIN is gripper (transport), blocks (blocks world) or power (derived variables). SIZE is a number with a unit: MB,
-operators, groups (gripper, blocks) or rules (power), as in 200MB or 100000rules; without a unit it counts balls, blocks
-or columns. MB is 1,000,000 bytes, and about.
+DOMAIN is gripper (transport), blocks (blocks world), or one with derived variables: power, tables or building. SIZE is a
+number with a unit: MB, operators, groups (gripper, blocks) or rules (the last three), as in 200MB or 100000rules; without a
+unit it counts balls, blocks, columns, tables or floors. MB is 1,000,000 bytes, and about.
 
 Each input has a folder of its own in FOLDER, with `task.sas`, `plan` where it has one, and `about.json`, which
 describes them. An input that is there already is left as it is; after a change of these scripts remove it.
@@ -21,12 +21,14 @@ import zlib
 from collections import namedtuple
 
 from blocks import Blocks
+from building import Building
 from cases import chosen, wanted_size, wanted_steps
 from gripper import Gripper
 from power import Power
 from sas_text import plan_pieces, task_pieces
+from tables import Tables
 
-DOMAINS = {"gripper": Gripper, "blocks": Blocks, "power": Power}
+DOMAINS = {"gripper": Gripper, "blocks": Blocks, "power": Power, "tables": Tables, "building": Building}
 PIECES_AT_ONCE = 4096
 
 Made = namedtuple("Made", "folder task plan about")
@@ -54,7 +56,7 @@ def write(path, pieces):
     size, lines, check = 0, 0, 0
     with open(path, "wb") as file:
         for text in in_batches(pieces):
-            data = text.encode("ascii")
+            data = text.encode("latin-1")
             file.write(data)
             size, lines, check = size + len(data), lines + data.count(b"\n"), zlib.crc32(data, check)
     return {"bytes": size, "lines": lines, "crc32": "%08x" % check}

@@ -15,6 +15,7 @@ With n columns it has 3 n - 1 lines, an operator to open and one to close each o
 from collections import deque
 
 from mixing import mixed
+from sas_text import both
 
 MAIN = 0
 CLOSED, OPEN = 0, 1
@@ -142,11 +143,6 @@ def lines_of_ladder(columns):
             lines += [(upper - 2, upper), (upper - 1, upper + 1)]
         lines.append((upper, upper + 1))
     return lines
-
-
-def both(layer, atom):
-    """Returns a variable that represents whether an atom holds."""
-    return layer, ["Atom " + atom, "NegatedAtom " + atom]
 
 
 def close_switch(line):

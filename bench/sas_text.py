@@ -1,7 +1,8 @@
 """The text of a task file (`output.sas`, version 3), section by section, as the translator of Fast Downward writes it.
 
 A domain is an object with these members. Facts are pairs (VARIABLE, VALUE), and an effect is (VARIABLE, OLD, NEW),
-where -1 is no old value. Everything is under metric 0, so each operator's cost line is 1.
+where -1 is no old value; its conditions, where it has some, stand behind these three. Everything is under metric 0, so each
+operator's cost line is 1.
 
     objects                 how many things its size counts
     counts()                how many `variables`, `groups`, `operators` and `rules` it has
@@ -15,6 +16,11 @@ where -1 is no old value. Everything is under metric 0, so each operator's cost 
 """
 
 HEAD = "begin_version\n3\nend_version\nbegin_metric\n0\nend_metric\n"
+
+
+def both(layer, atom):
+    """Returns a variable that represents whether an atom holds."""
+    return layer, ["Atom " + atom, "NegatedAtom " + atom]
 
 
 def fact_lines(facts):
@@ -31,9 +37,13 @@ def group_text(_, facts):
     return "begin_mutex_group\n" + fact_lines(facts) + "end_mutex_group\n"
 
 
+def effect_line(var, old, new, *conditions):
+    return "%d " % len(conditions) + "".join(["%d %d " % fact for fact in conditions]) + "%d %d %d\n" % (var, old, new)
+
+
 def operator_text(_, operator):
     name, conditions, effects = operator
-    lines = "".join(["0 %d %d %d\n" % effect for effect in effects])
+    lines = "".join([effect_line(*effect) for effect in effects])
     return "begin_operator\n%s\n%s%d\n%s1\nend_operator\n" % (name, fact_lines(conditions), len(effects), lines)
 
 

@@ -14,8 +14,9 @@ calls.json: for each program what its calls print, in groups of the same call.
     rows         [INPUT, ANSWER]: the bytes that the call is about, and what the program prints
 
 The calls over the files of tasks.json, lines.json, plans.json, verdicts.json and groups.json are made here, and those over
-the tasks of axioms.py, walks.py, families.py and large.py, and over devices that go on behind a failure. texts.py defines what
-a text is. Each case that fails has a line, and the last line is 'N passed, M failed'. The exit status is 0 where none failed.
+the tasks of axioms.py, walks.py, following.py, families.py and large.py, and over devices that go on behind a failure.
+texts.py defines what a text is. Each case that fails has a line, and the last line is 'N passed, M failed'. The exit status is
+0 where none failed.
 """
 import os
 import subprocess
@@ -25,6 +26,7 @@ from concurrent.futures import ThreadPoolExecutor
 import report
 from axioms import settled_tasks, spoiled_tasks, text_of
 from families import grouped_tasks
+from following import called_runs
 from large import plan_text, wide_groups, wide_plans, wide_task
 from steps import initial, state_line, verdict
 from texts import as_bytes, changed_lines, early_end, table
@@ -232,6 +234,15 @@ def step_cases():
             yield case(VERDICTS, f"steps {way}", [made["calls"], "|", made["task"]], made["answers"], made["name"])
 
 
+def following_cases():
+    """Yields long runs over tasks made at random, through each evaluator: those that go on from the state before, and, step by
+    step, those that settle each state by itself. They could show a state that rests on the one before it."""
+    for made in called_runs():
+        for call, (words, answer) in made["calls"].items():
+            for way in EVALUATORS:
+                yield case(VERDICTS, f"{call} {way}", [words, "|", made["task"]], answer, made["name"])
+
+
 def group_cases():
     """Yields the groups of each task that isn't too long, and of those made at random: the joint verdicts, and each by
     itself. They could show a definition of kept groups by which too few are shown."""
@@ -267,7 +278,8 @@ def cases():
     """Returns all calls."""
     files = (*task_cases(), *line_cases(), *plan_cases(), *verdict_cases())
     devices = (*told_cases(), *told_plan_cases(), *wide_cases())
-    return [*written_cases(), *files, *devices, *settled_cases(), *layer_cases(), *step_cases(), *group_cases()]
+    random = (*settled_cases(), *layer_cases(), *step_cases(), *following_cases(), *group_cases())
+    return [*written_cases(), *files, *devices, *random]
 
 
 def faults(programs, call):

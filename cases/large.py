@@ -23,6 +23,8 @@ STEPS = 200_001
 # the most bytes that are read, and the length of the names of operators that fill them
 LIMIT, NAME = 4_294_967_296, 65_536
 PIECE = 65_536
+# operators whose names end in the factor of the map's hasher
+ALIKE, FACTOR = 200_000, (0x9E3779B97F4A7C15).to_bytes(8, "little").decode("latin-1")
 # the stack that README promises to serve; with 48 kB some runs fail, as the place of the stack varies
 STACK = 65_536
 MINIMAL = "cases/tasks/minimal.sas"
@@ -165,7 +167,8 @@ def wide_cases():
         yield over_input(name, "mutex", text, groups_said(width), 1)
         for names, cost, said in wide_plans(width):
             yield over_plan(f"{name}, {said}", text, names, cost, f"{said}\n", 1 if "invalid" in said else 0)
-            yield over_input(name, "steps", plan_text(names, cost), plan_text(names, cost))
+            for ends, plan in ended(plan_text(names, cost)):
+                yield over_input(f"{name}, {ends}", "steps", plan, plan_text(names, cost))
 
 
 def shifts(length):
@@ -174,18 +177,28 @@ def shifts(length):
         yield READ - length * part // (CUTS + 1)
 
 
+def ended(text):
+    """Yields a text with other line ends: how they are called, and what the file holds."""
+    yield "LF", text
+    yield "CR LF", text.replace("\n", "\r\n")
+    yield "CR LF in each third line", "".join(
+        line.replace("\n", "\r\n") if place % 3 == 0 else line for place, line in enumerate(text.splitlines(keepends=True))
+    )
+
+
 def cut_cases():
     """Wide tasks, of files in which reads of 65,536 bytes cut other lists each time. They could show an operator, a rule or a
-    group that is read twice, or not at all, where a piece ends in it."""
+    group that is read twice, or not at all, where a piece ends in it, or a line end that counts as part of a line."""
     for width in WIDTHS[:3]:
         task = wide_task(width)
         groups = groups_said(width)
         for shift in shifts(len(text_of(task))):
             text = text_of(task).replace("var0\n", f"var0{'-' * shift}\n", 1)
             answers = {"print": (text, 0), "show": (summary(task), 0), "check": ("task layered\n", 0), "mutex": (groups, 1)}
-            for request, (output, status) in answers.items():
-                name = f"{width} of everything, {shift} bytes further, {request}"
-                yield case(name, [request, "t.sas"], output, status, files={"t.sas": text})
+            for ends, file in ended(text):
+                for request, (output, status) in answers.items():
+                    name = f"{width} of everything, {shift} bytes further, {ends}, {request}"
+                    yield case(name, [request, "t.sas"], output, status, files={"t.sas": file})
 
 
 def stack_cases():
@@ -296,6 +309,15 @@ def long_name_cases():
     yield over_plan(name, text, names[1:], 1, "plan invalid: step 1: not applicable\n", 1)
     yield over_plan(name, text, [long], 1, "plan invalid: step 1: no operator of that name\n", 1)
     yield over_input(name, "steps", plan_text(names, 2), plan_text(names, 2))
+
+
+def alike_name_cases():
+    """Operators whose names have different fronts of eight bytes, and then the factor of the hasher. Given a name at once, it
+    forgets all in front of that, so that all names share a hash. They could show a map of names by such a hash: each name is
+    compared there with all others, which takes minutes."""
+    names = [f"{place:07} {FACTOR}" for place in range(ALIKE)]
+    task = task_with([2], operators=[(name, [], [], 1) for name in names])
+    yield over_plan("names that end alike", text_of(task), names, ALIKE, f"plan valid: {ALIKE} steps, cost {ALIKE}\n")
 
 
 def piece_cases():
@@ -433,6 +455,7 @@ def large_cases():
     yield from late_layer_cases()
     yield from digit_cases()
     yield from long_name_cases()
+    yield from alike_name_cases()
     yield from piece_cases()
     yield from stack_cases()
     yield from full_file_cases()

@@ -21,7 +21,7 @@ plans.json: plan files. Each is given to `steps` twice, as a file and as standar
 standard error. One with `cut_off` ends early wherever it is cut off.
 
 verdicts.json: plans of tasks. Each is given to `plan` as two files, with the task as standard input, and with the plan as
-standard input; those that walks.py makes at random as two files.
+standard input; those that walks.py and following.py make at random as two files.
 
     task, plan   the files, as texts
     output       standard output, exactly
@@ -29,7 +29,7 @@ standard input; those that walks.py makes at random as two files.
     initial      the initial state, and
     call         what the call `check_plan` answers; both for calls.py, and left out where a file is refused or too long
 
-large.py makes large tasks and plans, as cases of program.json.
+large.py, idle.py and crowded.py make large tasks and plans, as cases of program.json.
 
 groups.json: tasks. Each is given to `mutex` as a file and as standard input, and there with CR LF at the end of each line
 too; those that families.py makes at random, and its larger ones, as standard input.
@@ -67,7 +67,10 @@ import threading
 from concurrent.futures import ThreadPoolExecutor
 
 import report
+from crowded import crowded_cases
 from families import grouped_tasks, idle_effects, long_chains
+from following import long_runs
+from idle import idle_cases, nets_cases
 from large import large_cases
 from texts import TOP, as_bytes, changed_lines, early_end, table
 from walks import walked_plans
@@ -168,7 +171,7 @@ def verdict_cases():
         yield verdict_case(made, ["t.sas", "p.txt"], files={**task, **plan})
         yield verdict_case(made, ["-", "p.txt"], files=plan, input=made["task"])
         yield verdict_case(made, ["t.sas", "-"], files=task, input=made["plan"])
-    for made in walked_plans():
+    for made in (*walked_plans(), *long_runs()):
         yield verdict_case(made, ["t.sas", "p.txt"], files={"t.sas": made["task"], "p.txt": made["plan"]})
 
 
@@ -305,7 +308,8 @@ def main():
     program = os.path.abspath(sys.argv[1])
     with tempfile.TemporaryDirectory() as plans, tempfile.TemporaryDirectory() as folder:
         files = (*task_cases(), *line_cases(), *plan_cases(plans), *verdict_cases(), *group_cases())
-        cases = [*large_cases(), *files, *table("program.json")]
+        # those that take longest first
+        cases = [*nets_cases(), *idle_cases(), *crowded_cases(), *large_cases(), *files, *table("program.json")]
         with ThreadPoolExecutor(os.cpu_count()) as pool:
             wrong = list(pool.map(lambda case: faults(program, case, folder), cases))
     report.end(cases, wrong)

@@ -40,13 +40,18 @@ def conflict(state, operator):
     return None
 
 
-def next_state(task, state, operator):
-    """Returns the state behind a step of an applicable operator without a conflict."""
+def changed(state, operator):
+    """Returns the state behind a step of an applicable operator without a conflict, before it is settled."""
     values = list(state)
     for facts, var, _, new in operator[2]:
         if holds(state, facts):
             values[var] = new
-    return settled(task, values)
+    return values
+
+
+def next_state(task, state, operator):
+    """Returns the state behind a step of an applicable operator without a conflict."""
+    return settled(task, changed(state, operator))
 
 
 def initial(task):

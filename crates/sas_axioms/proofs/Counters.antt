@@ -16,10 +16,12 @@ use Rattle.sas_meaning.specs.Layers.{IsOnLayer, default_of, IsLayered}
 use Rattle.sas_meaning.specs.Settled.{differs, IsSettledAt}
 use Rattle.sas_meaning.specs.Forced.{OnlyForced, HasFired, SameOff, AtDefault, equal_places}
 use Rattle.sas_axioms.specs.LayerRules.{IsRuleOn}
+use Rattle.sas_axioms.specs.Sources.{AreGiven}
 use Rattle.sas_axioms.specs.Waiting.{occurrences, asking}
 use Rattle.sas_axioms.specs.Conditions.{open_conditions}
 use Rattle.sas_axioms.specs.declared.firing.Work.{Work}
-use Rattle.sas_axioms.specs.Worklist.{value_seen, IsRunning, AreCounted, HaveFired, IsAtWork, WorkGoesOn, FiresRule}
+use Rattle.sas_axioms.proofs.OneLayer.{one_layer}
+use Rattle.sas_axioms.specs.Worklist.{SameCountsOff, value_seen, IsRunning, AreCounted, HaveFired, IsAtWork, WorkGoesOn, FiresRule}
 use Rattle.std.specs.List.{All}
 use Rattle.std.proofs.lemmas.List.Elements.{All-nil, All-cons, All-head, All-tail}
 use Rattle.sas_meaning.proofs.Forced.{Fired, fired_there, rule_new, differs_true, differs_not, fact_within}
@@ -61,7 +63,7 @@ rule_within t s k ranged state lt =
     let within = fact_within t (rule_at t k).var (rule_at t k).new (rule_new t ranged k no_rule lt) in
     let len = state.one_each in omega arith
 
-was_default : (t : Parts) (layer : ℕ) (s : List ℕ) (k : ℕ) → IsLayered t → OnlyForced t layer s → IsRuleOn t layer k → get_or s (rule_at t k).var 0 ≢ (rule_at t k).new → get_or s (rule_at t k).var 0 ≡ default_of t (rule_at t k).var
+pub was_default : (t : Parts) (layer : ℕ) (s : List ℕ) (k : ℕ) → IsLayered t → OnlyForced t layer s → IsRuleOn t layer k → get_or s (rule_at t k).var 0 ≢ (rule_at t k).new → get_or s (rule_at t k).var 0 ≡ default_of t (rule_at t k).var
 was_default t layer s k layered forced on changes = elim (differs_tells t s (rule_at t k).var) [
   | inl p ↦ p.0
   | inr p ↦ absurd (changes (forced.new (rule_at t k).var on.on p.1 ∙ new_value_is t k no_rule layered on.exists on.can))
@@ -131,15 +133,22 @@ pushed t layer s stack k ranged layered run on_k hold changes = record {
 
 -- the two writes of a rule that fires
 pub fires_by : (t : Parts) (s : List ℕ) (w : Work) (s' : List ℕ) (w' : Work) (k : ℕ) → WellRanged t → IsState t.variables s → IsRuleOn t w.layer k → Pushed t w.layer s w.stack.items (rule_at t k)
+    → (AreGiven t w.layer s w.sources → AreGiven t w.layer (set s (rule_at t k).var (rule_at t k).new) (set w.sources (rule_at t k).var k))
+    → w'.sources ≡ set w.sources (rule_at t k).var k
     → s' ≡ set s (rule_at t k).var (rule_at t k).new → w'.stack.items ≡ w.stack.items ++ (rule_at t k).var ∷ []
     → w'.layer ≡ w.layer → w'.counters ≡ w.counters → vec_capacity w.stack ≤ vec_capacity w'.stack → FiresRule t k s w s' w'
-fires_by t s w s' w' k ranged state on p s-is stack-is layer counters room = record {
+fires_by t s w s' w' k ranged state on p given sources-is s-is stack-is layer counters room = record {
   goes_on = record {
     layer = layer;
     off = rw s-is p.off;
+    counts = λ m rule ne on. ap (λ (xs : List ℕ). get_or xs rule 0) counters;
+    sources = λ v off. ap (λ (xs : List ℕ). get_or xs v 0) sources-is
+        ∙ get_or-set_other w.sources (rule_at t k).var v k 0 (λ e. off (subst (λ u. IsOnLayer t w.layer u) (sym e) on.on));
     left = rw (s-is, stack-is) (let fewer = p.fewer in let len = length-append w.stack.items ((rule_at t k).var ∷ []) in omega arith);
   };
   counters = counters;
+  sources = ap length sources-is ∙ length-set w.sources (rule_at t k).var k;
+  given = λ was. rw (s-is, sources-is) (given was);
   room = room;
   running = rw (s-is, stack-is) p.running;
   seen = rw (s-is, stack-is) p.seen;
@@ -150,14 +159,21 @@ fires_by t s w s' w' k ranged state on p s-is stack-is layer counters room = rec
 -- ---- one piece of work after another
 
 pub goes_on_still : (t : Parts) (s : List ℕ) (w : Work) → WorkGoesOn t s w s w
-goes_on_still t s w = record { layer = refl; off = λ v off. refl; left = omega arith }
+goes_on_still t s w = record { layer = refl; off = λ v off. refl; counts = λ m rule ne on. refl; sources = λ v off. refl; left = omega arith }
 
 pub goes_on_more : (t : Parts) (s : List ℕ) (w : Work) (s' : List ℕ) (w' : Work) (s'' : List ℕ) (w'' : Work) → WorkGoesOn t s w s' w' → WorkGoesOn t s' w' s'' w'' → WorkGoesOn t s w s'' w''
 goes_on_more t s w s' w' s'' w'' so_far more = record {
   layer = more.layer ∙ so_far.layer;
   off = λ v off. so_far.off v off ∙ more.off v (subst (λ n. IsOnLayer t n v → ⊥) (sym so_far.layer) off);
+  counts = λ m rule ne on. more.counts m rule (λ e. ne (e ∙ so_far.layer)) on ∙ so_far.counts m rule ne on;
+  sources = λ v off. more.sources v (subst (λ n. IsOnLayer t n v → ⊥) (sym so_far.layer) off) ∙ so_far.sources v off;
   left = let a = so_far.left in let b = more.left in omega arith;
 }
+
+-- the counter of a rule of the layer is none of another layer's rule
+pub counts_set_off : (t : Parts) (layer k n : ℕ) (counters : List ℕ) → IsRuleOn t layer k → SameCountsOff t layer counters (set counters k n)
+counts_set_off t layer k n counters is m rule ne on =
+    get_or-set_other counters k rule n 0 (λ e. ne (one_layer t m layer k (subst (λ r. IsRuleOn t m r) e on) is))
 
 -- ---- counting conditions
 
@@ -323,12 +339,14 @@ running_at_default t layer s state at = record {
 -- a rule that was counted down to nothing has fired
 pub at_work_fired : (t : Parts) (s : List ℕ) (w : Work) (s' : List ℕ) (w' : Work) (counters left : List ℕ) (k : ℕ) → k < length w.counters → IsAtWork t s w (k ∷ left)
     → counters ≡ set w.counters k (get_or w.counters k 0 - 1)
-    → FiresRule t k s (record { layer = w.layer; counters = counters; stack = w.stack }) s' w' → IsAtWork t s' w' left
+    → FiresRule t k s (record { layer = w.layer; counters = counters; stack = w.stack; sources = w.sources; agenda = w.agenda }) s' w' → IsAtWork t s' w' left
 at_work_fired t s w s' w' counters left k within work is f = record {
   room = record {
     one_each = ap length f.counters ∙ (ap length is ∙ (length-set w.counters k (get_or w.counters k 0 - 1) ∙ work.room.one_each));
     variables = omega (arith, work.room.variables, f.room);
+    sources = f.sources ∙ work.room.sources;
   };
+  given = rw f.goes_on.layer (f.given work.given);
   running = rw f.goes_on.layer f.running;
   counts = rw (f.goes_on.layer, f.counters, is)
       (counts_seen t w.layer s s' w.stack.items w'.stack.items (set w.counters k (get_or w.counters k 0 - 1)) left f.seen (counted_down t w.layer s w.stack.items w.counters left k within work.counts));

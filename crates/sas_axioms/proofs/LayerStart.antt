@@ -16,7 +16,7 @@ use Rattle.sas_axioms.specs.Resting.{StaysOn, AreLooks}
 use Rattle.sas_axioms.proofs.Asked.{condition_asked}
 
 -- as many conditions are open under values that are the same where they ask
-open_alike : (value value' : ℕ → ℕ) (cs : List Fact) → All (λ (c : Fact). value c.var ≡ value' c.var) cs → open_conditions value cs ≡ open_conditions value' cs
+pub open_alike : (value value' : ℕ → ℕ) (cs : List Fact) → All (λ (c : Fact). value c.var ≡ value' c.var) cs → open_conditions value cs ≡ open_conditions value' cs
 open_alike value value' [] same = refl
 open_alike value value' (c ∷ cs) same =
     rw (All-head (λ (c : Fact). value c.var ≡ value' c.var) c cs same)

@@ -9,3 +9,13 @@ pub mod Asked
 pub mod Derived
 pub mod Spans
 pub mod LayerStart
+pub mod Sources
+pub mod Tracking
+pub mod FallingSteps
+pub mod RisingSteps
+pub mod GoneSteps
+pub mod AllCounted
+pub mod AgendaOrder
+pub mod Recounting
+pub mod CountingEntries
+pub mod RulesOf

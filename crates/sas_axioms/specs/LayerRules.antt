@@ -49,3 +49,11 @@ pub record AreRulesOn (p : Parts) (layer : ℕ) (rules : List LayerRule) : Type 
   pub only : All (λ (r : LayerRule). IsRuleOn p layer r.rule) rules
   pub each : (rule : ℕ) → IsRuleOn p layer rule
       → Contains rules (record { layer = layer; rule = rule })
+
+-- under each derived variable its rules that can fire are listed, and no other
+pub record AreRulesOf (p : Parts) (lists : List (List ℕ)) : Type 0 where
+  pub one_each : length lists ≡ length p.variables
+  pub only : (layer var : ℕ) → IsOnLayer p layer var
+      → All (λ rule. IsRuleOn p layer rule) (slice_index_or lists var [])
+  pub each : (layer rule : ℕ) → IsRuleOn p layer rule
+      → Contains (slice_index_or lists (rule_at p rule).var []) rule

@@ -12,3 +12,6 @@ pub mod Waiting
 pub mod Conditions
 pub mod Resting
 pub mod Worklist
+pub mod Sources
+pub mod Agenda
+pub mod Following

@@ -10,7 +10,8 @@ use Rattle.sas_axioms.specs.declared.firing.Firing.{Firing}
 use Rattle.sas_axioms.specs.declared.firing.Work.{Work}
 use Rattle.sas_axioms.specs.declared.layer_rules.LayerRule.{LayerRule}
 use Rattle.sas_axioms.specs.declared.worklist.Worklist.{Worklist}
-use Rattle.sas_axioms.specs.LayerRules.{IsRuleOn, AreLayerRules, AreSpans}
+use Rattle.sas_axioms.specs.LayerRules.{IsRuleOn, AreLayerRules, AreSpans, AreRulesOf}
+use Rattle.sas_axioms.specs.Sources.{AreGiven, SameSourcesOff}
 use Rattle.sas_axioms.specs.Waiting.{occurrences, IsIndex}
 use Rattle.sas_axioms.specs.Conditions.{open_conditions, SameAsked}
 use Rattle.sas_axioms.specs.Resting.{IsResting}
@@ -49,6 +50,7 @@ left_to_do p s stack = 2 * equal_places s p.init + length stack
 pub record HasRoom (p : Parts) (w : Work) : Type 0 where
   pub one_each : length w.counters ≡ length p.rules
   pub variables : length p.variables ≤ vec_capacity w.stack
+  pub sources : length w.sources ≡ length p.variables
 
 -- the rules of a layer are at work
 pub record IsAtWork (p : Parts) (s : List ℕ) (w : Work) (left : List ℕ) : Type 0 where
@@ -56,11 +58,24 @@ pub record IsAtWork (p : Parts) (s : List ℕ) (w : Work) (left : List ℕ) : Ty
   pub running : IsRunning p w.layer s w.stack.items
   pub counts : AreCounted p w.layer s w.stack.items w.counters left
   pub fired : HaveFired p w.layer s w.counters
+  pub given : AreGiven p w.layer s w.sources
+
+-- the counter of each rule of the layer is the number of its conditions that don't hold
+abbrev pub AreCountedOn : Parts → ℕ → List ℕ → List ℕ → Type 0
+AreCountedOn p layer s counters = (rule : ℕ) → IsRuleOn p layer rule
+    → slice_index counters rule ≡ open_conditions (slice_index s) (rule_at p rule).conditions
+
+-- the counters of the other layers' rules are as they were
+abbrev pub SameCountsOff : Parts → ℕ → List ℕ → List ℕ → Type 0
+SameCountsOff p layer counters counters' = (m rule : ℕ) → (m ≡ layer → ⊥) → IsRuleOn p m rule
+    → slice_index counters' rule ≡ slice_index counters rule
 
 -- the work goes on, on its layer alone, and no more is left to do than before
 pub record WorkGoesOn (p : Parts) (s : List ℕ) (w : Work) (s' : List ℕ) (w' : Work) : Type 0 where
   pub layer : w'.layer ≡ w.layer
   pub off : SameOff p w.layer s s'
+  pub counts : SameCountsOff p w.layer w.counters w'.counters
+  pub sources : SameSourcesOff p w.layer w.sources w'.sources
   pub left : left_to_do p s' w'.stack.items ≤ left_to_do p s w.stack.items
 
 -- one rule fired, or had
@@ -68,6 +83,8 @@ pub record FiresRule (p : Parts) (rule : ℕ) (s : List ℕ) (w : Work) (s' : Li
     : Type 0 where
   pub goes_on : WorkGoesOn p s w s' w'
   pub counters : w'.counters ≡ w.counters
+  pub sources : length w'.sources ≡ length w.sources
+  pub given : AreGiven p w.layer s w.sources → AreGiven p w.layer s' w'.sources
   pub room : vec_capacity w.stack ≤ vec_capacity w'.stack
   pub running : IsRunning p w.layer s' w'.stack.items
   pub seen : (var : ℕ) → value_seen p s' w'.stack.items var ≡ value_seen p s w.stack.items var
@@ -78,6 +95,7 @@ pub record FiresRule (p : Parts) (rule : ℕ) (s : List ℕ) (w : Work) (s' : Li
 pub record IsPrepared (p : Parts) (f : Firing) : Type 0 where
   pub index : IsIndex p f.index
   pub resting : IsResting p f.resting
+  pub rules_of : AreRulesOf p f.rules_of
   pub room : HasRoom p f.work
   pub empty : f.work.stack.items ≡ []
 
@@ -106,3 +124,5 @@ pub record IsReadyFrom (p : Parts) (layer : ℕ) (s : List ℕ) (w : Worklist) :
   pub stands : StandsAt w.rules.items layer w.start
   pub left : AreSpans w.rules.items w.start (drop w.next w.spans.items) (length w.rules.items)
   pub follows : SameAsked p s w.firing.resting.counted.values
+  pub counts : (below : ℕ) → below < layer → AreCountedOn p below s w.firing.work.counters
+  pub given : (below : ℕ) → below < layer → AreGiven p below s w.firing.work.sources

@@ -7,10 +7,10 @@ use sas_meaning::{Layered, State};
 
 /// An evaluator that settles the layers of a task in turn, from the lowest one on.
 pub trait ByLayers<T: Grounded> {
-    ghost use Rattle.std.specs.Prelude.{◌≡◌, ◌+◌, ◌≤◌, ℕ, List, IfSome, IfNone};
+    ghost use Rattle.std.specs.Prelude.{◌≡◌, ◌+◌, ◌≤◌, ℕ, List, ⊤, IfSome, IfNone};
     ghost use Rattle.sas_core.specs.declared.parts.Parts.{Parts};
     ghost use Rattle.sas_core.specs.Variables.{IsState};
-    ghost use Rattle.sas_meaning.specs.Settled.{SameBasic};
+    ghost use Rattle.sas_meaning.specs.Settled.{SameBasic, IsSettled};
     ghost use Rattle.sas_meaning.specs.Forced.{AtDefault};
     ghost use Rattle.sas_axioms.specs.ByLayers.{IsIdle, SettlesNext};
 
@@ -19,6 +19,9 @@ pub trait ByLayers<T: Grounded> {
 
     /// And it can go on with a state of these values, where the layers from this one on are still to be settled.
     ghost stands: { Self → Parts → ℕ → List ℕ → Type 0 };
+
+    /// It settled this state last, and can go on from there.
+    ghost follows: { Self → Parts → List ℕ → Type 0 } = { λ _ _ _. ⊤ };
 
     /// Sets the derived variables to their default.
     fn begin(&mut self, layered: &Layered<T>, state: &mut State)
@@ -40,6 +43,8 @@ pub trait ByLayers<T: Grounded> {
         ensures settles { IfSome result (λ layer.
             SettlesNext layered.now from state.old state.new layer) }
         ensures ready { IfNone result (ready self.new layered.now) }
+        ensures follows { IfNone result
+            ((IsSettled layered.now state.new) → follows self.new layered.now state.new) }
         ensures same { IfNone result (state.new ≡ state.old) }
         ensures idle { IfNone result ((layer : ℕ) → from ≤ layer → IsIdle layered.now layer) };
 }
@@ -53,6 +58,7 @@ pub fn settle_by_layers<T: Grounded, E: ByLayers<T>>(
     requires ready { E.ready evaluator.old layered.now }
     requires state { IsState layered.now.variables state.old }
     ensures ready { E.ready evaluator.new layered.now }
+    ensures follows { E.follows evaluator.new layered.now state.new }
     ensures settles { Settles layered.now state.old state.new }
 {
     // By its contract the task is well ranged and layered.

@@ -1,18 +1,26 @@
 // Settling one layer by counters: each rule counts its conditions that don't hold yet, and fires when none is left.
-ghost use Rattle.std.specs.Prelude.{◌≡◌, ℕ, ◌<◌, ◌^◌, [], ◌∷◌, List, length, All, IfOk, slice_index};
+ghost use Rattle.std.specs.Prelude.{◌≡◌, ℕ, ◌<◌, ◌^◌, [], ◌∷◌, List, length, All, IfOk, OnOk, slice_index};
 ghost use Rattle.sas_core.specs.Grounded.{rule_at};
 ghost use Rattle.sas_core.specs.Variables.{IsState};
 ghost use Rattle.sas_meaning.specs.States.{AllHold};
 ghost use Rattle.sas_meaning.specs.Forced.{AtDefault};
+ghost use Rattle.sas_meaning.specs.Following.{HaveGone};
+ghost use Rattle.sas_meaning.specs.Settled.{SameBasic};
 ghost use Rattle.sas_axioms.specs.declared.waiting.Waiting.{Waiting};
 ghost use Rattle.sas_axioms.specs.ByLayers.{SettlesLayer};
 ghost use Rattle.sas_axioms.specs.LayerRules.{IsRuleOn, AreRulesOn};
 ghost use Rattle.sas_axioms.specs.Waiting.{IsIndex, released};
 ghost use Rattle.sas_axioms.specs.Conditions.{open_conditions, SameAsked};
 ghost use Rattle.sas_axioms.specs.Resting.{IsResting};
+ghost use Rattle.sas_axioms.specs.Agenda.{IsEmpty};
+ghost use Rattle.sas_axioms.specs.Sources.{AreGiven, SameSourcesOff};
+ghost use Rattle.sas_axioms.specs.Following.{IsFollowed};
+ghost use Rattle.sas_axioms.specs.Worklist.{AreCountedOn, SameCountsOff};
 ghost use Rattle.sas_axioms.specs.Worklist.{IsRunning, AreCounted, HasRoom, IsAtWork, WorkGoesOn, FiresRule, IsPrepared};
 
-use crate::layer_rules::LayerRule;
+use crate::agenda::{Agenda, TooMuch};
+use crate::following::{count_gone, settle_noted};
+use crate::layer_rules::{LayerRule, rules_of_variables};
 use crate::resting::Resting;
 use crate::waiting::{Waiting, index_of_own_layers};
 use sas_core::{Fact, Grounded, Items};
@@ -29,6 +37,10 @@ pub struct Work {
     pub counters: Items<u32>,
     /// Variables that were set to their rules' value, and whose waiting rules haven't been counted down yet.
     pub stack: Vec<u32>,
+    /// For each derived variable that differs from its default, the rule that gave it its value.
+    pub sources: Items<u32>,
+    /// The rules that are to be looked at where a settled state is followed.
+    pub agenda: Agenda,
 }
 
 /// An evaluator that settles the layers of a task, one at a time.
@@ -38,23 +50,33 @@ pub struct Firing {
     index: Lists<Waiting>,
     /// How many conditions of each rule are open where its layer begins.
     pub resting: Resting,
+    /// The rules of each derived variable.
+    rules_of: Lists<u32>,
     /// The work on a layer.
     work: Work,
 }
 
 impl Firing {
-    /// Returns an evaluator for the task. All memory that it needs is reserved here.
-    pub fn new<T: Grounded>(alloc: Global, task: &Layered<T>) -> Result<Firing, AllocError>
+    /// Returns an evaluator for the task, which follows a state as long as no more entries than its share are gone through. All
+    /// memory that it needs is reserved here.
+    pub fn new<T: Grounded>(
+        alloc: Global,
+        task: &Layered<T>,
+        share: usize,
+    ) -> Result<Firing, AllocError>
         ensures { IfOk result (λ firing. IsPrepared task.now firing) }
     {
         let work = Work {
             layer: 0,
             counters: Items::from_vec(vec![in alloc; 0u32; task.rules() as usize]?),
             stack: Vec::with_capacity(alloc, task.variables() as usize)?,
+            sources: Items::from_vec(vec![in alloc; 0u32; task.variables() as usize]?),
+            agenda: Agenda::new(alloc, share)?,
         };
         Ok(Firing {
             index: index_of_own_layers(alloc, task)?,
             resting: Resting::new(alloc, task)?,
+            rules_of: rules_of_variables(alloc, task)?,
             work,
         })
     }
@@ -75,11 +97,59 @@ impl Firing {
         ensures prepared { IsPrepared task.now self.new }
         ensures same { self.new.resting ≡ self.old.resting }
         ensures settles { SettlesLayer task.now layer state.old state.new }
+        ensures counts { AreCountedOn task.now layer state.new self.new.work.counters }
+        ensures given { AreGiven task.now layer state.new self.new.work.sources }
+        ensures sources { SameSourcesOff task.now layer self.old.work.sources self.new.work.sources }
+        ensures others { SameCountsOff task.now layer self.old.work.counters self.new.work.counters }
     {
         self.work.layer = layer;
         count_conditions(task, rules, &self.resting, &mut self.work, state);
         fire_ready(task, rules, &mut self.work, state);
         empty_stack(task, &self.index, &mut self.work, state);
+    }
+
+    /// Settles the state, which was settled but that these facts have gone. It gives up where that takes too much.
+    pub fn follow<T: Grounded>(
+        &mut self,
+        task: &Layered<T>,
+        gone: &[Fact],
+        state: &mut State,
+    ) -> Result<(), TooMuch>
+        requires prepared { IsPrepared task.now self.old }
+        requires state { IsState task.now.variables state.old }
+        requires follows { (s : List ℕ)
+            × IsFollowed task.now s self.old.work × HaveGone task.now gone.now s state.old }
+        ensures prepared { IsPrepared task.now self.new }
+        ensures state { IsState task.now.variables state.new }
+        ensures basic { SameBasic task.now state.old state.new }
+        ensures followed { OnOk result (IsFollowed task.now state.new self.new.work) }
+    {
+        self.work.agenda.begin();
+        let followed = self.follow_on(task, gone, state);
+        self.work.agenda.end(followed);
+        followed
+    }
+
+    /// Follows the state, with an empty agenda.
+    fn follow_on<T: Grounded>(
+        &mut self,
+        task: &Layered<T>,
+        gone: &[Fact],
+        state: &mut State,
+    ) -> Result<(), TooMuch>
+        requires prepared { IsPrepared task.now self.old }
+        requires state { IsState task.now.variables state.old }
+        requires follows { (s : List ℕ)
+            × IsFollowed task.now s self.old.work × HaveGone task.now gone.now s state.old }
+        requires empty { IsEmpty self.old.work.agenda }
+        ensures prepared { IsPrepared task.now self.new }
+        ensures state { IsState task.now.variables state.new }
+        ensures basic { SameBasic task.now state.old state.new }
+        ensures followed { OnOk result (IsFollowed task.now state.new self.new.work) }
+    {
+        let index = &self.resting.counted.index;
+        count_gone(task, index, gone, &mut self.work, state)?;
+        settle_noted(task, index, &self.rules_of, &mut self.work, state)
     }
 }
 
@@ -101,6 +171,8 @@ fn count_conditions<T: Grounded>(
     ensures stack { work.new.stack ≡ work.old.stack }
     ensures room { HasRoom task.now work.new }
     ensures counts { AreCounted task.now work.old.layer state.now [] work.new.counters [] }
+    ensures others { SameCountsOff task.now work.old.layer work.old.counters work.new.counters }
+    ensures sources { work.new.sources ≡ work.old.sources }
 {
     let layer = work.layer;
     for entry in rules {
@@ -136,6 +208,7 @@ fn fire_ready<T: Grounded>(
     requires running { IsRunning task.now work.old.layer state.old work.old.stack.items }
     requires counts { AreCounted task.now work.old.layer state.old work.old.stack.items
         work.old.counters [] }
+    requires given { AreGiven task.now work.old.layer state.old work.old.sources }
     ensures at_work { IsAtWork task.now state.new work.new [] }
     ensures goes_on { WorkGoesOn task.now state.old work.old state.new work.new }
 {
@@ -164,6 +237,7 @@ fn fire<T: Grounded>(task: &Layered<T>, rule: u32, work: &mut Work, state: &mut 
             var: change.var,
             value: change.new,
         });
+        work.sources.set(change.var as usize, rule);
         work.stack.push(change.var).unwrap();
     }
 }
@@ -180,6 +254,10 @@ fn empty_stack<T: Grounded>(
     ensures settles { SettlesLayer task.now work.old.layer state.old state.new }
     ensures room { HasRoom task.now work.new }
     ensures empty { work.new.stack.items ≡ [] }
+    ensures counts { AreCountedOn task.now work.old.layer state.new work.new.counters }
+    ensures given { AreGiven task.now work.old.layer state.new work.new.sources }
+    ensures sources { SameSourcesOff task.now work.old.layer work.old.sources work.new.sources }
+    ensures others { SameCountsOff task.now work.old.layer work.old.counters work.new.counters }
 {
     // By its contract the task is well ranged and layered.
     let _ = task.task();

@@ -1,13 +1,14 @@
 // The rules that can fire, layer after layer.
 ghost use Rattle.std.specs.Prelude.{◌≡◌, ◌<◌, ◌≤◌, ◌^◌, ℕ, length, IfOk, IfSome, IfNone};
-ghost use Rattle.sas_axioms.specs.LayerRules.{IsRuleOn, AreFiringRules, AreLayerRules, IsLayerEnd, IsLayerSpan, AreSpans};
+ghost use Rattle.sas_axioms.specs.LayerRules.{IsRuleOn, AreFiringRules, AreLayerRules, IsLayerEnd, IsLayerSpan, AreSpans, AreRulesOf};
 
 use sas_core::Grounded;
+use sas_lists::{Entry, Lists};
 use sas_meaning::Layered;
 use std::alloc::{AllocError, Global};
 
-/// A rule that can fire, and the layer of its variable.
-#[derive(Clone, Copy, Debug, PartialEq, Eq)]
+/// A rule that can fire, and the layer of its variable. Rules of lower layers come first.
+#[derive(Clone, Copy, Debug, PartialEq, Eq, PartialOrd, Ord)]
 pub struct LayerRule {
     pub layer: u32,
     pub rule: u32,
@@ -36,6 +37,25 @@ fn firing_rules<T: Grounded>(alloc: Global, task: &Layered<T>) -> Result<Vec<Lay
         }
     }
     Ok(rules)
+}
+
+/// Returns the rules that can fire of each variable.
+pub fn rules_of_variables<T: Grounded>(
+    alloc: Global,
+    task: &Layered<T>,
+) -> Result<Lists<u32>, AllocError>
+    ensures { IfOk result (λ lists. AreRulesOf task.now lists) }
+{
+    // By its contract the task is well ranged and layered.
+    let _ = task.task();
+    let mut entries = Vec::new(alloc);
+    for rule in 0..task.rules() {
+        if let Some(_layer) = firing_layer(task, rule) {
+            let key = task.rule_change(rule).var as usize;
+            entries.push(Entry { key, item: rule })?;
+        }
+    }
+    Lists::by_key(alloc, entries.as_slice(), task.variables() as usize)
 }
 
 /// Returns the layer of the rule's variable, if the rule can fire.

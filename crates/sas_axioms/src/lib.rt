@@ -2,10 +2,12 @@
 //! layered tasks, states, evaluator trait and laws.
 #![tactic(auto)]
 
+mod agenda;
 mod by_layers;
 mod conditions;
 mod counting;
 mod firing;
+mod following;
 mod layer_rules;
 mod resting;
 mod rounds;

@@ -24,7 +24,7 @@ pub struct Resting {
     /// The basic variables that conditions of rules that can fire are on.
     asked: Vec<u32>,
     /// The counts, by the last values of the asked variables and the default of each derived variable.
-    counted: Counted,
+    pub counted: Counted,
     /// For each rule, whether it has a condition on a derived variable of a lower layer.
     looks_below: Vec<bool>,
 }

@@ -39,33 +39,54 @@ impl Worklist {
     {
         let rules = ranked_rules(alloc, layered)?;
         let spans = spans_of(alloc, rules.as_slice())?;
+        let derived = derived_variables(alloc, layered)?;
+        // To settle a state anew each derived variable and each rule is looked at.
+        let share = derived.len().saturating_add(rules.len());
         Ok(Worklist {
-            derived: derived_variables(alloc, layered)?,
+            derived,
             rules,
             spans,
             next: 0,
             start: 0,
-            firing: Firing::new(alloc, layered)?,
+            firing: Firing::new(alloc, layered, share)?,
         })
     }
 }
 
 impl<T: Grounded> Settle<T> for Worklist {
     ghost use Rattle.sas_axioms.specs.Worklist.{IsReadyFor};
+    ghost use Rattle.sas_axioms.specs.Following.{IsFollowed};
 
     ghost ready = { λ w p. IsReadyFor p w };
 
+    ghost follows = { λ w p s. IsFollowed p s w.firing.work };
+
     fn settle(&mut self, layered: &Layered<T>, state: &mut State) {
         settle_by_layers(self, layered, state);
+    }
+
+    fn settle_on(&mut self, layered: &Layered<T>, gone: &[Fact], state: &mut State) {
+        // By its contract the task is well ranged and layered.
+        let _ = layered.task();
+        if self.rules.is_empty() {
+            // No rule can fire, so the state is settled as it stands.
+            return;
+        }
+        if self.firing.follow(layered, gone, state).is_err() {
+            settle_by_layers(self, layered, state);
+        }
     }
 }
 
 impl<T: Grounded> ByLayers<T> for Worklist {
     ghost use Rattle.sas_axioms.specs.Worklist.{IsReadyFor, IsReadyFrom};
+    ghost use Rattle.sas_axioms.specs.Following.{IsFollowed};
 
     ghost ready = { λ w p. IsReadyFor p w };
 
     ghost stands = { λ w p layer s. IsReadyFrom p layer s w };
+
+    ghost follows = { λ w p s. IsFollowed p s w.firing.work };
 
     fn begin(&mut self, layered: &Layered<T>, state: &mut State) {
         set_defaults(layered, self.derived.as_slice(), state);

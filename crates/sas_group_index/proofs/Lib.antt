@@ -3,3 +3,4 @@ pub mod Lists
 pub mod Entering
 pub mod Mentioning
 pub mod RunLengths
+pub mod ByVariable

@@ -13,6 +13,7 @@ use Rattle.sas_lists.specs.declared.by_key.Entry.{Entry}
 use Rattle.sas_meaning.specs.Steps.{preconditions, old_fact}
 use Rattle.sas_group_index.specs.declared.index.Index.{Index}
 use Rattle.sas_group_index.specs.Runs.{AreRunsOf}
+use Rattle.sas_group_index.specs.ByVariable.{AreByVariable}
 
 -- how many facts are on variables below this one; this is how the facts of a task are numbered,
 -- variable after variable
@@ -73,8 +74,8 @@ pub record AreByFact (p : Parts) (firsts : List ℕ) (Has : ℕ → Fact → Typ
       → (place : ℕ) → Contains (under lists (number firsts fact)) place ↔ Has place fact
   pub ascending : (key : ℕ) → IsNonDecreasing (under lists key)
 
--- for each fact of the task, the groups that have it and the operators that mention it; and how the
--- facts of each group fall into runs on one variable
+-- for each fact of the task, the groups that have it and the operators that mention it; how the facts
+-- of each group fall into runs on one variable; and the effects of large operators by variable
 pub record IsIndexOf (p : Parts) (index : Index) : Type 0 where
   pub firsts : AreFirstNumbers p index.firsts.items
   pub low : All (λ (first : ℕ). first ≤ 2 ^ 62) index.firsts.items
@@ -84,6 +85,7 @@ pub record IsIndexOf (p : Parts) (index : Index) : Type 0 where
   pub operators : (fact : Fact) → FactExists p.variables fact
       → (operator : ℕ) → Contains (operators_of index fact) operator ↔ MentionsFact p operator fact
   pub runs : AreRunsOf p index.runs
+  pub effects : AreByVariable p index.effects
 
 -- an entry of the item for each of the facts, under the fact's number
 abbrev pub entries_of : List ℕ → ℕ → List Fact → List (Entry ℕ)

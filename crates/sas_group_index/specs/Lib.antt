@@ -1,3 +1,4 @@
 -- The modules that public contracts cite.
 pub mod Index
 pub mod Runs
+pub mod ByVariable

@@ -1,15 +1,20 @@
 // Which groups have which facts, and which operators mention which.
-ghost use Rattle.std.specs.Prelude.{◌≡◌, ◌≤◌, ◌^◌, ◌↔◌, ℕ, [], length, IsTrue, IfOk, OnOk, All, Contains};
+ghost use Rattle.std.specs.Prelude.{◌≡◌, ◌<◌, ◌≤◌, ◌^◌, ◌↔◌, ℕ, [], length, IsTrue, IfOk, OnOk, IfSome, All, Contains};
 ghost use Rattle.std.specs.List.Sorted.{IsNonDecreasing};
 ghost use Rattle.sas_group_index.specs.Index as spec;
+ghost use Rattle.sas_group_index.specs.ByVariable.{AreOn};
 ghost use Rattle.sas_group_index.specs.Index.{under, number, IsIndexOf, AreFirstNumbers, facts_below};
 
 use crate::by_fact::{groups_by_fact, operators_by_fact};
+use crate::by_variable::{FEW_EFFECTS, effects_by_variable, place_of};
 use crate::runs::runs_of_groups;
 use sas_core::{Fact, Grounded, Items};
 use sas_lists::Lists;
 use sas_meaning::Layered;
 use std::alloc::{AllocError, Global};
+
+/// Among so few groups one is sooner found by a look at each.
+const FEW_GROUPS: usize = 4;
 
 /// Which groups have which fact, and which operators mention which. Facts are numbered, variable after variable, so one is
 /// looked up in a fixed time.
@@ -24,6 +29,8 @@ pub struct Index {
     pub operators: Lists<u32>,
     /// For each group, the lengths of its runs, each of facts in a row on one variable.
     pub runs: Items<Items<u32>>,
+    /// The effects of large operators under the places of the operator and the variable.
+    pub effects: Lists<u32>,
 }
 
 impl Index {
@@ -35,12 +42,14 @@ impl Index {
         let facts = number_facts(task, &mut firsts)?;
         let groups = groups_by_fact(alloc, task, firsts.as_slice(), facts)?;
         let operators = operators_by_fact(alloc, task, firsts.as_slice(), facts)?;
+        let effects = effects_by_variable(alloc, task)?;
         let runs = runs_of_groups(alloc, task)?;
         Ok(Index {
             firsts,
             groups,
             operators,
             runs,
+            effects,
         })
     }
 
@@ -60,13 +69,36 @@ impl Index {
         under(&self.operators, self.number_of(fact))
     }
 
+    /// Returns effects of the operator, if it is large: all that set the variable, and maybe others.
+    pub fn effects_on<T: Grounded>(
+        &self,
+        task: &Layered<T>,
+        operator: u32,
+        var: u32,
+    ) -> Option<&[u32]>
+        requires index { IsIndexOf task.now self.now }
+        requires operator { operator < length task.now.operators }
+        ensures { IfSome result (λ effects. AreOn task.now operator var effects.now) }
+    {
+        if task.effects(operator) > FEW_EFFECTS {
+            let place = place_of(operator, var, self.effects.len());
+            return Some(under(&self.effects, place));
+        }
+        None
+    }
+
     /// Returns whether the group has the fact.
     pub fn has(&self, group: u32, fact: Fact) -> bool
         requires low { All (λ (first : ℕ). first ≤ 2 ^ 62) self.now.firsts.items }
         requires ascending { IsNonDecreasing (spec.groups_of self.now fact) }
         ensures { IsTrue result ↔ Contains (spec.groups_of self.now fact) group }
     {
-        self.groups_of(fact).binary_search(&group).is_ok()
+        let groups = self.groups_of(fact);
+        if groups.len() <= FEW_GROUPS {
+            groups.contains(&group)
+        } else {
+            groups.binary_search(&group).is_ok()
+        }
     }
 
     /// Returns the number of the fact. A variable that doesn't exist has no first number. Its facts are numbered as if that

@@ -3,6 +3,7 @@
 #![tactic(auto)]
 
 mod by_fact;
+mod by_variable;
 mod index;
 mod runs;
 

@@ -1,5 +1,5 @@
 -- Groups fall out of a family, one after another, until the greatest family is left.
-use Rattle.std.proofs.Common.{◌≡◌, ◌≢◌, ℕ, ◌+◌, ◌<◌, ◌≤◌, Bool, true, false, List, [], ◌∷◌, ◌++◌, length, get_or, set, drop, refl, sym, ◌∙◌, ap, subst, inl, inr, arith}
+use Rattle.std.proofs.Common.{◌≡◌, ◌≢◌, ℕ, ◌+◌, ◌<◌, ◌≤◌, Bool, true, false, List, [], ◌∷◌, ◌++◌, length, get_or, set, drop, None, Some, refl, sym, ◌∙◌, ap, subst, inl, inr, arith}
 use Rattle.std.proofs.lemmas.Bool.{cases_eq, cases_Bool, both_ways}
 use Rattle.std.proofs.lemmas.List.{append-nil, append_assoc, drop_all, drop_at, drop-append-le, length-append, length-drop, length-set, get_or-drop, get_or-set_same, get_or-set_other, get_or_append_left, get_or_default}
 use Rattle.std.proofs.lemmas.List.Elements.{All-nil, All-cons, All-append, All-from_get_or, Contains-append_left, Contains-append_right, Contains-push}
@@ -7,14 +7,16 @@ use Rattle.std.specs.List.{All, Contains}
 use Rattle.sas_core.specs.declared.parts.Operator.{Operator}
 use Rattle.sas_core.specs.declared.parts.Parts.{Parts}
 use Rattle.sas_core.specs.Grounded.{operator_at, effect_at, group_at}
-use Rattle.sas_groups.specs.Clashes.{Keeps, sets}
+use Rattle.sas_groups.specs.Clashes.{Keeps, Clash, sets}
+use Rattle.sas_groups.specs.Lists.{known}
 use Rattle.sas_groups.specs.Families.{IsIn, IsGroupOf, IsGroupOfOr, IsKeptJointly, IsGreatest}
 use Rattle.sas_groups.proofs.GreatestFamily.{group_of_larger, keeps_more}
 use Rattle.sas_mutex.specs.declared.family.Family.{Family}
 use Rattle.sas_mutex.specs.Effects.{family_of, IsKept, EffectKeeps, KeepsAt, KeepsWithItself}
-use Rattle.sas_mutex.specs.Alone.{KeepsAlone, EffectKeepsEachAlone, KeepsEachAlone, IsOfNone}
-use Rattle.sas_mutex.specs.Falling.{MentionsNone, IsEffectAtRest, IsAtRest, RestsAt, AreCandidates, newly, Falls, looked_at, WasLookedAt, AreLookedAt, IsNotedOnce}
+use Rattle.sas_mutex.specs.Basis.{EffectKeepsByBasis, KeepsByBasis, IsBasis}
+use Rattle.sas_mutex.specs.Falling.{MentionsNone, IsEffectAtRest, IsAtRest, RestsAt, AreCandidates, newly, Falls, IsWithin, RestsForGood, RestsOn, looked_at, WasLookedAt, IsNotedOnce}
 use Rattle.sas_group_index.specs.Index.{MentionsGroup}
+use Rattle.sas_mutex.proofs.ToldByNotes.{clash_keeps}
 use Rattle.sas_mutex.proofs.Keeping.{keeps_from_effects, effect_of_keeps, effect_keeps_more, effect_keeps_still}
 
 module _ (p : Parts) where
@@ -29,6 +31,8 @@ module _ (p : Parts) where
   pub none_fell : (family : Family) → Falls p family family
   none_fell family = record {
     one_each = refl;
+    same_basis = refl;
+    same_support = refl;
     behind = sym (ap (λ (xs : List ℕ). family.fallen.items ++ xs) nothing ∙ append-nil family.fallen.items);
     exist = subst (All (λ place. place < length p.groups)) (sym nothing) (All-nil (λ place. place < length p.groups));
     less = λ place w. w;
@@ -48,6 +52,8 @@ module _ (p : Parts) where
   pub falls_then : (a b c : Family) → Falls p a b → Falls p b c → Falls p a c
   falls_then a b c first second = record {
     one_each = second.one_each ∙ first.one_each;
+    same_basis = second.same_basis ∙ first.same_basis;
+    same_support = second.same_support ∙ first.same_support;
     behind = second.behind ∙ (ap (λ (xs : List ℕ). xs ++ newly b c) first.behind ∙ (append_assoc a.fallen.items (newly a b) (newly b c)
         ∙ ap (λ (xs : List ℕ). a.fallen.items ++ xs) (sym both)));
     exist = subst (All (λ place. place < length p.groups)) (sym both) (All-append (λ place. place < length p.groups) (newly a b) (newly b c) first.exist second.exist);
@@ -70,9 +76,11 @@ module _ (p : Parts) where
   pub one_fell : (before after : Family) (place : ℕ) → after.kept ≡ set before.kept place false → after.fallen.items ≡ before.fallen.items ++ place ∷ []
       → place < length p.groups
       → ((other : ℕ → Bool) → IsKeptJointly p other → ((n : ℕ) → IsIn p other n → IsIn p (family_of before.kept) n) → IsIn p other place → ⊥)
-      → length before.kept ≡ length p.groups → Falls p before after
-  one_fell before after place kept fallen exists never one_each = record {
+      → length before.kept ≡ length p.groups → after.basis ≡ before.basis → after.support ≡ before.support → Falls p before after
+  one_fell before after place kept fallen exists never one_each basis support = record {
     one_each = ap length kept ∙ length-set before.kept place false;
+    same_basis = basis;
+    same_support = support;
     behind = fallen ∙ ap (λ (xs : List ℕ). before.fallen.items ++ xs) (sym one);
     exist = subst (All (λ place. place < length p.groups)) (sym one) (All-cons (λ place. place < length p.groups) place [] exists (All-nil (λ place. place < length p.groups)));
     less = less;
@@ -142,38 +150,56 @@ module _ (p : Parts) where
       subst (λ (waiting : List ℕ). IsEffectAtRest p c.kept waiting operator effect) (sym (newly_then a b c first second))
       (effect_later b c (newly a b) operator effect exists within second rest)
 
-  -- ---- what is kept where one group alone counts
+  -- ---- what is kept where only the groups of a basis count, and the group itself
 
-  -- it is kept by every family that has the group
-  pub alone_keeps : (kept : List Bool) (operator effect place : ℕ) → IsIn p (family_of kept) place → KeepsAlone p operator effect place
-      → KeepsAt p kept operator effect place
-  alone_keeps kept operator effect place w = effect_keeps_more (λ group. group ≡ group_at p place) (IsKept p kept)
-      (operator_at p operator) (group_at p place) (effect_at (operator_at p operator) effect) (λ group is. (place, w, is))
-
-  pub alone_rests : (kept : List Bool) (waiting : List ℕ) (operator : ℕ) → KeepsEachAlone p kept operator → IsAtRest p kept waiting operator
-  alone_rests kept waiting operator alone effect within none place w has = alone_keeps kept operator effect place w (alone effect within place w has)
-
-  -- and stays so while others fall
-  pub effect_alone_still : (b c : Family) (operator effect : ℕ) → Falls p b c
-      → EffectKeepsEachAlone p b.kept operator effect → EffectKeepsEachAlone p c.kept operator effect
-  effect_alone_still b c operator effect falls alone place w has = alone place (falls.less place w) has
-
-  -- what is kept under no family but the group itself is kept so
-  pub alone_by_none : (kept : List Bool) (groups operator effect place : ℕ) → IsOfNone groups kept
-      → KeepsWithItself p kept operator effect place → KeepsAlone p operator effect place
-  alone_by_none kept groups operator effect place of_none = effect_keeps_more (IsGroupOfOr p (family_of kept) (group_at p place)) (λ group. group ≡ group_at p place)
+  -- it is kept by every family that has these groups
+  pub basis_keeps : (basis kept : List Bool) (operator effect place : ℕ) → ((n : ℕ) → IsIn p (family_of basis) n → IsIn p (family_of kept) n)
+      → IsIn p (family_of kept) place → KeepsWithItself p basis operator effect place → KeepsAt p kept operator effect place
+  basis_keeps basis kept operator effect place within w = effect_keeps_more (IsGroupOfOr p (family_of basis) (group_at p place)) (IsKept p kept)
       (operator_at p operator) (group_at p place) (effect_at (operator_at p operator) effect)
       (λ group either. elim either [
-        | inl w ↦ absurd (both_ways (family_of kept w.0) (of_none.out w.0) w.1.chosen)
-        | inr is ↦ is
+        | inl b ↦ (b.0, within b.0 b.1, b.2)
+        | inr is ↦ (place, w, is)
       ])
+
+  pub basis_rests : (basis kept smaller : List Bool) (operator : ℕ) → ((n : ℕ) → IsIn p (family_of basis) n → IsIn p (family_of smaller) n)
+      → KeepsByBasis p basis kept operator → IsWithin p smaller kept → IsAtRest p smaller [] operator
+  basis_rests basis kept smaller operator has keeps within effect below none place w sets_it =
+      basis_keeps basis smaller operator effect place has w (keeps effect below place (within place w) sets_it)
+
+  -- where what is known clashes by the basis, each group is kept so
+  pub clash_by_basis : (basis : List Bool) (operator effect place : ℕ)
+      → Clash (IsKept p basis) (known (operator_at p operator) (effect_at (operator_at p operator) effect).conditions []) → KeepsWithItself p basis operator effect place
+  clash_by_basis basis operator effect place clash = effect_keeps_more (IsKept p basis) (IsGroupOfOr p (family_of basis) (group_at p place))
+      (operator_at p operator) (group_at p place) (effect_at (operator_at p operator) effect) (λ group counts. inl counts)
+      (clash_keeps (IsKept p basis) (operator_at p operator) (group_at p place) (effect_at (operator_at p operator) effect) clash)
+
+  -- and stays so while others fall
+  pub effect_alone_still : (basis : List Bool) (b c : Family) (operator effect : ℕ) → Falls p b c
+      → EffectKeepsByBasis p basis b.kept operator effect → EffectKeepsByBasis p basis c.kept operator effect
+  effect_alone_still basis b c operator effect falls alone place w has = alone place (falls.less place w) has
+
+  -- an operator that was looked at without a support is at rest for good, and one with a support as long as that stays
+  pub rests_for_good : (family : Family) (kept : List Bool) (operator : ℕ) → IsBasis (length p.groups) family → family.support ≡ None
+      → KeepsByBasis p family.basis kept operator → RestsForGood p kept operator
+  rests_for_good family kept operator is free keeps smaller within =
+      basis_rests family.basis kept smaller operator (λ n w. absurd (let some = is.only n w.chosen in let no : None ≡ Some n = sym free ∙ some in absurd cc)) keeps within
+
+  pub rests_on : (family : Family) (kept : List Bool) (operator support : ℕ) → IsBasis (length p.groups) family → family.support ≡ Some support
+      → KeepsByBasis p family.basis kept operator → RestsOn p kept support operator
+  rests_on family kept operator support is has keeps smaller within there =
+      basis_rests family.basis kept smaller operator (λ n w. let same : Some support ≡ Some n = sym has ∙ is.only n w.chosen in
+      subst (IsIn p (family_of smaller)) (same_inside support n same) there) keeps within
+    where
+      same_inside : (x y : ℕ) → Some x ≡ Some y → x ≡ y
+      same_inside x y e = cc
 
   -- ---- when operators were looked at
 
   -- an operator that isn't looked at stays as it was while others fall
   pub looked_still : (b c : Family) (looked looked' : List ℕ) (operator : ℕ) → operator < length p.operators → Falls p b c
       → looked_at looked' operator ≡ looked_at looked operator → WasLookedAt p b looked operator → WasLookedAt p c looked' operator
-  looked_still b c looked looked' operator exists falls same (inr alone) = inr (λ effect within. effect_alone_still b c operator effect falls (alone effect within))
+  looked_still b c looked looked' operator exists falls same (inr good) = inr (λ smaller within. good smaller (λ place w. falls.less place (within place w)))
   looked_still b c looked looked' operator exists falls same (inl was) = inl (record {
     within = let longer = fallen_grow b c falls in let lt = was.within in omega arith;
     rest = subst (λ n. IsAtRest p c.kept (drop n c.fallen.items) operator) (sym same)
@@ -201,7 +227,7 @@ module _ (p : Parts) where
     -- one that is looked at is at rest, but for what fell then
     looked_now : WasLookedAt p c looked' operator
     looked_now = elim turn.how [
-      | inr alone ↦ inr alone
+      | inr good ↦ inr good
       | inl now ↦ inl (record {
         within = let longer = fallen_grow b c falls in let here = noted_here in omega arith;
         rest = subst (λ n. IsAtRest p c.kept (drop n c.fallen.items) operator) (sym (exactly now)) rest;
@@ -229,11 +255,11 @@ module _ (p : Parts) where
   fell_before b c place falls lt = ap (λ (xs : List ℕ). get_or xs place 0) falls.behind ∙ get_or_append_left b.fallen.items (newly b c) 0 place lt
 
   -- where each operator that mentions a fact of a group was looked at since the group fell, all are at rest
-  pub rest_in_the_end : (family : Family) (looked : List ℕ) → AreLookedAt p family looked
+  pub rest_in_the_end : (family : Family) (looked : List ℕ) → ((operator : ℕ) → operator < length p.operators → WasLookedAt p family looked operator)
       → ((operator place : ℕ) → place < length family.fallen.items → MentionsGroup p operator (get_or family.fallen.items place 0) → place < looked_at looked operator)
       → (operator : ℕ) → operator < length p.operators → IsAtRest p family.kept [] operator
-  rest_in_the_end family looked were since operator exists = elim (were.each operator exists) [
-    | inr alone ↦ alone_rests family.kept [] operator alone
+  rest_in_the_end family looked were since operator exists = elim (were operator exists) [
+    | inr good ↦ good family.kept (λ place w. w)
     | inl was ↦ λ effect within _. was.rest effect within
         (λ place waits mentions.
         let n = looked_at looked operator in

@@ -9,3 +9,4 @@ pub mod SetFacts
 pub mod Telling
 pub mod OldValues
 pub mod GoneRuns
+pub mod Supporting

@@ -154,8 +154,8 @@ module _ (p : Parts) (kept : List Bool) (place : ℕ) (exists : place < length p
     }
 
 -- taken out again, the family is as it was
-pub put_back : (kept : List Bool) (place : ℕ) → family_of kept place ≡ false → set (set kept place true) place false ≡ kept
-put_back kept place outside = set-set kept place true false ∙ (ap (λ (b : Bool). set kept place b) (sym outside) ∙ set-get_or kept place false)
+pub put_back : (kept : List Bool) (place : ℕ) (was : Bool) → family_of kept place ≡ was → set (set kept place true) place was ≡ kept
+put_back kept place was is = set-set kept place true was ∙ (ap (λ (b : Bool). set kept place b) (sym is) ∙ set-get_or kept place false)
 
 -- ---- the verdicts so far
 

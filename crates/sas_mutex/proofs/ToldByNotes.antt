@@ -3,7 +3,7 @@ use Rattle.std.proofs.Common.{◌≡◌, ◌⊎◌, ℕ, ◌<◌, Bool, [], leng
 use Rattle.std.specs.List.{All, Contains}
 use Rattle.std.proofs.lemmas.Bool.{cases_eq}
 use Rattle.std.proofs.lemmas.List.{get_or_default}
-use Rattle.std.proofs.lemmas.List.Elements.{Contains-append_left, Contains-push, Contains-push_cases, Contains-get_or}
+use Rattle.std.proofs.lemmas.List.Elements.{Contains-append_left, Contains-append_right, Contains-push, Contains-push_cases, Contains-get_or}
 use Rattle.sas_core.specs.declared.parts.Fact.{Fact}
 use Rattle.sas_core.specs.declared.parts.Effect.{Effect}
 use Rattle.sas_core.specs.declared.parts.Operator.{Operator}
@@ -180,6 +180,20 @@ clash_stays Counts o conditions second clash = (clash.0, clash.1, also_there cla
     also_there : (x : Fact) → Contains (known o conditions []) x → Contains (known o conditions second) x
     also_there x here = subst (λ (xs : List Fact). Contains (xs ++ second) x) (append-nil (preconditions o ++ conditions))
         (Contains-append_left (known o conditions []) second x here)
+
+-- where one of some facts clashes with what is known, all of them do
+pub one_clashes : (Counts : List Fact → Type 0) (o : Operator) (conditions facts : List Fact) (fact : Fact) → Contains facts fact
+    → Clash Counts (known o conditions (fact ∷ [])) → Clash Counts (known o conditions facts)
+one_clashes Counts o conditions facts fact among clash = (clash.0, clash.1, there clash.0 clash.2, there clash.1 clash.3, clash.4)
+  where
+    same : known o conditions (fact ∷ []) ≡ known o conditions [] ++ fact ∷ []
+    same = ap (λ (xs : List Fact). xs ++ fact ∷ []) (sym (append-nil (preconditions o ++ conditions)))
+
+    there : (x : Fact) → Contains (known o conditions (fact ∷ [])) x → Contains (known o conditions facts) x
+    there x here = elim (Contains-push_cases (known o conditions []) fact x (subst (λ (xs : List Fact). Contains xs x) same here)) [
+      | inl w ↦ subst (λ (xs : List Fact). Contains (xs ++ facts) x) (append-nil (preconditions o ++ conditions)) (Contains-append_left (known o conditions []) facts x w)
+      | inr e ↦ subst (λ (f : Fact). Contains (known o conditions facts) f) e (Contains-append_right (preconditions o ++ conditions) facts fact among)
+    ]
 
 -- what clashes never is, so that an effect that fires only there keeps each group
 pub clash_keeps : (Counts : List Fact → Type 0) (o : Operator) (group : List Fact) (e : Effect) → Clash Counts (known o e.conditions [])

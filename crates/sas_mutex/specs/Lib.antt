@@ -10,6 +10,6 @@ pub mod Judging
 pub mod Marks
 pub mod Firing
 pub mod Effects
-pub mod Alone
+pub mod Basis
 pub mod Noting
 pub mod Falling

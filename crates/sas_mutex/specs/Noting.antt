@@ -1,6 +1,6 @@
 -- What one fact changes of what is noted, and what follows from the notes for one fact.
 use Rattle.std.specs.Prelude.{◌≡◌, ◌≢◌, ◌⊎◌, ℕ, ◌<◌, Bool, IsTrue, Option, None, Some}
-use Rattle.std.specs.Prelude.{List, [], length, slice_index_or, slice_set, All, Contains}
+use Rattle.std.specs.Prelude.{List, [], ◌∷◌, length, slice_index_or, slice_set, All, Contains}
 use Rattle.sas_core.specs.declared.parts.Fact.{Fact}
 use Rattle.sas_core.specs.declared.parts.Effect.{Effect}
 use Rattle.sas_core.specs.declared.parts.Operator.{Operator}
@@ -193,6 +193,15 @@ KeepsGroupItself f kept place = KeepsWithItself f.task kept f.operator f.effect 
 abbrev pub BothClashAt : EffectPlace → List Bool → ℕ → Type 0
 BothClashAt f kept other = Clash (IsKept f.task kept) (known (operator_of f)
     (effect_of f).conditions (effect_at (operator_of f) other).conditions)
+
+-- the fact clashes with the known facts where the effect fires
+abbrev pub ClashesAt : EffectPlace → List Bool → Fact → Type 0
+ClashesAt f kept fact =
+    Clash (IsKept f.task kept) (known (operator_of f) (effect_of f).conditions (fact ∷ []))
+
+-- one of these facts does
+abbrev pub SomeClashesAt : EffectPlace → List Bool → List Fact → Type 0
+SomeClashesAt f kept facts = (fact : Fact) × Contains facts fact × ClashesAt f kept fact
 
 abbrev pub NotBothAt : EffectPlace → List Bool → ℕ → ℕ → Type 0
 NotBothAt f kept other place = NotBoth (IsKept f.task kept) (operator_of f)

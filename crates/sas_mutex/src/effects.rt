@@ -4,16 +4,18 @@ ghost use Rattle.sas_core.specs.Grounded.{operator_at, effect_at};
 ghost use Rattle.sas_core.specs.Variables.{FactExists};
 ghost use Rattle.sas_groups.specs.Families.{IsIn};
 ghost use Rattle.sas_group_index.specs.Index.{groups_of};
+ghost use Rattle.sas_group_index.specs.ByVariable.{AreOn};
 ghost use Rattle.sas_group_index.specs.Runs.{AreOnOne};
 ghost use Rattle.sas_mutex.specs.Effects.{family_of};
 ghost use Rattle.sas_mutex.specs.Firing.{operator_of, effect_of};
 ghost use Rattle.sas_mutex.specs.Marks.{IsWide};
 ghost use Rattle.sas_mutex.specs.Noting.{AreBelow, HasNotedGroup, IsAgainst, IsMet, SomeRemoves, Removes};
 ghost use Rattle.sas_mutex.specs.Noting.{IsNotedAt, KeepsGroup, KeepsGroupItself, BothClashAt, NotBothAt};
+ghost use Rattle.sas_mutex.specs.Noting.{ClashesAt, SomeClashesAt};
 ghost use Rattle.sas_mutex.specs.Noting.{IsSingleAt, IsGoneAt, AreGoneAt, IsUnknownAt, IsDecidedByFirst};
-ghost use Rattle.sas_mutex.specs.Alone.{SetsNone};
+ghost use Rattle.sas_mutex.specs.Basis.{SetsNone};
 
-use crate::marks::{Marks, Noted, forget_known, note_known};
+use crate::marks::{Marks, forget_known, note_known};
 use sas_core::{Fact, Grounded, Items};
 use sas_group_index::Index;
 use sas_groups::Premises;
@@ -76,12 +78,11 @@ impl<'a, 'b, T: Grounded> Firing<'a, 'b, T> {
         self.is_single(kept, group, marks) && self.removes_others(kept, group, marks)
     }
 
-    /// Returns whether the effect keeps the group, which isn't in the family, under the family and the group itself, by what
-    /// is noted. In the end the family is as it was.
+    /// Returns whether the effect keeps the group under the family and the group itself, by what is noted. In the end the
+    /// family is as it was.
     pub fn keeps_with_itself(&self, group: u32, kept: &mut Items<bool>, marks: &mut Marks) -> bool
         requires notes { IsNotedAt self.now kept.old marks.old }
         requires group { group < length self.now.task.groups }
-        requires outside { IsFalse (family_of kept.old group) }
         ensures yes { IsTrue result → KeepsGroupItself self.now kept.old group }
         ensures no { IsFalse result → KeepsGroupItself self.now kept.old group → ⊥ }
         ensures kept { kept.new ≡ kept.old }
@@ -91,9 +92,10 @@ impl<'a, 'b, T: Grounded> Firing<'a, 'b, T> {
         if marks.groups.as_slice()[group as usize].is_several() {
             return true;
         }
+        let counts = kept.as_slice()[group as usize];
         kept.set(group as usize, true);
         let keeps = self.keeps_by_notes(kept.as_slice(), group, marks);
-        kept.set(group as usize, false);
+        kept.set(group as usize, counts);
         keeps
     }
 
@@ -147,6 +149,9 @@ impl<'a, 'b, T: Grounded> Firing<'a, 'b, T> {
         if second.is_empty() {
             return false;
         }
+        if self.some_clashes(kept, second, marks) {
+            return true;
+        }
         let one = Premises {
             operator: self.operator,
             first,
@@ -162,6 +167,33 @@ impl<'a, 'b, T: Grounded> Firing<'a, 'b, T> {
         forget_known(self.task, self.index, &both, marks);
         let _ = note_known(self.task, self.index, kept, &one, marks);
         clash
+    }
+
+    /// Returns whether one of these facts clashes with the known facts where this effect fires.
+    fn some_clashes(&self, kept: &[bool], facts: &[Fact], marks: &Marks) -> bool
+        requires notes { IsNotedAt self.now kept.now marks.now }
+        requires exist { All (FactExists self.now.task.variables) facts.now }
+        ensures { IsTrue result → SomeClashesAt self.now kept.now facts.now }
+    {
+        // Naming a field makes the invariant of the effect available.
+        let _ = &self.task;
+        for fact in facts {
+            if self.clashes(kept, *fact, marks) {
+                return true;
+            }
+        }
+        false
+    }
+
+    /// Returns whether the fact clashes with the known facts where this effect fires.
+    fn clashes(&self, kept: &[bool], fact: Fact, marks: &Marks) -> bool
+        requires notes { IsNotedAt self.now kept.now marks.now }
+        requires fact { FactExists self.now.task.variables fact }
+        ensures { IsTrue result → ClashesAt self.now kept.now fact }
+    {
+        // Naming a field makes the invariant of the effect available.
+        let _ = &self.task;
+        contradicts(self.index, kept, fact, marks)
     }
 
     /// Returns whether no other fact of the group stays where this effect fires. Mostly an old value decides this at once.
@@ -265,8 +297,20 @@ impl<'a, 'b, T: Grounded> Firing<'a, 'b, T> {
         if self.task.effect_change(self.operator, self.effect).var == fact.var {
             return true;
         }
-        contradicts(self.index, kept, fact, marks)
-            || is_removed(self.task, self.operator, fact, marks)
+        contradicts(self.index, kept, fact, marks) || self.is_removed(fact, marks)
+    }
+
+    /// Returns whether an effect of the operator, each of whose conditions is this fact or noted, sets the variable of the
+    /// fact to another value. Of a large operator only effects on that variable are looked at.
+    fn is_removed(&self, fact: Fact, marks: &Marks) -> bool
+        requires wide { IsWide self.now.task marks.now }
+        ensures yes { IsTrue result → SomeRemoves (operator_of self.now) marks.now fact }
+        ensures no { IsFalse result → SomeRemoves (operator_of self.now) marks.now fact → ⊥ }
+    {
+        match self.index.effects_on(self.task, self.operator, fact.var) {
+            Some(effects) => one_removes(self.task, self.operator, effects, fact, marks),
+            None => some_removes(self.task, self.operator, fact, marks),
+        }
     }
 }
 
@@ -283,19 +327,20 @@ fn contradicts(index: &Index, kept: &[bool], fact: Fact, marks: &Marks) -> bool
 {
     match marks.values.as_slice()[fact.var as usize] {
         Some(value) => value != fact.value,
-        None => has_noted(index.groups_of(fact), kept, &marks.groups),
+        None => has_noted(index.groups_of(fact), kept, marks),
     }
 }
 
 /// Returns whether a fact is noted for one of these groups that is kept.
-fn has_noted(groups: &[u32], kept: &[bool], noted: &Items<Noted>) -> bool
+fn has_noted(groups: &[u32], kept: &[bool], marks: &Marks) -> bool
     requires kept { AreBelow (length kept.now) groups.now }
-    requires noted { AreBelow (length noted.now) groups.now }
-    ensures yes { IsTrue result → HasNotedGroup groups.now kept.now noted.now }
-    ensures no { IsFalse result → HasNotedGroup groups.now kept.now noted.now → ⊥ }
+    requires noted { AreBelow (length marks.now.groups) groups.now }
+    ensures yes { IsTrue result → HasNotedGroup groups.now kept.now marks.now.groups }
+    ensures no { IsFalse result → HasNotedGroup groups.now kept.now marks.now.groups → ⊥ }
 {
     for group in groups {
-        if kept[*group as usize] && !noted.as_slice()[*group as usize].is_nothing() {
+        if kept[*group as usize] && !marks.groups.as_slice()[*group as usize].is_nothing() {
+            marks.deciding.set(*group);
             return true;
         }
     }
@@ -304,7 +349,7 @@ fn has_noted(groups: &[u32], kept: &[bool], noted: &Items<Noted>) -> bool
 
 /// Returns whether an effect of the operator, each of whose conditions is this fact or noted, sets the variable of the fact
 /// to another value.
-fn is_removed<T: Grounded>(task: &Layered<T>, operator: u32, fact: Fact, marks: &Marks) -> bool
+fn some_removes<T: Grounded>(task: &Layered<T>, operator: u32, fact: Fact, marks: &Marks) -> bool
     requires wide { IsWide task.now marks.now }
     requires operator { operator < length task.now.operators }
     ensures yes { IsTrue result → SomeRemoves (operator_at task.now operator) marks.now fact }
@@ -312,6 +357,29 @@ fn is_removed<T: Grounded>(task: &Layered<T>, operator: u32, fact: Fact, marks: 
 {
     for effect in 0..task.effects(operator) {
         if removes(task, operator, effect, fact, marks) {
+            return true;
+        }
+    }
+    false
+}
+
+/// Returns whether one of these effects removes the fact so. They are all effects of the operator on the fact's variable, and
+/// maybe others.
+fn one_removes<T: Grounded>(
+    task: &Layered<T>,
+    operator: u32,
+    effects: &[u32],
+    fact: Fact,
+    marks: &Marks,
+) -> bool
+    requires wide { IsWide task.now marks.now }
+    requires operator { operator < length task.now.operators }
+    requires all { AreOn task.now operator fact.var effects.now }
+    ensures yes { IsTrue result → SomeRemoves (operator_at task.now operator) marks.now fact }
+    ensures no { IsFalse result → SomeRemoves (operator_at task.now operator) marks.now fact → ⊥ }
+{
+    for effect in effects {
+        if *effect < task.effects(operator) && removes(task, operator, *effect, fact, marks) {
             return true;
         }
     }

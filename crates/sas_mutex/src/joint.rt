@@ -1,10 +1,10 @@
 // The joint verdict on each group.
-ghost use Rattle.std.specs.Prelude.{◌≡◌, ◌≢◌, ℕ, ◌+◌, ◌<◌, ◌≤◌, ◌↔◌, [], length, All, IfOk, IsTrue, IsFalse, vec_capacity};
+ghost use Rattle.std.specs.Prelude.{◌≡◌, ◌≢◌, ℕ, ◌+◌, ◌<◌, ◌≤◌, ◌↔◌, [], length, All, IfOk, None, IsTrue, IsFalse, vec_capacity};
 ghost use Rattle.sas_groups.specs.Clashes.{sets};
 ghost use Rattle.sas_groups.specs.Families.{IsGreatest};
 ghost use Rattle.sas_groups.specs.declared.verdict.Verdict.TheVariants.{Exclusive};
 ghost use Rattle.sas_mutex.specs.Effects.{family_of};
-ghost use Rattle.sas_mutex.specs.Falling.{AreCandidates, HasRoom};
+ghost use Rattle.sas_mutex.specs.Falling.{AreCandidates, AreSupported, IsReady};
 ghost use Rattle.sas_mutex.specs.Firing.{effect_of};
 ghost use Rattle.sas_group_index.specs.Index.{HasFact};
 ghost use Rattle.sas_mutex.specs.Marks.{IsClean};
@@ -12,10 +12,10 @@ ghost use Rattle.sas_mutex.specs.Noting.{AreBelow, IsNotedAt};
 ghost use Rattle.sas_mutex.specs.Joint.{verdict_at, AreJointVerdicts, AreInvariants};
 ghost use Rattle.sas_mutex.specs.Judging.{AreFirstVerdicts};
 ghost use Rattle.sas_mutex.specs.Judging.{IsUntold, IsVerdictSoFar, AreVerdictsSoFar};
-ghost use Rattle.sas_mutex.specs.Alone.{IsOfNone};
+ghost use Rattle.sas_mutex.specs.Basis.{IsOfNone};
 
 use crate::effects::Firing;
-use crate::family::{Family, find_greatest};
+use crate::family::{Family, Looks, find_greatest};
 use crate::indexed::IndexedTask;
 use crate::marks::{Marks, forget_known, note_known};
 use sas_core::{Fact, Grounded, Items};
@@ -36,24 +36,19 @@ pub fn check_groups<T: Grounded>(
 {
     // By the contract of this call the task is well ranged.
     let _ = layered.task();
+    // Most memory at a time is needed where the index is made, so the index comes first.
+    let index = Index::new(alloc, layered)?;
     let mut verdicts = first_verdicts(alloc, layered)?;
     let mut family = candidates(alloc, verdicts.as_slice())?;
     let mut marks = Marks::new(alloc, layered)?;
-    let mut looked = Items::from_vec(vec![in alloc; 0; layered.operators() as usize]?);
-    let index = Index::new(alloc, layered)?;
+    let mut looks = Looks::new(alloc, layered.operators())?;
     let indexed = IndexedTask {
         task: layered,
         index: &index,
     };
-    judge(
-        &indexed,
-        &mut verdicts,
-        &mut looked,
-        &mut family,
-        &mut marks,
-    );
+    judge(&indexed, &mut verdicts, &mut looks, &mut family, &mut marks);
     drop(index);
-    drop(looked);
+    drop(looks);
     drop(marks);
     drop(family);
     Ok(verdicts.into_vec())
@@ -63,19 +58,19 @@ pub fn check_groups<T: Grounded>(
 fn judge<T: Grounded>(
     indexed: &IndexedTask<'_, '_, T>,
     verdicts: &mut Items<Verdict>,
-    looked: &mut Items<u32>,
+    looks: &mut Looks,
     family: &mut Family,
     marks: &mut Marks,
 )
     requires first { AreFirstVerdicts indexed.now verdicts.old }
-    requires one_each { length looked.old ≡ length indexed.now.operators }
+    requires supported { AreSupported indexed.now family.old looks.old }
     requires candidates { AreCandidates indexed.now family.old.kept }
     requires none { family.old.fallen.items ≡ [] }
-    requires room { HasRoom indexed.now family.old }
+    requires ready { IsReady indexed.now family.old }
     requires clean { IsClean indexed.now marks.old }
     ensures { AreJointVerdicts indexed.now verdicts.new }
 {
-    find_greatest(indexed, looked, family, marks);
+    find_greatest(indexed, looks, family, marks);
     tell_breaking(indexed, &mut family.kept, verdicts, marks);
 }
 
@@ -102,7 +97,8 @@ fn candidates(alloc: Global, verdicts: &[Verdict]) -> Result<Family, AllocError>
         → IsTrue (family_of family.kept place) ↔ (verdict_at verdicts.now place ≡ Exclusive)) }
     ensures none { IfOk result (λ family. family.fallen.items ≡ []) }
     ensures room { IfOk result (λ family. length verdicts.now ≤ vec_capacity family.fallen) }
-    ensures of_none { IfOk result (λ family. IsOfNone (length verdicts.now) family.none) }
+    ensures of_none { IfOk result (λ family. IsOfNone (length verdicts.now) family.basis) }
+    ensures free { IfOk result (λ family. family.support ≡ None) }
 {
     let mut kept = Items::from_vec(Vec::with_capacity(alloc, verdicts.len())?);
     for verdict in verdicts {
@@ -111,7 +107,8 @@ fn candidates(alloc: Global, verdicts: &[Verdict]) -> Result<Family, AllocError>
     Ok(Family {
         kept,
         fallen: Vec::with_capacity(alloc, verdicts.len())?,
-        none: Items::from_vec(vec![in alloc; false; verdicts.len()]?),
+        basis: Items::from_vec(vec![in alloc; false; verdicts.len()]?),
+        support: None,
     })
 }
 

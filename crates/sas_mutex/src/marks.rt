@@ -16,6 +16,7 @@ use sas_group_index::Index;
 use sas_groups::{Known, Premises};
 use sas_meaning::Layered;
 use std::alloc::{AllocError, Global};
+use std::cell::Cell;
 
 /// Which facts of a group are noted.
 #[derive(Clone, Copy)]
@@ -73,6 +74,8 @@ pub struct Marks {
     pub values: Items<Option<u32>>,
     /// For each group, which facts of it are noted.
     pub groups: Items<Noted>,
+    /// The group that decided the last test in which one contradicted a fact. It is a hint, of which no contract speaks.
+    pub deciding: Cell<u32>,
 }
 
 impl Marks {
@@ -83,6 +86,7 @@ impl Marks {
         Ok(Marks {
             values: Items::from_vec(vec![in alloc; None; task.variables() as usize]?),
             groups: Items::from_vec(vec![in alloc; Noted::Nothing; task.groups() as usize]?),
+            deciding: Cell::new(0),
         })
     }
 }
@@ -135,13 +139,20 @@ fn note(index: &Index, kept: &[bool], fact: Fact, marks: &mut Marks) -> bool
         Some(value) => value == fact.value,
         None => {
             marks.values.set(fact.var as usize, Some(fact.value));
-            note_in_groups(index.groups_of(fact), kept, fact, &mut marks.groups)
+            let groups = index.groups_of(fact);
+            note_in_groups(groups, kept, fact, &mut marks.groups, &marks.deciding)
         }
     }
 }
 
 /// Notes the fact for these groups, which have it. Returns whether no other fact is noted for one of them that is kept.
-fn note_in_groups(groups: &[u32], kept: &[bool], fact: Fact, noted: &mut Items<Noted>) -> bool
+fn note_in_groups(
+    groups: &[u32],
+    kept: &[bool],
+    fact: Fact,
+    noted: &mut Items<Noted>,
+    deciding: &Cell<u32>,
+) -> bool
     requires kept { AreBelow (length kept.now) groups.now }
     requires noted { AreBelow (length noted.old) groups.now }
     ensures yes { IsTrue result → TakenByAll groups.now kept.now fact noted.old noted.new }
@@ -151,6 +162,7 @@ fn note_in_groups(groups: &[u32], kept: &[bool], fact: Fact, noted: &mut Items<N
     for group in groups {
         let now = noted.as_slice()[*group as usize].with(fact);
         if now.is_several() && kept[*group as usize] {
+            deciding.set(*group);
             return false;
         }
         noted.set(*group as usize, now);

@@ -1,23 +1,21 @@
--- A step whose line stands first in some bytes, and LF behind it.
-use Rattle.std.proofs.Common.{◌≡◌, ℕ, suc, ◌+◌, ◌<◌, ◌≤◌, List, [], ◌∷◌, ◌++◌, length, get_or, take, drop, refl, subst, Ok, sym, ap, ◌∙◌, append_assoc, length-append, arith, Option, None, Some, Bor, true, false, Bool, not, ◌&&◌, ◌==◌}
+-- A step whose line stands first in some bytes.
+use Rattle.std.proofs.Common.{◌≡◌, ◌⊎◌, inl, inr, ℕ, suc, ◌+◌, ◌<◌, ◌≤◌, List, [], ◌∷◌, ◌++◌, length, get_or, take, drop, refl, subst, Ok, sym, ap, ◌∙◌, append_assoc, length-append, arith, None, true, false, Bool, not, ◌&&◌, ◌==◌}
 use Rattle.std.specs.Prelude.{codes}
 use Rattle.std.specs.List.{list_all}
-use Rattle.std.specs.Option.{IfSome}
 use Rattle.std.proofs.lemmas.Bool.{ne_eqb}
 use Rattle.std.proofs.lemmas.List.{length-take-le, get_or-take, take_at, take-append-drop, drop_more, drop_all}
 use Rattle.std.proofs.Math.ListN.{get_or-append}
 use Rattle.memchr.specs.Find.{Nowhere, NoneBefore, Passes, is_byte2}
-use Rattle.sas_core.specs.Names.{is_plain}
+use Rattle.sas_core.specs.Names.{is_plain, IsName}
 use Rattle.sas_core.proofs.PlainBytes.{is_none-search}
 use Rattle.sas_lines.specs.FirstLines.{LineStandsFirst}
 use Rattle.sas_lines.proofs.Beginnings.{stands_first, one_stands_first}
-use Rattle.sas_lines.proofs.Splitting.{Plain}
 use Rattle.sas_reader.specs.Machine.{AcceptsAhead}
-use Rattle.sas_reader.proofs.Plain.{plain}
+use Rattle.sas_reader.proofs.Plain.{plain, return_stands_first}
 use Rattle.sas_reader.specs.System.{Takes}
 use Rattle.sas_plan_file.specs.PlanFormat.{step, plan_line_bytes, plan_format, PlanLineFits}
 use Rattle.sas_plan_file.specs.PlanMachine.{plan_line_ok}
-use Rattle.sas_plan_file.specs.PlanLine.{StepStandsFirst}
+use Rattle.sas_plan_file.specs.PlanLine.{EndsLine, StepStandsFirst}
 use Rattle.sas_plan_file.proofs.PlanGrammar.{plain-step}
 
 -- what stands between the first and the last byte
@@ -44,37 +42,48 @@ module _ (bytes : List ℕ) (end : ℕ) (first : NoneBefore (Passes (is_byte2 10
     nowhere : Nowhere (Passes (is_byte2 10 13) name) 0 (length name)
     nowhere k low below found = first.before (suc k) (omega arith) (omega (arith, inside)) (rw (at_place k below) at found)
 
-    step_stands_first : 0 < length name → get_or bytes end 0 ≡ 10 → StepStandsFirst bytes name
-    step_stands_first some here =
+    names : 0 < length name → IsName name
+    names some =
         let one_line = is_none-search name None true nowhere refl in
         let many : (length name == 0) ≡ false = ne_eqb (length name) 0 (λ e. omega (arith, e, some)) in
-        record {
-          is_name = ap (λ (b : Bool). not b && list_all is_plain name) many ∙ sym one_line;
-          rest = drop (end + 1) bytes;
-          whole = sym (take-append-drop end bytes)
-              ∙ ap (λ (x : List ℕ). x ++ drop end bytes) line
-              ∙ ap (λ (x : List ℕ). (codes "(" ++ (name ++ codes ")")) ++ x) (drop_more bytes end 0 first.high ∙ ap (λ (b : ℕ). b ∷ drop (end + 1) bytes) here);
-        }
+        ap (λ (b : Bool). not b && list_all is_plain name) many ∙ sym one_line
 
-  -- so what stands in parentheses before LF is a step
-  pub step_before_end : (found : Option (Bor (List ℕ))) → get_or bytes end 0 ≡ 10 → IfSome found (λ name. 0 < length name.now × (take end bytes ≡ codes "(" ++ (name.now ++ codes ")"))) → IfSome found (λ name. StepStandsFirst bytes name.now)
-  step_before_end None here h = tt
-  step_before_end (Some name) here h = step_stands_first name.now h.1 h.0 here
+    whole : (behind : List ℕ) → drop end bytes ≡ behind → bytes ≡ plan_line_bytes (step name) ++ behind
+    whole behind e = sym (take-append-drop end bytes) ∙ ap (λ (x : List ℕ). x ++ drop end bytes) line ∙ ap (λ (x : List ℕ). plan_line_bytes (step name) ++ x) e
 
-module _ (bytes name : List ℕ) (h : StepStandsFirst bytes name) where
-  -- its line takes the name, the parentheses and LF
-  pub line_first : LineStandsFirst bytes (plan_line_bytes (step name)) (length name + 3)
-  line_first =
-      subst (LineStandsFirst bytes (plan_line_bytes (step name))) (omega (arith, length-append name (codes ")")))
-      (stands_first bytes (plan_line_bytes (step name)) h.rest (plain _ (plain-step name h.is_name)) h.whole)
+    line_first : IsName name → (rest : List ℕ) (taken : ℕ)
+        → ((drop end bytes ≡ 10 ∷ rest) × (taken ≡ 1)) ⊎ ((drop end bytes ≡ 13 ∷ 10 ∷ rest) × (taken ≡ 2))
+        → LineStandsFirst bytes (plan_line_bytes (step name)) (end + taken)
+    line_first is rest taken (inl h) =
+        subst (LineStandsFirst bytes (plan_line_bytes (step name))) (omega (arith, inside, h.1, length-append name (codes ")")))
+        (stands_first bytes (plan_line_bytes (step name)) rest (plain _ (plain-step name is)) (whole (10 ∷ rest) h.0))
+    line_first is rest taken (inr h) =
+        subst (LineStandsFirst bytes (plan_line_bytes (step name))) (omega (arith, inside, h.1, length-append name (codes ")")))
+        (return_stands_first (plan_line_bytes (step name)) (plain-step name is) bytes rest (whole (13 ∷ 10 ∷ rest) h.0))
 
-  pub bytes_of_line : take (length name + 3) bytes ≡ plan_line_bytes (step name) ++ 10 ∷ []
-  bytes_of_line =
-      ap (take (length name + 3)) (h.whole ∙ sym (append_assoc (plan_line_bytes (step name)) (10 ∷ []) h.rest))
-      ∙ take_at (plan_line_bytes (step name) ++ 10 ∷ []) h.rest (length name + 3) (omega (arith, length-append (plan_line_bytes (step name)) (10 ∷ []), length-append name (codes ")")))
+    -- so what stands in parentheses before a line's end is a step
+    pub step_before_end : 0 < length name → (taken : ℕ) → EndsLine (drop end bytes) taken → StepStandsFirst bytes name (end + taken)
+    step_before_end some taken ends = record {
+      is_name = names some;
+      first = line_first (names some) ends.0 taken ends.1;
+      before_end = ap (λ (n : ℕ). take n bytes) inside ∙ line;
+    }
 
-  pub taken_within : length name + 3 ≤ length bytes
-  taken_within = omega (arith, ap length h.whole, length-append (plan_line_bytes (step name)) (10 ∷ h.rest), length-append name (codes ")"))
+module _ (bytes name : List ℕ) (taken : ℕ) (h : StepStandsFirst bytes name taken) where
+  line_bytes : List ℕ
+  line_bytes = plan_line_bytes (step name)
+
+  pub taken_within : taken ≤ length bytes
+  taken_within = let t = h.first.taken in omega (arith, ap length t.3, length-append t.0 (10 ∷ t.1), t.4)
+
+  -- one byte behind the parentheses is LF
+  pub bytes_of_line : taken ≡ length name + 2 + 1 → take taken bytes ≡ plan_line_bytes (step name) ++ 10 ∷ []
+  bytes_of_line e =
+      let t = h.first.taken in
+      let front : take (length name + 2) bytes ≡ t.0 = ap (take (length name + 2)) t.3 ∙ take_at t.0 (10 ∷ t.1) (length name + 2) (omega (arith, e, t.4)) in
+      ap (take taken) (t.3 ∙ sym (append_assoc t.0 (10 ∷ []) t.1))
+      ∙ take_at (t.0 ++ 10 ∷ []) t.1 taken (omega (arith, t.4, length-append t.0 (10 ∷ [])))
+      ∙ ap (λ (x : List ℕ). x ++ 10 ∷ []) (sym front ∙ h.before_end)
 
   pub step_ahead_taken : Takes plan_format PlanLineFits tt plan_line_ok (step name)
   step_ahead_taken = record { slot = refl; fits = tt; good = h.is_name }
@@ -82,5 +91,9 @@ module _ (bytes name : List ℕ) (h : StepStandsFirst bytes name) where
   -- a machine that the step leads on takes its line
   pub accepts_step : {M : Type 0} (led_by : List (List ℕ) → M → Type 0) (old new : M)
       → ((before : List (List ℕ)) → led_by before old → led_by (before ++ plan_line_bytes (step name) ∷ []) new)
-      → AcceptsAhead led_by old bytes new (Ok (record { lines = 1; bytes = length name + 3 }))
-  accepts_step led_by old new on = record { took = λ some. (plan_line_bytes (step name) ∷ [], record { stand = one_stands_first bytes (plan_line_bytes (step name)) (length name + 3) line_first; many = refl }, on); none = λ e. absurd (omega (arith, e)); memory = tt }
+      → AcceptsAhead led_by old bytes new (Ok (record { lines = 1; bytes = taken }))
+  accepts_step led_by old new on = record {
+    took = λ some. (plan_line_bytes (step name) ∷ [], record { stand = one_stands_first bytes (plan_line_bytes (step name)) taken h.first; many = refl }, on);
+    none = λ e. absurd (omega (arith, e, h.first.taken.4));
+    memory = tt;
+  }

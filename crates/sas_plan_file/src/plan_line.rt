@@ -1,9 +1,9 @@
 // One line of a plan file.
-ghost use Rattle.std.specs.Prelude.{◌≡◌, ◌<◌, ◌++◌, ℕ, List, codes, length, MatchOption, IfSome, IfNone};
+ghost use Rattle.std.specs.Prelude.{◌≡◌, ◌<◌, ◌++◌, ℕ, List, codes, length, drop, MatchOption, IfSome, IfNone};
 ghost use Rattle.std.specs.Fmt.{decimal};
 ghost use Rattle.sas_core.specs.Numbers.{IsPlanCost};
 ghost use Rattle.sas_plan_file.specs.PlanFormat.{BeginsWith};
-ghost use Rattle.sas_plan_file.specs.PlanLine.{Names, Costs, JudgesPlanLine, StepStandsFirst};
+ghost use Rattle.sas_plan_file.specs.PlanLine.{Names, Costs, JudgesPlanLine, EndsLine, StepStandsFirst};
 
 use memchr::memchr2;
 use sas_core::{CostKind, is_name};
@@ -15,6 +15,13 @@ use sas_reader::Kind;
 pub enum PlanLine<'a> {
     Step(&'a [u8]),
     Cost(u64, CostKind),
+}
+
+/// A step whose line stands first in some bytes: its name, and how many of the bytes the line takes with its end.
+#[derive(Clone, Copy, Debug, PartialEq, Eq)]
+pub struct StepAhead<'a> {
+    pub name: &'a [u8],
+    pub taken: usize,
 }
 
 /// Returns what stands behind the front, where the line begins with it.
@@ -101,15 +108,31 @@ fn in_parentheses(line: &[u8]) -> Option<&[u8]>
     }
 }
 
-/// Returns the name of the step whose line stands first in the bytes, where that is quick to see: there is no CR before
-/// its LF. All else is left to `plan_line`.
-pub fn step_ahead(bytes: &[u8]) -> Option<&[u8]>
-    ensures { IfSome result (λ name. StepStandsFirst bytes.now name.now) }
+/// Returns how many bytes the line end takes that stands at this place: LF, or CR LF.
+#[inline(always)]
+fn end_of_line(bytes: &[u8], place: usize) -> Option<usize>
+    requires { place < length bytes.now }
+    ensures { IfSome result (λ taken. EndsLine (drop place bytes.now) taken) }
+{
+    if bytes[place] == b'\n' {
+        return Some(1);
+    }
+    match &bytes[place..] {
+        [b'\r', b'\n', ..] => Some(2),
+        _ => None,
+    }
+}
+
+/// Returns the step whose line stands first in the bytes, where that is quick to see: its end begins with the first LF or CR. All
+/// else is left to `plan_line`.
+pub fn step_ahead(bytes: &[u8]) -> Option<StepAhead<'_>>
+    ensures { IfSome result (λ step. StepStandsFirst bytes.now step.name.now step.taken) }
 {
     let end = memchr2(b'\n', b'\r', bytes)?;
-    if bytes[end] == b'\n' {
-        in_parentheses(&bytes[..end])
-    } else {
-        None
-    }
+    let name = in_parentheses(&bytes[..end])?;
+    let end_taken = end_of_line(bytes, end)?;
+    Some(StepAhead {
+        name,
+        taken: end + end_taken,
+    })
 }

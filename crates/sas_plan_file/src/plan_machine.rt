@@ -139,14 +139,13 @@ impl<S: StepNames> Machine for PlanMachine<S> {
     }
 
     fn accept_ahead(&mut self, bytes: &[u8]) -> Result<Front, Kind> {
-        let Some(name) = step_ahead(bytes) else {
+        let Some(step) = step_ahead(bytes) else {
             return Ok(Front::EMPTY);
         };
-        self.add_step(name)?;
-        // The parentheses and LF.
+        self.add_step(step.name)?;
         Ok(Front {
             lines: 1,
-            bytes: name.len() + 3,
+            bytes: step.taken,
         })
     }
 }

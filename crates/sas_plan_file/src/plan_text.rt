@@ -71,15 +71,19 @@ impl Machine for PlanText {
     }
 
     fn accept_ahead(&mut self, bytes: &[u8]) -> Result<Front, Kind> {
-        let Some(name) = step_ahead(bytes) else {
+        let Some(step) = step_ahead(bytes) else {
             return Ok(Front::EMPTY);
         };
-        // The parentheses and LF.
-        let taken = name.len() + 3;
-        self.text.extend_from_slice(&bytes[..taken])?;
+        // The name and the parentheses.
+        let line = step.name.len() + 2;
+        if step.taken == line + 1 {
+            self.text.extend_from_slice(&bytes[..step.taken])?;
+        } else {
+            self.keep(&bytes[..line])?;
+        }
         Ok(Front {
             lines: 1,
-            bytes: taken,
+            bytes: step.taken,
         })
     }
 }

@@ -1,14 +1,16 @@
 -- Bytes that hold neither LF nor CR.
-use Rattle.std.proofs.Common.{◌≡◌, ◌≢◌, ℕ, ◌<◌, ◌^◌, Bool, true, false, List, [], ◌∷◌, ◌++◌, refl, ap, arith, IsTrue, not}
+use Rattle.std.proofs.Common.{◌≡◌, ◌≢◌, ℕ, ◌+◌, ◌<◌, ◌^◌, Bool, true, false, List, [], ◌∷◌, ◌++◌, take, refl, sym, ap, ◌∙◌, append_assoc, arith, IsTrue, not}
 use Rattle.std.specs.Prelude.{◌==◌, ◌&&◌, length}
 use Rattle.std.specs.List.{list_all}
 use Rattle.std.specs.Fmt.{decimal}
 use Rattle.std.proofs.lemmas.Bool.{eq-eqb, ne_eqb}
+use Rattle.std.proofs.lemmas.List.{take_at, length_push}
 use Rattle.sas_core.specs.Names.{is_plain, IsName}
 use Rattle.sas_lines.specs.Parts.{Without}
-use Rattle.sas_lines.specs.Lines.{NoEnd, without_return}
+use Rattle.sas_lines.specs.Lines.{NoEnd, without_return, lines, unfinished}
+use Rattle.sas_lines.specs.FirstLines.{LineStandsFirst}
 use Rattle.sas_lines.proofs.Words.{Without-decimal}
-use Rattle.sas_lines.proofs.Splitting.{Plain}
+use Rattle.sas_lines.proofs.Splitting.{Plain, lines-one, unfinished-one}
 use Rattle.sas_reader.specs.System.{IsPlain}
 
 -- ---- the digits of a number
@@ -59,3 +61,40 @@ plain line h = record { no_end = no_end line h; no_return = no_return line h }
     no_return [] h = refl
     no_return (b ∷ []) h = rw (ne_eqb b 13 h.0.1) refl
     no_return (b ∷ c ∷ line) h = ap (λ (x : List ℕ). b ∷ x) (no_return (c ∷ line) h.1)
+
+-- ---- such bytes before CR LF
+
+module _ (line : List ℕ) (h : IsPlain line) where
+  return_no_end : NoEnd (line ++ 13 ∷ [])
+  return_no_end = no_end line h
+    where
+      no_end : (line : List ℕ) → IsPlain line → NoEnd (line ++ 13 ∷ [])
+      no_end [] h = (λ e. omega (arith, e), tt)
+      no_end (b ∷ line) h = (h.0.0, no_end line h.1)
+
+  behind_return : without_return (line ++ 13 ∷ []) ≡ line
+  behind_return = behind line
+    where
+      behind : (line : List ℕ) → without_return (line ++ 13 ∷ []) ≡ line
+      behind [] = refl
+      behind (b ∷ []) = refl
+      behind (b ∷ c ∷ line) = ap (λ (x : List ℕ). b ∷ x) (behind (c ∷ line))
+
+  -- they are a line
+  pub lines-return : lines ((line ++ 13 ∷ []) ++ 10 ∷ []) ≡ line ∷ []
+  lines-return = lines-one (line ++ 13 ∷ []) return_no_end ∙ ap (λ (l : List ℕ). l ∷ []) behind_return
+
+  pub unfinished-return : unfinished ((line ++ 13 ∷ []) ++ 10 ∷ []) ≡ []
+  unfinished-return = unfinished-one (line ++ 13 ∷ []) return_no_end
+
+  -- which stands first where they do
+  pub return_stands_first : (bytes rest : List ℕ) → bytes ≡ line ++ 13 ∷ 10 ∷ rest → LineStandsFirst bytes line (length line + 2)
+  return_stands_first bytes rest e =
+      let front = line ++ 13 ∷ [] in
+      let whole : bytes ≡ front ++ 10 ∷ rest = e ∙ sym (append_assoc line (13 ∷ []) (10 ∷ rest)) in
+      let up_to : take (length line + 2) bytes ≡ front ++ 10 ∷ [] = ap (take (length line + 2)) (whole ∙ sym (append_assoc front (10 ∷ []) rest)) ∙ take_at (front ++ 10 ∷ []) rest (length line + 2) (omega (arith, length_push front 10, length_push line 13)) in
+      record {
+        taken = (front, rest, return_no_end, whole, omega (arith, length_push line 13));
+        line = ap lines up_to ∙ lines-return;
+        rest = ap unfinished up_to ∙ unfinished-return;
+      }

@@ -2,11 +2,13 @@ pub mod Determined
 pub mod Choosing
 pub mod NextStates
 pub mod PlanVerdicts
+pub mod NameHashing
 pub mod NameKeys
 pub mod NamesFrom
 pub mod Ranges
 pub mod Missed
 pub mod Giving
+pub mod Gone
 pub mod NamedAlike
 pub mod Going
 pub mod PlanStates

@@ -1,6 +1,7 @@
 -- What the effects of a step give to variables.
-use Rattle.std.specs.Prelude.{◌≡◌, ◌≢◌, ℕ, ◌<◌, List, length, Option, None, Some}
+use Rattle.std.specs.Prelude.{◌≡◌, ◌≢◌, ◌⊎◌, ℕ, ◌<◌, List, [], ◌∷◌, ◌++◌, length, Option, None, Some}
 use Rattle.std.specs.Prelude.{slice_index, slice_index_or, slice_set, unwrap_or}
+use Rattle.sas_core.specs.declared.parts.Fact.{Fact}
 use Rattle.sas_core.specs.declared.parts.Operator.{Operator}
 use Rattle.sas_core.specs.declared.parts.Parts.{Parts}
 use Rattle.sas_core.specs.Grounded.{effect_at}
@@ -49,3 +50,11 @@ pub record GivesOther (given : List (Option ℕ)) (var value : ℕ) (given' : Li
     : Type 0 where
   pub other : (earlier : ℕ) × (given_to given var ≡ Some earlier) × (earlier ≢ value)
   pub now : given' ≡ given
+
+-- the fact comes into the state s: if another one on its variable held, that one is added to those
+-- that are gone
+abbrev pub Replaces : List ℕ → Fact → List Fact → List Fact → Type 0
+Replaces s fact gone gone' =
+    ((slice_index s fact.var ≡ fact.value) × (gone' ≡ gone))
+    ⊎ ((slice_index s fact.var ≢ fact.value)
+    × (gone' ≡ gone ++ (record { var = fact.var; value = slice_index s fact.var }) ∷ []))

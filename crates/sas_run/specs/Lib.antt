@@ -3,6 +3,8 @@ pub mod Plans
 pub mod Verdicts
 pub mod Laws
 pub mod Names
+pub mod NameHash
 pub mod NameTable
 pub mod Running
 pub mod Given
+pub mod Walking

@@ -8,6 +8,7 @@ mod names;
 mod plan_check;
 mod runner;
 mod steps;
+mod walker;
 
 pub use laws::verdict_laws;
 pub use plan_check::{PlanFault, Valid};

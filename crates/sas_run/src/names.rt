@@ -11,6 +11,7 @@ use indexmap::IndexMap;
 use sas_core::Grounded;
 use sas_meaning::Layered;
 use std::alloc::{AllocError, Global};
+use std::marker::Model;
 
 /// For each name the lowest operator of it, and for each operator the next one of the same name.
 #[derive(Drop)]
@@ -53,6 +54,24 @@ impl<'a> Names<'a> {
             None => None,
         }
     }
+}
+
+/// A task, and the names of its operators. In a contract its value is the parts that the task represents.
+#[derive(Drop)]
+pub struct NamedTask<'n, 'a, T: Grounded> {
+    pub task: &'a Layered<T>,
+    pub names: &'n Names<'a>,
+}
+
+impl<'n, 'a, T: Grounded> Model for NamedTask<'n, 'a, T> {
+    ghost use Rattle.sas_core.specs.declared.parts.Parts.{Parts};
+    ghost use Rattle.sas_run.specs.NameTable.{AreNames};
+
+    ghost Value = { Parts };
+
+    ghost view = { λ n. n.task.now };
+
+    ghost invariant = { λ n. AreNames n.task.now n.names.now };
 }
 
 /// Maps the name to this operator, and returns the operator to which it was mapped before, if any.

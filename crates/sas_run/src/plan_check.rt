@@ -8,8 +8,12 @@ ghost use Rattle.sas_run.specs.Plans.{IsValid, GoThrough, cost_of_all};
 ghost use Rattle.sas_run.specs.Names.{AreFirsts, HaveFirsts, IsFirst, IsNextNamed};
 ghost use Rattle.sas_run.specs.Verdicts.{IsFaultOf};
 ghost use Rattle.sas_run.specs.Running.{GoesOn, StopsAt, GoesThrough};
+ghost use Rattle.sas_run.specs.Walking.{IsPrepared};
 
-use crate::runner::Runner;
+use crate::holding::first_missed;
+use crate::names::NamedTask;
+use crate::runner::{Runner, first_applicable};
+use crate::walker::{Walker, go_on_from, initial_of};
 use sas_core::{Grounded, Stepwise};
 use sas_meaning::{Layered, Settle, State};
 use std::alloc::{AllocError, Global};
@@ -48,6 +52,20 @@ impl From<AllocError> for PlanFault {
     }
 }
 
+/// The next step of a plan: the lowest operator of its name, and its number, counted from 1.
+#[derive(Clone, Copy, Debug)]
+struct NextStep {
+    first: u32,
+    number: usize,
+}
+
+/// How far a plan has come: the state, and the operators of the steps so far.
+#[derive(Drop)]
+struct Walk {
+    state: State,
+    operators: Vec<u32>,
+}
+
 impl<'a, E: Settle<T> + Drop, T: Grounded> Runner<'a, E, T> {
     /// Checks whether the plan is valid, and returns its operators and its cost, or its fault. A step means the
     /// lowest-numbered operator of its name that is applicable. All memory is asked for before the first step.
@@ -58,122 +76,153 @@ impl<'a, E: Settle<T> + Drop, T: Grounded> Runner<'a, E, T> {
             → IsFaultOf self.old (P.says plan.now) f) }
         ensures same { self.new ≡ self.old }
     {
-        let firsts = self.first_operators(alloc, plan)?;
-        let mut operators = Vec::with_capacity(alloc, plan.steps())?;
-        let mut state = self.initial(alloc)?;
-        self.judge(plan, firsts.as_slice(), &mut state, &mut operators)?;
+        let named = NamedTask {
+            task: self.layered,
+            names: &self.names,
+        };
+        let firsts = first_operators(alloc, &named, plan)?;
+        let operators = Vec::with_capacity(alloc, plan.steps())?;
+        let state = initial_of(alloc, self.layered, &mut self.walker)?;
+        let mut walk = Walk { state, operators };
+        judge(&named, &mut self.walker, plan, firsts.as_slice(), &mut walk)?;
         Ok(Valid {
-            operators,
+            operators: walk.operators,
             cost: plan.cost(),
         })
     }
+}
 
-    /// Checks whether the plan is valid, where `firsts` are the lowest operators of its steps. Adds the plan's operators, for
-    /// which there is room. Without an allocator it can ask for no memory.
-    fn judge<P: Stepwise>(
-        &mut self,
-        plan: &P,
-        firsts: &[u32],
-        state: &mut State,
-        operators: &mut Vec<u32>,
-    ) -> Result<(), PlanFault>
-        requires firsts { AreFirsts self.old (P.says plan.now).steps firsts.now }
-        requires initial { IsInitial self.old state.old }
-        requires room { length (P.says plan.now).steps ≤ vec_capacity operators.old }
-        requires empty { operators.old.items ≡ [] }
-        ensures valid { OnOk result (IsValid self.old (P.says plan.now) operators.new.items) }
-        ensures fault { IfErr result (IsFaultOf self.old (P.says plan.now)) }
-        ensures same { self.new ≡ self.old }
-    {
-        self.go_through(plan, firsts, state, operators)?;
-        if let Some(index) = self.goal(state) {
-            return Err(PlanFault::GoalMissed { index });
-        }
-        let sum = cost_of(self.layered(), operators.as_slice());
-        if sum != u128::from(plan.cost()) {
-            return Err(PlanFault::CostDiffers { sum });
-        }
-        Ok(())
+/// Checks whether the plan is valid, where `firsts` are the lowest operators of its steps. Adds the plan's operators, for
+/// which there is room. Without an allocator it can ask for no memory.
+fn judge<E: Settle<T> + Drop, T: Grounded, P: Stepwise>(
+    named: &NamedTask<'_, '_, T>,
+    walker: &mut Walker<E>,
+    plan: &P,
+    firsts: &[u32],
+    walk: &mut Walk,
+) -> Result<(), PlanFault>
+    requires prepared { IsPrepared E.ready named.now walker.old }
+    requires follows { E.follows walker.old.evaluator named.now walk.old.state }
+    requires firsts { AreFirsts named.now (P.says plan.now).steps firsts.now }
+    requires initial { IsInitial named.now walk.old.state }
+    requires room { length (P.says plan.now).steps ≤ vec_capacity walk.old.operators }
+    requires empty { walk.old.operators.items ≡ [] }
+    ensures prepared { IsPrepared E.ready named.now walker.new }
+    ensures valid { OnOk result (IsValid named.now (P.says plan.now) walk.new.operators.items) }
+    ensures fault { IfErr result (IsFaultOf named.now (P.says plan.now)) }
+{
+    go_through(named, walker, plan, firsts, walk)?;
+    if let Some(index) = first_missed(&walk.state, named.task.task().goal()) {
+        let index = index as u32;
+        return Err(PlanFault::GoalMissed { index });
     }
-
-    /// Returns, for each step up to the first one whose name no operator has, the lowest operator of its name. A name that
-    /// comes several times in a row is looked up once. All names are looked up before the first step, since each look-up
-    /// waits for memory that is read in no order. So the look-ups of several steps wait at the same time.
-    fn first_operators<P: Stepwise>(&self, alloc: Global, plan: &P) -> Result<Vec<u32>, AllocError>
-        ensures { IfOk result (λ firsts. AreFirsts self.now (P.says plan.now).steps firsts.items) }
-    {
-        let mut firsts = Vec::with_capacity(alloc, plan.steps())?;
-        for _step in 0..plan.steps() {
-            match self.next_first(plan, firsts.as_slice()) {
-                Some(first) => firsts.push(first).unwrap(),
-                None => return Ok(firsts),
-            }
-        }
-        Ok(firsts)
+    let sum = cost_of(named.task, walk.operators.as_slice());
+    if sum != u128::from(plan.cost()) {
+        return Err(PlanFault::CostDiffers { sum });
     }
+    Ok(())
+}
 
-    /// Returns the lowest operator of the name of the next step, if there is one. `firsts` are those of the steps before it.
-    fn next_first<P: Stepwise>(&self, plan: &P, firsts: &[u32]) -> Option<u32>
-        requires step { length firsts.now < length (P.says plan.now).steps }
-        requires firsts { HaveFirsts self.now (P.says plan.now).steps firsts.now }
-        ensures { IsNextNamed self.now
-            (slice_index_or (P.says plan.now).steps (length firsts.now) []) 0 result }
-    {
-        let step = firsts.len();
-        let name = plan.step(step);
-        if step > 0 && plan.step(step - 1) == name {
-            Some(firsts[step - 1])
-        } else {
-            self.look_up(name)
+/// Returns, for each step up to the first one whose name no operator has, the lowest operator of its name. A name that
+/// comes several times in a row is looked up once. All names are looked up before the first step, since each look-up
+/// waits for memory that is read in no order. So the look-ups of several steps wait at the same time.
+fn first_operators<T: Grounded, P: Stepwise>(
+    alloc: Global,
+    named: &NamedTask<'_, '_, T>,
+    plan: &P,
+) -> Result<Vec<u32>, AllocError>
+    ensures { IfOk result (λ firsts. AreFirsts named.now (P.says plan.now).steps firsts.items) }
+{
+    let mut firsts = Vec::with_capacity(alloc, plan.steps())?;
+    for _step in 0..plan.steps() {
+        match next_first(named, plan, firsts.as_slice()) {
+            Some(first) => firsts.push(first).unwrap(),
+            None => return Ok(firsts),
         }
     }
+    Ok(firsts)
+}
 
-    /// Makes the plan's steps in turn, where `firsts` are their lowest operators. Adds their operators, for which there is
-    /// room.
-    fn go_through<P: Stepwise>(
-        &mut self,
-        plan: &P,
-        firsts: &[u32],
-        state: &mut State,
-        operators: &mut Vec<u32>,
-    ) -> Result<(), PlanFault>
-        requires firsts { AreFirsts self.old (P.says plan.now).steps firsts.now }
-        requires state { IsState self.old.variables state.old }
-        requires room { length (P.says plan.now).steps ≤ vec_capacity operators.old }
-        requires empty { operators.old.items ≡ [] }
-        ensures goes { GoesThrough self.old state.old (P.says plan.now).steps operators.new.items
-            state.new result }
-        ensures same { self.new ≡ self.old }
-    {
-        for before in 0..firsts.len() {
-            let operator = self.go_on(firsts[before], before + 1, state)?;
-            operators.push(operator).unwrap();
-        }
-        if firsts.len() < plan.steps() {
-            return Err(PlanFault::NoOperator {
-                step: firsts.len() + 1,
-            });
-        }
-        Ok(())
+/// Returns the lowest operator of the name of the next step, if there is one. `firsts` are those of the steps before it.
+fn next_first<T: Grounded, P: Stepwise>(
+    named: &NamedTask<'_, '_, T>,
+    plan: &P,
+    firsts: &[u32],
+) -> Option<u32>
+    requires step { length firsts.now < length (P.says plan.now).steps }
+    requires firsts { HaveFirsts named.now (P.says plan.now).steps firsts.now }
+    ensures { IsNextNamed named.now
+        (slice_index_or (P.says plan.now).steps (length firsts.now) []) 0 result }
+{
+    let step = firsts.len();
+    let name = plan.step(step);
+    if step > 0 && plan.step(step - 1) == name {
+        Some(firsts[step - 1])
+    } else {
+        named.names.first(name)
     }
+}
 
-    /// Makes the step of the name of this operator, which is the lowest that has it, and returns the step's operator.
-    fn go_on(&mut self, first: u32, step: usize, state: &mut State) -> Result<u32, PlanFault>
-        requires first { IsFirst self.old first }
-        requires state { IsState self.old.variables state.old }
-        ensures ok { IfOk result (λ operator.
-            GoesOn self.old state.old (operator_at self.old first).name operator state.new) }
-        ensures err { IfErr result (λ fault.
-            StopsAt self.old state.old (operator_at self.old first).name step fault) }
-        ensures same { self.new ≡ self.old }
-    {
-        let Some(operator) = self.choose_from(state, first) else {
-            return Err(PlanFault::NotApplicable { step });
+/// Makes the plan's steps in turn, where `firsts` are their lowest operators. Adds their operators, for which there is
+/// room.
+fn go_through<E: Settle<T> + Drop, T: Grounded, P: Stepwise>(
+    named: &NamedTask<'_, '_, T>,
+    walker: &mut Walker<E>,
+    plan: &P,
+    firsts: &[u32],
+    walk: &mut Walk,
+) -> Result<(), PlanFault>
+    requires prepared { IsPrepared E.ready named.now walker.old }
+    requires follows { E.follows walker.old.evaluator named.now walk.old.state }
+    requires firsts { AreFirsts named.now (P.says plan.now).steps firsts.now }
+    requires state { IsState named.now.variables walk.old.state }
+    requires room { length (P.says plan.now).steps ≤ vec_capacity walk.old.operators }
+    requires empty { walk.old.operators.items ≡ [] }
+    ensures prepared { IsPrepared E.ready named.now walker.new }
+    ensures goes { GoesThrough named.now walk.old.state (P.says plan.now).steps
+        walk.new.operators.items walk.new.state result }
+{
+    for before in 0..firsts.len() {
+        let next = NextStep {
+            first: firsts[before],
+            number: before + 1,
         };
-        match self.step_on(state, operator) {
-            Ok(()) => Ok(operator),
-            Err(_) => Err(PlanFault::Conflict { step, operator }),
-        }
+        let operator = go_on(named, walker, next, &mut walk.state)?;
+        walk.operators.push(operator).unwrap();
+    }
+    if firsts.len() < plan.steps() {
+        return Err(PlanFault::NoOperator {
+            step: firsts.len() + 1,
+        });
+    }
+    Ok(())
+}
+
+/// Makes the next step, from the state that the evaluator settled last, and returns its operator.
+fn go_on<E: Settle<T> + Drop, T: Grounded>(
+    named: &NamedTask<'_, '_, T>,
+    walker: &mut Walker<E>,
+    next: NextStep,
+    state: &mut State,
+) -> Result<u32, PlanFault>
+    requires prepared { IsPrepared E.ready named.now walker.old }
+    requires follows { E.follows walker.old.evaluator named.now state.old }
+    requires first { IsFirst named.now next.first }
+    requires state { IsState named.now.variables state.old }
+    ensures prepared { IsPrepared E.ready named.now walker.new }
+    ensures follows { IfOk result (λ _. E.follows walker.new.evaluator named.now state.new) }
+    ensures ok { IfOk result (λ operator. GoesOn named.now state.old
+        (operator_at named.now next.first).name operator state.new) }
+    ensures err { IfErr result (λ fault. StopsAt named.now state.old
+        (operator_at named.now next.first).name next.number fault) }
+{
+    let step = next.number;
+    let Some(operator) = first_applicable(named.task, named.names, state, next.first) else {
+        return Err(PlanFault::NotApplicable { step });
+    };
+    match go_on_from(named.task, walker, operator, state) {
+        Ok(()) => Ok(operator),
+        Err(_) => Err(PlanFault::Conflict { step, operator }),
     }
 }
 

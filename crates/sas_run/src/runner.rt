@@ -5,14 +5,14 @@ ghost use Rattle.sas_core.specs.Variables.{IsState};
 ghost use Rattle.sas_meaning.specs.Reachable.{IsInitial};
 ghost use Rattle.sas_run.specs.NameTable.{AreNames};
 ghost use Rattle.sas_run.specs.Names.{IsNextNamed};
-ghost use Rattle.sas_run.specs.Given.{IsClean};
 ghost use Rattle.sas_run.specs.Plans.{IsApplicable, IsNamed};
 ghost use Rattle.sas_run.specs.Running.{IsChoice, IsFirstChosen, IsGoalAnswer, Steps};
 
 use crate::holding::first_missed;
 use crate::names::Names;
-use crate::steps::{StepFault, apply, missed_precondition};
-use sas_core::{Grounded, Items, Task};
+use crate::steps::{StepFault, missed_precondition};
+use crate::walker::{Walker, initial_of, step_on, walker_for};
+use sas_core::{Grounded, Task};
 use sas_meaning::{Layered, Settle, State};
 use std::alloc::{AllocError, Global};
 use std::marker::Model;
@@ -32,25 +32,22 @@ pub enum Choice {
 /// is the parts that the task represents.
 #[derive(Drop)]
 pub struct Runner<'a, E: Settle<T> + Drop, T: Grounded = Task> {
-    layered: &'a Layered<T>,
-    evaluator: E,
-    names: Names<'a>,
-    /// For each variable, the value to which the effects that fire in a step set it. Between two steps there is none.
-    given: Items<Option<u32>>,
+    pub(crate) layered: &'a Layered<T>,
+    pub(crate) names: Names<'a>,
+    pub(crate) walker: Walker<E>,
 }
 
 impl<'a, E: Settle<T> + Drop, T: Grounded> Model for Runner<'a, E, T> {
     ghost use Rattle.sas_core.specs.declared.parts.Parts.{Parts};
-    ghost use Rattle.sas_run.specs.Given.{IsClean};
     ghost use Rattle.sas_run.specs.NameTable.{AreNames};
+    ghost use Rattle.sas_run.specs.Walking.{IsPrepared};
 
     ghost Value = { Parts };
 
     ghost view = { λ r. r.layered.now };
 
-    ghost invariant = { λ r. E.ready r.evaluator r.layered.now
-        × AreNames r.layered.now r.names
-        × IsClean r.layered.now r.given };
+    ghost invariant = { λ r. AreNames r.layered.now r.names
+        × IsPrepared E.ready r.layered.now r.walker };
 }
 
 impl<'a, E: Settle<T> + Drop, T: Grounded> Runner<'a, E, T> {
@@ -69,15 +66,11 @@ impl<'a, E: Settle<T> + Drop, T: Grounded> Runner<'a, E, T> {
             Ok(names) => names,
             Err(error) => return Err((evaluator, error)),
         };
-        match nothing_given(alloc, layered) {
-            Ok(given) => Ok(Runner {
-                layered,
-                evaluator,
-                names,
-                given,
-            }),
-            Err(error) => Err((evaluator, error)),
-        }
+        Ok(Runner {
+            layered,
+            names,
+            walker: walker_for(alloc, layered, evaluator)?,
+        })
     }
 
     /// Returns the initial state, which is the state of the state section, settled.
@@ -85,9 +78,7 @@ impl<'a, E: Settle<T> + Drop, T: Grounded> Runner<'a, E, T> {
         ensures initial { IfOk result (λ s. IsInitial self.old s) }
         ensures same { self.new ≡ self.old }
     {
-        let mut state = State::of_section(alloc, self.layered.task())?;
-        self.evaluator.settle(self.layered, &mut state);
-        Ok(state)
+        initial_of(alloc, self.layered, &mut self.walker)
     }
 
     /// Returns whether the operator's preconditions hold in the state. It takes no memory.
@@ -140,23 +131,8 @@ impl<'a, E: Settle<T> + Drop, T: Grounded> Runner<'a, E, T> {
     {
         match missed_precondition(self.layered, operator, state) {
             Some(fact) => Err(StepFault::NotApplicable { fact }),
-            None => self.step_on(state, operator),
+            None => step_on(self.layered, &mut self.walker, operator, state),
         }
-    }
-
-    /// Does the same as `step` for an operator that is known to be applicable.
-    pub(crate) fn step_on(&mut self, state: &mut State, operator: u32) -> Result<(), StepFault>
-        requires operator { operator < length self.old.operators }
-        requires state { IsState self.old.variables state.old }
-        requires applicable { IsApplicable state.old (operator_at self.old operator) }
-        ensures steps { Steps self.old state.old operator state.new result }
-        ensures same { self.new ≡ self.old }
-    {
-        // By its contract the task is well ranged and layered.
-        let _ = self.layered.task();
-        apply(self.layered, operator, &mut self.given, state)?;
-        self.evaluator.settle(self.layered, state);
-        Ok(())
     }
 
     /// Returns the index of the first fact of the goal that doesn't hold, if there is one. It takes no memory.
@@ -178,16 +154,6 @@ impl<'a, E: Settle<T> + Drop, T: Grounded> Runner<'a, E, T> {
     }
 }
 
-/// Returns a list that holds no value for any variable of the task.
-fn nothing_given<T: Grounded>(
-    alloc: Global,
-    task: &Layered<T>,
-) -> Result<Items<Option<u32>>, AllocError>
-    ensures { IfOk result (λ given. IsClean task.now given) }
-{
-    Ok(Items::from_vec(vec![in alloc; None; task.variables() as usize]?))
-}
-
 /// Returns whether the operator's preconditions hold.
 fn is_applicable<T: Grounded>(task: &Layered<T>, state: &State, operator: u32) -> bool
     requires operator { operator < length task.now.operators }
@@ -201,7 +167,7 @@ fn is_applicable<T: Grounded>(task: &Layered<T>, state: &State, operator: u32) -
 }
 
 /// Returns the first operator that is applicable, of this one and those behind it that have its name.
-fn first_applicable<T: Grounded>(
+pub fn first_applicable<T: Grounded>(
     task: &Layered<T>,
     names: &Names<'_>,
     state: &State,

@@ -1,10 +1,12 @@
 // One step: from a state by an operator to the next state, before it is settled.
-ghost use Rattle.std.specs.Prelude.{◌≡◌, ℕ, ◌<◌, length, IsTrue, IsFalse, IfSome, IfNone, slice_index};
+ghost use Rattle.std.specs.Prelude.{◌≡◌, ℕ, ◌<◌, ◌≤◌, [], length, IsTrue, IsFalse, IfSome, IfNone, OnOk};
+ghost use Rattle.std.specs.Prelude.{slice_index, slice_set, vec_capacity};
 ghost use Rattle.sas_core.specs.Grounded.{operator_at};
 ghost use Rattle.sas_core.specs.Variables.{IsState};
+ghost use Rattle.sas_meaning.specs.Following.{HaveGone};
 ghost use Rattle.sas_run.specs.Plans.{IsApplicable};
 ghost use Rattle.sas_run.specs.Running.{IsFirstConflict, IsStepFault, Applies};
-ghost use Rattle.sas_run.specs.Given.{IsClean, IsGiven, IsGivenTo, value_after, GivesValue, GivesOther};
+ghost use Rattle.sas_run.specs.Given.{IsClean, IsGiven, IsGivenTo, value_after, GivesValue, GivesOther, Replaces};
 
 use sas_core::{Fact, Grounded, Items};
 use sas_meaning::{Layered, Preconditions, State};
@@ -41,25 +43,31 @@ pub fn missed_precondition<T: Grounded>(
 }
 
 /// Applies the effects that fire to the state, where the preconditions hold. If two of these effects conflict, leaves the
-/// state as it was, and returns the fault. `given` is used meanwhile, and holds no value in the end.
+/// state as it was, and returns the fault. `given` is used meanwhile, and holds no value in the end. `gone` then holds the
+/// facts that the effects took away.
 pub fn apply<T: Grounded>(
     task: &Layered<T>,
     operator: u32,
     given: &mut Items<Option<u32>>,
+    gone: &mut Vec<Fact>,
     state: &mut State,
 ) -> Result<(), StepFault>
     requires operator { operator < length task.now.operators }
     requires state { IsState task.now.variables state.old }
     requires applicable { IsApplicable state.old (operator_at task.now operator) }
     requires clean { IsClean task.now given.old }
+    requires room { length (operator_at task.now operator).effects ≤ vec_capacity gone.old }
     ensures applies { Applies task.now state.old operator state.new result }
+    ensures gone { OnOk result (HaveGone task.now gone.new.items state.old state.new) }
     ensures clean { IsClean task.now given.new }
+    ensures room { vec_capacity gone.old ≤ vec_capacity gone.new }
 {
     if let Some(effect) = give_effects(task, operator, state, given) {
         take_back(task, operator, given);
         return Err(StepFault::Conflict { effect });
     }
-    write_given(task, operator, given, state);
+    gone.clear();
+    write_given(task, operator, given, gone, state);
     Ok(())
 }
 
@@ -123,27 +131,49 @@ fn take_back<T: Grounded>(task: &Layered<T>, operator: u32, given: &mut Items<Op
     }
 }
 
-/// Writes the values that are stored for the variables of the effects into the state, and removes them.
+/// Writes the values that are stored for the variables of the effects into the state, and removes them. Adds the facts that
+/// this takes away to `gone`, which is empty.
 fn write_given<T: Grounded>(
     task: &Layered<T>,
     operator: u32,
     given: &mut Items<Option<u32>>,
+    gone: &mut Vec<Fact>,
     state: &mut State,
 )
     requires operator { operator < length task.now.operators }
     requires state { IsState task.now.variables state.old }
     requires given_to { IsGivenTo task.now (operator_at task.now operator) given.old }
+    requires empty { gone.old.items ≡ [] }
+    requires room { length (operator_at task.now operator).effects ≤ vec_capacity gone.old }
     ensures state { IsState task.now.variables state.new }
     ensures written { (var : ℕ) → slice_index state.new var ≡ value_after given.old state.old var }
+    ensures gone { HaveGone task.now gone.new.items state.old state.new }
     ensures clean { IsClean task.now given.new }
+    ensures room { vec_capacity gone.old ≤ vec_capacity gone.new }
 {
     // By its contract the task is well ranged and layered.
     let _ = task.task();
     for effect in 0..task.effects(operator) {
         let var = task.effect_change(operator, effect).var;
         if let Some(value) = given.as_slice()[var as usize] {
-            state.set(Fact { var, value });
+            replace(Fact { var, value }, gone, state);
             given.set(var as usize, None);
         }
+    }
+}
+
+/// Puts the fact into the state. If another one on its variable held, adds that one to `gone`, for which there is room.
+fn replace(fact: Fact, gone: &mut Vec<Fact>, state: &mut State)
+    requires exists { fact.var < length state.old }
+    requires room { length gone.old.items < vec_capacity gone.old }
+    ensures state { state.new ≡ slice_set state.old fact.var fact.value }
+    ensures gone { Replaces state.old fact gone.old.items gone.new.items }
+    ensures room { vec_capacity gone.old ≤ vec_capacity gone.new }
+{
+    let before = state.value(fact.var);
+    if before != fact.value {
+        let var = fact.var;
+        gone.push(Fact { var, value: before }).unwrap();
+        state.set(fact);
     }
 }

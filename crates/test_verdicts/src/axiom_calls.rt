@@ -153,7 +153,7 @@ fn say_holds<P: Print>(out: &P, state: &State, fact: Fact) {
 }
 
 /// Returns the state of these values.
-fn state_of(alloc: Global, task: &Task, words: &[u8]) -> Result<State, StateFault>
+pub fn state_of(alloc: Global, task: &Task, words: &[u8]) -> Result<State, StateFault>
     ensures { IfOk result (λ state. IsState task.now.variables state) }
 {
     let values = numbers_of(alloc, words)?;

@@ -4,6 +4,7 @@ ghost use Rattle.sas_axioms.specs.Worklist.{IsReadyFor};
 
 use crate::axiom_calls::{say_state, settled};
 use crate::files::pieces_of;
+use crate::following_calls::{Telling, follow};
 use crate::runner_calls::call_with_runner;
 use sas_axioms::{Layered, Rounds, Settle, State, StateFault, Worklist};
 use sas_core::Task;
@@ -41,10 +42,12 @@ fn call_with<R: AllocGlobal + Print, E: Settle<Task> + Drop>(
     requires { IfOk made (λ evaluator. E.ready evaluator layered.now) }
 {
     let mut evaluator = made?;
-    if asked.call == "settle" {
-        return settle(rt, &mut evaluator, layered, words);
+    match asked.call {
+        "settle" => settle(rt, &mut evaluator, layered, words),
+        "follow" => follow(rt, &mut evaluator, layered, words),
+        "walk" => call_with_runner(rt, asked, words, layered, Telling::new(rt, evaluator)),
+        _ => call_with_runner(rt, asked, words, layered, evaluator),
     }
-    call_with_runner(rt, asked, words, layered, evaluator)
 }
 
 /// Prints each of the states, which have `;` between them, settled one after another by this evaluator. It could show a

@@ -5,6 +5,7 @@
 mod axiom_calls;
 mod evaluator_calls;
 mod files;
+mod following_calls;
 mod group_calls;
 mod law_calls;
 mod layered_calls;
@@ -30,7 +31,9 @@ fn call<R: AllocGlobal + Print>(rt: &R, asked: &Asked<'_>) -> Result<bool, Alloc
         | "counted-steps"
         | "new-runner"
         | "initial"
-        | "plan" => call_on_layered(rt, asked)?,
+        | "plan"
+        | "walk"
+        | "follow" => call_on_layered(rt, asked)?,
         _ => return Ok(false),
     }
     Ok(true)

@@ -53,7 +53,7 @@ fn call_of_runner<R: AllocGlobal + Print, E: Settle<Task> + Drop>(
 ) -> Result<(), AllocError> {
     match asked.call {
         "steps" => make_steps(rt, words, runner),
-        "plan" => check_plan(rt, asked.number, words, runner),
+        "plan" | "walk" => check_plan(rt, asked.number, words, runner),
         _ => say_initial(rt, asked.number, runner),
     }
 }

@@ -1,9 +1,16 @@
 -- Each rule of the layer is among these.
-use Rattle.std.proofs.Common.{◌≡◌, ap, subst, get_or, arith}
+use Rattle.std.proofs.Common.{◌≡◌, ◌<◌, length, set, ap, subst, get_or, ◌∙◌, inl, inr, arith}
+use Rattle.std.proofs.lemmas.Bool.{cases_eq}
+use Rattle.std.proofs.lemmas.List.{get_or_default, get_or-set_same, get_or-set_other, length-set}
+use Rattle.sas_axioms.specs.LayerRules.{IsRuleOn}
+use Rattle.sas_axioms.proofs.Counters.{counts_set_off}
 use Rattle.sas_core.specs.Grounded.{rule_at}
 use Rattle.sas_axioms.specs.declared.layer_rules.LayerRule.{LayerRule}
 use Rattle.sas_axioms.specs.Conditions.{open_conditions}
 use Rattle.sas_axioms.proofs.firing.count_conditions.Goals as goal
+
+abbrev no_entry : LayerRule
+no_entry = record { layer = 0; rule = 0 }
 
 pub returns-clause-counts : goal.returns-clause-counts
 returns-clause-counts g c rule on =
@@ -14,3 +21,27 @@ returns-clause-counts g c rule on =
     let counted = subst (λ k. get_or c.loop-entry.work.counters k 0 ≡ open_conditions (λ v. get_or c.args.state.now v 0) (rule_at p k).conditions) its
     (c.loop-entry.invariant.so_far there.0 entry (omega (arith, there.1, c.loop-entry-test.false))) in
     omega (arith, counted)
+
+pub loop-entry-preserved : goal.loop-entry-preserved
+loop-entry-preserved g c =
+    let p = c.args.task.now in
+    let inv = c.loop-entry.invariant in
+    let rules = c.args.rules.now in
+    let i = c.loop-entry.entry-index in
+    let lt = c.loop-entry-test.true in
+    let is : IsRuleOn p c.args.work.now.layer (get_or rules i no_entry).rule = c.requires.rules.only i no_entry lt in
+    let within : (get_or rules i no_entry).rule < length c.loop-entry.work.counters = omega (arith, is.exists, inv.one_each, c.requires.room.one_each) in
+    rw c.set.ensures record {
+      layer = inv.layer;
+      stack = inv.stack;
+      sources = inv.sources;
+      one_each = length-set c.loop-entry.work.counters (get_or rules i no_entry).rule c.count_of-open.result ∙ inv.one_each;
+      others = λ m rule ne on. counts_set_off p c.args.work.now.layer (get_or rules i no_entry).rule c.count_of-open.result c.loop-entry.work.counters is m rule ne on ∙ inv.others m rule ne on;
+      so_far = λ j d below. elim (cases_eq (get_or rules j d).rule (get_or rules i no_entry).rule) [
+        | inl e ↦ rw e (get_or-set_same c.loop-entry.work.counters (get_or rules i no_entry).rule c.count_of-open.result 0 within ∙ c.count_of-open.ensures)
+        | inr ne ↦ get_or-set_other c.loop-entry.work.counters (get_or rules i no_entry).rule (get_or rules j d).rule c.count_of-open.result 0 ne ∙ inv.so_far j d (elim (cases_eq j i) [
+          | inl same ↦ absurd (ne (ap (λ n. (get_or rules n d).rule) same ∙ ap (λ (r : LayerRule). r.rule) (get_or_default rules i d no_entry lt)))
+          | inr other ↦ omega arith
+        ])
+      ];
+    }

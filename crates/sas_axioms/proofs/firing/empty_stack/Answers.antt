@@ -52,10 +52,11 @@ release-requires-clause-at_work g c =
     ∙ (c.requires.index.each layer v c.value-value.result k (on g some) on_k
     ∙ ap (λ x. asking v x (rule_at p k).conditions) c.value-value.ensures) in
     record {
-      room = record { one_each = was.room.one_each; variables = omega (arith, was.room.variables, c.pop.ensures.capacity) };
+      room = record { one_each = was.room.one_each; variables = omega (arith, was.room.variables, c.pop.ensures.capacity); sources = was.room.sources };
       running = popped_running p layer s c.pop.new.self.items v (was_running g some);
       counts = popped_counts p layer s c.pop.new.self.items c.loop-var.work.counters (released c.value-value.result c.get.result.now) v c.task.ensures.layered (was_running g some) each (was_counted g some);
       fired = was.fired;
+      given = was.given;
     }
 
 pub loop-var-preserved : goal.loop-var-preserved
@@ -65,8 +66,21 @@ loop-var-preserved g c =
     record {
       at_work = c.release.ensures.at_work;
       layer = more.layer ∙ inv.layer;
+      sources = λ v off. more.sources v (subst (λ n. IsOnLayer c.args.task.now n v → ⊥) (sym inv.layer) off) ∙ inv.sources v off;
+      others = λ m rule ne on. more.counts m rule (λ e. ne (e ∙ inv.layer)) on ∙ inv.others m rule ne on;
       off = λ v off. inv.off v off ∙ more.off v (subst (λ n. IsOnLayer c.args.task.now n v → ⊥) (sym inv.layer) off);
     }
+
+pub returns-clause-given : goal.returns-clause-given
+returns-clause-given g c = let inv = c.loop-var.invariant in rw (sym inv.layer) inv.at_work.given
+
+pub returns-clause-counts : goal.returns-clause-counts
+returns-clause-counts g c rule on =
+    let p = c.args.task.now in
+    let inv = c.loop-var.invariant in
+    let empty : c.loop-var.work.stack.items ≡ [] = search rules in
+    let counts = (rw empty at inv.at_work.counts) rule (rw inv.layer on) in
+    omega (arith, counts)
 
 pub returns-clause-settles : goal.returns-clause-settles
 returns-clause-settles g c =

@@ -1,12 +1,19 @@
 -- The two writes.
-use Rattle.std.proofs.Common.{◌≡◌, true, [], ◌∷◌, ◌++◌, get_or, set, refl, sym, ap, ◌∙◌, arith}
+use Rattle.std.proofs.Common.{◌≡◌, ◌≢◌, true, [], ◌∷◌, ◌++◌, get_or, set, refl, sym, ap, ◌∙◌, arith}
 use Rattle.std.specs.Result.{is_ok}
 use Rattle.sas_core.specs.declared.grounded.Change.{Change}
 use Rattle.sas_core.specs.Grounded.{rule_at}
-use Rattle.sas_axioms.proofs.Counters.{Pushed, pushed, fires_by}
+use Rattle.sas_axioms.proofs.Counters.{Pushed, pushed, fires_by, rule_within, was_default}
+use Rattle.sas_axioms.proofs.Sources.{given_when_fired}
 use Rattle.sas_axioms.proofs.firing.fire.Goals as goal
 use Rattle.sas_axioms.proofs.firing.fire.Given.{Over}
 use Rattle.sas_axioms.proofs.firing.fire.Goals.{After-push}
+
+-- the rule changes its variable's value
+changes : (g : Over) (c : After-push g) → get_or c.args.state.now (rule_at c.args.task.now c.args.rule).var 0 ≢ (rule_at c.args.task.now c.args.rule).new
+changes g c same =
+    let e = c.rule_change-change.ensures in
+    c.if-value-change.true (c.value.ensures ∙ (ap (λ (x : Change). get_or c.args.state.now x.var 0) e ∙ (same ∙ sym (ap (λ (x : Change). x.new) e))))
 
 -- what the two writes do
 after : (g : Over) (c : After-push g) → Pushed c.args.task.now c.args.work.now.layer c.args.state.now c.args.work.now.stack.items (rule_at c.args.task.now c.args.rule)
@@ -14,8 +21,7 @@ after g c =
     let p = c.args.task.now in
     let w = c.args.work.now in
     let e = c.rule_change-change.ensures in
-    pushed p w.layer c.args.state.now w.stack.items c.args.rule c.task.ensures.well_ranged c.task.ensures.layered c.requires.running c.requires.rule c.requires.hold
-    (λ same. c.if-value-change.true (c.value.ensures ∙ (ap (λ (x : Change). get_or c.args.state.now x.var 0) e ∙ (same ∙ sym (ap (λ (x : Change). x.new) e)))))
+    pushed p w.layer c.args.state.now w.stack.items c.args.rule c.task.ensures.well_ranged c.task.ensures.layered c.requires.running c.requires.rule c.requires.hold (changes g c)
 
 succeeds : (g : Over) (c : After-push g) → is_ok c.push.result ≡ true
 succeeds g c = let p = after g c in let fewer = p.fewer in let room = c.requires.running.room in let len = c.requires.running.state.one_each in c.push.ensures.succeeds (omega (arith, c.requires.room.variables, c.args.work.now.stack.ok.0))
@@ -28,7 +34,12 @@ returns-then-value-change g c =
     let a = (goal.at.returns-then-value-change g c).After-push in
     let w = c.args.work.now in
     let e = c.rule_change-change.ensures in
-    fires_by c.args.task.now c.args.state.now w _ _ c.args.rule c.task.ensures.well_ranged c.requires.running.state c.requires.rule (after g a)
+    let p = c.args.task.now in
+    fires_by p c.args.state.now w _ _ c.args.rule c.task.ensures.well_ranged c.requires.running.state c.requires.rule (after g a)
+    (λ given. given_when_fired p w.layer c.args.rule c.args.state.now w.sources c.task.ensures.layered c.requires.rule given c.requires.hold
+    (was_default p w.layer c.args.state.now c.args.rule c.task.ensures.layered c.requires.running.forced c.requires.rule (changes g a)) (rule_within p c.args.state.now c.args.rule c.task.ensures.well_ranged c.requires.running.state c.requires.rule.exists)
+    (let v = rule_within p c.args.state.now c.args.rule c.task.ensures.well_ranged c.requires.running.state c.requires.rule.exists in let one = c.requires.running.state.one_each in omega (arith, c.requires.room.sources)))
+    (c.set-then-value-change.ensures ∙ ap (λ (x : Change). set w.sources x.var c.args.rule) e)
     (c.set.ensures ∙ ap (λ (x : Change). set c.args.state.now x.var x.new) e)
     ((rw (succeeds g a) at c.push.ensures.items) ∙ ap (λ (x : Change). w.stack.items ++ x.var ∷ []) e)
     refl refl (omega arith)

@@ -46,7 +46,8 @@ loop-entry-preserved g c =
           rw (w.work-is, w.state-is) record {
             goes_on = goes_on_more p c.args.state.now was s work w.fire.new.state w.fire.new.work inv.goes_on f.goes_on;
             same = f.counters ∙ inv.same;
-            room = record { one_each = ap length f.counters ∙ inv.room.one_each; variables = omega (arith, inv.room.variables, f.room) };
+            given = rw inv.goes_on.layer at (f.given (rw inv.goes_on.layer inv.given));
+            room = record { one_each = ap length f.counters ∙ inv.room.one_each; variables = omega (arith, inv.room.variables, f.room); sources = f.sources ∙ inv.room.sources };
             running = rw inv.goes_on.layer at f.running;
             counts = counts_seen p was.layer s w.fire.new.state work.stack.items w.fire.new.work.stack.items was.counters [] f.seen inv.counts;
             fired = λ j d lt none. elim (cases_eq j i) [
@@ -58,6 +59,7 @@ loop-entry-preserved g c =
       | else-as_slice-entry-eq0 w ↦ rw (w.work-is, w.state-is) record {
         goes_on = inv.goes_on;
         same = inv.same;
+        given = inv.given;
         room = inv.room;
         running = inv.running;
         counts = inv.counts;

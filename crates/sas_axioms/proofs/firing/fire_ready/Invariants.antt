@@ -3,12 +3,14 @@ use Rattle.std.proofs.Common.{◌≡◌, ℕ, ◌<◌, [], get_or}
 use Rattle.sas_core.specs.Grounded.{rule_at}
 use Rattle.sas_axioms.specs.declared.layer_rules.LayerRule.{LayerRule}
 use Rattle.sas_axioms.specs.Worklist.{IsRunning, AreCounted, HasRoom, WorkGoesOn}
+use Rattle.sas_axioms.specs.Sources.{AreGiven}
 use Rattle.sas_axioms.proofs.firing.fire_ready.Given as goal
 
 abbrev pub invariant-loop-entry : goal.invariant-loop-entry
 invariant-loop-entry g l = record {
   goes_on : WorkGoesOn l.task l.fn.state l.fn.work l.state l.work;
   same : l.work.counters ≡ l.fn.work.counters;
+  given : AreGiven l.task l.fn.work.layer l.state l.work.sources;
   room : HasRoom l.task l.work;
   running : IsRunning l.task l.fn.work.layer l.state l.work.stack.items;
   counts : AreCounted l.task l.fn.work.layer l.state l.work.stack.items l.fn.work.counters [];

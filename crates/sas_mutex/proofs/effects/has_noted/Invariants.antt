@@ -7,4 +7,4 @@ use Rattle.sas_mutex.proofs.effects.has_noted.Given as goal
 
 abbrev pub invariant-loop-group : goal.invariant-loop-group
 invariant-loop-group l = (k d : ℕ) → k < l.group-index → IsTrue (family_of l.kept (get_or l.groups k d))
-    → group_note l.noted (get_or l.groups k d) ≡ Nothing
+    → group_note l.marks.groups (get_or l.groups k d) ≡ Nothing

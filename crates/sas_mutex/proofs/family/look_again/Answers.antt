@@ -25,7 +25,7 @@ loop-next-preserved g c =
     record {
       within = let longer = fallen_grow p before after turn.falls in omega arith;
       falls = falls_then p start before after inv.falls turn.falls;
-      room = turn.room;
+      ready = turn.ready;
       exist = fallen_exist p before after turn.falls inv.exist;
       clean = turn.clean;
       looked = turn.looked;
@@ -44,4 +44,4 @@ pub returns-clause-rest : goal.returns-clause-rest
 returns-clause-rest g c =
     let p = c.args.indexed.now in
     let inv = c.loop-next.invariant in
-    rest_in_the_end p c.loop-next.family c.loop-next.looked inv.looked (λ operator place lt. inv.since operator place (omega arith))
+    rest_in_the_end p c.loop-next.family c.loop-next.looks.fallen inv.looked.each (λ operator place lt. inv.since operator place (omega arith))

@@ -1,8 +1,8 @@
 -- One more effect is at rest: one without conditions was before, and stays so while others fall.
-use Rattle.std.proofs.Common.{◌≡◌, length, subst, below_more, arith}
+use Rattle.std.proofs.Common.{◌≡◌, Bool, List, length, subst, below_more, arith}
 use Rattle.sas_core.specs.declared.parts.Parts.{Parts}
 use Rattle.sas_core.specs.Grounded.{operator_at}
-use Rattle.sas_mutex.specs.Alone.{EffectKeepsEachAlone}
+use Rattle.sas_mutex.specs.Basis.{EffectKeepsByBasis}
 use Rattle.sas_mutex.specs.Effects.{IsPlain}
 use Rattle.sas_mutex.specs.Falling.{HasRoom, Falls, newly, IsEffectAtRest}
 use Rattle.sas_mutex.specs.Marks.{IsClean}
@@ -36,10 +36,11 @@ loop-effect-preserved g c =
                 (λ k lt. effect_since p start before after c.args.operator k c.requires.operator (omega (arith, count)) inv.falls falls (inv.rest k lt))
                 (effect_now p start before after c.args.operator c.loop-effect.effect inv.falls falls
                 (subst (λ (q : Parts). IsEffectAtRest q after.kept (newly before after) operator effect) is turn.rest));
-            plain_alone = λ t k lt without. effect_alone_still p before after c.args.operator k falls (inv.plain_alone (both t).0 k lt without);
+            plain_alone = λ t k lt without. effect_alone_still p start.basis before after c.args.operator k falls (inv.plain_alone (both t).0 k lt without);
             alone = λ t. below_more _ _
-                (λ k lt. effect_alone_still p before after c.args.operator k falls (inv.alone (both t).0 k lt))
-                (subst (λ (q : Parts). EffectKeepsEachAlone q after.kept operator effect) is (turn.alone (both t).1));
+                (λ k lt. effect_alone_still p start.basis before after c.args.operator k falls (inv.alone (both t).0 k lt))
+                (subst (λ (basis : List Bool). EffectKeepsByBasis p basis after.kept operator effect) inv.falls.same_basis
+                (subst (λ (q : Parts). EffectKeepsByBasis q before.basis after.kept operator effect) is (turn.alone (both t).1)));
           })
       | else-not-is_plain w ↦ rw (w.family-is, w.marks-is, w.alone-is) record {
         falls = inv.falls;

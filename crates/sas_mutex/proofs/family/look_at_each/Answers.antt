@@ -1,8 +1,8 @@
 -- One more operator was looked at since, now or before.
-use Rattle.std.proofs.Common.{ℕ, ◌<◌, ◌≤◌, List, length, get_or, ap, ◌∙◌, below_more, arith}
+use Rattle.std.proofs.Common.{ℕ, ◌<◌, ◌≤◌, List, length, get_or, ap, below_more, arith}
 use Rattle.std.proofs.lemmas.List.Elements.{All-get_or, All-from_get_or}
 use Rattle.sas_mutex.specs.Falling.{looked_at}
-use Rattle.sas_mutex.proofs.FallingGroups.{falls_then, fallen_grow, as_many_noted, looked_more, noted_now, noted_later}
+use Rattle.sas_mutex.proofs.FallingGroups.{falls_then, fallen_grow, looked_more, noted_now, noted_later}
 use Rattle.sas_mutex.proofs.family.look_at_each.Goals as goal
 use Rattle.sas_mutex.proofs.family.look_at_each.Goals.{then-as_slice-operator, else-as_slice-operator}
 
@@ -11,26 +11,26 @@ loop-operator-preserved g c =
     let p = c.args.indexed.now in
     let start = c.args.family.now in
     let before = c.loop-operator.family in
-    let looked = c.loop-operator.looked in
+    let looked = c.loop-operator.looks.fallen in
     let operator = get_or c.args.fallen.now.operators.now c.loop-operator.operator-index 0 in
     let inv = c.loop-operator.invariant in
     elim c.if-as_slice-operator.branch [
       | then-as_slice-operator w ↦
-          (let after = w.look_once.new.family in
-          let turn = w.look_once.ensures in
+          (let after = w.look_unless_supported.new.family in
+          let turn = w.look_unless_supported.ensures in
           let exists = All-get_or (λ (o : ℕ). o < length p.operators) c.args.fallen.now.operators.now c.loop-operator.operator-index 0 c.loop-operator-test.true c.requires.exist in
-          let below : operator < length looked = (let each = inv.looked.one_each in omega arith) in
-          let looked' = w.look_once.new.looked in
+          let below : operator < length looked = (let each = inv.looked.supported.as_many in omega arith) in
+          let looked' = w.look_unless_supported.new.looks.fallen in
           let earlier : looked_at looked operator ≤ length before.fallen.items =
           (let at = w.if-as_slice-operator.true in let same = ap (λ (xs : List ℕ). get_or xs operator 0) c.as_slice.ensures in
           let grown = fallen_grow p start before inv.falls in let place = c.requires.place in omega arith) in
           let later = noted_later p before after looked looked' operator turn.falls below turn.rest turn.looked earlier in
-          rw (w.family-is, w.marks-is, w.looked-is) record {
+          rw (w.family-is, w.marks-is, w.looks-is) record {
             falls = falls_then p start before after inv.falls turn.falls;
-            room = turn.room;
+            ready = turn.ready;
             clean = turn.clean;
             looked = record {
-              one_each = as_many_noted p before after looked looked' operator turn.falls below turn.rest turn.looked ∙ inv.looked.one_each;
+              supported = turn.supported;
               each = λ other lt. looked_more p before after looked looked' operator turn.falls below turn.rest turn.looked other lt (λ ne. inv.looked.each other lt);
             };
             later = λ other. (let first = inv.later other in let then = later other in omega arith);
@@ -39,9 +39,9 @@ loop-operator-preserved g c =
                 (let here = noted_now p before after looked looked' operator turn.falls below turn.rest turn.looked in
                 let grown = fallen_grow p start before inv.falls in omega arith);
           })
-      | else-as_slice-operator w ↦ rw (w.family-is, w.marks-is, w.looked-is) record {
+      | else-as_slice-operator w ↦ rw (w.family-is, w.marks-is, w.looks-is) record {
         falls = inv.falls;
-        room = inv.room;
+        ready = inv.ready;
         clean = inv.clean;
         looked = inv.looked;
         later = inv.later;
@@ -51,5 +51,5 @@ loop-operator-preserved g c =
 
 pub returns-clause-past : goal.returns-clause-past
 returns-clause-past g c =
-    All-from_get_or (λ (operator : ℕ). c.args.fallen.now.place < looked_at c.loop-operator.looked operator) c.args.fallen.now.operators.now 0
+    All-from_get_or (λ (operator : ℕ). c.args.fallen.now.place < looked_at c.loop-operator.looks.fallen operator) c.args.fallen.now.operators.now 0
     (λ k lt. c.loop-operator.invariant.past k (omega arith))

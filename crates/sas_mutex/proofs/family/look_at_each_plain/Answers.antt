@@ -1,11 +1,11 @@
 -- One more effect is at rest, if it has no conditions; then what is known where it fires is what is noted.
-use Rattle.std.proofs.Common.{◌≡◌, List, [], length, subst, below_more, arith}
+use Rattle.std.proofs.Common.{◌≡◌, Bool, List, [], length, subst, below_more, arith}
 use Rattle.sas_core.specs.declared.parts.Parts.{Parts}
 use Rattle.std.proofs.lemmas.Bool.{and_parts}
 use Rattle.sas_core.specs.declared.parts.Fact.{Fact}
 use Rattle.sas_core.specs.Grounded.{operator_at}
 use Rattle.sas_groups.specs.Lists.{known}
-use Rattle.sas_mutex.specs.Alone.{EffectKeepsEachAlone}
+use Rattle.sas_mutex.specs.Basis.{EffectKeepsByBasis}
 use Rattle.sas_mutex.specs.Effects.{IsPlain}
 use Rattle.sas_mutex.specs.Falling.{HasRoom, Falls, newly, IsEffectAtRest}
 use Rattle.sas_mutex.specs.Noting.{AreNoted, IsNotedFor}
@@ -41,8 +41,9 @@ loop-effect-preserved g c =
                 (λ without. effect_now p start before after c.args.operator c.loop-effect.effect inv.falls falls
                 (subst (λ (q : Parts). IsEffectAtRest q after.kept (newly before after) operator effect) is turn.rest));
             alone = λ t. below_more _ _
-                (λ k lt without. effect_alone_still p before after c.args.operator k falls (inv.alone (both t).0 k lt without))
-                (λ without. subst (λ (q : Parts). EffectKeepsEachAlone q after.kept operator effect) is (turn.alone (both t).1));
+                (λ k lt without. effect_alone_still p start.basis before after c.args.operator k falls (inv.alone (both t).0 k lt without))
+                (λ without. subst (λ (basis : List Bool). EffectKeepsByBasis p basis after.kept operator effect) inv.falls.same_basis
+                (subst (λ (q : Parts). EffectKeepsByBasis q before.basis after.kept operator effect) is (turn.alone (both t).1)));
           })
       | else-is_plain w ↦ rw (w.family-is, w.marks-is, w.alone-is) record {
         falls = inv.falls;

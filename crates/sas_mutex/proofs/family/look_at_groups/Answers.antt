@@ -1,5 +1,5 @@
 -- One more group rests, and so in the end all that have the fact.
-use Rattle.std.proofs.Common.{ℕ, ◌<◌, length, subst, below_more, arith}
+use Rattle.std.proofs.Common.{ℕ, ◌<◌, Bool, List, get_or, length, subst, below_more, arith}
 use Rattle.std.specs.List.{Contains}
 use Rattle.std.proofs.lemmas.Bool.{and_parts}
 use Rattle.std.specs.Prelude.{◌↔◌}
@@ -8,7 +8,7 @@ use Rattle.sas_core.specs.Grounded.{operator_at, effect_at}
 use Rattle.sas_groups.specs.Clashes.{sets}
 use Rattle.sas_mutex.specs.Firing.{EffectPlace, operator_of}
 use Rattle.sas_mutex.specs.Falling.{newly, RestsAt}
-use Rattle.sas_mutex.specs.Alone.{KeptAlone}
+use Rattle.sas_mutex.specs.Basis.{KeptByBasis}
 use Rattle.sas_group_index.specs.Index.{HasFact}
 use Rattle.sas_mutex.proofs.FallingGroups.{falls_then, rests_later, rests_now}
 use Rattle.sas_mutex.proofs.SetFacts.{groups_setting, at_item}
@@ -51,14 +51,14 @@ loop-group-preserved g c =
           (rests_now p start before after c.args.firing.now.operator c.args.firing.now.effect _ inv.falls turn.falls turn.rest);
       alone = λ t. let both = and_parts c.loop-group.alone c.look_at_group-alone.result t in below_more _ _
           (λ k lt w. inv.alone both.0 k lt (turn.falls.less _ w))
-          (turn.alone both.1);
+          (subst (λ (basis : List Bool). KeptByBasis p basis after.kept c.args.firing.now.operator c.args.firing.now.effect (get_or c.groups_of-groups.result.now c.loop-group.group-index 0)) inv.falls.same_basis (turn.alone both.1));
     }
 
 pub returns-clause-alone : goal.returns-clause-alone
 returns-clause-alone g c =
     let p = c.args.firing.now.task in
     let at_end = (goal.at.returns-clause-alone g c).After-groups_of-groups in
-    λ t place w has. at_item (KeptAlone p c.loop-group.family.kept c.args.firing.now.operator c.args.firing.now.effect) c.groups_of-groups.result.now place
+    λ t place w has. at_item (KeptByBasis p c.args.family.now.basis c.loop-group.family.kept c.args.firing.now.operator c.args.firing.now.effect) c.groups_of-groups.result.now place
     (λ k lt. c.loop-group.invariant.alone t k (omega arith)) ((setting g at_end place).1 (record { exists = w.exists; among = has })) w
 
 pub returns-clause-rest : goal.returns-clause-rest

@@ -1,7 +1,7 @@
 -- The groups so far rest.
 use Rattle.std.proofs.Common.{◌≡◌, ℕ, ◌<◌, true, get_or}
 use Rattle.sas_mutex.specs.Falling.{HasRoom, Falls, newly, RestsAt}
-use Rattle.sas_mutex.specs.Alone.{KeptAlone}
+use Rattle.sas_mutex.specs.Basis.{KeptByBasis}
 use Rattle.sas_mutex.specs.Noting.{IsNotedAt}
 use Rattle.sas_mutex.proofs.family.look_at_groups.Given as goal
 
@@ -13,5 +13,5 @@ invariant-loop-group g l = record {
   rest : (k : ℕ) → k < l.group-index
       → RestsAt l.firing.task l.family.kept (newly l.fn.family l.family) l.firing.operator l.firing.effect (get_or l.groups k 0);
   alone : l.alone ≡ true → (k : ℕ) → k < l.group-index
-      → KeptAlone l.firing.task l.family.kept l.firing.operator l.firing.effect (get_or l.groups k 0);
+      → KeptByBasis l.firing.task l.fn.family.basis l.family.kept l.firing.operator l.firing.effect (get_or l.groups k 0);
 }

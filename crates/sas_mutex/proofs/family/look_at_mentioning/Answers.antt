@@ -75,13 +75,13 @@ loop-fact-preserved g c =
     let its = now g (goal.at.loop-fact-preserved g c).After-operators_of-operators in
     record {
       falls = falls_then p start before after inv.falls turn.falls;
-      room = turn.room;
+      ready = turn.ready;
       clean = turn.clean;
       looked = turn.looked;
       later = λ operator. (let first = inv.later operator in let then = turn.later operator in omega arith);
       past = below_more _ _
           (λ k lt operator mentions. (let was = inv.past k lt operator mentions in let still = turn.later operator in omega arith))
-          (λ operator mentions. All-contains (λ (o : ℕ). c.args.place < looked_at c.look_at_each.new.looked o) c.operators_of-operators.result.now operator turn.past
+          (λ operator mentions. All-contains (λ (o : ℕ). c.args.place < looked_at c.look_at_each.new.looks.fallen o) c.operators_of-operators.result.now operator turn.past
           (its.all operator mentions));
     }
 

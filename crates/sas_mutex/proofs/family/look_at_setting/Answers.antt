@@ -1,6 +1,6 @@
 -- An effect that sets no fact of a group of the family keeps all of them.
 use Rattle.std.proofs.Common.{Bool, List, subst}
-use Rattle.sas_mutex.specs.Alone.{SetsNone}
+use Rattle.sas_mutex.specs.Basis.{SetsNone}
 use Rattle.sas_mutex.proofs.FallingGroups.{none_fell}
 use Rattle.sas_mutex.proofs.family.look_at_setting.Goals as goal
 

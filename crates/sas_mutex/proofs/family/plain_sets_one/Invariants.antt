@@ -1,5 +1,5 @@
 -- None of the effects so far that have no conditions sets a fact of a group of the family.
-use Rattle.sas_mutex.specs.Alone.{PlainSetNone}
+use Rattle.sas_mutex.specs.Basis.{PlainSetNone}
 use Rattle.sas_mutex.proofs.family.plain_sets_one.Given as goal
 
 abbrev pub invariant-loop-effect : goal.invariant-loop-effect

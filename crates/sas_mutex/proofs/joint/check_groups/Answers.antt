@@ -4,24 +4,30 @@ use Rattle.std.specs.Prelude.{◌↔◌, IsTrue}
 use Rattle.sas_groups.specs.declared.verdict.Verdict.{Verdict}
 use Rattle.sas_groups.specs.declared.verdict.Verdict.TheVariants.{Exclusive}
 use Rattle.sas_mutex.specs.Effects.{family_of}
-use Rattle.sas_mutex.specs.Alone.{IsOfNone}
+use Rattle.std.proofs.lemmas.Bool.{true≢false}
 use Rattle.sas_mutex.specs.Joint.{verdict_at, AreInvariants}
 use Rattle.sas_mutex.proofs.Counting.{count_within}
 use Rattle.sas_mutex.proofs.Telling.{candidates_from}
 use Rattle.sas_mutex.proofs.JointLists.{listed_invariants}
 use Rattle.sas_mutex.proofs.joint.check_groups.Goals as goal
 
-pub judge-requires-clause-room : goal.judge-requires-clause-room
-judge-requires-clause-room g c =
+pub judge-requires-clause-ready : goal.judge-requires-clause-ready
+judge-requires-clause-ready g c =
     let family = c.in_ok-family in
     let same = family.ensures.one_each ∙ ap length c.as_slice.ensures ∙ c.in_ok-verdicts.ensures.one_each in
     let fewer = count_within family.family.kept in
     let none = ap length family.ensures.none in
     record {
-      one_each = same;
-      room = omega (arith, same, fewer, none, family.ensures.room, family.ensures.one_each);
-      few = omega (arith, same, fewer, none);
-      none = subst (λ (groups : ℕ). IsOfNone groups family.family.none) (ap length c.as_slice.ensures ∙ c.in_ok-verdicts.ensures.one_each) family.ensures.of_none;
+      room = record {
+        one_each = same;
+        room = omega (arith, same, fewer, none, family.ensures.room, family.ensures.one_each);
+        few = omega (arith, same, fewer, none);
+        basis = record {
+          one_each = family.ensures.of_none.one_each ∙ (ap length c.as_slice.ensures ∙ c.in_ok-verdicts.ensures.one_each);
+          only = λ place there. absurd (true≢false (sym there ∙ family.ensures.of_none.out place));
+        };
+      };
+      free = family.ensures.free;
     }
 
 pub judge-requires-clause-candidates : goal.judge-requires-clause-candidates

@@ -1,5 +1,9 @@
 use Rattle.sas_plan_file.proofs.PlanAhead.{step_before_end}
 use Rattle.sas_plan_file.proofs.plan_line.step_ahead.Goals as goal
 
-pub returns-then-bytes-end-eq10 : goal.returns-then-bytes-end-eq10
-returns-then-bytes-end-eq10 c = step_before_end c.args.bytes.now c.in_ok-end.end c.in_ok-end.ensures.0 c.in_parentheses.result c.if-bytes-end-eq10.true c.in_parentheses.ensures
+pub returns : goal.returns
+returns c =
+    let bytes = c.args.bytes.now in
+    let end = c.in_ok-end.end in
+    let name = c.in_ok-name in
+    step_before_end bytes end c.in_ok-end.ensures.0 name.name.now name.ensures.1 name.ensures.0 c.in_ok-end_taken.end_taken c.in_ok-end_taken.ensures

@@ -1,12 +1,15 @@
 -- What is given to one more variable is written and taken back.
-use Rattle.std.proofs.Common.{◌≡◌, ◌<◌, length, set, None, Some, sym, ap, subst, ◌∙◌, inl, inr, arith}
+use Rattle.std.proofs.Common.{◌≡◌, ◌<◌, length, set, None, Some, refl, sym, ap, subst, ◌∙◌, inl, inr, arith}
 use Rattle.std.proofs.lemmas.Bool.{cases_eq}
 use Rattle.sas_core.specs.declared.grounded.Change.{Change}
 use Rattle.sas_core.specs.Grounded.{operator_at, effect_at}
+use Rattle.sas_meaning.specs.Layers.{IsBasic}
 use Rattle.sas_meaning.proofs.Forced.{state_set}
 use Rattle.sas_run.specs.Given.{given_to}
-use Rattle.sas_run.proofs.Ranges.{effect_within}
+use Rattle.sas_run.proofs.Ranges.{no_effect, effect_within}
 use Rattle.sas_run.proofs.Giving.{none_there, still_none, fewer_on_effects, written_same}
+use Rattle.sas_run.proofs.Gone.{GoneSoFar, gone_nothing, gone_more, gone_few, gone_in_the_end}
+use Rattle.sas_run.proofs.NextStates.{effects_basic}
 use Rattle.sas_run.proofs.steps.write_given.Goals as goal
 use Rattle.sas_run.proofs.steps.write_given.Goals.{in-Some, in_default}
 
@@ -21,16 +24,17 @@ loop-effect-preserved g c =
     let v = c.effect_change-var.result.var in
     let on : v ≡ (effect_at o n).var = ap (λ (change : Change). change.var) c.effect_change-var.ensures in
     let exists : v < length p.variables = subst (λ x. x < length p.variables) (sym on) (effect_within p c.task.ensures.well_ranged c.args.operator c.requires.operator n (omega arith)) in
+    let basic : IsBasic p v = subst (IsBasic p) (sym on) (effects_basic p c.args.operator c.task.ensures.layered c.requires.operator n no_effect (omega arith)) in
     let read : given_to given v ≡ given_to c.as_slice.result.now v = ap (λ list. given_to list v) (sym c.as_slice.ensures) in
     elim c.match-as_slice-var.branch [
       | in-Some w ↦
           (let value = w.in-Some.value in
           let at : given_to given v ≡ Some value = read ∙ w.in-Some.is in
-          let given-is : c.match-as_slice-var.given ≡ set given v None = w.given-is ∙ w.set-in-Some.ensures in
-          let state-is : c.match-as_slice-var.state ≡ set s v value = w.state-is ∙ w.set.ensures in
+          let given-is : c.match-as_slice-var.given ≡ set given v None = w.given-is ∙ w.set.ensures in
+          let state-is : c.match-as_slice-var.state ≡ set s v value = w.state-is ∙ w.replace.ensures.state in
           let one = inv.on_effects.one_each in
           let len = inv.state.one_each in
-          rw (given-is, state-is) record {
+          rw (given-is, state-is, w.gone-is) record {
             state = state_set p s v value inv.state (inv.on_effects.value v value at);
             on_effects = fewer_on_effects given v (omega arith) p o inv.on_effects;
             taken = λ k lt. elim (cases_eq k n) [
@@ -38,10 +42,13 @@ loop-effect-preserved g c =
               | inr ne ↦ still_none given v (omega arith) (effect_at o k).var (inv.taken k (omega arith))
             ];
             written = λ var. written_same given v (omega arith) s value (omega arith) at var ∙ inv.written var;
+            gone = gone_more p given c.args.state.now s c.loop-effect.gone.items inv.gone v value (omega arith) (omega arith) at basic exists w.replace.new.gone.items w.replace.ensures.gone;
+            few = (let more = gone_few s (record { var = v; value = value }) c.loop-effect.gone.items w.replace.new.gone.items w.replace.ensures.gone in let few = inv.few in omega arith);
+            room = (let before = inv.room in let after = w.replace.ensures.room in omega arith);
           })
       | in_default w ↦
           (let none : given_to given v ≡ None = read ∙ w.in_default.is in
-          rw (w.given-is, w.state-is) record {
+          rw (w.given-is, w.state-is, w.gone-is) record {
             state = inv.state;
             on_effects = inv.on_effects;
             taken = λ k lt. elim (cases_eq k n) [
@@ -49,5 +56,23 @@ loop-effect-preserved g c =
               | inr ne ↦ inv.taken k (omega arith)
             ];
             written = inv.written;
+            gone = inv.gone;
+            few = (let few = inv.few in omega arith);
+            room = inv.room;
           })
     ]
+
+pub loop-effect-init : goal.loop-effect-init
+loop-effect-init g c = record {
+  state = c.requires.state;
+  on_effects = c.requires.given_to;
+  taken = λ k lt. absurd (omega arith);
+  written = λ var. refl;
+  gone = subst (GoneSoFar c.args.task.now c.args.given.now c.args.state.now c.args.state.now) (sym c.requires.empty) (gone_nothing c.args.task.now c.args.given.now c.args.state.now);
+  few = omega (arith, ap length c.requires.empty);
+  room = omega arith;
+}
+
+pub returns-clause-gone : goal.returns-clause-gone
+returns-clause-gone g c =
+    gone_in_the_end c.args.task.now c.loop-effect.given c.args.state.now c.loop-effect.state c.loop-effect.gone.items c.loop-effect.invariant.gone

@@ -5,6 +5,7 @@ use Rattle.sas_axioms.specs.declared.layer_rules.LayerSpan.{LayerSpan}
 use Rattle.sas_axioms.specs.declared.resting.Resting.{Resting}
 use Rattle.sas_axioms.specs.ByLayers.{SettlesLayer}
 use Rattle.sas_axioms.specs.LayerRules.{IsLayerSpan, AreSpans}
+use Rattle.sas_axioms.proofs.AllCounted.{counts_to_next, given_to_next, followed_in_the_end}
 use Rattle.sas_axioms.proofs.Spans.{next_span, no_span_left}
 use Rattle.sas_axioms.proofs.Standing.{idle_in_the_end, from_on, idle_between, rules_of_span, stands_behind}
 use Rattle.sas_axioms.proofs.worklist.WorklistByLayers.settle_next.Goals as goal
@@ -60,6 +61,11 @@ returns-clause-stands g c =
       };
       stands = stands_behind c.args.layered.now c.args.self.now.rules.items c.args._from c.args.self.now.start ready.rules c.requires.stands.stands layer c.in-Some.span.now.end (span g some);
       left = (both g some).1;
+      given = given_to_next c.args.layered.now layer c.args.state.now c.settle_layer.new.state c.args.self.now.firing.work.sources c.settle_layer.new.self.work.sources
+          c.task.ensures.layered settles.off c.settle_layer.ensures.sources c.settle_layer.ensures.given c.requires.stands.given c.requires.default;
+      counts = counts_to_next c.args.layered.now layer c.args.state.now c.settle_layer.new.state c.args.self.now.firing.work.counters c.settle_layer.new.self.work.counters
+          c.task.ensures.layered settles.off c.settle_layer.ensures.counts c.settle_layer.ensures.others c.requires.stands.counts
+          (idle_between c.args.layered.now c.args.self.now.rules.items c.args._from c.args.self.now.start ready.rules c.requires.stands.stands layer c.in-Some.span.now.end (span g some));
       follows = λ v basic asked. sym (basic_off c.args.layered.now layer c.args.state.now c.settle_layer.new.state c.task.ensures.layered settles.off v basic)
           ∙ (c.requires.stands.follows v basic asked ∙ ap (λ (r : Resting). get_or r.counted.values v 0) (sym c.settle_layer.ensures.same));
     }
@@ -83,6 +89,17 @@ returns-in_default-clause-settles g c = tt
 
 pub returns-in_default-clause-ready : goal.returns-in_default-clause-ready
 returns-in_default-clause-ready g c = c.requires.stands.ready
+
+pub returns-in_default-clause-follows : goal.returns-in_default-clause-follows
+returns-in_default-clause-follows g c settled =
+    let all = c.args.self.now.rules.items in
+    let past : length c.args.self.now.spans.items ≤ c.args.self.now.next = search rules in
+    let done = no_span_left all c.args.self.now.spans.items c.args.self.now.start c.args.self.now.next (length all) past c.requires.stands.left in
+    followed_in_the_end c.args.layered.now c.args._from c.args.state.now c.args.self.now.firing.work c.requires.state c.requires.stands.ready.firing.room.one_each c.requires.stands.ready.firing.room.sources
+    (idle_in_the_end c.args.layered.now all c.args._from c.args.self.now.start c.requires.stands.ready.rules c.requires.stands.stands (omega (arith, done))) c.requires.stands.counts c.requires.stands.given c.requires.default settled
+
+pub returns-clause-follows : goal.returns-clause-follows
+returns-clause-follows g c = tt
 
 pub returns-in_default-clause-same : goal.returns-in_default-clause-same
 returns-in_default-clause-same g c = refl

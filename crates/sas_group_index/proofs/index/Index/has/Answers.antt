@@ -21,7 +21,7 @@ found xs x (Err i) h = (
       ])),
 )
 
-pub returns : goal.returns
-returns c =
+pub returns-else-groups-le-FEW_GROUPS : goal.returns-else-groups-le-FEW_GROUPS
+returns-else-groups-le-FEW_GROUPS c =
     let groups = groups_of c.args.self.now c.args.fact in
-    rw (c.is_ok.ensures.value) (found groups c.args.group c.binary_search.result (searched groups c.args.group c.binary_search.result (rw c.groups_of.ensures at c.binary_search.ensures.position) (λ i j le lt. c.requires.ascending i j 0 le lt)))
+    rw (c.is_ok.ensures.value) (found groups c.args.group c.binary_search.result (searched groups c.args.group c.binary_search.result (rw c.groups_of-groups.ensures at c.binary_search.ensures.position) (λ i j le lt. c.requires.ascending i j 0 le lt)))

@@ -16,4 +16,5 @@ returns g c =
       ascending = λ fact. groups.ascending (number firsts fact);
       operators = operators.are;
       runs = c.in_ok-runs.ensures;
+      effects = c.in_ok-effects.ensures;
     }

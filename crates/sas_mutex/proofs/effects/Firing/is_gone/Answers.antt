@@ -33,8 +33,9 @@ returns-else-contradicts-clause-yes g c =
     let notes = rw (← c.self.view_is) at c.requires.notes in
     let p = c.self.inside.task.now in
     let o = operator_at p c.self.inside.operator in
+    let removes = rw (← c.self.view_is) at c.is_removed.ensures.yes in
     rw (← c.self.view_is) (λ t ne. inr (removes_is_removed p c.self.inside.index.now c.args.kept.now c.args.marks.now o (effect_at o c.self.inside.effect).conditions c.self.invariant.1 notes.noted.are c.args.fact
-    fact (conditions_exist p c.self.invariant.0 c.self.inside.operator c.self.invariant.2) (c.is_removed.ensures.yes t)))
+    fact (conditions_exist p c.self.invariant.0 c.self.inside.operator c.self.invariant.2) (removes t)))
 
 pub returns-else-contradicts-clause-no : goal.returns-else-contradicts-clause-no
 returns-else-contradicts-clause-no g c =
@@ -42,12 +43,13 @@ returns-else-contradicts-clause-no g c =
     let notes = rw (← c.self.view_is) at c.requires.notes in
     let p = c.self.inside.task.now in
     let o = operator_at p c.self.inside.operator in
+    let none = rw (← c.self.view_is) at c.is_removed.ensures.no in
     let is = c.effect_change.ensures in
     rw (← c.self.view_is) (λ t gone. elim (gone (λ same. c.if-effect_change-fact.false (ap (λ (change : Change). change.var) is ∙ same))) [
       | inl clash ↦ c.contradicts.ensures.no c.if-contradicts.false
           (clash_is_against p c.self.inside.index.now c.args.kept.now c.args.marks.now o (effect_at o c.self.inside.effect).conditions c.self.invariant.1 notes.noted.are c.args.fact
           fact clash)
-      | inr removed ↦ c.is_removed.ensures.no t
+      | inr removed ↦ none t
           (removed_is_removes p c.self.inside.index.now c.args.kept.now c.args.marks.now o (effect_at o c.self.inside.effect).conditions c.self.invariant.1 notes.noted.are c.args.fact
           fact (conditions_exist p c.self.invariant.0 c.self.inside.operator c.self.invariant.2) removed)
     ])

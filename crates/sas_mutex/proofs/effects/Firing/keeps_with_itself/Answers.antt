@@ -1,5 +1,5 @@
 -- The family with the group has the groups of the family, and this one.
-use Rattle.std.proofs.Common.{◌≡◌, ◌≢◌, Bool, true, false, List, length, set, sym, ap, ◌∙◌, subst}
+use Rattle.std.proofs.Common.{◌≡◌, ◌≢◌, Bool, true, false, List, length, get_or, set, sym, ap, ◌∙◌, subst}
 use Rattle.std.proofs.lemmas.Bool.{true≢false, both_ways}
 use Rattle.std.proofs.lemmas.List.{length-set}
 use Rattle.sas_core.specs.Grounded.{operator_at, effect_at, group_at}
@@ -29,8 +29,8 @@ keeps_by_notes-keeps-requires-clause-notes g c =
     λ several. both_ways c.is_several.result c.if-is_several.false
     (c.is_several.ensures.1 (ap (λ (xs : List Noted). group_note xs c.args.group) c.as_slice.ensures ∙ several)) in
     record {
-      one_each = ap length (c.as_slice-2.ensures ∙ c.set.ensures) ∙ (length-set c.args.kept.now c.args.group true ∙ c.requires.notes.one_each);
-      noted = subst (λ (xs : List Bool). IsNotedFor p xs c.args.self.now.operator c.args.self.now.effect c.args.marks.now) (sym (c.as_slice-2.ensures ∙ c.set.ensures))
+      one_each = ap length (c.as_slice-3.ensures ∙ c.set.ensures) ∙ (length-set c.args.kept.now c.args.group true ∙ c.requires.notes.one_each);
+      noted = subst (λ (xs : List Bool). IsNotedFor p xs c.args.self.now.operator c.args.self.now.effect c.args.marks.now) (sym (c.as_slice-3.ensures ∙ c.set.ensures))
           (noted_with p c.args.kept.now c.args.group c.requires.group c.requires.notes.one_each c.args.self.now.operator c.args.self.now.effect c.args.marks.now c.requires.notes.noted few);
     }
 
@@ -40,7 +40,7 @@ returns-clause-yes g c =
     let o = operator_at p c.args.self.now.operator in
     λ t. keeps_itself p c.args.kept.now c.args.group c.requires.group c.requires.notes.one_each c.args.self.now.operator c.args.self.now.effect
     (subst (λ (kept : List Bool). EffectKeeps (IsKept p kept) o (group_at p c.args.group) (effect_at o c.args.self.now.effect))
-    (c.as_slice-2.ensures ∙ c.set.ensures) (c.keeps_by_notes-keeps.ensures.yes t))
+    (c.as_slice-3.ensures ∙ c.set.ensures) (c.keeps_by_notes-keeps.ensures.yes t))
 
 pub returns-clause-no : goal.returns-clause-no
 returns-clause-no g c =
@@ -48,12 +48,15 @@ returns-clause-no g c =
     let o = operator_at p c.args.self.now.operator in
     λ t keeps. c.keeps_by_notes-keeps.ensures.no t
     (subst (λ (kept : List Bool). EffectKeeps (IsKept p kept) o (group_at p c.args.group) (effect_at o c.args.self.now.effect))
-    (sym (c.as_slice-2.ensures ∙ c.set.ensures))
+    (sym (c.as_slice-3.ensures ∙ c.set.ensures))
     (keeps_then p c.args.kept.now c.args.group c.requires.group c.requires.notes.one_each c.args.self.now.operator c.args.self.now.effect keeps))
 
 pub returns-clause-kept : goal.returns-clause-kept
-returns-clause-kept g c = c.set-2.ensures ∙ (ap (λ (kept : List Bool). set kept c.args.group false) c.set.ensures
-    ∙ put_back c.args.kept.now c.args.group c.requires.outside)
+returns-clause-kept g c =
+    let kept = c.args.kept.now in
+    let was = get_or c.as_slice-2.result.now c.args.group false in
+    c.set-2.ensures ∙ (ap (λ (xs : List Bool). set xs c.args.group was) c.set.ensures
+    ∙ put_back kept c.args.group was (ap (λ (xs : List Bool). get_or xs c.args.group false) (sym c.as_slice-2.ensures)))
 
 pub returns-clause-notes : goal.returns-clause-notes
 returns-clause-notes g c =
@@ -64,5 +67,5 @@ returns-clause-notes g c =
       one_each = c.requires.notes.one_each;
       noted = noted_fewer p (set kept c.args.group true) kept c.args.self.now.operator c.args.self.now.effect marks
           (is_more p kept c.args.group c.requires.group c.requires.notes.one_each)
-          (subst (λ (xs : List Bool). IsNotedFor p xs c.args.self.now.operator c.args.self.now.effect marks) (c.as_slice-2.ensures ∙ c.set.ensures) c.keeps_by_notes-keeps.ensures.notes.noted);
+          (subst (λ (xs : List Bool). IsNotedFor p xs c.args.self.now.operator c.args.self.now.effect marks) (c.as_slice-3.ensures ∙ c.set.ensures) c.keeps_by_notes-keeps.ensures.notes.noted);
     }

@@ -1,0 +1,73 @@
+-- In the end the rules of all layers are counted.
+use Rattle.std.proofs.Common.{◌≡◌, ◌≢◌, ℕ, ◌+◌, ◌<◌, ◌≤◌, List, length, get_or, sym, ◌∙◌, subst, inl, inr, arith}
+use Rattle.std.proofs.lemmas.Bool.{cases_eq, cases_lt}
+use Rattle.sas_core.specs.declared.parts.Fact.{Fact}
+use Rattle.sas_core.specs.declared.parts.Parts.{Parts}
+use Rattle.sas_core.specs.Grounded.{rule_at}
+use Rattle.sas_core.specs.Variables.{IsState}
+use Rattle.sas_meaning.specs.Layers.{IsOnLayer, IsLayered}
+use Rattle.sas_meaning.specs.Settled.{IsSettled}
+use Rattle.sas_meaning.specs.Forced.{SameOff, AtDefault}
+use Rattle.sas_meaning.proofs.Layers.{looks_down}
+use Rattle.sas_axioms.specs.declared.firing.Work.{Work}
+use Rattle.sas_axioms.specs.ByLayers.{IsIdle}
+use Rattle.sas_axioms.specs.Conditions.{open_conditions}
+use Rattle.sas_axioms.specs.Following.{IsFollowed}
+use Rattle.sas_axioms.specs.LayerRules.{IsRuleOn}
+use Rattle.sas_axioms.specs.Sources.{AreGiven, SameSourcesOff}
+use Rattle.sas_axioms.specs.Worklist.{AreCountedOn, SameCountsOff}
+use Rattle.sas_axioms.proofs.Sources.{no_rule, given_off, given_at_default}
+use Rattle.sas_meaning.proofs.Settling.{default_off}
+use Rattle.sas_axioms.proofs.LayerStart.{open_alike}
+
+-- where a layer is settled, the rules of lower ones have as many open conditions as before
+open_below : (p : Parts) (layer below rule : ℕ) (s s' : List ℕ) → IsLayered p → SameOff p layer s s' → below < layer → IsRuleOn p below rule
+    → open_conditions (λ v. get_or s v 0) (rule_at p rule).conditions ≡ open_conditions (λ v. get_or s' v 0) (rule_at p rule).conditions
+open_below p layer below rule s s' layered off lt is = open_alike (λ v. get_or s v 0) (λ v. get_or s' v 0) (rule_at p rule).conditions
+    (λ j d within. off (get_or (rule_at p rule).conditions j d).var (λ on.
+    (let le = looks_down p (rule_at p rule) (get_or (rule_at p rule).conditions j d) layer below ((layered.rules rule no_rule is.exists is.can).order j d within) on is.on in omega arith)))
+
+pub counts_to_next : (p : Parts) (layer : ℕ) (s s' counters counters' : List ℕ) → IsLayered p → SameOff p layer s s'
+    → AreCountedOn p layer s' counters' → SameCountsOff p layer counters counters'
+    → {from : ℕ} → ((below : ℕ) → below < from → AreCountedOn p below s counters)
+    → ((below : ℕ) → from ≤ below → below < layer → IsIdle p below)
+    → (below : ℕ) → below < layer + 1 → AreCountedOn p below s' counters'
+counts_to_next p layer s s' counters counters' layered off here others {from} counts idle below lt rule is = elim (cases_eq below layer) [
+  | inl e ↦ here rule (subst (λ n. IsRuleOn p n rule) e is)
+  | inr ne ↦ elim (cases_lt below from) [
+    | inl early ↦ others below rule ne is ∙ (counts below early rule is ∙ open_below p layer below rule s s' layered off (omega arith) is)
+    | inr late ↦ absurd (idle below late (omega arith) rule no_rule is.exists is.on is.can)
+  ]
+]
+
+pub given_to_next : (p : Parts) (layer : ℕ) (s s' sources sources' : List ℕ) → IsLayered p → SameOff p layer s s' → SameSourcesOff p layer sources sources' → AreGiven p layer s' sources'
+    → {from : ℕ} → ((below : ℕ) → below < from → AreGiven p below s sources) → ((m : ℕ) → from ≤ m → AtDefault p m s)
+    → (below : ℕ) → below < layer + 1 → AreGiven p below s' sources'
+given_to_next p layer s s' sources sources' layered off same here {from} given default below lt = elim (cases_eq below layer) [
+  | inl e ↦ subst (λ n. AreGiven p n s' sources') (sym e) here
+  | inr ne ↦ elim (cases_lt below from) [
+    | inl early ↦ given_off p layer below s s' sources sources' layered off same (omega arith) (given below early)
+    | inr late ↦ given_at_default p below s' sources' (default_off p layer s s' layered off below ne (default below late))
+  ]
+]
+
+pub followed_in_the_end : (p : Parts) (from : ℕ) (s : List ℕ) (w : Work) → IsState p.variables s → length w.counters ≡ length p.rules → length w.sources ≡ length p.variables
+    → ((layer : ℕ) → from ≤ layer → IsIdle p layer) → ((below : ℕ) → below < from → AreCountedOn p below s w.counters)
+    → ((below : ℕ) → below < from → AreGiven p below s w.sources) → ((m : ℕ) → from ≤ m → AtDefault p m s) → IsSettled p s → IsFollowed p s w
+followed_in_the_end p from s w state one_each places idle counts given default settled = record {
+  state = state;
+  settled = settled;
+  places = places;
+  counts = record {
+    one_each = one_each;
+    known = state.one_each;
+    exact = λ layer rule is. elim (cases_lt layer from) [
+      | inl lt ↦ counts layer lt rule is
+      | inr ge ↦ absurd (idle layer ge rule no_rule is.exists is.on is.can)
+    ];
+  };
+  given = λ layer. elim (cases_lt layer from) [
+    | inl lt ↦ given layer lt
+    | inr ge ↦ given_at_default p layer s w.sources (default layer ge)
+  ];
+}

@@ -1,0 +1,200 @@
+-- The entries of the rules that wait for a variable's values are counted, one after another.
+use Rattle.std.proofs.Common.{◌≡◌, ◌≢◌, ◌⊎◌, ◌↔◌, ℕ, ◌+◌, ◌-◌, ◌*◌, ◌<◌, ◌≤◌, ◌==◌, List, [], ◌∷◌, length, get_or, set, drop, refl, sym, ◌∙◌, ap, subst, inl, inr, arith}
+use Rattle.std.specs.List.{All, Contains}
+use Rattle.std.specs.BinaryHeap.{heap_items}
+use Rattle.std.proofs.lemmas.Bool.{cases_eq, eq-eqb}
+use Rattle.std.proofs.lemmas.Bool.Decides.{eqb_tells}
+use Rattle.std.proofs.lemmas.List.{drop_more, get_or-set_same, get_or-set_other}
+use Rattle.std.proofs.lemmas.List.Elements.{Contains-get_or, All-contains}
+use Rattle.std.specs.declared.cmp.Reverse.{Reverse}
+use Rattle.sas_core.specs.declared.parts.Parts.{Parts}
+use Rattle.sas_axioms.specs.declared.agenda.Agenda.{Agenda}
+use Rattle.sas_axioms.specs.declared.firing.Work.{Work}
+use Rattle.sas_axioms.specs.declared.layer_rules.LayerRule.{LayerRule}
+use Rattle.sas_axioms.specs.declared.waiting.Waiting.{Waiting}
+use Rattle.sas_axioms.specs.Agenda.{IsNoted, work_left}
+use Rattle.sas_axioms.specs.Following.{SameWork, NotesMore, CountsTo}
+use Rattle.sas_axioms.specs.LayerRules.{IsRuleOn}
+use Rattle.sas_axioms.specs.Waiting.{occurrences, released}
+
+abbrev pub no_entry : Waiting
+no_entry = record { value = 0; rule = 0 }
+
+-- the rule waits for a value of the variable
+abbrev pub Waits : List Waiting → ℕ → Type 0
+Waits waiting rule = (w : Waiting) × Contains waiting w × (w.rule ≡ rule)
+
+-- the first i entries are counted
+pub record CountedEntries (p : Parts) (former value : ℕ) (waiting : List Waiting) (i : ℕ) (w0 w : Work) : Type 0 where
+  pub same : SameWork w0 w
+  pub former_left : (rule : ℕ) → occurrences rule (released former (drop i waiting)) ≤ occurrences rule (released former waiting)
+  pub value_left : (rule : ℕ) → occurrences rule (released value (drop i waiting)) ≤ occurrences rule (released value waiting)
+  pub so_far : (rule : ℕ) → rule < length w0.counters
+      → get_or w.counters rule 0 + occurrences rule (released value waiting) + occurrences rule (released former (drop i waiting))
+      ≡ get_or w0.counters rule 0 + occurrences rule (released former waiting) + occurrences rule (released value (drop i waiting))
+  pub crossed : (layer rule : ℕ) → IsRuleOn p layer rule → IsNoted w.agenda layer rule ⊎ ((get_or w0.counters rule 0 ≡ 0) ↔ (get_or w.counters rule 0 ≡ 0))
+  pub notes : NotesMore p (Waits waiting) w0.agenda w.agenda
+  pub left : work_left w.agenda + 3 * length waiting ≤ work_left w0.agenda + 2 * i
+
+-- how often a rule is among those of a value, with one entry more
+occurrences_of_entry : (rule value : ℕ) (e : Waiting) (es : List Waiting) → ((e.value ≡ value) × (e.rule ≡ rule) × (occurrences rule (released value (e ∷ es)) ≡ 1 + occurrences rule (released value es)))
+    ⊎ ((e.value ≡ value) × (e.rule ≢ rule) × (occurrences rule (released value (e ∷ es)) ≡ occurrences rule (released value es)))
+    ⊎ ((e.value ≢ value) × (occurrences rule (released value (e ∷ es)) ≡ occurrences rule (released value es)))
+occurrences_of_entry rule value e es = elim (eqb_tells e.value value) [
+  | inr v ↦ inr (inr (v.1, rw v.0 (omega arith)))
+  | inl v ↦ elim (eqb_tells e.rule rule) [
+    | inl r ↦ inl (v.1, r.1, rw (v.0, r.0) (omega arith))
+    | inr r ↦ inr (inl (v.1, r.1, rw (v.0, r.0) (omega arith)))
+  ]
+]
+
+module _ (p : Parts) (former value : ℕ) (waiting : List Waiting) (i : ℕ) (w0 w : Work) (lt : i < length waiting) (counted : CountedEntries p former value waiting i w0 w) where
+  abbrev entry : Waiting
+  entry = get_or waiting i no_entry
+
+  left_is : drop i waiting ≡ get_or waiting i no_entry ∷ drop (i + 1) waiting
+  left_is = drop_more waiting i no_entry lt
+
+  at_former : (rule : ℕ) → occurrences rule (released former (drop i waiting)) ≡ occurrences rule (released former (get_or waiting i no_entry ∷ drop (i + 1) waiting))
+  at_former rule = ap (λ ws. occurrences rule (released former ws)) left_is
+
+  at_value : (rule : ℕ) → occurrences rule (released value (drop i waiting)) ≡ occurrences rule (released value (get_or waiting i no_entry ∷ drop (i + 1) waiting))
+  at_value rule = ap (λ ws. occurrences rule (released value ws)) left_is
+
+  former_next : (rule : ℕ) → occurrences rule (released former (drop (i + 1) waiting)) ≤ occurrences rule (released former waiting)
+  former_next rule = let le = counted.former_left rule in let e = at_former rule in
+      elim (occurrences_of_entry rule former (get_or waiting i no_entry) (drop (i + 1) waiting)) [
+        | inl t ↦ (let n = t.2 in omega arith)
+        | inr (inl t) ↦ (let n = t.2 in omega arith)
+        | inr (inr t) ↦ (let n = t.1 in omega arith)
+      ]
+
+  value_next : (rule : ℕ) → occurrences rule (released value (drop (i + 1) waiting)) ≤ occurrences rule (released value waiting)
+  value_next rule = let le = counted.value_left rule in let e = at_value rule in
+      elim (occurrences_of_entry rule value (get_or waiting i no_entry) (drop (i + 1) waiting)) [
+        | inl t ↦ (let n = t.2 in omega arith)
+        | inr (inl t) ↦ (let n = t.2 in omega arith)
+        | inr (inr t) ↦ (let n = t.1 in omega arith)
+      ]
+
+  -- an entry of another value is passed over
+  pub entry_passed : (get_or waiting i no_entry).value ≢ former → (get_or waiting i no_entry).value ≢ value → CountedEntries p former value waiting (i + 1) w0 w
+  entry_passed ne nv = record {
+    same = counted.same;
+    former_left = former_next;
+    value_left = value_next;
+    so_far = λ rule within.
+        (let before = counted.so_far rule within in let a = at_former rule in let b = at_value rule in
+        elim (occurrences_of_entry rule former (get_or waiting i no_entry) (drop (i + 1) waiting)) [
+          | inl t ↦ absurd (ne t.0)
+          | inr (inl t) ↦ absurd (ne t.0)
+          | inr (inr t) ↦ elim (occurrences_of_entry rule value (get_or waiting i no_entry) (drop (i + 1) waiting)) [
+            | inl u ↦ absurd (nv u.0)
+            | inr (inl u) ↦ absurd (nv u.0)
+            | inr (inr u) ↦ (let m = t.1 in let n = u.1 in omega arith)
+          ]
+        ]);
+    crossed = counted.crossed;
+    notes = counted.notes;
+    left = let le = counted.left in omega arith;
+  }
+
+  -- a rule that waits for the new value has an open condition
+  pub value_waits : (get_or waiting i no_entry).value ≡ value → (get_or waiting i no_entry).rule < length w0.counters
+      → occurrences (get_or waiting i no_entry).rule (released value waiting) ≤ get_or w0.counters (get_or waiting i no_entry).rule 0 → 1 ≤ get_or w.counters (get_or waiting i no_entry).rule 0
+  value_waits is exists enough =
+      let rule : ℕ = (get_or waiting i no_entry).rule in
+      let before = counted.so_far (get_or waiting i no_entry).rule exists in
+      let le = counted.former_left (get_or waiting i no_entry).rule in
+      let b = at_value (get_or waiting i no_entry).rule in
+      elim (occurrences_of_entry (get_or waiting i no_entry).rule value (get_or waiting i no_entry) (drop (i + 1) waiting)) [
+        | inl t ↦ (let n = t.2 in omega arith)
+        | inr (inl t) ↦ absurd (t.1 refl)
+        | inr (inr t) ↦ absurd (t.0 is)
+      ]
+
+  module _ (n : ℕ) (w' : Work) (exists : (get_or waiting i no_entry).rule < length w0.counters) (counts : CountsTo p (get_or waiting i no_entry).rule n w w') where
+    its_count : get_or w'.counters (get_or waiting i no_entry).rule 0 ≡ n
+    its_count = ap (λ xs. get_or xs (get_or waiting i no_entry).rule 0) counts.counters
+        ∙ get_or-set_same w.counters (get_or waiting i no_entry).rule n 0 (let l = counted.same.one_each in omega (arith, exists))
+
+    other_count : (rule : ℕ) → (get_or waiting i no_entry).rule ≢ rule → get_or w'.counters rule 0 ≡ get_or w.counters rule 0
+    other_count rule ne = ap (λ xs. get_or xs rule 0) counts.counters ∙ get_or-set_other w.counters (get_or waiting i no_entry).rule rule n 0 (λ e. ne (sym e))
+
+    crossed_still : (layer rule : ℕ) → IsRuleOn p layer rule → IsNoted w'.agenda layer rule ⊎ ((get_or w0.counters rule 0 ≡ 0) ↔ (get_or w'.counters rule 0 ≡ 0))
+    crossed_still layer rule is = elim (counted.crossed layer rule is) [
+      | inl noted ↦ inl (counts.notes.keeps layer rule noted)
+      | inr same ↦ elim (cases_eq (get_or waiting i no_entry).rule rule) [
+        | inr ne ↦ inr ((λ z. other_count rule ne ∙ same.0 z), (λ z. same.1 (sym (other_count rule ne) ∙ z)))
+        | inl e ↦ elim (counts.crossed layer (subst (λ r. IsRuleOn p layer r) (sym e) is)) [
+          | inl noted ↦ inl (subst (λ r. IsNoted w'.agenda layer r) e noted)
+          | inr now ↦ inr (
+            (λ z. subst (λ r. get_or w'.counters r 0 ≡ 0) e (its_count ∙ now.0 (subst (λ r. get_or w.counters r 0 ≡ 0) (sym e) (same.0 z)))),
+            (λ z. same.1 (subst (λ r. get_or w.counters r 0 ≡ 0) e (now.1 (sym its_count ∙ subst (λ r. get_or w'.counters r 0 ≡ 0) (sym e) z)))),
+          )
+        ]
+      ]
+    ]
+
+    notes_still : NotesMore p (Waits waiting) w0.agenda w'.agenda
+    notes_still = record {
+      keeps = λ layer rule noted. counts.notes.keeps layer rule (counted.notes.keeps layer rule noted);
+      only = λ k d below. elim (counts.notes.only k d below) [
+        | inl there ↦ All-contains (λ (e : Reverse LayerRule). Contains (heap_items w0.agenda.noted) e ⊎ (IsRuleOn p e.0.layer e.0.rule × Waits waiting e.0.rule)) (heap_items w.agenda.noted) (get_or (heap_items w'.agenda.noted) k d) counted.notes.only there
+        | inr new ↦ inr (new.0, (get_or waiting i no_entry, Contains-get_or waiting i no_entry lt, sym new.1))
+      ];
+      ordered = counts.notes.ordered;
+      ready = counts.notes.ready ∙ counted.notes.ready;
+    }
+
+    same_still : SameWork w0 w'
+    same_still = record {
+      layer = counts.same.layer ∙ counted.same.layer;
+      stack = counts.same.stack ∙ counted.same.stack;
+      one_each = counts.same.one_each ∙ counted.same.one_each;
+      sources = counts.same.sources ∙ counted.same.sources;
+    }
+
+    -- an entry of the former value: one condition more is open
+    pub entry_of_former : former ≢ value → (get_or waiting i no_entry).value ≡ former → n ≡ get_or w.counters (get_or waiting i no_entry).rule 0 + 1 → CountedEntries p former value waiting (i + 1) w0 w'
+    entry_of_former differ is up = record {
+      same = same_still;
+      former_left = former_next;
+      value_left = value_next;
+      so_far = λ rule within.
+          (let before = counted.so_far rule within in let a = at_former rule in let b = at_value rule in
+          elim (occurrences_of_entry rule value (get_or waiting i no_entry) (drop (i + 1) waiting)) [
+            | inl u ↦ absurd (differ (sym is ∙ u.0))
+            | inr (inl u) ↦ absurd (differ (sym is ∙ u.0))
+            | inr (inr u) ↦ elim (occurrences_of_entry rule former (get_or waiting i no_entry) (drop (i + 1) waiting)) [
+              | inr (inr t) ↦ absurd (t.0 is)
+              | inr (inl t) ↦ (let c = other_count rule t.1 in let m = t.2 in let o = u.1 in omega arith)
+              | inl t ↦ (let c = subst (λ r. get_or w'.counters r 0 ≡ get_or w.counters r 0 + 1) t.1 (its_count ∙ up) in let m = t.2 in let o = u.1 in omega arith)
+            ]
+          ]);
+      crossed = crossed_still;
+      notes = notes_still;
+      left = let le = counted.left in let more = counts.left in omega arith;
+    }
+
+    -- an entry of the new value: one condition less is open
+    pub entry_of_value : (get_or waiting i no_entry).value ≢ former → (get_or waiting i no_entry).value ≡ value → n + 1 ≡ get_or w.counters (get_or waiting i no_entry).rule 0 → CountedEntries p former value waiting (i + 1) w0 w'
+    entry_of_value ne is down = record {
+      same = same_still;
+      former_left = former_next;
+      value_left = value_next;
+      so_far = λ rule within.
+          (let before = counted.so_far rule within in let a = at_former rule in let b = at_value rule in
+          elim (occurrences_of_entry rule former (get_or waiting i no_entry) (drop (i + 1) waiting)) [
+            | inl u ↦ absurd (ne u.0)
+            | inr (inl u) ↦ absurd (ne u.0)
+            | inr (inr u) ↦ elim (occurrences_of_entry rule value (get_or waiting i no_entry) (drop (i + 1) waiting)) [
+              | inr (inr t) ↦ absurd (t.0 is)
+              | inr (inl t) ↦ (let c = other_count rule t.1 in let m = t.2 in let o = u.1 in omega arith)
+              | inl t ↦ (let c = subst (λ r. get_or w'.counters r 0 + 1 ≡ get_or w.counters r 0) t.1 (ap (λ x. x + 1) its_count ∙ down) in let m = t.2 in let o = u.1 in omega arith)
+            ]
+          ]);
+      crossed = crossed_still;
+      notes = notes_still;
+      left = let le = counted.left in let more = counts.left in omega arith;
+    }

@@ -1,0 +1,307 @@
+-- The rules of a layer that hold set their variables, one after another.
+use Rattle.std.proofs.Common.{◌≡◌, ◌≢◌, ◌⊎◌, ◌↔◌, ℕ, ◌+◌, ◌<◌, ◌≤◌, true, List, [], ◌∷◌, length, get_or, set, refl, sym, ◌∙◌, ap, subst, inl, inr, arith}
+use Rattle.std.specs.List.{All, Contains}
+use Rattle.std.specs.BinaryHeap.{heap_items}
+use Rattle.std.proofs.lemmas.Bool.{cases_eq, cases_lt}
+use Rattle.std.proofs.lemmas.List.{get_or-set_same, get_or-set_other, length-set}
+use Rattle.std.proofs.lemmas.List.Elements.{All-nil, All-contains}
+use Rattle.std.specs.declared.cmp.Reverse.{Reverse}
+use Rattle.sas_core.specs.declared.parts.Parts.{Parts}
+use Rattle.sas_core.specs.Grounded.{rule_at}
+use Rattle.sas_core.specs.WellRanged.{WellRanged}
+use Rattle.sas_meaning.specs.Layers.{IsOnLayer, IsLayered, default_of}
+use Rattle.sas_meaning.specs.Settled.{differs, IsSettledAt, IsSettled}
+use Rattle.sas_meaning.specs.Forced.{SameOff}
+use Rattle.sas_meaning.proofs.Forced.{Fired, fired_there, differs_true, differs_not}
+use Rattle.sas_meaning.proofs.Settling.{settled_off}
+use Rattle.sas_axioms.specs.declared.firing.Work.{Work}
+use Rattle.sas_axioms.specs.declared.agenda.Agenda.{Agenda}
+use Rattle.sas_axioms.specs.declared.layer_rules.LayerRule.{LayerRule}
+use Rattle.sas_axioms.specs.Agenda.{entry_for, IsNoted, IsAwaited, AreFrom, AreBehind, Takes}
+use Rattle.sas_axioms.specs.Following.{SameFrom, AreNoted, SameWork, Moves, IsOnTrack, IsBetween, IsFalling, IsRising, HasRisen, IsFollowed}
+use Rattle.sas_axioms.specs.LayerRules.{IsRuleOn}
+use Rattle.sas_axioms.specs.Sources.{IsHolding, HaveSources, SourcesHold, AreGiven}
+use Rattle.sas_axioms.proofs.Counters.{was_default}
+use Rattle.sas_axioms.proofs.FallingSteps.{noted_taken, noted_moved, same_moved, still_awaited}
+use Rattle.sas_axioms.proofs.OneLayer.{one_layer}
+use Rattle.sas_axioms.proofs.Sources.{no_rule, forced_when_given, sources_same, given_off, given_when_fired, differs_where_holding, settled_when_given}
+use Rattle.sas_axioms.proofs.Tracking.{awaited_on, track_taken, track_moved, track_set}
+
+-- rising, but for a rule that was taken off
+pub record RisingBut (p : Parts) (s0 s : List ℕ) (rule : ℕ) (w : Work) : Type 0 where
+  pub track : IsOnTrack p w.layer s w
+  pub settled : IsSettled p s0
+  pub is : IsRuleOn p w.layer rule
+  pub same : SameFrom p (w.layer + 1) s0 s
+  pub noted : AreNoted p (w.layer + 1) s0 s w.agenda
+  pub have : (m : ℕ) → HaveSources p m s w.sources
+  pub held : (m : ℕ) → w.layer < m → SourcesHold p m w.sources s s0
+  pub hold : SourcesHold p w.layer w.sources s s
+  pub fired : (other : ℕ) → IsRuleOn p w.layer other → IsHolding p s other
+      → (differs p s (rule_at p other).var ≡ true) ⊎ (IsAwaited w.agenda w.layer other ⊎ (other ≡ rule))
+
+pub rising_taken : (p : Parts) (s0 s : List ℕ) (w : Work) (a' : Agenda) (rule : ℕ) → IsRising p s0 s w → Takes w.layer rule w.agenda a'
+    → RisingBut p s0 s rule (record { layer = w.layer; counters = w.counters; stack = w.stack; sources = w.sources; agenda = a' })
+rising_taken p s0 s w a' rule rising takes = record {
+  track = track_taken p w.layer rule s w a' rising.track takes;
+  settled = rising.settled;
+  is = is;
+  same = rising.same;
+  noted = noted_taken p w.layer rule s0 s w.agenda a' is takes rising.noted;
+  have = rising.have;
+  held = rising.held;
+  hold = rising.hold;
+  fired = λ other on hold. elim (rising.fired other on hold) [
+    | inl d ↦ inl d
+    | inr awaited ↦ inr (still_awaited w.layer rule w.agenda a' takes other awaited)
+  ];
+}
+  where
+    is : IsRuleOn p w.layer rule
+    is = awaited_on p w.layer rule s w rising.track takes.was
+
+-- a rule that was taken off doesn't hold, or its variable differs from its default
+pub rising_passed : (p : Parts) (s0 s : List ℕ) (rule : ℕ) (w : Work) → RisingBut p s0 s rule w
+    → (IsHolding p s rule → differs p s (rule_at p rule).var ≡ true) → IsRising p s0 s w
+rising_passed p s0 s rule w but done = record {
+  track = but.track;
+  settled = but.settled;
+  same = but.same;
+  noted = but.noted;
+  have = but.have;
+  held = but.held;
+  hold = but.hold;
+  fired = λ other on hold. elim (but.fired other on hold) [
+    | inl d ↦ inl d
+    | inr (inl awaited) ↦ inr awaited
+    | inr (inr e) ↦ inl (subst (λ r. differs p s (rule_at p r).var ≡ true) (sym e) (done (subst (λ r. IsHolding p s r) e hold)))
+  ];
+}
+
+module _ (p : Parts) (s0 s : List ℕ) (rule : ℕ) (w : Work) (ranged : WellRanged p) (layered : IsLayered p) (but : RisingBut p s0 s rule w) (holding : IsHolding p s rule)
+    (ne : get_or s (rule_at p rule).var 0 ≢ (rule_at p rule).new) where
+  given : AreGiven p w.layer s w.sources
+  given = record { have = but.have w.layer; hold = but.hold }
+
+  -- what the rule sets
+  pub fires : Fired p w.layer s (rule_at p rule)
+  fires = fired_there p w.layer s rule no_rule ranged layered but.track.state (forced_when_given p w.layer s w.sources layered given) but.is.exists
+      (record { on = but.is.on; can = but.is.can; hold = holding; new = ne })
+
+  module _ (w' : Work) (within : (rule_at p rule).var < length s) (place : (rule_at p rule).var < length w.sources) (same : SameWork w w')
+      (moves : Moves p (rule_at p rule).var s w (set s (rule_at p rule).var (rule_at p rule).new) w') where
+    abbrev var : ℕ
+    var = (rule_at p rule).var
+
+    abbrev after : List ℕ
+    after = set s (rule_at p rule).var (rule_at p rule).new
+
+    abbrev sources_after : List ℕ
+    sources_after = set w.sources (rule_at p rule).var rule
+
+    value_other : (v : ℕ) → v ≢ (rule_at p rule).var → get_or (set s (rule_at p rule).var (rule_at p rule).new) v 0 ≡ get_or s v 0
+    value_other v not = get_or-set_other s (rule_at p rule).var v (rule_at p rule).new 0 not
+
+    source_other : (v : ℕ) → v ≢ (rule_at p rule).var → get_or (set w.sources (rule_at p rule).var rule) v 0 ≡ get_or w.sources v 0
+    source_other v not = get_or-set_other w.sources (rule_at p rule).var v rule 0 not
+
+    -- the variables of another layer are others
+    off_layer : (m v : ℕ) → m ≢ w.layer → IsOnLayer p m v → v ≢ (rule_at p rule).var
+    off_layer m v not on e = (let a = subst (λ u. IsOnLayer p m u) e on in let b = but.is.on in let f : m ≡ w.layer = cc in not f)
+
+    given_now : AreGiven p w.layer (set s (rule_at p rule).var (rule_at p rule).new) (set w.sources (rule_at p rule).var rule)
+    given_now = given_when_fired p w.layer rule s w.sources layered but.is given holding
+        (was_default p w.layer s rule layered (forced_when_given p w.layer s w.sources layered given) but.is ne) within place
+
+    have_now : (m : ℕ) → HaveSources p m (set s (rule_at p rule).var (rule_at p rule).new) (set w.sources (rule_at p rule).var rule)
+    have_now m = elim (cases_eq m w.layer) [
+      | inl e ↦ rw e given_now.have
+      | inr not ↦ sources_same p m s (set s (rule_at p rule).var (rule_at p rule).new) w.sources (set w.sources (rule_at p rule).var rule)
+          (λ v on. value_other v (off_layer m v not on)) (λ v on. source_other v (off_layer m v not on)) (but.have m)
+    ]
+
+    held_now : (m : ℕ) → w.layer < m → SourcesHold p m (set w.sources (rule_at p rule).var rule) (set s (rule_at p rule).var (rule_at p rule).new) s0
+    held_now m lt v on d =
+        let not = off_layer m v (omega arith) on in
+        rw (source_other v not) (but.held m lt v on (differs_true p s v (λ e. differs_not p (set s (rule_at p rule).var (rule_at p rule).new) v d (value_other v not ∙ e))))
+
+    differs_still : (v : ℕ) → differs p s v ≡ true → differs p (set s (rule_at p rule).var (rule_at p rule).new) v ≡ true
+    differs_still v d = elim (cases_eq v (rule_at p rule).var) [
+      | inl e ↦ rw e differs_now
+      | inr not ↦ differs_true p (set s (rule_at p rule).var (rule_at p rule).new) v (λ e. differs_not p s v d (sym (value_other v not) ∙ e))
+    ]
+      where
+        differs_now : differs p (set s (rule_at p rule).var (rule_at p rule).new) (rule_at p rule).var ≡ true
+        differs_now = differs_true p (set s (rule_at p rule).var (rule_at p rule).new) (rule_at p rule).var
+            (λ e. but.is.can (sym (get_or-set_same s (rule_at p rule).var (rule_at p rule).new 0 within) ∙ e))
+
+    fired_now : (other : ℕ) → IsRuleOn p w.layer other → IsHolding p (set s (rule_at p rule).var (rule_at p rule).new) other
+        → (differs p (set s (rule_at p rule).var (rule_at p rule).new) (rule_at p other).var ≡ true) ⊎ IsAwaited w'.agenda w.layer other
+    fired_now other on hold' = elim (cases_eq (rule_at p other).var (rule_at p rule).var) [
+      | inl e ↦ inl (rw e (differs_true p (set s (rule_at p rule).var (rule_at p rule).new) (rule_at p rule).var
+          (λ f. but.is.can (sym (get_or-set_same s (rule_at p rule).var (rule_at p rule).new 0 within) ∙ f))))
+      | inr not ↦ elim (moves.crossed w.layer other (omega arith) on) [
+        | inl noted ↦ inr (inl noted)
+        | inr crossed ↦ elim (but.fired other on (crossed.1 hold')) [
+          | inl d ↦ inl (differs_still (rule_at p other).var d)
+          | inr (inl (inl noted)) ↦ inr (inl (moves.notes.keeps w.layer other noted))
+          | inr (inl (inr ready)) ↦ inr (inr (rw moves.notes.ready ready))
+          | inr (inr e) ↦ absurd (not (ap (λ r. (rule_at p r).var) e))
+        ]
+      ]
+    ]
+
+    pub rising_set : IsRising p s0 (set s (rule_at p rule).var (rule_at p rule).new)
+        (record { layer = w'.layer; counters = w'.counters; stack = w'.stack; sources = set w'.sources (rule_at p rule).var rule; agenda = w'.agenda })
+    rising_set = rw (same.layer, same.sources) record {
+      track = rw same.layer at (track_set p w.layer after w' sources_after (length-set w.sources (rule_at p rule).var rule ∙ ap length (sym same.sources)) (track_moved p w.layer var s after w w' layered but.is.on fires.state but.track moves (ap length same.sources)));
+      settled = but.settled;
+      same = same_moved p w.layer var (rule_at p rule).new s0 s but.is.on but.same;
+      noted = noted_moved p (w.layer + 1) var s0 s after w w' moves but.noted;
+      have = have_now;
+      held = held_now;
+      hold = given_now.hold;
+      fired = fired_now;
+    }
+
+-- where nothing is left on the layer, it is settled
+pub risen_in_the_end : (p : Parts) (s0 s : List ℕ) (w : Work) → IsLayered p → IsRising p s0 s w → AreBehind w.layer w.agenda → w.agenda.ready.items ≡ [] → HasRisen p s0 s w
+risen_in_the_end p s0 s w layered rising behind empty = record {
+  track = rising.track;
+  settled = rising.settled;
+  here = settled_when_given p w.layer s w.sources layered (record { have = rising.have w.layer; hold = rising.hold }) done;
+  same = rising.same;
+  noted = rising.noted;
+  have = rising.have;
+  held = rising.held;
+  hold = rising.hold;
+  behind = behind;
+  empty = empty;
+}
+  where
+    done : (rule : ℕ) → IsRuleOn p w.layer rule → IsHolding p s rule → differs p s (rule_at p rule).var ≡ true
+    done rule is hold = elim (rising.fired rule is hold) [
+      | inl d ↦ d
+      | inr (inl noted) ↦ (let lt : w.layer < w.layer = All-contains (λ (e : Reverse LayerRule). w.layer < e.0.layer) (heap_items w.agenda.noted) (entry_for w.layer rule) behind noted in absurd (omega arith))
+      | inr (inr ready) ↦ (let none = rw empty at ready in absurd (omega (arith, none.1)))
+    ]
+
+-- ---- from layer to layer
+
+-- the layers of which no rule is noted are given and settled as before
+module _ (p : Parts) (s0 s : List ℕ) (from : ℕ) (w : Work) (m : ℕ) (layered : IsLayered p) (between : IsBetween p s0 from s w) (le : from ≤ m) (none : (rule : ℕ) → IsNoted w.agenda m rule → ⊥) where
+  same_holding : (rule : ℕ) → IsRuleOn p m rule → IsHolding p s0 rule ↔ IsHolding p s rule
+  same_holding rule is = elim (between.noted m rule le is) [ inl noted ↦ absurd (none rule noted) | inr same ↦ same ]
+
+  pub given_between : AreGiven p m s w.sources
+  given_between = record {
+    have = between.have m;
+    hold = λ v on d. (same_holding (get_or w.sources v 0) ((between.have m).source v on d).is).0 (between.held m le v on d);
+  }
+
+  pub settled_between : IsSettledAt p m s
+  settled_between = settled_when_given p m s w.sources layered given_between (λ rule is hold.
+      (let d = differs_where_holding p m rule s0 (between.settled m) is ((same_holding rule is).1 hold) in
+      differs_true p s (rule_at p rule).var (λ e. differs_not p s0 (rule_at p rule).var d (between.same m (rule_at p rule).var le is.on ∙ e))))
+
+-- the lowest layer of which a rule is noted is at hand
+pub falling_begins : (p : Parts) (s0 s : List ℕ) (from layer : ℕ) (w : Work) → IsBetween p s0 from s w → from ≤ layer → AreFrom layer w.agenda
+    → IsFalling p s0 s (record { layer = layer; counters = w.counters; stack = w.stack; sources = w.sources; agenda = w.agenda })
+falling_begins p s0 s from layer w between le lowest = record {
+  track = record {
+    state = between.track.state;
+    counts = between.track.counts;
+    places = between.track.places;
+    ordered = between.track.ordered;
+    noted = between.track.noted;
+    from = lowest;
+    ready = rw between.empty (All-nil (λ (r : ℕ). IsRuleOn p layer r));
+  };
+  settled = between.settled;
+  same = λ m v above on. between.same m v (omega arith) on;
+  noted = λ m other above on. between.noted m other (omega arith) on;
+  have = between.have;
+  held = λ m lt. between.held m (omega arith);
+  sources = λ v on d. elim (between.noted layer (get_or w.sources v 0) le ((between.have layer).source v on d).is) [
+    | inl noted ↦ inr noted
+    | inr same ↦ inl (same.0 (between.held layer le v on d))
+  ];
+  fired = λ other on hold. elim (between.noted layer other le on) [
+    | inl noted ↦ inr (inl noted)
+    | inr same ↦ inl (differs_now other on (differs_where_holding p layer other s0 (between.settled layer) on (same.1 hold)))
+  ];
+}
+  where
+    differs_now : (other : ℕ) → IsRuleOn p layer other → differs p s0 (rule_at p other).var ≡ true → differs p s (rule_at p other).var ≡ true
+    differs_now other on d = differs_true p s (rule_at p other).var (λ e. differs_not p s0 (rule_at p other).var d (between.same layer (rule_at p other).var le on.on ∙ e))
+
+-- the layer at hand is settled, and the next ones are at hand
+module _ (p : Parts) (s0 s s' : List ℕ) (from layer : ℕ) (w w' : Work) (layered : IsLayered p) (between : IsBetween p s0 from s w) (le : from ≤ layer) (lowest : AreFrom layer w.agenda)
+    (is : w'.layer ≡ layer) (off : SameOff p layer s s') (same_sources : (v : ℕ) → (IsOnLayer p layer v → ⊥) → get_or w'.sources v 0 ≡ get_or w.sources v 0) (risen : HasRisen p s0 s' w') where
+  not_noted : (m : ℕ) → m < layer → (rule : ℕ) → IsNoted w.agenda m rule → ⊥
+  not_noted m lt rule noted =
+      let le' : layer ≤ m = All-contains (λ (e : Reverse LayerRule). layer ≤ e.0.layer) (heap_items w.agenda.noted) (entry_for m rule) lowest noted in omega arith
+
+  settled_before : (m : ℕ) → m < layer → IsSettledAt p m s
+  settled_before m lt = elim (cases_lt m from) [
+    | inl early ↦ between.below m early
+    | inr late ↦ settled_between p s0 s from w m layered between late (not_noted m lt)
+  ]
+
+  given_before : (m : ℕ) → m < layer → AreGiven p m s w.sources
+  given_before m lt = elim (cases_lt m from) [
+    | inl early ↦ record { have = between.have m; hold = between.hold m early }
+    | inr late ↦ given_between p s0 s from w m layered between late (not_noted m lt)
+  ]
+
+  below : (m : ℕ) → m < layer + 1 → IsSettledAt p m s'
+  below m lt = elim (cases_eq m layer) [
+    | inl e ↦ subst (λ n. IsSettledAt p n s') (is ∙ sym e) risen.here
+    | inr ne ↦ settled_off p layer s s' layered off m (omega arith) (settled_before m (omega arith))
+  ]
+
+  hold : (m : ℕ) → m < layer + 1 → SourcesHold p m w'.sources s' s'
+  hold m lt = elim (cases_eq m layer) [
+    | inl e ↦ subst (λ n. SourcesHold p n w'.sources s' s') (is ∙ sym e) risen.hold
+    | inr ne ↦ (given_off p layer m s s' w.sources w'.sources layered off same_sources (omega arith) (given_before m (omega arith))).hold
+  ]
+
+  pub between_again : IsBetween p s0 (layer + 1) s' w'
+  between_again = record {
+    track = record {
+      state = risen.track.state;
+      counts = risen.track.counts;
+      places = risen.track.places;
+      ordered = risen.track.ordered;
+      noted = risen.track.noted;
+      from = λ k d lt. (let above = risen.behind k d lt in omega (arith, is));
+      ready = rw risen.empty (All-nil (λ (r : ℕ). IsRuleOn p (layer + 1) r));
+    };
+    settled = risen.settled;
+    below = below;
+    same = rw is at risen.same;
+    noted = rw is at risen.noted;
+    have = risen.have;
+    hold = hold;
+    held = λ m above. risen.held m (omega (arith, is));
+    empty = risen.empty;
+  }
+
+-- where no rule is noted, all layers are settled
+pub followed_when_none : (p : Parts) (s0 s : List ℕ) (from : ℕ) (w : Work) → IsLayered p → IsBetween p s0 from s w → heap_items w.agenda.noted ≡ [] → IsFollowed p s w
+followed_when_none p s0 s from w layered between empty = record {
+  state = between.track.state;
+  settled = λ m. elim (cases_lt m from) [
+    | inl early ↦ between.below m early
+    | inr late ↦ settled_between p s0 s from w m layered between late (none m)
+  ];
+  counts = between.track.counts;
+  places = between.track.places;
+  given = λ m. elim (cases_lt m from) [
+    | inl early ↦ record { have = between.have m; hold = between.hold m early }
+    | inr late ↦ given_between p s0 s from w m layered between late (none m)
+  ];
+}
+  where
+    none : (m rule : ℕ) → IsNoted w.agenda m rule → ⊥
+    none m rule noted = let there = rw empty at noted in absurd (omega (arith, there.1))

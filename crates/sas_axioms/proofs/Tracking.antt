@@ -1,0 +1,122 @@
+-- What is counted and noted goes on to fit the state.
+use Rattle.std.proofs.Common.{◌≡◌, ◌⊎◌, ◌↔◌, ℕ, ◌+◌, ◌<◌, ◌≤◌, List, [], ◌∷◌, ◌++◌, length, get_or, set, None, refl, sym, ◌∙◌, ap, subst, inl, inr, arith}
+use Rattle.std.specs.List.{All, Contains}
+use Rattle.std.specs.BinaryHeap.{heap_items}
+use Rattle.std.proofs.lemmas.List.Elements.{All-contains, All-append, All-push}
+use Rattle.std.specs.declared.cmp.Reverse.{Reverse}
+use Rattle.sas_core.specs.declared.parts.Fact.{Fact}
+use Rattle.sas_core.specs.declared.parts.Rule.{Rule}
+use Rattle.sas_core.specs.declared.parts.Parts.{Parts}
+use Rattle.sas_core.specs.Grounded.{rule_at}
+use Rattle.sas_core.specs.Variables.{IsState}
+use Rattle.sas_meaning.specs.Layers.{IsOnLayer, IsLayered, LooksDown}
+use Rattle.sas_meaning.proofs.Layers.{looks_down}
+use Rattle.sas_axioms.specs.declared.agenda.Agenda.{Agenda}
+use Rattle.sas_axioms.specs.declared.firing.Work.{Work}
+use Rattle.sas_axioms.specs.declared.layer_rules.LayerRule.{LayerRule}
+use Rattle.sas_axioms.specs.Agenda.{IsNoted, IsAwaited, AreFrom, Takes, IsMadeReady, AreMadeReady}
+use Rattle.sas_axioms.specs.Conditions.{open_conditions, AreCounted}
+use Rattle.sas_axioms.specs.Sources.{IsHolding}
+use Rattle.sas_meaning.specs.Forced.{SameOff}
+use Rattle.std.proofs.lemmas.List.{get_or-set_other}
+use Rattle.sas_axioms.specs.Following.{AsksAbout, NotesMore, Moves, IsOnTrack, SameWork, KeepsRoom}
+use Rattle.sas_axioms.specs.LayerRules.{IsRuleOn}
+use Rattle.sas_axioms.proofs.Counters.{all_hold_when_none_open, none_open_when_all_hold}
+
+abbrev no_rule : Rule
+no_rule = record { conditions = []; var = 0; old = None; new = 0 }
+
+-- what holds of all elements of a list holds of those of one that has no others
+pub all_still : {X : Type 0} (P : X → Type 0) (xs ys : List X) → All (Contains xs) ys → All P xs → All P ys
+all_still P xs ys still all k d lt = All-contains P xs (get_or ys k d) all (still k d lt)
+
+-- a counter is at zero just where the rule holds
+pub holding_when_zero : (p : Parts) (layer rule : ℕ) (s counters : List ℕ) → AreCounted p s counters → IsRuleOn p layer rule → get_or counters rule 0 ≡ 0 → IsHolding p s rule
+holding_when_zero p layer rule s counters counts is zero = all_hold_when_none_open (λ v. get_or s v 0) (rule_at p rule).conditions (sym (counts.exact layer rule is) ∙ zero)
+
+pub zero_when_holding : (p : Parts) (layer rule : ℕ) (s counters : List ℕ) → AreCounted p s counters → IsRuleOn p layer rule → IsHolding p s rule → get_or counters rule 0 ≡ 0
+zero_when_holding p layer rule s counters counts is hold = counts.exact layer rule is ∙ none_open_when_all_hold (λ v. get_or s v 0) (rule_at p rule).conditions hold
+
+-- a rule that is awaited is on the layer
+pub awaited_on : (p : Parts) (layer rule : ℕ) (s : List ℕ) (w : Work) → IsOnTrack p layer s w → IsAwaited w.agenda layer rule → IsRuleOn p layer rule
+awaited_on p layer rule s w track awaited = elim awaited [
+  | inl noted ↦ All-contains (λ (e : Reverse LayerRule). IsRuleOn p e.0.layer e.0.rule) (heap_items w.agenda.noted) (record { 0 = record { layer = layer; rule = rule } }) track.noted noted
+  | inr ready ↦ All-contains (λ (r : ℕ). IsRuleOn p layer r) w.agenda.ready.items rule track.ready ready
+]
+
+-- a rule is taken off
+pub track_taken : (p : Parts) (layer rule : ℕ) (s : List ℕ) (w : Work) (a' : Agenda) → IsOnTrack p layer s w → Takes layer rule w.agenda a'
+    → IsOnTrack p layer s (record { layer = w.layer; counters = w.counters; stack = w.stack; sources = w.sources; agenda = a' })
+track_taken p layer rule s w a' track takes = record {
+  state = track.state;
+  counts = track.counts;
+  places = track.places;
+  ordered = takes.ordered;
+  noted = all_still (λ (e : Reverse LayerRule). IsRuleOn p e.0.layer e.0.rule) (heap_items w.agenda.noted) (heap_items a'.noted) takes.still_noted track.noted;
+  from = all_still (λ (e : Reverse LayerRule). layer ≤ e.0.layer) (heap_items w.agenda.noted) (heap_items a'.noted) takes.still_noted track.from;
+  ready = all_still (λ (r : ℕ). IsRuleOn p layer r) w.agenda.ready.items a'.ready.items takes.still_ready track.ready;
+}
+
+-- rules of the layer are made ready
+pub track_ready : (p : Parts) (layer : ℕ) (s : List ℕ) (w : Work) (a' : Agenda) (rules : List ℕ) → IsOnTrack p layer s w → All (λ (r : ℕ). IsRuleOn p layer r) rules
+    → a'.ready.items ≡ w.agenda.ready.items ++ rules → a'.noted ≡ w.agenda.noted
+    → IsOnTrack p layer s (record { layer = w.layer; counters = w.counters; stack = w.stack; sources = w.sources; agenda = a' })
+track_ready p layer s w a' rules track all ready noted = record {
+  state = track.state;
+  counts = track.counts;
+  places = track.places;
+  ordered = rw noted track.ordered;
+  noted = rw noted track.noted;
+  from = rw noted track.from;
+  ready = rw ready (All-append (λ (r : ℕ). IsRuleOn p layer r) w.agenda.ready.items rules track.ready all);
+}
+
+-- a rule that asks about a variable is on no lower layer
+pub asks_down : (p : Parts) (layer its var rule : ℕ) → IsLayered p → IsOnLayer p layer var → IsRuleOn p its rule → AsksAbout p var rule → layer ≤ its
+asks_down p layer its var rule layered on is asks =
+    let down : LooksDown p (rule_at p rule).var asks.0 = All-contains (LooksDown p (rule_at p rule).var) (rule_at p rule).conditions asks.0 (layered.rules rule no_rule is.exists is.can).order asks.1 in
+    looks_down p (rule_at p rule) asks.0 layer its down (subst (λ v. IsOnLayer p layer v) (sym asks.2) on) is.on
+
+-- a variable of the layer changes
+pub track_moved : (p : Parts) (layer var : ℕ) (s s' : List ℕ) (w w' : Work) → IsLayered p → IsOnLayer p layer var → IsState p.variables s'
+    → IsOnTrack p layer s w → Moves p var s w s' w' → length w'.sources ≡ length w.sources → IsOnTrack p layer s' w'
+track_moved p layer var s s' w w' layered on state track moves sources = record {
+  state = state;
+  counts = moves.counts;
+  places = sources ∙ track.places;
+  ordered = moves.notes.ordered;
+  noted = λ k d lt. elim (moves.notes.only k d lt) [
+    | inl there ↦ All-contains (λ (e : Reverse LayerRule). IsRuleOn p e.0.layer e.0.rule) (heap_items w.agenda.noted) (get_or (heap_items w'.agenda.noted) k d) track.noted there
+    | inr new ↦ new.0
+  ];
+  from = λ k d lt. elim (moves.notes.only k d lt) [
+    | inl there ↦ All-contains (λ (e : Reverse LayerRule). layer ≤ e.0.layer) (heap_items w.agenda.noted) (get_or (heap_items w'.agenda.noted) k d) track.from there
+    | inr new ↦ asks_down p layer (get_or (heap_items w'.agenda.noted) k d).0.layer var (get_or (heap_items w'.agenda.noted) k d).0.rule layered on new.0 new.1
+  ];
+  ready = rw moves.notes.ready track.ready;
+}
+
+-- a source is set
+pub track_set : (p : Parts) (layer : ℕ) (s : List ℕ) (w : Work) (sources : List ℕ) → length sources ≡ length w.sources → IsOnTrack p layer s w
+    → IsOnTrack p layer s (record { layer = w.layer; counters = w.counters; stack = w.stack; sources = sources; agenda = w.agenda })
+track_set p layer s w sources same track = record {
+  state = track.state;
+  counts = track.counts;
+  places = same ∙ track.places;
+  ordered = track.ordered;
+  noted = track.noted;
+  from = track.from;
+  ready = track.ready;
+}
+
+-- ---- what a variable of the layer leaves alone
+
+pub off_step : (p : Parts) (layer at : ℕ) (s0 s s' : List ℕ) (var value : ℕ) → at ≡ layer → SameOff p layer s0 s → IsOnLayer p at var → s' ≡ set s var value → SameOff p layer s0 s'
+off_step p layer at s0 s s' var value same so_far on is v off = so_far v off ∙ rw is (sym (get_or-set_other s var v value 0 (λ e.
+    off (subst (λ n. IsOnLayer p n v) same (subst (λ u. IsOnLayer p at u) (sym e) on)))))
+
+pub same_more : (w w' w'' : Work) → SameWork w w' → SameWork w' w'' → SameWork w w''
+same_more w w' w'' a b = record { layer = b.layer ∙ a.layer; stack = b.stack ∙ a.stack; one_each = b.one_each ∙ a.one_each; sources = b.sources ∙ a.sources }
+
+pub room_more : (w w' w'' : Work) → KeepsRoom w w' → KeepsRoom w' w'' → KeepsRoom w w''
+room_more w w' w'' a b = record { layer = b.layer ∙ a.layer; stack = b.stack ∙ a.stack; one_each = b.one_each ∙ a.one_each; sources = b.sources ∙ a.sources }

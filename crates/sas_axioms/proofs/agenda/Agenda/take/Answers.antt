@@ -1,0 +1,37 @@
+-- What comes first is of the layer.
+use Rattle.std.proofs.Common.{rules, ◌≡◌, ◌+◌, ◌≤◌, ◌∷◌, length, get_or, sym, ap, subst, ◌∙◌, inl, inr, arith}
+use Rattle.std.specs.List.{All, Contains}
+use Rattle.std.specs.List.Sorted.{IsPermutation}
+use Rattle.std.specs.BinaryHeap.{heap_items}
+use Rattle.std.specs.declared.cmp.Reverse.{Reverse}
+use Rattle.std.proofs.lemmas.List.Elements.{All-contains, Contains-get_or}
+use Rattle.std.proofs.lemmas.List.Sorted.{Contains-permutation, IsPermutation-sym, length_permutation}
+use Rattle.sas_axioms.specs.declared.layer_rules.LayerRule.{LayerRule}
+use Rattle.sas_axioms.specs.Agenda.{entry_for, Lowest}
+use Rattle.sas_axioms.proofs.AgendaOrder.{lowest_first, taken_cases, rest_still, head_there}
+use Rattle.sas_axioms.proofs.agenda.Agenda.take.Goals as goal
+
+pub returns-in-Some-clause-some : goal.returns-in-Some-clause-some
+returns-in-Some-clause-some c =
+    let items = heap_items c.args.self.now.noted in
+    let rest = heap_items c.pop.new.self in
+    let x = c.in-Some.first in
+    let same : IsPermutation items (x ∷ rest) = c.in-Some.ensures.permutation in
+    let lowest : Lowest c.args.self.now c.args.layer = search rules in
+    let up = lowest_first x items (c.in-Some.ensures.heap_order c.requires.ordered).1 in
+    let below : x.0.layer ≤ c.args.layer = All-contains (λ (e : Reverse LayerRule). x.0.layer ≤ e.0.layer) items (entry_for c.args.layer lowest.noted.0) up lowest.noted.1 in
+    let above : c.args.layer ≤ x.0.layer = All-contains (λ (e : Reverse LayerRule). c.args.layer ≤ e.0.layer) items x lowest.from (head_there items rest x same) in
+    let layer : x.0.layer ≡ c.args.layer = omega arith in
+    let is : x ≡ entry_for c.args.layer x.0.rule = ap (λ l. entry_for l x.0.rule) layer in
+    record {
+      was = inl (subst (λ e. Contains items e) is (head_there items rest x same));
+      noted = λ m other there. elim (taken_cases items rest x (entry_for m other) same there) [
+        | inl still ↦ inl still
+        | inr e ↦ inr (sym (ap (λ (r : Reverse LayerRule). r.0.rule) e))
+      ];
+      ready = λ other there. inl there;
+      still_noted = rest_still items rest x same;
+      still_ready = λ k d lt. Contains-get_or c.args.self.now.ready.items k d lt;
+      ordered = (c.in-Some.ensures.heap_order c.requires.ordered).0;
+      left = let n = length_permutation items (x ∷ rest) same in omega arith;
+    }

@@ -1,0 +1,12 @@
+-- The facts so far are counted as gone.
+use Rattle.std.proofs.Common.{◌≡◌, ℕ, List, drop, get_or}
+use Rattle.sas_meaning.specs.Following.{HaveGone}
+use Rattle.sas_axioms.specs.Following.{SameWork, IsFollowed, CountedSoFar}
+use Rattle.sas_axioms.proofs.following.count_gone.Given as goal
+
+abbrev pub invariant-loop-fact : goal.invariant-loop-fact
+invariant-loop-fact g l = record {
+  same : SameWork l.fn.work l.work;
+  so_far : (s : List ℕ) → IsFollowed l.task s l.fn.work → HaveGone l.task l.gone s l.state
+      → (m : List ℕ) × HaveGone l.task (drop l.fact-index l.gone) m l.state × CountedSoFar l.task s m l.work;
+}

@@ -1,0 +1,163 @@
+-- One rule after another is taken off: its variable falls, or it is made ready.
+use Rattle.std.proofs.Common.{rules, ◌≡◌, ◌≢◌, ◌⊎◌, ℕ, ◌+◌, ◌<◌, ◌≤◌, true, false, List, ◌∷◌, ◌++◌, [], length, get_or, set, refl, sym, ap, subst, ◌∙◌, inl, inr, arith}
+use Rattle.std.specs.List.{All, Contains}
+use Rattle.std.specs.BinaryHeap.{heap_items}
+use Rattle.std.specs.declared.cmp.Reverse.{Reverse}
+use Rattle.std.proofs.Math.ListN.{length-append}
+use Rattle.std.proofs.lemmas.List.Elements.{All-contains}
+use Rattle.sas_core.specs.declared.grounded.Change.{Change}
+use Rattle.sas_core.specs.Grounded.{rule_at}
+use Rattle.sas_core.specs.Variables.{IsState}
+use Rattle.sas_meaning.specs.Layers.{IsOnLayer, default_of}
+use Rattle.sas_meaning.specs.Settled.{differs}
+use Rattle.sas_meaning.proofs.Layers.{on_layer_within}
+use Rattle.sas_meaning.proofs.Forced.{state_set, differs_not}
+use Rattle.sas_axioms.specs.declared.agenda.Agenda.{Agenda}
+use Rattle.sas_axioms.specs.declared.firing.Work.{Work}
+use Rattle.sas_axioms.specs.declared.layer_rules.LayerRule.{LayerRule}
+use Rattle.sas_axioms.specs.Agenda.{entry_for, work_left}
+use Rattle.sas_axioms.specs.Following.{IsFalling, Moves}
+use Rattle.sas_axioms.specs.LayerRules.{IsRuleOn}
+use Rattle.sas_axioms.specs.Sources.{IsHolding}
+use Rattle.sas_axioms.proofs.FallingSteps.{FallingBut, falling_taken, falling_passed, falling_fell, risen_from_fallen}
+use Rattle.sas_axioms.proofs.Tracking.{holding_when_zero, off_step, same_more}
+use Rattle.sas_axioms.proofs.following.fall.Goals as goal
+use Rattle.sas_axioms.proofs.following.fall.Given.{Over}
+use Rattle.sas_axioms.proofs.following.fall.Goals.{In-Some, After-rule_change-var}
+
+pub take-requires-clause-ordered : goal.take-requires-clause-ordered
+take-requires-clause-ordered g c = (c.loop-rule.invariant.falling c.requires.falling.0 c.requires.falling.1).track.ordered
+
+pub take-requires-clause-lowest : goal.take-requires-clause-lowest
+take-requires-clause-lowest g c = (c.loop-rule.invariant.falling c.requires.falling.0 c.requires.falling.1).track.from
+
+-- what holds without the rule
+but : (g : Over) (c : In-Some g) → (s0 : List ℕ) → IsFalling c.args.task.now s0 c.args.state.now c.args.work.now
+    → FallingBut c.args.task.now s0 c.loop-rule.state c.in-Some.rule
+    (record { layer = c.loop-rule.work.layer; counters = c.loop-rule.work.counters; stack = c.loop-rule.work.stack; sources = c.loop-rule.work.sources; agenda = c.take.new.self })
+but g c s0 falling = falling_taken c.args.task.now s0 c.loop-rule.state c.loop-rule.work c.take.new.self c.in-Some.rule (c.loop-rule.invariant.falling s0 falling) c.in-Some.ensures.some
+
+some : (g : Over) (c : In-Some g) → FallingBut c.args.task.now c.requires.falling.0 c.loop-rule.state c.in-Some.rule
+    (record { layer = c.loop-rule.work.layer; counters = c.loop-rule.work.counters; stack = c.loop-rule.work.stack; sources = c.loop-rule.work.sources; agenda = c.take.new.self })
+some g c = but g c c.requires.falling.0 c.requires.falling.1
+
+within : (g : Over) (c : In-Some g) → (rule_at c.args.task.now c.in-Some.rule).var < length c.args.task.now.variables
+within g c = on_layer_within c.args.task.now c.loop-rule.work.layer (rule_at c.args.task.now c.in-Some.rule).var (some g c).is.on
+
+pub has_lost-requires-clause-rule : goal.has_lost-requires-clause-rule
+has_lost-requires-clause-rule g c = (c.loop-rule.work.layer, (some g c).is)
+
+pub has_lost-requires-clause-state : goal.has_lost-requires-clause-state
+has_lost-requires-clause-state g c = (some g c).track.state
+
+pub has_lost-requires-clause-counters : goal.has_lost-requires-clause-counters
+has_lost-requires-clause-counters g c = (some g c).track.counts.one_each
+
+pub has_lost-requires-clause-places : goal.has_lost-requires-clause-places
+has_lost-requires-clause-places g c = (some g c).track.places
+
+pub rule_change-var-requires : goal.rule_change-var-requires
+rule_change-var-requires g c = (some g (goal.at.rule_change-var-requires g c).In-Some).is.exists
+
+pub initial_value-value-requires : goal.initial_value-value-requires
+initial_value-value-requires g c = rw (ap (λ (x : Change). x.var) c.rule_change-var.ensures) (within g (goal.at.initial_value-value-requires g c).In-Some)
+
+pub set_to-requires-clause-counts : goal.set_to-requires-clause-counts
+set_to-requires-clause-counts g c = (some g (goal.at.set_to-requires-clause-counts g c).In-Some).track.counts
+
+pub set_to-requires-clause-ordered : goal.set_to-requires-clause-ordered
+set_to-requires-clause-ordered g c = (some g (goal.at.set_to-requires-clause-ordered g c).In-Some).track.ordered
+
+pub set_to-requires-clause-exists : goal.set_to-requires-clause-exists
+set_to-requires-clause-exists g c = rw (ap (λ (x : Change). x.var) c.rule_change-var.ensures) (within g (goal.at.set_to-requires-clause-exists g c).In-Some)
+
+pub set_to-requires-clause-other : goal.set_to-requires-clause-other
+set_to-requires-clause-other g c same =
+    let p = c.args.task.now in
+    let e = ap (λ (x : Change). x.var) c.rule_change-var.ensures in
+    let var = (rule_at p c.in-Some.rule).var in
+    differs_not p c.loop-rule.state var (c.has_lost.ensures.yes c.if-has_lost.true)
+    (subst (λ v. get_or c.loop-rule.state v 0 ≡ default_of p v) e (same ∙ c.initial_value-value.ensures))
+
+-- less is left than there was, where less is left than before
+less : (a a0 a' : Agenda) → (work_left a < work_left a0) ⊎ (a ≡ a0) → work_left a' < work_left a → work_left a' < work_left a0
+less a a0 a' (inl lt) more = omega arith
+less a a0 a' (inr e) more = subst (λ x. work_left a' < work_left x) e more
+
+pub returns-in_err-set_to-clause-off : goal.returns-in_err-set_to-clause-off
+returns-in_err-set_to-clause-off g c =
+    let p = c.args.task.now in
+    let inv = c.loop-rule.invariant in
+    let i = (goal.at.returns-in_err-set_to-clause-off g c).In-Some in
+    let e = ap (λ (x : Change). x.var) c.rule_change-var.ensures in
+    off_step p c.args.work.now.layer c.loop-rule.work.layer c.args.state.now c.loop-rule.state c.set_to.new.state _ _ inv.same.layer inv.off
+    (subst (λ v. IsOnLayer p c.loop-rule.work.layer v) (sym e) (some g i).is.on) c.set_to.ensures.state
+
+pub returns-in_err-make_ready-clause-off : goal.returns-in_err-make_ready-clause-off
+returns-in_err-make_ready-clause-off g c =
+    let p = c.args.task.now in
+    let inv = c.loop-rule.invariant in
+    let i = (goal.at.returns-in_err-make_ready-clause-off g c).In-Some in
+    let e = ap (λ (x : Change). x.var) c.rule_change-var.ensures in
+    off_step p c.args.work.now.layer c.loop-rule.work.layer c.args.state.now c.loop-rule.state c.set_to.new.state _ _ inv.same.layer inv.off
+    (subst (λ v. IsOnLayer p c.loop-rule.work.layer v) (sym e) (some g i).is.on) c.set_to.ensures.state
+
+pub returns-clause-rising : goal.returns-clause-rising
+returns-clause-rising g c s falling =
+    let same = c.in_default.ensures.same in
+    rw same (risen_from_fallen c.args.task.now s c.loop-rule.state c.loop-rule.work (c.loop-rule.invariant.falling s falling) (rw same at c.in_default.ensures.none))
+
+pub loop-rule-preserved-in-Continue-branch-2 : goal.loop-rule-preserved-in-Continue-branch-2
+loop-rule-preserved-in-Continue-branch-2 g c =
+    let p = c.args.task.now in
+    let inv = c.loop-rule.invariant in
+    let i = (goal.at.loop-rule-preserved-in-Continue-branch-2 g c).In-Some in
+    let s = c.loop-rule.state in
+    let rule = c.in-Some.rule in
+    let work = c.loop-rule.work in
+    let taken : Work = record { layer = work.layer; counters = work.counters; stack = work.stack; sources = work.sources; agenda = c.take.new.self } in
+    let b = some g i in
+    let var_is = ap (λ (x : Change). x.var) c.rule_change-var.ensures in
+    let value_is : c.initial_value-value.result ≡ default_of p (rule_at p rule).var = c.initial_value-value.ensures ∙ ap (λ v. default_of p v) var_is in
+    let state_is : c.set_to.new.state ≡ set s (rule_at p rule).var (default_of p (rule_at p rule).var) =
+    c.set_to.ensures.state ∙ (ap (λ v. set s v c.initial_value-value.result) var_is ∙ ap (λ x. set s (rule_at p rule).var x) value_is) in
+    let state : IsState p.variables (set s (rule_at p rule).var (default_of p (rule_at p rule).var)) =
+    state_set p s (rule_at p rule).var (default_of p (rule_at p rule).var) b.track.state (c.task.ensures.well_ranged.init.in_range (rule_at p rule).var (within g i)) in
+    let moves = rw (var_is, state_is) at c.in_ok-set_to.ensures.moves in
+    let all : All (λ (r : ℕ). IsRuleOn p work.layer r) c.get.result.now = rw (c.get.ensures, var_is) (c.requires.rules.only work.layer (rule_at p rule).var b.is.on) in
+    let each : (other : ℕ) → IsRuleOn p work.layer other → (rule_at p other).var ≡ (rule_at p rule).var → Contains c.get.result.now other =
+    λ other on e. rw (c.get.ensures, var_is) (subst (λ v. Contains (get_or c.args.rules_of.now v []) other) e (c.requires.rules.each work.layer other on)) in
+    rw state_is record {
+      same = record {
+        layer = c.set_to.ensures.same.layer ∙ inv.same.layer;
+        stack = c.set_to.ensures.same.stack ∙ inv.same.stack;
+        one_each = c.set_to.ensures.same.one_each ∙ inv.same.one_each;
+        sources = c.set_to.ensures.same.sources ∙ inv.same.sources;
+      };
+      state = state;
+      off = off_step p c.args.work.now.layer work.layer c.args.state.now s (set s (rule_at p rule).var (default_of p (rule_at p rule).var)) (rule_at p rule).var (default_of p (rule_at p rule).var) inv.same.layer inv.off b.is.on refl;
+      falling = λ s0 falling. falling_fell p s0 s rule taken c.set_to.new.work c.make_ready.new.agenda c.get.result.now c.task.ensures.layered (but g i s0 falling)
+          (omega (arith, within g i, b.track.state.one_each)) state c.set_to.ensures.same moves all each c.in_ok-make_ready.ensures;
+      left = inl (less work.agenda c.args.work.now.agenda c.make_ready.new.agenda inv.left (let a = c.in-Some.ensures.left in let d = moves.left in let e = c.in_ok-make_ready.ensures.left in omega arith));
+    }
+
+pub loop-rule-preserved : goal.loop-rule-preserved
+loop-rule-preserved g c =
+    let p = c.args.task.now in
+    let i = (goal.at.loop-rule-preserved g c).In-Some in
+    let inv = c.loop-rule.invariant in
+    let s = c.loop-rule.state in
+    let rule = c.in-Some.rule in
+    let work = c.loop-rule.work in
+    let b = some g i in
+    let holds : get_or work.sources (rule_at p rule).var 0 ≡ rule → differs p s (rule_at p rule).var ≡ true → IsHolding p s rule = λ source d.
+    holding_when_zero p work.layer rule s work.counters b.track.counts b.is (c.has_lost.ensures.no c.if-has_lost.false source d) in
+    record {
+      same = record { layer = inv.same.layer; stack = inv.same.stack; one_each = inv.same.one_each; sources = inv.same.sources };
+      state = inv.state;
+      off = inv.off;
+      falling = λ s0 falling. falling_passed p s0 s rule _ _ (but g i s0 falling) holds c.in_ok-make_ready-2.ensures;
+      left = inl (less work.agenda c.args.work.now.agenda c.make_ready-else-has_lost.new.self inv.left
+          (let a = c.in-Some.ensures.left in let made = c.in_ok-make_ready-2.ensures in
+          let r = ap length made.ready in let l = length-append c.take.new.self.ready.items (rule ∷ []) in let n = ap (λ h. length (heap_items h)) made.noted in let m = made.left in omega arith));
+    }

@@ -1,0 +1,19 @@
+-- What has fallen so far.
+use Rattle.std.proofs.Common.{◌≡◌, ◌⊎◌, ℕ, ◌<◌, List}
+use Rattle.sas_core.specs.Variables.{IsState}
+use Rattle.sas_meaning.specs.Forced.{SameOff}
+use Rattle.sas_axioms.specs.Agenda.{work_left}
+use Rattle.sas_axioms.specs.Following.{SameWork, IsFalling}
+use Rattle.sas_axioms.proofs.following.fall.Given as goal
+
+abbrev pub invariant-loop-rule : goal.invariant-loop-rule
+invariant-loop-rule g l = record {
+  same : SameWork l.fn.work l.work;
+  state : IsState l.task.variables l.state;
+  off : SameOff l.task l.fn.work.layer l.fn.state l.state;
+  falling : (s : List ℕ) → IsFalling l.task s l.fn.state l.fn.work → IsFalling l.task s l.state l.work;
+  left : (work_left l.work.agenda < work_left l.fn.work.agenda) ⊎ (l.work.agenda ≡ l.fn.work.agenda);
+}
+
+abbrev pub decreases-loop-rule : goal.decreases-loop-rule
+decreases-loop-rule g l = work_left l.work.agenda

@@ -1,0 +1,132 @@
+-- One rule after another is taken off: it sets its variable, or has nothing to set.
+use Rattle.std.proofs.Common.{rules, ◌≡◌, ◌≢◌, ◌⊎◌, ℕ, ◌+◌, ◌<◌, ◌≤◌, true, false, List, ◌∷◌, [], length, get_or, set, refl, sym, ap, subst, ◌∙◌, inl, inr, arith}
+use Rattle.sas_core.specs.declared.grounded.Change.{Change}
+use Rattle.sas_core.specs.Grounded.{rule_at}
+use Rattle.sas_meaning.specs.Layers.{IsOnLayer}
+use Rattle.sas_meaning.proofs.Layers.{on_layer_within}
+use Rattle.sas_axioms.specs.declared.firing.Work.{Work}
+use Rattle.sas_axioms.specs.Following.{IsRising}
+use Rattle.std.proofs.lemmas.List.{length-set, get_or-set_other}
+use Rattle.sas_meaning.specs.Settled.{differs}
+use Rattle.sas_meaning.proofs.Forced.{differs_true}
+use Rattle.sas_axioms.specs.Sources.{IsHolding}
+use Rattle.sas_axioms.proofs.RisingSteps.{RisingBut, rising_taken, rising_passed, rising_set, fires, risen_in_the_end}
+use Rattle.sas_axioms.proofs.Tracking.{holding_when_zero, zero_when_holding, off_step, room_more}
+use Rattle.sas_axioms.proofs.following.rise.Goals as goal
+use Rattle.sas_axioms.proofs.following.rise.Given.{Over}
+use Rattle.sas_axioms.proofs.following.rise.Goals.{In-Some}
+
+pub next-requires-clause-ordered : goal.next-requires-clause-ordered
+next-requires-clause-ordered g c = (c.loop-rule.invariant.rising c.requires.rising.0 c.requires.rising.1).track.ordered
+
+pub next-requires-clause-lowest : goal.next-requires-clause-lowest
+next-requires-clause-lowest g c = (c.loop-rule.invariant.rising c.requires.rising.0 c.requires.rising.1).track.from
+
+-- what holds without the rule
+but : (g : Over) (c : In-Some g) → (s0 : List ℕ) → IsRising c.args.task.now s0 c.args.state.now c.args.work.now
+    → RisingBut c.args.task.now s0 c.loop-rule.state c.in-Some.rule
+    (record { layer = c.loop-rule.work.layer; counters = c.loop-rule.work.counters; stack = c.loop-rule.work.stack; sources = c.loop-rule.work.sources; agenda = c.next.new.self })
+but g c s0 rising = rising_taken c.args.task.now s0 c.loop-rule.state c.loop-rule.work c.next.new.self c.in-Some.rule (c.loop-rule.invariant.rising s0 rising) c.in-Some.ensures.some
+
+some : (g : Over) (c : In-Some g) → RisingBut c.args.task.now c.requires.rising.0 c.loop-rule.state c.in-Some.rule
+    (record { layer = c.loop-rule.work.layer; counters = c.loop-rule.work.counters; stack = c.loop-rule.work.stack; sources = c.loop-rule.work.sources; agenda = c.next.new.self })
+some g c = but g c c.requires.rising.0 c.requires.rising.1
+
+within : (g : Over) (c : In-Some g) → (rule_at c.args.task.now c.in-Some.rule).var < length c.args.task.now.variables
+within g c = on_layer_within c.args.task.now c.loop-rule.work.layer (rule_at c.args.task.now c.in-Some.rule).var (some g c).is.on
+
+pub has_to_set-requires-clause-rule : goal.has_to_set-requires-clause-rule
+has_to_set-requires-clause-rule g c = (c.loop-rule.work.layer, (some g c).is)
+
+pub has_to_set-requires-clause-state : goal.has_to_set-requires-clause-state
+has_to_set-requires-clause-state g c = (some g c).track.state
+
+pub has_to_set-requires-clause-counters : goal.has_to_set-requires-clause-counters
+has_to_set-requires-clause-counters g c = (some g c).track.counts.one_each
+
+pub rule_change-change-requires : goal.rule_change-change-requires
+rule_change-change-requires g c = (some g (goal.at.rule_change-change-requires g c).In-Some).is.exists
+
+pub set_to-requires-clause-counts : goal.set_to-requires-clause-counts
+set_to-requires-clause-counts g c = (some g (goal.at.set_to-requires-clause-counts g c).In-Some).track.counts
+
+pub set_to-requires-clause-exists : goal.set_to-requires-clause-exists
+set_to-requires-clause-exists g c = rw (ap (λ (x : Change). x.var) c.rule_change-change.ensures) (within g (goal.at.set_to-requires-clause-exists g c).In-Some)
+
+-- the rule holds
+holds : (g : Over) (i : In-Some g) → get_or i.loop-rule.work.counters i.in-Some.rule 0 ≡ 0 → IsHolding i.args.task.now i.loop-rule.state i.in-Some.rule
+holds g i zero = let b = some g i in holding_when_zero i.args.task.now i.loop-rule.work.layer i.in-Some.rule i.loop-rule.state i.loop-rule.work.counters b.track.counts b.is zero
+
+pub returns-in_err-set_to-clause-state : goal.returns-in_err-set_to-clause-state
+returns-in_err-set_to-clause-state g c =
+    let p = c.args.task.now in
+    let i = (goal.at.returns-in_err-set_to-clause-state g c).In-Some in
+    let s = c.loop-rule.state in
+    let state_is : c.set_to.new.state ≡ set s (rule_at p c.in-Some.rule).var (rule_at p c.in-Some.rule).new = c.set_to.ensures.state ∙ ap (λ (x : Change). set s x.var x.new) c.rule_change-change.ensures in
+    rw state_is (fires p c.requires.rising.0 s c.in-Some.rule _ c.task.ensures.well_ranged c.task.ensures.layered (some g i) (holds g i (c.has_to_set.ensures.holds c.if-has_to_set.true)) (c.has_to_set.ensures.other c.if-has_to_set.true)).state
+
+pub returns-in_err-set_to-clause-off : goal.returns-in_err-set_to-clause-off
+returns-in_err-set_to-clause-off g c =
+    let p = c.args.task.now in
+    let i = (goal.at.returns-in_err-set_to-clause-off g c).In-Some in
+    let inv = c.loop-rule.invariant in
+    let state_is : c.set_to.new.state ≡ set c.loop-rule.state (rule_at p c.in-Some.rule).var (rule_at p c.in-Some.rule).new = c.set_to.ensures.state ∙ ap (λ (x : Change). set c.loop-rule.state x.var x.new) c.rule_change-change.ensures in
+    off_step p c.args.work.now.layer c.loop-rule.work.layer c.args.state.now c.loop-rule.state c.set_to.new.state _ _ inv.room.layer inv.off (some g i).is.on state_is
+
+pub set-requires : goal.set-requires
+set-requires g c =
+    let i = (goal.at.set-requires g c).In-Some in
+    rw (ap (λ (x : Change). x.var) c.rule_change-change.ensures) (omega (arith, within g i, (some g i).track.places, ap length c.set_to.ensures.same.sources))
+
+pub loop-rule-preserved-then-has_to_set : goal.loop-rule-preserved-then-has_to_set
+loop-rule-preserved-then-has_to_set g c =
+    let p = c.args.task.now in
+    let i = (goal.at.loop-rule-preserved-then-has_to_set g c).In-Some in
+    let inv = c.loop-rule.invariant in
+    let s = c.loop-rule.state in
+    let rule = c.in-Some.rule in
+    let work = c.loop-rule.work in
+    let taken : Work = record { layer = work.layer; counters = work.counters; stack = work.stack; sources = work.sources; agenda = c.next.new.self } in
+    let b = some g i in
+    let hold = holds g i (c.has_to_set.ensures.holds c.if-has_to_set.true) in
+    let ne = c.has_to_set.ensures.other c.if-has_to_set.true in
+    let e = c.rule_change-change.ensures in
+    let state_is : c.set_to.new.state ≡ set s (rule_at p rule).var (rule_at p rule).new = c.set_to.ensures.state ∙ ap (λ (x : Change). set s x.var x.new) e in
+    let sources_is : c.set.new.self ≡ set c.set_to.new.work.sources (rule_at p rule).var rule = c.set.ensures ∙ ap (λ (x : Change). set c.set_to.new.work.sources x.var rule) e in
+    let same = c.set_to.ensures.same in
+    let moves = rw (ap (λ (x : Change). x.var) e, state_is) at c.in_ok-set_to.ensures.moves in
+    rw (state_is, sources_is) record {
+      room = room_more c.args.work.now work _ inv.room (record { layer = same.layer; stack = same.stack; one_each = same.one_each; sources = length-set c.set_to.new.work.sources (rule_at p rule).var rule ∙ ap length same.sources });
+      sources = λ v off. get_or-set_other c.set_to.new.work.sources (rule_at p rule).var v rule 0 (λ f. off (subst (λ n. IsOnLayer p n v) inv.room.layer (subst (λ u. IsOnLayer p work.layer u) (sym f) b.is.on)))
+          ∙ (ap (λ (xs : List ℕ). get_or xs v 0) same.sources ∙ inv.sources v off);
+      state = (fires p c.requires.rising.0 s rule taken c.task.ensures.well_ranged c.task.ensures.layered b hold ne).state;
+      off = off_step p c.args.work.now.layer work.layer c.args.state.now s (set s (rule_at p rule).var (rule_at p rule).new) (rule_at p rule).var (rule_at p rule).new inv.room.layer inv.off b.is.on refl;
+      rising = λ s0 r. rising_set p s0 s rule taken c.task.ensures.well_ranged c.task.ensures.layered (but g i s0 r) hold ne c.set_to.new.work
+          (omega (arith, within g i, b.track.state.one_each)) (omega (arith, within g i, b.track.places)) same moves;
+      left = let a = inv.left in let d = c.in-Some.ensures.some.left in let f = moves.left in omega arith;
+    }
+
+pub loop-rule-preserved : goal.loop-rule-preserved
+loop-rule-preserved g c =
+    let p = c.args.task.now in
+    let i = (goal.at.loop-rule-preserved g c).In-Some in
+    let inv = c.loop-rule.invariant in
+    let s = c.loop-rule.state in
+    let rule = c.in-Some.rule in
+    let work = c.loop-rule.work in
+    let b = some g i in
+    let done : IsHolding p s rule → differs p s (rule_at p rule).var ≡ true = λ hold. differs_true p s (rule_at p rule).var (λ e.
+    b.is.can (sym (c.has_to_set.ensures.no c.if-has_to_set.false (zero_when_holding p work.layer rule s work.counters b.track.counts b.is hold)) ∙ e)) in
+    record {
+      room = record { layer = inv.room.layer; stack = inv.room.stack; one_each = inv.room.one_each; sources = inv.room.sources };
+      sources = inv.sources;
+      state = inv.state;
+      off = inv.off;
+      rising = λ s0 r. rising_passed p s0 s rule _ (but g i s0 r) done;
+      left = let a = inv.left in let d = c.in-Some.ensures.some.left in omega arith;
+    }
+
+pub returns-clause-risen : goal.returns-clause-risen
+returns-clause-risen g c s rising =
+    let same = c.in_default.ensures.same in
+    rw same (risen_in_the_end c.args.task.now s c.loop-rule.state c.loop-rule.work c.task.ensures.layered (c.loop-rule.invariant.rising s rising) (rw same at c.in_default.ensures.none) (rw same at c.in_default.ensures.empty))

@@ -1,0 +1,21 @@
+-- What has risen so far.
+use Rattle.std.proofs.Common.{ℕ, ◌≤◌, List}
+use Rattle.sas_core.specs.Variables.{IsState}
+use Rattle.sas_meaning.specs.Forced.{SameOff}
+use Rattle.sas_axioms.specs.Agenda.{work_left}
+use Rattle.sas_axioms.specs.Following.{KeepsRoom, IsRising}
+use Rattle.sas_axioms.specs.Sources.{SameSourcesOff}
+use Rattle.sas_axioms.proofs.following.rise.Given as goal
+
+abbrev pub invariant-loop-rule : goal.invariant-loop-rule
+invariant-loop-rule g l = record {
+  room : KeepsRoom l.fn.work l.work;
+  sources : SameSourcesOff l.task l.fn.work.layer l.fn.work.sources l.work.sources;
+  state : IsState l.task.variables l.state;
+  off : SameOff l.task l.fn.work.layer l.fn.state l.state;
+  rising : (s : List ℕ) → IsRising l.task s l.fn.state l.fn.work → IsRising l.task s l.state l.work;
+  left : work_left l.work.agenda ≤ work_left l.fn.work.agenda;
+}
+
+abbrev pub decreases-loop-rule : goal.decreases-loop-rule
+decreases-loop-rule g l = work_left l.work.agenda

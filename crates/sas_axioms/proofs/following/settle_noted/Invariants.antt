@@ -1,0 +1,20 @@
+-- The layers that are settled so far.
+use Rattle.std.proofs.Common.{◌≡◌, ℕ, List, length}
+use Rattle.sas_core.specs.Variables.{IsState}
+use Rattle.sas_meaning.specs.Settled.{SameBasic}
+use Rattle.sas_axioms.specs.Agenda.{work_left}
+use Rattle.sas_axioms.specs.Following.{IsBetween}
+use Rattle.sas_axioms.proofs.following.settle_noted.Given as goal
+
+abbrev pub invariant-loop-layer : goal.invariant-loop-layer
+invariant-loop-layer g l = record {
+  stack : l.work.stack ≡ l.fn.work.stack;
+  one_each : length l.work.counters ≡ length l.fn.work.counters;
+  sources : length l.work.sources ≡ length l.fn.work.sources;
+  state : IsState l.task.variables l.state;
+  basic : SameBasic l.task l.fn.state l.state;
+  between : (s : List ℕ) → IsBetween l.task s 0 l.fn.state l.fn.work → (from : ℕ) × IsBetween l.task s from l.state l.work;
+}
+
+abbrev pub decreases-loop-layer : goal.decreases-loop-layer
+decreases-loop-layer g l = work_left l.work.agenda

@@ -1,0 +1,174 @@
+-- How a settled state is followed where some of its basic variables change.
+use Rattle.std.specs.Prelude.{◌≡◌, ◌≢◌, ◌⊎◌, ◌↔◌, ℕ, ◌+◌, ◌<◌, ◌≤◌, IsTrue, List, [], length, All, Contains, slice_index, slice_set}
+use Rattle.std.specs.declared.cmp.Reverse.{Reverse}
+use Rattle.std.specs.BinaryHeap.{heap_items}
+use Rattle.sas_core.specs.declared.parts.Fact.{Fact}
+use Rattle.sas_core.specs.declared.parts.Parts.{Parts}
+use Rattle.sas_core.specs.Grounded.{rule_at}
+use Rattle.sas_core.specs.Variables.{IsState}
+use Rattle.sas_meaning.specs.Layers.{IsOnLayer}
+use Rattle.sas_meaning.specs.Settled.{differs, IsSettledAt, IsSettled}
+use Rattle.sas_axioms.specs.declared.agenda.Agenda.{Agenda}
+use Rattle.sas_axioms.specs.declared.firing.Work.{Work}
+use Rattle.sas_axioms.specs.declared.layer_rules.LayerRule.{LayerRule}
+use Rattle.sas_axioms.specs.declared.waiting.Waiting.{Waiting}
+use Rattle.sas_axioms.specs.Agenda.{IsNoted, IsAwaited, IsOrdered, AreFrom, AreBehind, work_left}
+use Rattle.sas_axioms.specs.Conditions.{AreCounted}
+use Rattle.sas_axioms.specs.LayerRules.{IsRuleOn}
+use Rattle.sas_axioms.specs.Sources.{IsHolding, HaveSources, SourcesHold, AreGiven}
+use Rattle.sas_axioms.specs.Waiting.{occurrences, released}
+
+-- a condition of the rule is on the variable
+abbrev pub AsksAbout : Parts → ℕ → ℕ → Type 0
+AsksAbout p var rule = (c : Fact) × Contains (rule_at p rule).conditions c × (c.var ≡ var)
+
+-- from a layer on, each rule that holds in only one of two states is noted
+abbrev pub AreNoted : Parts → ℕ → List ℕ → List ℕ → Agenda → Type 0
+AreNoted p from s s' a = (layer rule : ℕ) → from ≤ layer → IsRuleOn p layer rule
+    → IsNoted a layer rule ⊎ (IsHolding p s rule ↔ IsHolding p s' rule)
+
+-- from a layer on, two states have the same derived values
+abbrev pub SameFrom : Parts → ℕ → List ℕ → List ℕ → Type 0
+SameFrom p from s s' = (layer var : ℕ) → from ≤ layer → IsOnLayer p layer var
+    → slice_index s var ≡ slice_index s' var
+
+-- the work is on the same layer, with as much room
+pub record KeepsRoom (w w' : Work) : Type 0 where
+  pub layer : w'.layer ≡ w.layer
+  pub stack : w'.stack ≡ w.stack
+  pub one_each : length w'.counters ≡ length w.counters
+  pub sources : length w'.sources ≡ length w.sources
+
+-- and it has the same sources
+pub record SameWork (w w' : Work) : Type 0 where
+  pub layer : w'.layer ≡ w.layer
+  pub stack : w'.stack ≡ w.stack
+  pub one_each : length w'.counters ≡ length w.counters
+  pub sources : w'.sources ≡ w.sources
+
+-- on an agenda more rules are noted, of which each `May` be
+pub record NotesMore (p : Parts) (May : ℕ → Type 0) (a a' : Agenda) : Type 0 where
+  pub keeps : (layer rule : ℕ) → IsNoted a layer rule → IsNoted a' layer rule
+  pub only : All (λ (e : Reverse LayerRule). Contains (heap_items a.noted) e
+      ⊎ (IsRuleOn p e.0.layer e.0.rule × May e.0.rule)) (heap_items a'.noted)
+  pub ordered : IsOrdered a'
+  pub ready : a'.ready ≡ a.ready
+
+-- a rule's counter is n now, and the rule is noted if it holds by one of the counts alone
+pub record CountsTo (p : Parts) (rule n : ℕ) (w w' : Work) : Type 0 where
+  pub same : SameWork w w'
+  pub counters : w'.counters ≡ slice_set w.counters rule n
+  pub crossed : (layer : ℕ) → IsRuleOn p layer rule
+      → IsNoted w'.agenda layer rule ⊎ ((slice_index w.counters rule ≡ 0) ↔ (n ≡ 0))
+  pub notes : NotesMore p (λ r. r ≡ rule) w.agenda w'.agenda
+  pub left : work_left w'.agenda ≤ work_left w.agenda + 2
+
+-- the rules that wait for the values of a variable are counted anew, where it had one and has
+-- another one now
+pub record Recounts (p : Parts) (waiting : List Waiting) (former value : ℕ) (w w' : Work)
+    : Type 0 where
+  pub counts : (rule : ℕ) → rule < length w.counters
+      → slice_index w'.counters rule + occurrences rule (released value waiting)
+      ≡ slice_index w.counters rule + occurrences rule (released former waiting)
+  pub crossed : (layer rule : ℕ) → IsRuleOn p layer rule
+      → IsNoted w'.agenda layer rule
+      ⊎ ((slice_index w.counters rule ≡ 0) ↔ (slice_index w'.counters rule ≡ 0))
+  pub notes : NotesMore p
+      (λ rule. (w : Waiting) × Contains waiting w × (w.rule ≡ rule)) w.agenda w'.agenda
+  pub left : work_left w'.agenda ≤ work_left w.agenda
+
+-- a variable changes: the rules are counted in the new state, and those that hold in only one of
+-- the two states are noted
+pub record Moves (p : Parts) (var : ℕ) (s : List ℕ) (w : Work) (s' : List ℕ) (w' : Work)
+    : Type 0 where
+  pub counts : AreCounted p s' w'.counters
+  pub crossed : AreNoted p 0 s s' w'.agenda
+  pub notes : NotesMore p (AsksAbout p var) w.agenda w'.agenda
+  pub left : work_left w'.agenda ≤ work_left w.agenda
+
+-- what is counted and noted fits the state, and no rule of a lower layer is noted
+pub record IsOnTrack (p : Parts) (layer : ℕ) (s : List ℕ) (w : Work) : Type 0 where
+  pub state : IsState p.variables s
+  pub counts : AreCounted p s w.counters
+  pub places : length w.sources ≡ length p.variables
+  pub ordered : IsOrdered w.agenda
+  pub noted : All (λ (e : Reverse LayerRule). IsRuleOn p e.0.layer e.0.rule)
+      (heap_items w.agenda.noted)
+  pub from : AreFrom layer w.agenda
+  pub ready : All (λ rule. IsRuleOn p layer rule) w.agenda.ready.items
+
+-- Some of the basic variables of the settled state s0 are counted with the values that they have in
+-- m. The rules are noted that hold in one of the two alone.
+pub record CountedSoFar (p : Parts) (s0 m : List ℕ) (w : Work) : Type 0 where
+  pub counts : AreCounted p m w.counters
+  pub ordered : IsOrdered w.agenda
+  pub rules : All (λ (e : Reverse LayerRule). IsRuleOn p e.0.layer e.0.rule)
+      (heap_items w.agenda.noted)
+  pub noted : AreNoted p 0 s0 m w.agenda
+  pub same : SameFrom p 0 s0 m
+  pub have : (layer : ℕ) → HaveSources p layer m w.sources
+  pub held : (layer : ℕ) → SourcesHold p layer w.sources m s0
+  pub empty : w.agenda.ready.items ≡ []
+
+-- Up to the layer the state s is settled. From there on it has the values of the settled state s0,
+-- and the rules are noted that hold in one of the two alone.
+pub record IsBetween (p : Parts) (s0 : List ℕ) (layer : ℕ) (s : List ℕ) (w : Work) : Type 0 where
+  pub track : IsOnTrack p layer s w
+  pub settled : IsSettled p s0
+  pub below : (m : ℕ) → m < layer → IsSettledAt p m s
+  pub same : SameFrom p layer s0 s
+  pub noted : AreNoted p layer s0 s w.agenda
+  pub have : (m : ℕ) → HaveSources p m s w.sources
+  pub hold : (m : ℕ) → m < layer → SourcesHold p m w.sources s s
+  pub held : (m : ℕ) → layer ≤ m → SourcesHold p m w.sources s s0
+  pub empty : w.agenda.ready.items ≡ []
+
+-- On the layer some variables have fallen to their default. The sources of the others hold, or are
+-- noted. Each rule that holds has set its variable, or is noted or ready.
+pub record IsFalling (p : Parts) (s0 s : List ℕ) (w : Work) : Type 0 where
+  pub track : IsOnTrack p w.layer s w
+  pub settled : IsSettled p s0
+  pub same : SameFrom p (w.layer + 1) s0 s
+  pub noted : AreNoted p (w.layer + 1) s0 s w.agenda
+  pub have : (m : ℕ) → HaveSources p m s w.sources
+  pub held : (m : ℕ) → w.layer < m → SourcesHold p m w.sources s s0
+  pub sources : (var : ℕ) → IsOnLayer p w.layer var → IsTrue (differs p s var)
+      → IsHolding p s (slice_index w.sources var)
+      ⊎ IsNoted w.agenda w.layer (slice_index w.sources var)
+  pub fired : (rule : ℕ) → IsRuleOn p w.layer rule → IsHolding p s rule
+      → IsTrue (differs p s (rule_at p rule).var) ⊎ IsAwaited w.agenda w.layer rule
+
+-- On the layer the variables that differ from their default are given by their sources. Each rule
+-- that holds has set its variable, or is noted or ready.
+pub record IsRising (p : Parts) (s0 s : List ℕ) (w : Work) : Type 0 where
+  pub track : IsOnTrack p w.layer s w
+  pub settled : IsSettled p s0
+  pub same : SameFrom p (w.layer + 1) s0 s
+  pub noted : AreNoted p (w.layer + 1) s0 s w.agenda
+  pub have : (m : ℕ) → HaveSources p m s w.sources
+  pub held : (m : ℕ) → w.layer < m → SourcesHold p m w.sources s s0
+  pub hold : SourcesHold p w.layer w.sources s s
+  pub fired : (rule : ℕ) → IsRuleOn p w.layer rule → IsHolding p s rule
+      → IsTrue (differs p s (rule_at p rule).var) ⊎ IsAwaited w.agenda w.layer rule
+
+-- The layer is settled, and nothing of it is left to be looked at.
+pub record HasRisen (p : Parts) (s0 s : List ℕ) (w : Work) : Type 0 where
+  pub track : IsOnTrack p w.layer s w
+  pub settled : IsSettled p s0
+  pub here : IsSettledAt p w.layer s
+  pub same : SameFrom p (w.layer + 1) s0 s
+  pub noted : AreNoted p (w.layer + 1) s0 s w.agenda
+  pub have : (m : ℕ) → HaveSources p m s w.sources
+  pub held : (m : ℕ) → w.layer < m → SourcesHold p m w.sources s s0
+  pub hold : SourcesHold p w.layer w.sources s s
+  pub behind : AreBehind w.layer w.agenda
+  pub empty : w.agenda.ready.items ≡ []
+
+-- the state is settled, each rule is counted in it, and each derived variable that differs from its
+-- default is given by its source
+pub record IsFollowed (p : Parts) (s : List ℕ) (w : Work) : Type 0 where
+  pub state : IsState p.variables s
+  pub settled : IsSettled p s
+  pub counts : AreCounted p s w.counters
+  pub places : length w.sources ≡ length p.variables
+  pub given : (layer : ℕ) → AreGiven p layer s w.sources

@@ -1,0 +1,330 @@
+// Settling a state that was settled, but that some of its basic variables have changed since. What the change reaches is looked
+// at, and nothing else.
+//
+// It goes from layer to layer. On each one all falls first: a variable gets its default back if its source, the rule that gave
+// it its value, holds no longer. So does each variable whose source asked about that one, and so on. What is left is given by
+// sources that hold, none of which rests on itself. So no two rules hold each other up. Then the rules that hold set their
+// variables, also those of what fell.
+ghost use Rattle.std.specs.Prelude.{◌≡◌, ◌≢◌, ◌+◌, ◌<◌, ◌≤◌, ◌^◌, ℕ, List, length, All, OnOk, IsTrue, IsFalse, slice_index, slice_set};
+ghost use Rattle.sas_core.specs.declared.parts.Parts.{Parts};
+ghost use Rattle.sas_core.specs.Grounded.{rule_at};
+ghost use Rattle.sas_core.specs.Variables.{IsState};
+ghost use Rattle.sas_meaning.specs.Following.{HaveGone};
+ghost use Rattle.sas_meaning.specs.Forced.{SameOff};
+ghost use Rattle.sas_meaning.specs.Settled.{SameBasic, differs};
+ghost use Rattle.sas_axioms.specs.declared.waiting.Waiting.{Waiting};
+ghost use Rattle.sas_axioms.specs.Agenda.{IsEmpty, IsNoted, IsOrdered, AreMadeReady, work_left};
+ghost use Rattle.sas_axioms.specs.Conditions.{AreCounted, IsFullIndex};
+ghost use Rattle.sas_axioms.specs.LayerRules.{IsRuleOn, AreRulesOf};
+ghost use Rattle.sas_axioms.specs.Sources.{SameSourcesOff};
+ghost use Rattle.sas_axioms.specs.Waiting.{occurrences, released};
+ghost use Rattle.sas_axioms.specs.Following.{SameWork, KeepsRoom, NotesMore, CountsTo, Recounts, Moves};
+ghost use Rattle.sas_axioms.specs.Following.{IsBetween, IsFalling, IsRising, HasRisen, IsFollowed};
+
+use crate::agenda::{Agenda, TooMuch};
+use crate::firing::Work;
+use crate::layer_rules::{LayerRule, firing_layer};
+use crate::waiting::Waiting;
+use sas_core::{Fact, Grounded};
+use sas_lists::Lists;
+use sas_meaning::{Layered, State};
+
+/// What a variable's value was, and what it is.
+#[derive(Clone, Copy, Debug)]
+pub struct Moved {
+    pub former: u32,
+    pub value: u32,
+}
+
+/// Counts the rules anew that ask about the variables of these facts, which are gone.
+pub fn count_gone<T: Grounded>(
+    task: &Layered<T>,
+    index: &Lists<Waiting>,
+    gone: &[Fact],
+    work: &mut Work,
+    state: &State,
+) -> Result<(), TooMuch>
+    requires index { IsFullIndex task.now index.now }
+    requires state { IsState task.now.variables state.now }
+    requires follows { (s : List ℕ)
+        × IsFollowed task.now s work.old × HaveGone task.now gone.now s state.now }
+    requires empty { IsEmpty work.old.agenda }
+    ensures same { SameWork work.old work.new }
+    ensures between { OnOk result ((s : List ℕ) → IsFollowed task.now s work.old
+        → HaveGone task.now gone.now s state.now → IsBetween task.now s 0 state.now work.new) }
+{
+    // By its contract the task is well ranged and layered.
+    let _ = task.task();
+    for fact in gone {
+        let moved = Moved {
+            former: fact.value,
+            value: state.value(fact.var),
+        };
+        if moved.former != moved.value {
+            recount(task, index, fact.var, moved, work)?;
+        }
+    }
+    Ok(())
+}
+
+/// Settles one layer after another of those on which a rule is noted.
+pub fn settle_noted<T: Grounded>(
+    task: &Layered<T>,
+    index: &Lists<Waiting>,
+    rules_of: &Lists<u32>,
+    work: &mut Work,
+    state: &mut State,
+) -> Result<(), TooMuch>
+    requires index { IsFullIndex task.now index.now }
+    requires rules { AreRulesOf task.now rules_of.now }
+    requires between { (s : List ℕ) × IsBetween task.now s 0 state.old work.old }
+    ensures state { IsState task.now.variables state.new }
+    ensures basic { SameBasic task.now state.old state.new }
+    ensures stack { work.new.stack ≡ work.old.stack }
+    ensures one_each { length work.new.counters ≡ length work.old.counters }
+    ensures sources { length work.new.sources ≡ length work.old.sources }
+    ensures followed { OnOk result (IsFollowed task.now state.new work.new) }
+{
+    // By its contract the task is well ranged and layered.
+    let _ = task.task();
+    while let Some(layer) = work.agenda.lowest() {
+        work.layer = layer;
+        fall(task, index, rules_of, work, state)?;
+        rise(task, index, work, state)?;
+    }
+    Ok(())
+}
+
+/// Gives the variables of the layer their default whose source holds no longer. What may set them again is ready then.
+fn fall<T: Grounded>(
+    task: &Layered<T>,
+    index: &Lists<Waiting>,
+    rules_of: &Lists<u32>,
+    work: &mut Work,
+    state: &mut State,
+) -> Result<(), TooMuch>
+    requires index { IsFullIndex task.now index.now }
+    requires rules { AreRulesOf task.now rules_of.now }
+    requires falling { (s : List ℕ) × IsFalling task.now s state.old work.old }
+    requires noted { (rule : ℕ) × IsNoted work.old.agenda work.old.layer rule }
+    ensures same { SameWork work.old work.new }
+    ensures state { IsState task.now.variables state.new }
+    ensures off { SameOff task.now work.old.layer state.old state.new }
+    ensures rising { OnOk result ((s : List ℕ) → IsFalling task.now s state.old work.old
+        → IsRising task.now s state.new work.new) }
+    ensures left { OnOk result (work_left work.new.agenda < work_left work.old.agenda) }
+{
+    // By its contract the task is well ranged and layered.
+    let _ = task.task();
+    while let Some(rule) = work.agenda.take(work.layer) {
+        if has_lost(task, rule, work, state) {
+            let var = task.rule_change(rule).var;
+            let value = task.initial_value(var);
+            set_to(task, index, Fact { var, value }, work, state)?;
+            make_ready(rules_of.get(var as usize), &mut work.agenda)?;
+        } else {
+            work.agenda.make_ready(rule)?;
+        }
+    }
+    Ok(())
+}
+
+/// Returns whether the rule gave its variable the value that it has, and holds no longer.
+fn has_lost<T: Grounded>(task: &Layered<T>, rule: u32, work: &Work, state: &State) -> bool
+    requires rule { (layer : ℕ) × IsRuleOn task.now layer rule }
+    requires state { IsState task.now.variables state.now }
+    requires counters { length work.now.counters ≡ length task.now.rules }
+    requires places { length work.now.sources ≡ length task.now.variables }
+    ensures yes { IsTrue result → IsTrue (differs task.now state.now (rule_at task.now rule).var) }
+    ensures no { IsFalse result
+        → slice_index work.now.sources (rule_at task.now rule).var ≡ rule
+        → IsTrue (differs task.now state.now (rule_at task.now rule).var)
+        → slice_index work.now.counters rule ≡ 0 }
+{
+    // By its contract the task is well ranged and layered.
+    let _ = task.task();
+    let var = task.rule_change(rule).var;
+    if work.counters.as_slice()[rule as usize] == 0
+        || work.sources.as_slice()[var as usize] != rule
+    {
+        return false;
+    }
+    state.value(var) != task.initial_value(var)
+}
+
+/// Makes all these rules ready.
+fn make_ready(rules: &[u32], agenda: &mut Agenda) -> Result<(), TooMuch>
+    ensures { OnOk result (AreMadeReady rules.now agenda.old agenda.new) }
+{
+    agenda.pay(rules.len())?;
+    for rule in rules {
+        agenda.make_ready(*rule)?;
+    }
+    Ok(())
+}
+
+/// Lets the rules of the layer set their variables that are ready, and those that begin to hold by that.
+fn rise<T: Grounded>(
+    task: &Layered<T>,
+    index: &Lists<Waiting>,
+    work: &mut Work,
+    state: &mut State,
+) -> Result<(), TooMuch>
+    requires index { IsFullIndex task.now index.now }
+    requires rising { (s : List ℕ) × IsRising task.now s state.old work.old }
+    ensures stands { KeepsRoom work.old work.new }
+    ensures state { IsState task.now.variables state.new }
+    ensures off { SameOff task.now work.old.layer state.old state.new }
+    ensures risen { OnOk result ((s : List ℕ) → IsRising task.now s state.old work.old
+        → HasRisen task.now s state.new work.new) }
+    ensures sources { SameSourcesOff task.now work.old.layer work.old.sources work.new.sources }
+    ensures left { OnOk result (work_left work.new.agenda ≤ work_left work.old.agenda) }
+{
+    // By its contract the task is well ranged and layered.
+    let _ = task.task();
+    while let Some(rule) = work.agenda.next(work.layer) {
+        if has_to_set(task, rule, work, state) {
+            let change = task.rule_change(rule);
+            let fact = Fact {
+                var: change.var,
+                value: change.new,
+            };
+            set_to(task, index, fact, work, state)?;
+            work.sources.set(change.var as usize, rule);
+        }
+    }
+    Ok(())
+}
+
+/// Returns whether the rule holds, and hasn't set its variable.
+fn has_to_set<T: Grounded>(task: &Layered<T>, rule: u32, work: &Work, state: &State) -> bool
+    requires rule { (layer : ℕ) × IsRuleOn task.now layer rule }
+    requires state { IsState task.now.variables state.now }
+    requires counters { length work.now.counters ≡ length task.now.rules }
+    ensures holds { IsTrue result → slice_index work.now.counters rule ≡ 0 }
+    ensures other { IsTrue result
+        → slice_index state.now (rule_at task.now rule).var ≢ (rule_at task.now rule).new }
+    ensures no { IsFalse result → slice_index work.now.counters rule ≡ 0
+        → slice_index state.now (rule_at task.now rule).var ≡ (rule_at task.now rule).new }
+{
+    // By its contract the task is well ranged and layered.
+    let _ = task.task();
+    let change = task.rule_change(rule);
+    work.counters.as_slice()[rule as usize] == 0 && state.value(change.var) != change.new
+}
+
+/// Sets the variable to another value, and counts the rules anew that ask about it.
+fn set_to<T: Grounded>(
+    task: &Layered<T>,
+    index: &Lists<Waiting>,
+    fact: Fact,
+    work: &mut Work,
+    state: &mut State,
+) -> Result<(), TooMuch>
+    requires index { IsFullIndex task.now index.now }
+    requires counts { AreCounted task.now state.old work.old.counters }
+    requires ordered { IsOrdered work.old.agenda }
+    requires exists { fact.var < length task.now.variables }
+    requires other { slice_index state.old fact.var ≢ fact.value }
+    ensures state { state.new ≡ slice_set state.old fact.var fact.value }
+    ensures same { SameWork work.old work.new }
+    ensures moves { OnOk result (Moves task.now fact.var state.old work.old state.new work.new) }
+{
+    let moved = Moved {
+        former: state.value(fact.var),
+        value: fact.value,
+    };
+    state.set(fact);
+    recount(task, index, fact.var, moved, work)
+}
+
+/// Counts the rules anew that ask about the variable, and notes those that begin or cease to hold.
+fn recount<T: Grounded>(
+    task: &Layered<T>,
+    index: &Lists<Waiting>,
+    var: u32,
+    moved: Moved,
+    work: &mut Work,
+) -> Result<(), TooMuch>
+    requires index { IsFullIndex task.now index.now }
+    requires exists { var < length task.now.variables }
+    requires differ { moved.former ≢ moved.value }
+    requires counts { (s : List ℕ)
+        × AreCounted task.now s work.old.counters × (slice_index s var ≡ moved.former) }
+    requires ordered { IsOrdered work.old.agenda }
+    ensures same { SameWork work.old work.new }
+    ensures moves { OnOk result ((s : List ℕ) → AreCounted task.now s work.old.counters
+        → slice_index s var ≡ moved.former
+        → Moves task.now var s work.old (slice_set s var moved.value) work.new) }
+{
+    // By its contract the task is well ranged and layered.
+    let _ = task.task();
+    recount_waiting(task, index.get(var as usize), moved, work)
+}
+
+/// Counts these rules anew, which wait for values of one variable, and notes those that begin or cease to hold.
+fn recount_waiting<T: Grounded>(
+    task: &Layered<T>,
+    waiting: &[Waiting],
+    moved: Moved,
+    work: &mut Work,
+) -> Result<(), TooMuch>
+    requires differ { moved.former ≢ moved.value }
+    requires counters { length work.old.counters ≡ length task.now.rules }
+    requires exist { All (λ (w : Waiting). w.rule < length work.old.counters) waiting.now }
+    requires small { All (λ (w : Waiting). slice_index work.old.counters w.rule
+        + occurrences w.rule (released moved.former waiting.now) < 2 ^ 32) waiting.now }
+    requires enough { All (λ (w : Waiting). occurrences w.rule (released moved.value waiting.now)
+        ≤ slice_index work.old.counters w.rule) waiting.now }
+    requires ordered { IsOrdered work.old.agenda }
+    ensures same { SameWork work.old work.new }
+    ensures recounts { OnOk result
+        (Recounts task.now waiting.now moved.former moved.value work.old work.new) }
+{
+    work.agenda.pay(waiting.len())?;
+    for entry in waiting {
+        let open = work.counters.as_slice()[entry.rule as usize];
+        if entry.value == moved.former {
+            count_to(task, entry.rule, open + 1, work)?;
+        } else if entry.value == moved.value {
+            count_to(task, entry.rule, open - 1, work)?;
+        }
+    }
+    Ok(())
+}
+
+/// Sets the rule's counter, and notes the rule if it begins or ceases to hold by that.
+fn count_to<T: Grounded>(
+    task: &Layered<T>,
+    rule: u32,
+    count: u32,
+    work: &mut Work,
+) -> Result<(), TooMuch>
+    requires exists { rule < length task.now.rules }
+    requires counters { length work.old.counters ≡ length task.now.rules }
+    requires ordered { IsOrdered work.old.agenda }
+    ensures same { SameWork work.old work.new }
+    ensures counts { OnOk result (CountsTo task.now rule count work.old work.new) }
+{
+    let held = work.counters.as_slice()[rule as usize] == 0;
+    work.counters.set(rule as usize, count);
+    if held != (count == 0) {
+        note(task, rule, &mut work.agenda)?;
+    }
+    Ok(())
+}
+
+/// Notes the rule if it can fire.
+fn note<T: Grounded>(task: &Layered<T>, rule: u32, agenda: &mut Agenda) -> Result<(), TooMuch>
+    requires exists { rule < length task.now.rules }
+    requires ordered { IsOrdered agenda.old }
+    ensures noted { OnOk result ((layer : ℕ) → IsRuleOn task.now layer rule
+        → IsNoted agenda.new layer rule) }
+    ensures notes { OnOk result (NotesMore task.now (λ r. r ≡ rule) agenda.old agenda.new) }
+    ensures left { OnOk result (work_left agenda.new ≤ work_left agenda.old + 2) }
+{
+    match firing_layer(task, rule) {
+        Some(layer) => agenda.note(LayerRule { layer, rule }),
+        None => Ok(()),
+    }
+}

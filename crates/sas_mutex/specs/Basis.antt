@@ -1,0 +1,57 @@
+-- What an effect keeps where only the groups of a basis count, and the group itself. It keeps this
+-- group whatever other groups fall.
+use Rattle.std.specs.Prelude.{◌≡◌, ℕ, ◌<◌, Bool, IsTrue, IsFalse, List, length, Contains, Some}
+use Rattle.sas_core.specs.declared.parts.Parts.{Parts}
+use Rattle.sas_core.specs.Grounded.{operator_at, effect_at, group_at}
+use Rattle.sas_groups.specs.Clashes.{sets}
+use Rattle.sas_groups.specs.Families.{IsIn}
+use Rattle.sas_mutex.specs.declared.family.Family.{Family}
+use Rattle.sas_mutex.specs.Effects.{family_of, KeepsWithItself, IsPlain}
+
+-- the effect keeps the group under the basis and itself, if it is in the family
+abbrev pub KeptByBasis : Parts → List Bool → List Bool → ℕ → ℕ → ℕ → Type 0
+KeptByBasis p basis kept operator effect place = IsIn p (family_of kept) place
+    → KeepsWithItself p basis operator effect place
+
+-- the effect keeps each group of the family that has the fact which it sets, under the basis and
+-- that group
+abbrev pub EffectKeepsByBasis : Parts → List Bool → List Bool → ℕ → ℕ → Type 0
+EffectKeepsByBasis p basis kept operator effect = (place : ℕ) → IsIn p (family_of kept) place
+    → Contains (group_at p place) (sets (effect_at (operator_at p operator) effect))
+    → KeepsWithItself p basis operator effect place
+
+-- the same for those of the operator's first effects that have no conditions
+abbrev pub PlainKeepByBasis : Parts → List Bool → List Bool → ℕ → ℕ → Type 0
+PlainKeepByBasis p basis kept operator effects = (effect : ℕ) → effect < effects
+    → IsPlain p operator effect → EffectKeepsByBasis p basis kept operator effect
+
+-- the same for all effects of the operator
+abbrev pub KeepsByBasis : Parts → List Bool → List Bool → ℕ → Type 0
+KeepsByBasis p basis kept operator = (effect : ℕ)
+    → effect < length (operator_at p operator).effects
+    → EffectKeepsByBasis p basis kept operator effect
+
+-- no group of the family has the fact that the effect sets
+abbrev pub SetsNone : Parts → List Bool → ℕ → ℕ → Type 0
+SetsNone p kept operator effect = (place : ℕ) → IsIn p (family_of kept) place
+    → Contains (group_at p place) (sets (effect_at (operator_at p operator) effect)) → ⊥
+
+-- the same for those of the operator's first effects that have no conditions
+abbrev pub PlainSetNone : Parts → List Bool → ℕ → ℕ → Type 0
+PlainSetNone p kept operator effects = (effect : ℕ) → effect < effects → IsPlain p operator effect
+    → SetsNone p kept operator effect
+
+-- a list with a place for each of this many groups, which keeps none of them
+pub record IsOfNone (groups : ℕ) (none : List Bool) : Type 0 where
+  pub one_each : length none ≡ groups
+  pub out : (place : ℕ) → IsFalse (family_of none place)
+
+-- the basis of the family has a place for each of this many groups, and no group but the support
+pub record IsBasis (groups : ℕ) (family : Family) : Type 0 where
+  pub one_each : length family.basis ≡ groups
+  pub only : (place : ℕ) → IsTrue (family_of family.basis place) → family.support ≡ Some place
+
+-- each group of the basis is in the family
+abbrev pub IsBasisKept : Family → Type 0
+IsBasisKept family =
+    (place : ℕ) → IsTrue (family_of family.basis place) → IsTrue (family_of family.kept place)

@@ -1,0 +1,14 @@
+-- Where a step stops, that is the fault of the plan.
+use Rattle.std.proofs.Common.{◌≡◌, Err, rules, subst, sym}
+use Rattle.std.specs.Prelude.{IfErr}
+use Rattle.sas_run.specs.Verdicts.{IsFaultOf}
+use Rattle.sas_run.proofs.Going.{stop_is_fault}
+use Rattle.sas_run.proofs.plan_check.judge.Goals as goal
+
+pub returns-in_err-go_through-clause-fault : goal.returns-in_err-go_through-clause-fault
+returns-in_err-go_through-clause-fault g c =
+    let p = c.args.named.now in
+    let plan = g.P.Stepwise.says c.args.plan.now in
+    let same : c.from_residual.result ≡ Err c.in_err-go_through.field-0.0 = search rules in
+    subst (λ r. IfErr r (IsFaultOf p plan)) (sym same)
+    (stop_is_fault p plan c.args.walk.now.state c.go_through.new.walk.operators.items c.go_through.new.walk.state c.in_err-go_through.field-0.0 c.requires.initial c.in_err-go_through.ensures.goes)

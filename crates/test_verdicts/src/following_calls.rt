@@ -1,0 +1,147 @@
+// Calls with an evaluator that goes on from the state that it settled last.
+ghost use Rattle.std.specs.Prelude.{◌≡◌, ◌<◌, length, IsTrue, slice_index};
+ghost use Rattle.sas_core.specs.Variables.{HasValue, IsState};
+ghost use Rattle.sas_meaning.specs.Layers.{IsBasic};
+
+use crate::axiom_calls::{say_values, state_of};
+use crate::files::pieces_of;
+use sas_axioms::{Layered, Settle, State};
+use sas_core::{Fact, Grounded, Task};
+use std::alloc::AllocError;
+use test_words::{cut, fact_of, say};
+
+/// An evaluator that prints each state which another one has settled. So it shows each state of a plan.
+#[derive(Drop)]
+pub struct Telling<'a, P: Print, E: Settle<Task> + Drop> {
+    out: &'a P,
+    evaluator: E,
+}
+
+impl<'a, P: Print, E: Settle<Task> + Drop> Telling<'a, P, E> {
+    /// Returns the evaluator that prints what this one settles.
+    pub fn new(out: &'a P, evaluator: E) -> Telling<'a, P, E>
+        ensures { result.evaluator ≡ evaluator }
+    {
+        Telling { out, evaluator }
+    }
+}
+
+impl<'a, P: Print, E: Settle<Task> + Drop> Settle<Task> for Telling<'a, P, E> {
+    ghost ready = { λ t p. E.ready t.evaluator p };
+
+    ghost follows = { λ t p s. E.follows t.evaluator p s };
+
+    fn settle(&mut self, layered: &Layered<Task>, state: &mut State) {
+        self.evaluator.settle(layered, state);
+        say_values(self.out, state.values());
+    }
+
+    fn settle_on(&mut self, layered: &Layered<Task>, gone: &[Fact], state: &mut State) {
+        self.evaluator.settle_on(layered, gone, state);
+        say_values(self.out, state.values());
+    }
+}
+
+/// Settles a state, and goes on from it: `STATE;FACT,FACT;FACT,FACT|FILE`. Two facts on different basic variables are set
+/// at a time, whether they held or not, and the evaluator is told that those of their variables which held have gone. It
+/// could show an evaluator that stays where it was, and one that takes a fact for gone which has come back.
+pub fn follow<R: AllocGlobal + Print, E: Settle<Task>>(
+    rt: &R,
+    evaluator: &mut E,
+    layered: &Layered<Task>,
+    words: &[u8],
+) -> Result<(), AllocError>
+    requires { E.ready evaluator.old layered.now }
+{
+    let pieces = pieces_of(rt.alloc(), words)?;
+    match pieces.as_slice().split_first() {
+        Some((first, pairs)) => follow_from(rt, evaluator, layered, first, pairs),
+        None => say(rt, "WRONG: no state"),
+    }
+    Ok(())
+}
+
+/// Does the same with these pairs of facts, from a state of these values.
+fn follow_from<R: AllocGlobal + Print, E: Settle<Task>>(
+    rt: &R,
+    evaluator: &mut E,
+    layered: &Layered<Task>,
+    first: &[u8],
+    pairs: &[&[u8]],
+)
+    requires { E.ready evaluator.old layered.now }
+{
+    let Ok(mut state) = state_of(rt.alloc(), layered.task(), first) else {
+        return say(rt, "WRONG: no state");
+    };
+    evaluator.settle(layered, &mut state);
+    say_values(rt, state.values());
+    follow_each(rt, evaluator, layered, pairs, &mut state);
+}
+
+/// Sets the pairs in turn, and prints the state behind each, which the evaluator settles.
+fn follow_each<P: Print, E: Settle<Task>>(
+    out: &P,
+    evaluator: &mut E,
+    layered: &Layered<Task>,
+    pairs: &[&[u8]],
+    state: &mut State,
+)
+    requires ready { E.ready evaluator.old layered.now }
+    requires follows { E.follows evaluator.old layered.now state.old }
+    requires state { IsState layered.now.variables state.old }
+{
+    for words in pairs {
+        let (first, second) = cut(words, b',');
+        match (fact_of(first), fact_of(second)) {
+            (Some(first), Some(second)) => follow_pair(evaluator, layered, first, second, state),
+            _ => say(out, "WRONG: no facts"),
+        }
+        say_values(out, state.values());
+    }
+}
+
+/// Sets the two facts, if they are on different basic variables, and settles the state.
+fn follow_pair<E: Settle<Task>>(
+    evaluator: &mut E,
+    layered: &Layered<Task>,
+    first: Fact,
+    second: Fact,
+    state: &mut State,
+)
+    requires ready { E.ready evaluator.old layered.now }
+    requires follows { E.follows evaluator.old layered.now state.old }
+    requires state { IsState layered.now.variables state.old }
+    ensures ready { E.ready evaluator.new layered.now }
+    ensures follows { E.follows evaluator.new layered.now state.new }
+    ensures state { IsState layered.now.variables state.new }
+{
+    if first.var == second.var || !is_basic(layered, first) || !is_basic(layered, second) {
+        return;
+    }
+    let gone = [held_on(first.var, state), held_on(second.var, state)];
+    state.set(first);
+    state.set(second);
+    evaluator.settle_on(layered, &gone, state);
+}
+
+/// Returns the fact on the variable that holds.
+fn held_on(var: u32, state: &State) -> Fact
+    requires { var < length state.now }
+    ensures var { result.var ≡ var }
+    ensures value { result.value ≡ slice_index state.now var }
+{
+    let value = state.value(var);
+    Fact { var, value }
+}
+
+/// Returns whether the fact exists and is on a basic variable.
+fn is_basic(layered: &Layered<Task>, fact: Fact) -> bool
+    ensures place { IsTrue result → fact.var < length layered.now.variables }
+    ensures exists { IsTrue result → HasValue layered.now.variables fact.var fact.value }
+    ensures basic { IsTrue result → IsBasic layered.now fact.var }
+{
+    fact.var < layered.variables()
+        && layered.layer(fact.var).is_none()
+        && fact.value < layered.range(fact.var)
+}
