@@ -16,8 +16,6 @@ use Rattle.sas_groups.proofs.Effects.{place_of}
 use Rattle.sas_groups.proofs.GreatestFamily.{clash_more}
 use Rattle.sas_groups.specs.Checks.{NotBoth}
 use Rattle.sas_mutex.specs.Effects.{family_of, IsKept, EffectKeeps}
-use Rattle.sas_mutex.specs.Falling.{MentionsNone}
-use Rattle.sas_group_index.specs.Index.{Mentions}
 
 -- what clashes where some groups count clashes where others do
 module _ (Counts Others : List Fact → Type 0) (o : Operator) (group : List Fact) (e : Effect) where
@@ -61,79 +59,3 @@ module _ (Counts : List Fact → Type 0) (o : Operator) (group : List Fact) wher
     single = λ other lt' hf ne. keeps.two (effect_at o effect) (effect_at o other) (effect_in effect lt) (effect_in other lt') he hf ne;
     others = λ f in_f ne. keeps.others (effect_at o effect) f (effect_in effect lt) he in_f ne;
   }
-
--- Groups that fell no longer count. If the operator mentions no fact of them, its effects keep what they did: two different
--- facts of such a group aren't among what is known, where at most one is not mentioned.
-module _ (p : Parts) (kept kept' : List Bool) (operator : ℕ) (fell : List ℕ)
-    (exists : operator < length p.operators)
-    (noted : (place : ℕ) → IsIn p (family_of kept) place → (IsIn p (family_of kept') place → ⊥) → Contains fell place)
-    (none : MentionsNone p operator fell) where
-  still_kept : (f : Fact) (g : List Fact) → Mentions (operator_at p operator) f → IsKept p kept g → Contains g f → IsKept p kept' g
-  still_kept f g mentions (place, among, is) within = elim (cases_Bool (family_of kept' place)) [
-    | inl here ↦ (place, record { exists = among.exists; chosen = here }, is)
-    | inr gone ↦ absurd (none place (noted place among (λ w. both_ways (family_of kept' place) gone w.chosen))
-        (record { exists = exists; fact = f; mentions = mentions; among = subst (λ (x : List Fact). Contains x f) is within }))
-  ]
-
-  clash_still : (facts : List Fact) (extra : Fact) → ((f : Fact) → Contains facts f → Mentions (operator_at p operator) f ⊎ (f ≡ extra))
-      → Clash (IsKept p kept) facts → Clash (IsKept p kept') facts
-  clash_still facts extra each (f, g, in_f, in_g, why) = (
-    f,
-    g,
-    in_f,
-    in_g,
-    elim why [
-      | inl w ↦ inl w
-      | inr w ↦ inr (record {
-        differ = w.differ;
-        group = w.group;
-        counts = elim (each f in_f) [
-          | inl m ↦ still_kept f w.group m w.counts w.first
-          | inr is ↦ elim (each g in_g) [
-            | inl m ↦ still_kept g w.group m w.counts w.second
-            | inr is' ↦ absurd (w.differ (is ∙ sym is'))
-          ]
-        ];
-        first = w.first;
-        second = w.second;
-      })
-    ],
-  )
-
-  pub effect_keeps_still : (effect : ℕ) (group : List Fact) → effect < length (operator_at p operator).effects
-      → EffectKeeps (IsKept p kept) (operator_at p operator) group (effect_at (operator_at p operator) effect)
-      → EffectKeeps (IsKept p kept') (operator_at p operator) group (effect_at (operator_at p operator) effect)
-  effect_keeps_still effect group lt = effect_keeps_by (IsKept p kept) (IsKept p kept') o group e
-      (λ other lt'. clash_still (known o e.conditions (effect_at o other).conditions) (sets e) (of_both other lt'))
-      (λ f. clash_still (known o e.conditions (f ∷ [])) f (of_one f))
-    where
-      o : Operator
-      o = operator_at p operator
-
-      e : Effect
-      e = effect_at (operator_at p operator) effect
-
-      of_conditions : (k : ℕ) → k < length (operator_at p operator).effects → (x : Fact)
-          → Contains (effect_at (operator_at p operator) k).conditions x → Mentions (operator_at p operator) x
-      of_conditions k below x within = inr (effect_at (operator_at p operator) k, effect_in (IsKept p kept) (operator_at p operator) group k below, within)
-
-      of_first : (x : Fact) → Contains (preconditions (operator_at p operator) ++ (effect_at (operator_at p operator) effect).conditions) x → Mentions (operator_at p operator) x
-      of_first x within = elim (Contains-append_cases (preconditions (operator_at p operator)) (effect_at (operator_at p operator) effect).conditions x within) [
-        | inl w ↦ inl w
-        | inr w ↦ of_conditions effect lt x w
-      ]
-
-      of_both : (other : ℕ) → other < length (operator_at p operator).effects → (x : Fact)
-          → Contains (known (operator_at p operator) (effect_at (operator_at p operator) effect).conditions (effect_at (operator_at p operator) other).conditions) x
-          → Mentions (operator_at p operator) x ⊎ (x ≡ sets (effect_at (operator_at p operator) effect))
-      of_both other below x within = elim (Contains-append_cases (preconditions (operator_at p operator) ++ (effect_at (operator_at p operator) effect).conditions) (effect_at (operator_at p operator) other).conditions x within) [
-        | inl w ↦ inl (of_first x w)
-        | inr w ↦ inl (of_conditions other below x w)
-      ]
-
-      of_one : (f x : Fact) → Contains (known (operator_at p operator) (effect_at (operator_at p operator) effect).conditions (f ∷ [])) x
-          → Mentions (operator_at p operator) x ⊎ (x ≡ f)
-      of_one f x within = elim (Contains-push_cases (preconditions (operator_at p operator) ++ (effect_at (operator_at p operator) effect).conditions) f x within) [
-        | inl w ↦ inl (of_first x w)
-        | inr is ↦ inr (sym is)
-      ]

@@ -10,3 +10,5 @@ pub mod Telling
 pub mod OldValues
 pub mod GoneRuns
 pub mod Supporting
+pub mod WatchChains
+pub mod Watched

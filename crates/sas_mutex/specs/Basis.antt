@@ -1,6 +1,6 @@
 -- What an effect keeps where only the groups of a basis count, and the group itself. It keeps this
 -- group whatever other groups fall.
-use Rattle.std.specs.Prelude.{◌≡◌, ℕ, ◌<◌, Bool, IsTrue, IsFalse, List, length, Contains, Some}
+use Rattle.std.specs.Prelude.{◌≡◌, ℕ, ◌<◌, Bool, IsTrue, IsFalse, List, length, Contains, All}
 use Rattle.sas_core.specs.declared.parts.Parts.{Parts}
 use Rattle.sas_core.specs.Grounded.{operator_at, effect_at, group_at}
 use Rattle.sas_groups.specs.Clashes.{sets}
@@ -46,10 +46,17 @@ pub record IsOfNone (groups : ℕ) (none : List Bool) : Type 0 where
   pub one_each : length none ≡ groups
   pub out : (place : ℕ) → IsFalse (family_of none place)
 
--- the basis of the family has a place for each of this many groups, and no group but the support
+-- a list without these groups, and with no other than before
+pub record IsWithout (groups : List ℕ) (before after : List Bool) : Type 0 where
+  pub as_many : length after ≡ length before
+  pub out : (group : ℕ) → Contains groups group → IsFalse (family_of after group)
+  pub less : (group : ℕ) → IsTrue (family_of after group) → IsTrue (family_of before group)
+
+-- the basis of the family has a place for each of this many groups, and no group but the supports
 pub record IsBasis (groups : ℕ) (family : Family) : Type 0 where
   pub one_each : length family.basis ≡ groups
-  pub only : (place : ℕ) → IsTrue (family_of family.basis place) → family.support ≡ Some place
+  pub only : (place : ℕ) → IsTrue (family_of family.basis place) → Contains family.supports place
+  pub low : All (λ (support : ℕ). support < groups) family.supports
 
 -- each group of the basis is in the family
 abbrev pub IsBasisKept : Family → Type 0

@@ -13,3 +13,4 @@ pub mod Effects
 pub mod Basis
 pub mod Noting
 pub mod Falling
+pub mod Watching

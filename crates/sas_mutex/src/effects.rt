@@ -340,7 +340,7 @@ fn has_noted(groups: &[u32], kept: &[bool], marks: &Marks) -> bool
 {
     for group in groups {
         if kept[*group as usize] && !marks.groups.as_slice()[*group as usize].is_nothing() {
-            marks.deciding.set(*group);
+            marks.deciding.note(*group);
             return true;
         }
     }

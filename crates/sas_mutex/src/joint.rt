@@ -4,7 +4,8 @@ ghost use Rattle.sas_groups.specs.Clashes.{sets};
 ghost use Rattle.sas_groups.specs.Families.{IsGreatest};
 ghost use Rattle.sas_groups.specs.declared.verdict.Verdict.TheVariants.{Exclusive};
 ghost use Rattle.sas_mutex.specs.Effects.{family_of};
-ghost use Rattle.sas_mutex.specs.Falling.{AreCandidates, AreSupported, IsReady};
+ghost use Rattle.sas_mutex.specs.Falling.{AreCandidates, IsReady};
+ghost use Rattle.sas_mutex.specs.Watching.{AreUnwatched};
 ghost use Rattle.sas_mutex.specs.Firing.{effect_of};
 ghost use Rattle.sas_group_index.specs.Index.{HasFact};
 ghost use Rattle.sas_mutex.specs.Marks.{IsClean};
@@ -14,10 +15,13 @@ ghost use Rattle.sas_mutex.specs.Judging.{AreFirstVerdicts};
 ghost use Rattle.sas_mutex.specs.Judging.{IsUntold, IsVerdictSoFar, AreVerdictsSoFar};
 ghost use Rattle.sas_mutex.specs.Basis.{IsOfNone};
 
+use crate::deciding::MOST_GROUPS;
 use crate::effects::Firing;
-use crate::family::{Family, Looks, find_greatest};
+use crate::family::Family;
+use crate::greatest::find_greatest;
 use crate::indexed::IndexedTask;
 use crate::marks::{Marks, forget_known, note_known};
+use crate::watches::Watches;
 use sas_core::{Fact, Grounded, Items};
 use sas_group_index::Index;
 use sas_groups::{Premises, Verdict, before_operators};
@@ -41,14 +45,20 @@ pub fn check_groups<T: Grounded>(
     let mut verdicts = first_verdicts(alloc, layered)?;
     let mut family = candidates(alloc, verdicts.as_slice())?;
     let mut marks = Marks::new(alloc, layered)?;
-    let mut looks = Looks::new(alloc, layered.operators())?;
+    let mut watches = Watches::new(alloc, layered.groups(), layered.operators())?;
     let indexed = IndexedTask {
         task: layered,
         index: &index,
     };
-    judge(&indexed, &mut verdicts, &mut looks, &mut family, &mut marks);
+    judge(
+        &indexed,
+        &mut verdicts,
+        &mut watches,
+        &mut family,
+        &mut marks,
+    );
     drop(index);
-    drop(looks);
+    drop(watches);
     drop(marks);
     drop(family);
     Ok(verdicts.into_vec())
@@ -58,19 +68,20 @@ pub fn check_groups<T: Grounded>(
 fn judge<T: Grounded>(
     indexed: &IndexedTask<'_, '_, T>,
     verdicts: &mut Items<Verdict>,
-    looks: &mut Looks,
+    watches: &mut Watches,
     family: &mut Family,
     marks: &mut Marks,
 )
     requires first { AreFirstVerdicts indexed.now verdicts.old }
-    requires supported { AreSupported indexed.now family.old looks.old }
+    requires unwatched { let p = indexed.now in
+        AreUnwatched (length p.groups) (length p.operators) watches.old }
     requires candidates { AreCandidates indexed.now family.old.kept }
     requires none { family.old.fallen.items ≡ [] }
     requires ready { IsReady indexed.now family.old }
     requires clean { IsClean indexed.now marks.old }
     ensures { AreJointVerdicts indexed.now verdicts.new }
 {
-    find_greatest(indexed, looks, family, marks);
+    find_greatest(indexed, watches, family, marks);
     tell_breaking(indexed, &mut family.kept, verdicts, marks);
 }
 
@@ -98,7 +109,7 @@ fn candidates(alloc: Global, verdicts: &[Verdict]) -> Result<Family, AllocError>
     ensures none { IfOk result (λ family. family.fallen.items ≡ []) }
     ensures room { IfOk result (λ family. length verdicts.now ≤ vec_capacity family.fallen) }
     ensures of_none { IfOk result (λ family. IsOfNone (length verdicts.now) family.basis) }
-    ensures free { IfOk result (λ family. family.support ≡ None) }
+    ensures free { IfOk result (λ family. family.supports ≡ []) }
 {
     let mut kept = Items::from_vec(Vec::with_capacity(alloc, verdicts.len())?);
     for verdict in verdicts {
@@ -108,7 +119,7 @@ fn candidates(alloc: Global, verdicts: &[Verdict]) -> Result<Family, AllocError>
         kept,
         fallen: Vec::with_capacity(alloc, verdicts.len())?,
         basis: Items::from_vec(vec![in alloc; false; verdicts.len()]?),
-        support: None,
+        supports: Items::from_vec(Vec::with_capacity(alloc, MOST_GROUPS)?),
     })
 }
 

@@ -2,11 +2,15 @@
 //! laws and the check of one group are in `sas_groups`. This crate re-exports the laws and that check.
 #![tactic(auto)]
 
+mod deciding;
 mod effects;
 mod family;
+mod greatest;
 mod indexed;
 mod joint;
+mod looking;
 mod marks;
+mod watches;
 
 pub use joint::check_groups;
 pub use sas_groups::{Facts, Verdict, check_group, group_laws};

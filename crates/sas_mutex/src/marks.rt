@@ -11,12 +11,12 @@ ghost use Rattle.sas_mutex.specs.Marks.{IsClean, IsNotedFrom, IsNoted};
 ghost use Rattle.sas_mutex.specs.Noting.{AreBelow, IsNotedToo, IsRefused, TakenBySome, TakenByAll, HasOtherValue};
 ghost use Rattle.sas_mutex.specs.Noting.{ChangesAt, IsThere, IsNew, ForgetsGroups, Forgets};
 
+use crate::deciding::Deciding;
 use sas_core::{Fact, Grounded, Items};
 use sas_group_index::Index;
 use sas_groups::{Known, Premises};
 use sas_meaning::Layered;
 use std::alloc::{AllocError, Global};
-use std::cell::Cell;
 
 /// Which facts of a group are noted.
 #[derive(Clone, Copy)]
@@ -74,8 +74,8 @@ pub struct Marks {
     pub values: Items<Option<u32>>,
     /// For each group, which facts of it are noted.
     pub groups: Items<Noted>,
-    /// The group that decided the last test in which one contradicted a fact. It is a hint, of which no contract speaks.
-    pub deciding: Cell<u32>,
+    /// The groups that decided tests in which a fact contradicted another.
+    pub deciding: Deciding,
 }
 
 impl Marks {
@@ -86,7 +86,7 @@ impl Marks {
         Ok(Marks {
             values: Items::from_vec(vec![in alloc; None; task.variables() as usize]?),
             groups: Items::from_vec(vec![in alloc; Noted::Nothing; task.groups() as usize]?),
-            deciding: Cell::new(0),
+            deciding: Deciding::new(),
         })
     }
 }
@@ -151,7 +151,7 @@ fn note_in_groups(
     kept: &[bool],
     fact: Fact,
     noted: &mut Items<Noted>,
-    deciding: &Cell<u32>,
+    deciding: &Deciding,
 ) -> bool
     requires kept { AreBelow (length kept.now) groups.now }
     requires noted { AreBelow (length noted.old) groups.now }
@@ -162,7 +162,7 @@ fn note_in_groups(
     for group in groups {
         let now = noted.as_slice()[*group as usize].with(fact);
         if now.is_several() && kept[*group as usize] {
-            deciding.set(*group);
+            deciding.note(*group);
             return false;
         }
         noted.set(*group as usize, now);

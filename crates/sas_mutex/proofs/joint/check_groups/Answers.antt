@@ -5,6 +5,8 @@ use Rattle.sas_groups.specs.declared.verdict.Verdict.{Verdict}
 use Rattle.sas_groups.specs.declared.verdict.Verdict.TheVariants.{Exclusive}
 use Rattle.sas_mutex.specs.Effects.{family_of}
 use Rattle.std.proofs.lemmas.Bool.{true≢false}
+use Rattle.std.proofs.lemmas.List.Elements.{All-nil}
+use Rattle.std.specs.List.{All}
 use Rattle.sas_mutex.specs.Joint.{verdict_at, AreInvariants}
 use Rattle.sas_mutex.proofs.Counting.{count_within}
 use Rattle.sas_mutex.proofs.Telling.{candidates_from}
@@ -25,6 +27,7 @@ judge-requires-clause-ready g c =
         basis = record {
           one_each = family.ensures.of_none.one_each ∙ (ap length c.as_slice.ensures ∙ c.in_ok-verdicts.ensures.one_each);
           only = λ place there. absurd (true≢false (sym there ∙ family.ensures.of_none.out place));
+          low = subst (All (λ (support : ℕ). support < length c.args.layered.now.groups)) (sym family.ensures.free) (All-nil (λ (support : ℕ). support < length c.args.layered.now.groups));
         };
       };
       free = family.ensures.free;

@@ -48,7 +48,7 @@ loop-group-preserved c =
       | else-is_several-via-then-is_several+else-kept-group w ↦ both_ways (family_of kept place) w.if-kept-group.false in_family
       | else-is_several-via-else-is_several w ↦ both_ways c.is_several.result w.if-is_several.false (c.is_several.ensures.1 several)
     ] in
-    rw c.set-in-loop-group.ensures record {
+    rw c.set.ensures record {
       some = taken_more groups kept fact c.args.noted.now now inv.some place after too below among alone;
       all = each_more (Takes groups kept fact c.args.noted.now _) groups n 0 c.loop-group-test.true
           (λ k d lt. takes_still groups kept fact c.args.noted.now now inv.some place after too below among alone (get_or groups k d) (inv.all k d lt))

@@ -1,0 +1,286 @@
+-- What operators rest on, as they are looked at and groups fall.
+use Rattle.std.proofs.Common.{◌≡◌, ◌≢◌, ◌⊎◌, ℕ, ◌+◌, ◌-◌, ◌<◌, ◌≤◌, ◌^◌, Bool, true, List, [], ◌∷◌, ◌++◌, length, get_or, set, Option, Some, None, refl, sym, ◌∙◌, ap, subst, inl, inr, arith}
+use Rattle.std.proofs.lemmas.Bool.{cases_eq, cases_lt, cases_Bool}
+use Rattle.std.proofs.lemmas.List.{length-set, length-append, append-nil, get_or-set_same, get_or-set_other, get_or-append_right, get_or_append_left, get_or_default}
+use Rattle.std.proofs.lemmas.List.Elements.{All-nil, All-append, All-weaker, All-get_or, All-contains, Contains-append_left, Contains-append_right, Contains-append_cases, Contains-get_or}
+use Rattle.std.specs.List.{All, Contains}
+use Rattle.sas_core.specs.declared.parts.Parts.{Parts}
+use Rattle.sas_groups.specs.Families.{IsIn}
+use Rattle.sas_mutex.specs.declared.family.Family.{Family}
+use Rattle.sas_mutex.specs.declared.watches.Watch.{Watch}
+use Rattle.sas_mutex.specs.declared.watches.Watches.{Watches}
+use Rattle.sas_mutex.specs.Effects.{family_of}
+use Rattle.sas_mutex.specs.Falling.{Falls, newly, IsWithin, IsAtRest, RestsOn}
+use Rattle.sas_mutex.specs.Watching.{watch_at, since_of, IsLastBelow, AreChained, IsWatchOf, HasWatchFrom, RestsBy, IsOver, IsTold, IsToldBehind, AreFallen, AreUnwatched, AreWatched, AreMore, WatchesMore, IsWatchedAnew, AreTold, StayTold, AreLooseAtRest}
+use Rattle.sas_mutex.proofs.FallingGroups.{fallen_exist}
+use Rattle.sas_mutex.proofs.Supporting.{kept_below}
+use Rattle.sas_mutex.proofs.WatchChains.{watch_still}
+
+abbrev no_watch : Watch
+no_watch = record { group = 0; operator = 0; before = None }
+
+-- a watch behind others is one of those that came behind
+behind_is : (made more : List Watch) (place : ℕ) → length made ≤ place → place < length (made ++ more) → Contains more (watch_at (made ++ more) place)
+behind_is made more place past lt =
+    let k : ℕ = place - length made in
+    subst (Contains more) (sym (get_or-append_right made more (length made) place no_watch refl past))
+    (Contains-get_or more (place - length made) no_watch (let len = length-append made more in omega arith))
+
+module _ (p : Parts) where
+  -- ---- more watches
+
+  pub rests_more : (kept kept' : List Bool) (made more : List Watch) (operator start : ℕ) → IsWithin p kept' kept
+      → RestsBy p kept made operator start → RestsBy p kept' (made ++ more) operator start
+  rests_more kept kept' made more operator start less rests smaller within has =
+      rests smaller (λ place w. less place (within place w))
+      (λ place is. let same = watch_still made more place is.exists in
+      subst (λ (w : Watch). IsIn p (family_of smaller) w.group) same
+      (has place (record {
+        exists = let len = length-append made more in let lt = is.exists in omega arith;
+        from = is.from;
+        its = ap (λ (w : Watch). w.operator) same ∙ is.its;
+      })))
+
+  -- an operator rests by the watches that it has of all groups on which it rests
+  pub rests_by : (kept : List Bool) (made : List Watch) (operator start : ℕ) (groups : List ℕ) → RestsOn p kept groups operator
+      → All (HasWatchFrom made operator start) groups → RestsBy p kept made operator start
+  rests_by kept made operator start groups rests all smaller within has =
+      rests smaller within (All-weaker (HasWatchFrom made operator start) (IsIn p (family_of smaller))
+      (λ group watched. subst (IsIn p (family_of smaller)) watched.2 (has watched.0 watched.1)) groups all)
+
+  -- ---- what fell
+
+  pub fallen_still : (b c : Family) → Falls p b c → AreFallen p b → AreFallen p c
+  fallen_still b c falls fell = record {
+    exist = fallen_exist p b c falls fell.exist;
+    out = λ group within is. elim (Contains-append_cases b.fallen.items (newly b c) group (subst (λ (xs : List ℕ). Contains xs group) falls.behind within)) [
+      | inl early ↦ fell.out group early (falls.less group (record { exists = exists group within; chosen = is })).chosen
+      | inr late ↦ falls.gone group late (record { exists = exists group within; chosen = is })
+    ];
+  }
+    where
+      exists : (group : ℕ) → Contains c.fallen.items group → group < length p.groups
+      exists group within = All-contains (λ (n : ℕ). n < length p.groups) c.fallen.items group (fallen_exist p b c falls fell.exist) within
+
+  watched_still : (b c : Family) (group : ℕ) → Falls p b c → IsIn p (family_of b.kept) group ⊎ Contains b.fallen.items group
+      → IsIn p (family_of c.kept) group ⊎ Contains c.fallen.items group
+  watched_still b c group falls (inr fell) = inr (subst (λ (xs : List ℕ). Contains xs group) (sym falls.behind) (Contains-append_left b.fallen.items (newly b c) group fell))
+  watched_still b c group falls (inl w) = elim (cases_Bool (family_of c.kept group)) [
+    | inl here ↦ inl (record { exists = w.exists; chosen = here })
+    | inr gone ↦ inr (subst (λ (xs : List ℕ). Contains xs group) (sym falls.behind) (Contains-append_right b.fallen.items (newly b c) group
+        (falls.noted group w (λ v. absurd (let no = sym gone ∙ v.chosen in cc)))))
+  ]
+
+  -- ---- an operator was looked at
+
+  module _ (b c : Family) (w : Watches) (made : List Watch) (last since : List (Option ℕ)) (room operator : ℕ) (now : Option ℕ)
+      (falls : Falls p b c) (one_each : length c.kept ≡ length p.groups) (exists : operator < length p.operators)
+      (were : AreWatched p b w) (more : AreMore operator c.kept w.made made) (chained : AreChained made last) (as_many : length last ≡ length w.last)
+      (few : length made < 2 ^ 32) (noted : since ≡ set w.since operator now) where
+    abbrev pub after : Watches
+    after = record { made = made; last = last; since = since; room = room }
+
+    since_here : since_of since operator ≡ now
+    since_here = ap (λ (xs : List (Option ℕ)). since_of xs operator) noted ∙ get_or-set_same w.since operator now None (let len = were.each_operator in omega arith)
+
+    since_there : (other : ℕ) → other ≢ operator → since_of since other ≡ since_of w.since other
+    since_there other ne = ap (λ (xs : List (Option ℕ)). since_of xs other) noted ∙ get_or-set_other w.since operator other now None ne
+
+    its_groups : (place : ℕ) → place < length made → IsIn p (family_of c.kept) (watch_at made place).group ⊎ Contains c.fallen.items (watch_at made place).group
+    its_groups place lt = elim (cases_lt place (length w.made)) [
+      | inl before ↦ subst (λ (x : Watch). IsIn p (family_of c.kept) x.group ⊎ Contains c.fallen.items x.group)
+          (sym (ap (λ (xs : List Watch). watch_at xs place) more.behind ∙ watch_still w.made more.more place before))
+          (watched_still b c (watch_at w.made place).group falls (were.groups place before))
+      | inr past ↦ (let kept = All-contains (λ (x : Watch). family_of c.kept x.group ≡ true) more.more (watch_at made place) more.in_family
+          (subst (λ (xs : List Watch). Contains more.more (watch_at xs place)) (sym more.behind)
+          (behind_is w.made more.more place past (let len = ap length more.behind in omega arith))) in
+          inl (record { exists = let lt' = kept_below c.kept (watch_at made place).group kept in omega arith; chosen = kept }))
+    ]
+
+    pub watched_anew : ((start : ℕ) → now ≡ Some start → RestsBy p c.kept made operator start) → AreWatched p c after
+    watched_anew rests = record {
+      each_group = as_many ∙ were.each_group;
+      each_operator = ap length noted ∙ (length-set w.since operator now ∙ were.each_operator);
+      chained = chained;
+      few = few;
+      exist = subst (All (λ (x : Watch). x.operator < length p.operators)) (sym more.behind) (All-append (λ (x : Watch). x.operator < length p.operators) w.made more.more were.exist
+          (All-weaker (λ (x : Watch). x.operator ≡ operator) (λ (x : Watch). x.operator < length p.operators) (λ x is. omega (arith, exists)) more.more more.its));
+      fell = fallen_still b c falls were.fell;
+      groups = its_groups;
+      rest = λ other start is. elim (cases_eq other operator) [
+        | inl e ↦ subst (λ n. RestsBy p c.kept made n start) (sym e) (rests start (sym since_here ∙ (ap (since_of since) (sym e) ∙ is)))
+        | inr ne ↦ subst (λ (xs : List Watch). RestsBy p c.kept xs other start) (sym more.behind)
+            (rests_more b.kept c.kept w.made more.more other start falls.less (were.rest other start (sym (since_there other ne) ∙ is)))
+      ];
+    }
+
+    pub is_anew : ((start : ℕ) → now ≡ Some start → length w.made ≤ start) → IsWatchedAnew operator c.kept w after
+    is_anew later = record {
+      made = more;
+      now = λ start is. later start (sym since_here ∙ is);
+      others = since_there;
+    }
+
+  -- ---- who was told
+
+  module _ (b c : Family) (w after : Watches) (operator : ℕ) (falls : Falls p b c) (one_each : length c.kept ≡ length p.groups)
+      (anew : IsWatchedAnew operator c.kept w after) where
+    still : (place : ℕ) → place < length w.made → watch_at after.made place ≡ watch_at w.made place
+    still place lt = ap (λ (xs : List Watch). watch_at xs place) anew.made.behind ∙ watch_still w.made anew.made.more place lt
+
+    -- a watch that was over is over, and each of the operator that was there
+    pub over_still : (place : ℕ) → place < length w.made → IsOver w place → IsOver after place
+    over_still place lt over start is from = elim (cases_eq (watch_at w.made place).operator operator) [
+      | inl e ↦ absurd (let later = anew.now start (sym (ap (since_of after.since) (its ∙ e)) ∙ is) in omega arith)
+      | inr ne ↦ over start (sym (anew.others (watch_at w.made place).operator ne) ∙ (sym (ap (since_of after.since) its) ∙ is)) from
+    ]
+      where
+        its : (watch_at after.made place).operator ≡ (watch_at w.made place).operator
+        its = ap (λ (x : Watch). x.operator) (still place lt)
+
+    pub over_now : (place : ℕ) → place < length w.made → (watch_at w.made place).operator ≡ operator → IsOver after place
+    over_now place lt e start is from =
+        let later = anew.now start (sym (ap (since_of after.since) (ap (λ (x : Watch). x.operator) (still place lt) ∙ e)) ∙ is) in omega arith
+
+    -- a new watch is of a group of the family
+    pub new_kept : (place : ℕ) → length w.made ≤ place → place < length after.made → family_of c.kept (watch_at after.made place).group ≡ true
+    new_kept place past lt = All-contains (λ (x : Watch). family_of c.kept x.group ≡ true) anew.made.more (watch_at after.made place) anew.made.in_family
+        (subst (λ (xs : List Watch). Contains anew.made.more (watch_at xs place)) (sym anew.made.behind)
+        (behind_is w.made anew.made.more place past (let len = ap length anew.made.behind in omega arith)))
+
+    kept_before : (group : ℕ) → family_of c.kept group ≡ true → family_of b.kept group ≡ true
+    kept_before group is = (falls.less group (record { exists = let lt = kept_below c.kept group is in omega arith; chosen = is })).chosen
+
+    pub stay_told : StayTold b.kept w after
+    stay_told group out told place lt is = elim (cases_lt place (length w.made)) [
+      | inl before ↦ over_still place before (told place before (sym (ap (λ (x : Watch). x.group) (still place before)) ∙ is))
+      | inr past ↦ absurd (out (kept_before group (ap (family_of c.kept) (sym is) ∙ new_kept place past lt)))
+    ]
+
+    -- one watch more of a group was told
+    pub told_on : (group at : ℕ) (next : Option ℕ) → (family_of b.kept group ≡ true → ⊥) → at < length w.made → (watch_at w.made at).group ≡ group
+        → ((place : ℕ) → at < place → place < length w.made → (watch_at w.made place).group ≡ group → IsOver w place)
+        → IsOver after at → IsLastBelow w.made at group next → IsToldBehind after group next
+    told_on group at next out lt its behind here link = by next link
+      where
+        told_from : (place : ℕ) → at ≤ place → place < length after.made → (watch_at after.made place).group ≡ group → IsOver after place
+        told_from place from below is = elim (cases_lt place (length w.made)) [
+          | inr past ↦ absurd (out (kept_before group (ap (family_of c.kept) (sym is) ∙ new_kept place past below)))
+          | inl before ↦ elim (cases_eq place at) [
+            | inl e ↦ subst (IsOver after) (sym e) here
+            | inr ne ↦ over_still place before (behind place (omega arith) before (sym (ap (λ (x : Watch). x.group) (still place before)) ∙ is))
+          ]
+        ]
+
+        grown : length w.made ≤ length after.made
+        grown = let len = ap length anew.made.behind ∙ length-append w.made anew.made.more in omega arith
+
+        by : (next : Option ℕ) → IsLastBelow w.made at group next → IsToldBehind after group next
+        by None none = λ place below is. elim (cases_lt place at) [
+          | inl before ↦ absurd (none place before (sym (ap (λ (x : Watch). x.group) (still place (omega arith))) ∙ is))
+          | inr from ↦ told_from place from below is
+        ]
+        by (Some k) (lt', its', none) = (
+          omega (arith, lt', lt, grown),
+          ap (λ (x : Watch). x.group) (still k (omega (arith, lt', lt))) ∙ its',
+          λ place above below is. elim (cases_lt place at) [
+            | inl before ↦ absurd (none place above before (sym (ap (λ (x : Watch). x.group) (still place (omega arith))) ∙ is))
+            | inr from ↦ told_from place from below is
+          ],
+        )
+
+  -- where no operator is looked at, nothing changes
+  pub told_on_alone : (w : Watches) (group at : ℕ) (next : Option ℕ) → at < length w.made
+      → ((place : ℕ) → at < place → place < length w.made → (watch_at w.made place).group ≡ group → IsOver w place)
+      → IsOver w at → IsLastBelow w.made at group next → IsToldBehind w group next
+  told_on_alone w group at next lt behind here link = by next link
+    where
+      told_from : (place : ℕ) → at ≤ place → place < length w.made → (watch_at w.made place).group ≡ group → IsOver w place
+      told_from place from below is = elim (cases_eq place at) [
+        | inl e ↦ subst (IsOver w) (sym e) here
+        | inr ne ↦ behind place (omega arith) below is
+      ]
+
+      by : (next : Option ℕ) → IsLastBelow w.made at group next → IsToldBehind w group next
+      by None none = λ place below is. elim (cases_lt place at) [
+        | inl before ↦ absurd (none place before is)
+        | inr from ↦ told_from place from below is
+      ]
+      by (Some k) (lt', its', none) = (
+        omega (arith, lt', lt),
+        its',
+        λ place above below is. elim (cases_lt place at) [
+          | inl before ↦ absurd (none place above before is)
+          | inr from ↦ told_from place from below is
+        ],
+      )
+
+  pub told_at_first : (w : Watches) (group : ℕ) (last : Option ℕ) → IsLastBelow w.made (length w.made) group last → IsToldBehind w group last
+  told_at_first w group None none = λ place lt is. absurd (none place lt is)
+  told_at_first w group (Some at) (lt, its, none) = (lt, its, λ place behind below is. absurd (none place behind below is))
+
+  -- those who watch groups that aren't in the family stay told
+  pub told_more : (xs : List ℕ) (count : ℕ) (kept : List Bool) (w after : Watches) → ((place : ℕ) → place < count → family_of kept (get_or xs place 0) ≡ true → ⊥)
+      → StayTold kept w after → AreTold xs count w → AreTold xs count after
+  told_more xs count kept w after out stay told place lt = stay (get_or xs place 0) (out place lt) (told place lt)
+
+  -- what fell at first isn't in the family
+  pub fell_first : (start b : Family) → Falls p start b → AreFallen p b → (place : ℕ) → place < length start.fallen.items
+      → family_of b.kept (get_or start.fallen.items place 0) ≡ true → ⊥
+  fell_first start b falls fell place lt = fell.out (get_or start.fallen.items place 0)
+      (subst (λ (xs : List ℕ). Contains xs (get_or start.fallen.items place 0)) (sym falls.behind)
+      (Contains-append_left start.fallen.items (newly start b) (get_or start.fallen.items place 0) (Contains-get_or start.fallen.items place 0 lt)))
+
+  pub stay_then : (start b : Family) (first w after : Watches) → Falls p start b → length b.kept ≡ length p.groups
+      → StayTold start.kept first w → StayTold b.kept w after → StayTold start.kept first after
+  stay_then start b first w after falls one_each before then group out told =
+      then group (λ is. out (falls.less group (record { exists = let lt = kept_below b.kept group is in omega arith; chosen = is })).chosen) (before group out told)
+
+  pub told_in : (xs ys : List ℕ) (more : List ℕ) (count : ℕ) (w : Watches) → ys ≡ xs ++ more → count ≤ length xs → AreTold xs count w → AreTold ys count w
+  told_in xs ys more count w is within told place lt =
+      subst (IsTold w) (sym (ap (λ (zs : List ℕ). get_or zs place 0) is ∙ get_or_append_left xs more 0 place (omega arith))) (told place lt)
+
+  -- ---- in the end
+
+  pub rest_in_the_end : (family : Family) (w : Watches) → AreWatched p family w → AreTold family.fallen.items (length family.fallen.items) w
+      → AreLooseAtRest p family.kept [] w (length p.operators) → (operator : ℕ) → operator < length p.operators → IsAtRest p family.kept [] operator
+  rest_in_the_end family w watched told loose operator exists = by (since_of w.since operator) refl
+    where
+      stands : (start place : ℕ) → since_of w.since operator ≡ Some start → IsWatchOf w.made operator start place → IsIn p (family_of family.kept) (watch_at w.made place).group
+      stands start place is of = elim (watched.groups place of.exists) [
+        | inl inside ↦ inside
+        | inr fell ↦ absurd (told fell.0 fell.1 place of.exists
+            (sym (get_or_default family.fallen.items fell.0 0 (watch_at w.made place).group fell.1 ∙ fell.2))
+            start (ap (since_of w.since) of.its ∙ is) of.from)
+      ]
+
+      by : (since : Option ℕ) → since_of w.since operator ≡ since → IsAtRest p family.kept [] operator
+      by None is = loose operator exists is
+      by (Some start) is = watched.rest operator start is family.kept (λ place inside. inside) (λ place of. stands start place is of)
+
+  -- ---- at first
+
+  pub none_watched : (family : Family) (w : Watches) → AreUnwatched (length p.groups) (length p.operators) w → family.fallen.items ≡ [] → AreWatched p family w
+  none_watched family w are none = record {
+    each_group = are.each_group;
+    each_operator = are.each_operator;
+    chained = record {
+      of_groups = λ group lt. subst (IsLastBelow w.made (length w.made) group) (sym (are.no_last group))
+          (λ place lt'. absurd (no_place place lt'));
+      of_watches = λ place lt. absurd (no_place place lt);
+    };
+    few = let len = ap length are.made in omega arith;
+    exist = subst (All (λ (x : Watch). x.operator < length p.operators)) (sym are.made) (All-nil (λ (x : Watch). x.operator < length p.operators));
+    fell = record {
+      exist = subst (All (λ (n : ℕ). n < length p.groups)) (sym none) (All-nil (λ (n : ℕ). n < length p.groups));
+      out = λ group within. absurd (let among = subst (λ (xs : List ℕ). Contains xs group) none within in omega (arith, among.1));
+    };
+    groups = λ place lt. absurd (no_place place lt);
+    rest = λ operator start is. absurd (let no = sym (are.loose operator) ∙ is in cc);
+  }
+    where
+      no_place : (place : ℕ) → place < length w.made → ⊥
+      no_place place lt = let len = ap length are.made in omega arith
+
+  pub none_told : (fallen : List ℕ) (w : Watches) → fallen ≡ [] → AreTold fallen (length fallen) w
+  none_told fallen w none place lt = absurd (let len = ap length none in omega arith)

@@ -1,0 +1,18 @@
+-- Who watches a group that fell is told.
+use Rattle.std.proofs.Common.{◌-◌, length}
+use Rattle.sas_mutex.specs.Falling.{IsReady, Falls}
+use Rattle.sas_mutex.specs.Watching.{AreWatched, AreTold}
+use Rattle.sas_mutex.specs.Marks.{IsClean}
+use Rattle.sas_mutex.proofs.greatest.find_greatest.Given as goal
+
+abbrev pub invariant-loop-before : goal.invariant-loop-before
+invariant-loop-before g l = record {
+  falls : Falls l.indexed l.fn.family l.family;
+  watched : AreWatched l.indexed l.family l.watches;
+  told : AreTold l.family.fallen.items (length l.family.fallen.items) l.watches;
+  ready : IsReady l.indexed l.family;
+  clean : IsClean l.indexed l.marks;
+}
+
+abbrev pub decreases-loop-before : goal.decreases-loop-before
+decreases-loop-before g l = length l.indexed.groups - length l.family.fallen.items

@@ -1,0 +1,15 @@
+-- Some groups fell by the operator.
+use Rattle.std.proofs.Common.{◌-◌, length}
+use Rattle.sas_mutex.specs.Falling.{IsReady, Falls}
+use Rattle.sas_mutex.specs.Marks.{IsClean}
+use Rattle.sas_mutex.proofs.greatest.look_until_quiet.Given as goal
+
+abbrev pub invariant-loop-operator : goal.invariant-loop-operator
+invariant-loop-operator g l = record {
+  falls : Falls l.indexed l.fn.family l.family;
+  ready : IsReady l.indexed l.family;
+  clean : IsClean l.indexed l.marks;
+}
+
+abbrev pub decreases-loop-operator : goal.decreases-loop-operator
+decreases-loop-operator g l = length l.indexed.groups - length l.family.fallen.items

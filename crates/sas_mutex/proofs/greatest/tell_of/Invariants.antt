@@ -1,0 +1,23 @@
+-- Behind the next watch of the group all are told.
+use Rattle.std.proofs.Common.{ℕ, ◌+◌, Option, Some, None}
+use Rattle.sas_mutex.specs.Falling.{IsReady, Falls}
+use Rattle.sas_mutex.specs.Watching.{AreWatched, IsToldBehind, StayTold}
+use Rattle.sas_mutex.specs.Marks.{IsClean}
+use Rattle.sas_mutex.proofs.greatest.tell_of.Given as goal
+
+abbrev pub invariant-loop-next : goal.invariant-loop-next
+invariant-loop-next g l = record {
+  falls : Falls l.indexed l.fn.family l.family;
+  watched : AreWatched l.indexed l.family l.watches;
+  told : IsToldBehind l.watches l.group l.next;
+  still : StayTold l.fn.family.kept l.fn.watches l.watches;
+  ready : IsReady l.indexed l.family;
+  clean : IsClean l.indexed l.marks;
+}
+
+abbrev watches_left : Option ℕ → ℕ
+watches_left None = 0
+watches_left (Some place) = place + 1
+
+abbrev pub decreases-loop-next : goal.decreases-loop-next
+decreases-loop-next g l = watches_left l.next

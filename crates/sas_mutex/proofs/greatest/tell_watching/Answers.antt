@@ -1,0 +1,41 @@
+-- Who watches one more group that fell is told.
+use Rattle.std.proofs.Common.{◌≡◌, ℕ, ◌+◌, ◌<◌, List, length, get_or, sym, ◌∙◌, ap, subst, inl, inr, arith}
+use Rattle.std.proofs.lemmas.Bool.{cases_eq}
+use Rattle.std.proofs.lemmas.List.{get_or_default}
+use Rattle.std.proofs.lemmas.List.Elements.{Contains-get_or}
+use Rattle.sas_mutex.specs.Falling.{newly}
+use Rattle.sas_mutex.specs.Watching.{IsTold, AreTold}
+use Rattle.sas_mutex.proofs.FallingGroups.{falls_then, fallen_grow}
+use Rattle.sas_mutex.proofs.Watched.{told_more, told_in}
+use Rattle.sas_mutex.proofs.greatest.tell_watching.Goals as goal
+
+pub loop-next-preserved : goal.loop-next-preserved
+loop-next-preserved g c =
+    let p = c.args.indexed.now in
+    let start = c.args.family.now in
+    let before = c.loop-next.family in
+    let after = c.tell_of.new.family in
+    let w = c.loop-next.watches in
+    let now = c.tell_of.new.watches in
+    let next = c.loop-next.next in
+    let fallen = before.fallen.items in
+    let inv = c.loop-next.invariant in
+    let turn = c.tell_of.ensures in
+    let lt : next < length fallen = let len = c.len.ensures in let test = c.loop-next-test.true in omega (arith, before.fallen.ok.0) in
+    let grown = fallen_grow p before after turn.falls in
+    let first : AreTold fallen next now = told_more p fallen next before.kept w now
+    (λ place below. inv.watched.fell.out (get_or fallen place 0) (Contains-get_or fallen place 0 (omega arith))) turn.still inv.told in
+    let here : IsTold now (get_or fallen next 0) = subst (IsTold now)
+    (c.index-group.ensures ∙ sym (get_or_default fallen next 0 c.index-group.result.now lt)) turn.told in
+    record {
+      within = omega arith;
+      falls = falls_then p start before after inv.falls turn.falls;
+      watched = turn.watched;
+      told = told_in p fallen after.fallen.items (newly before after) (next + 1) now turn.falls.behind (omega arith)
+          (λ place below. elim (cases_eq place next) [
+            | inl e ↦ subst (λ (n : ℕ). IsTold now (get_or fallen n 0)) (sym e) here
+            | inr ne ↦ first place (omega arith)
+          ]);
+      ready = turn.ready;
+      clean = turn.clean;
+    }

@@ -1,0 +1,19 @@
+-- Who watches one of the groups so far is told.
+use Rattle.std.proofs.Common.{◌-◌, ◌≤◌, length}
+use Rattle.sas_mutex.specs.Falling.{IsReady, Falls}
+use Rattle.sas_mutex.specs.Watching.{AreWatched, AreTold}
+use Rattle.sas_mutex.specs.Marks.{IsClean}
+use Rattle.sas_mutex.proofs.greatest.tell_watching.Given as goal
+
+abbrev pub invariant-loop-next : goal.invariant-loop-next
+invariant-loop-next g l = record {
+  within : l.next ≤ length l.family.fallen.items;
+  falls : Falls l.indexed l.fn.family l.family;
+  watched : AreWatched l.indexed l.family l.watches;
+  told : AreTold l.family.fallen.items l.next l.watches;
+  ready : IsReady l.indexed l.family;
+  clean : IsClean l.indexed l.marks;
+}
+
+abbrev pub decreases-loop-next : goal.decreases-loop-next
+decreases-loop-next g l = length l.indexed.groups - l.next

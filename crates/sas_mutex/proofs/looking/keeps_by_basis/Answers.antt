@@ -1,0 +1,24 @@
+-- What the effect keeps by the basis, it keeps under the family, which has the groups of the basis.
+use Rattle.std.proofs.Common.{length}
+use Rattle.sas_mutex.proofs.FallingGroups.{basis_keeps}
+use Rattle.sas_mutex.proofs.ToldByNotes.{noted_fewer}
+use Rattle.sas_mutex.proofs.looking.keeps_by_basis.Goals as goal
+
+pub keeps_with_itself-requires-clause-notes : goal.keeps_with_itself-requires-clause-notes
+keeps_with_itself-requires-clause-notes g c =
+    let f = c.args.firing.now in
+    let family = c.args.family.now in
+    let within = c.has_basis.ensures c.if-has_basis.true (length f.task.groups) c.requires.room.basis in
+    record {
+      one_each = c.requires.room.basis.one_each;
+      noted = noted_fewer f.task family.kept family.basis f.operator f.effect c.args.marks.now
+          (λ n w. record { exists = w.exists; chosen = within n w.chosen }) c.requires.notes.noted;
+    }
+
+pub returns-then-has_basis-clause-kept : goal.returns-then-has_basis-clause-kept
+returns-then-has_basis-clause-kept g c t in_family =
+    let p = c.args.firing.now.task in
+    let family = c.args.family.now in
+    let within = c.has_basis.ensures c.if-has_basis.true (length p.groups) c.requires.room.basis in
+    basis_keeps p family.basis family.kept c.args.firing.now.operator c.args.firing.now.effect c.args.group
+    (λ n w. record { exists = w.exists; chosen = within n w.chosen }) in_family (c.keeps_with_itself.ensures.yes t)

@@ -1,0 +1,19 @@
+-- The effects so far are at rest, and all those without conditions.
+use Rattle.std.proofs.Common.{◌≡◌, ℕ, ◌<◌, true, length}
+use Rattle.sas_core.specs.Grounded.{operator_at}
+use Rattle.sas_mutex.specs.Falling.{HasRoom, Falls, newly, IsEffectAtRest, ArePlainAtRest}
+use Rattle.sas_mutex.specs.Basis.{EffectKeepsByBasis, PlainKeepByBasis}
+use Rattle.sas_mutex.specs.Marks.{IsClean}
+use Rattle.sas_mutex.proofs.looking.look_at.Given as goal
+
+abbrev pub invariant-loop-effect : goal.invariant-loop-effect
+invariant-loop-effect g l = record {
+  falls : Falls l.indexed l.fn.family l.family;
+  room : HasRoom l.indexed l.family;
+  clean : IsClean l.indexed l.marks;
+  plain : ArePlainAtRest l.indexed l.family.kept (newly l.fn.family l.family) l.operator
+      (length (operator_at l.indexed l.operator).effects);
+  rest : (k : ℕ) → k < l.effect → IsEffectAtRest l.indexed l.family.kept (newly l.fn.family l.family) l.operator k;
+  plain_alone : l.alone ≡ true → PlainKeepByBasis l.indexed l.fn.family.basis l.family.kept l.operator (length (operator_at l.indexed l.operator).effects);
+  alone : l.alone ≡ true → (k : ℕ) → k < l.effect → EffectKeepsByBasis l.indexed l.fn.family.basis l.family.kept l.operator k;
+}

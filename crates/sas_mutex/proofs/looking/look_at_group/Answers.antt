@@ -1,0 +1,97 @@
+-- A group that the effect doesn't keep falls. One that it keeps by the basis, it keeps.
+use Rattle.std.specs.List.{All, Contains}
+use Rattle.std.proofs.Common.{◌≡◌, ◌<◌, ℕ, Bool, true, List, length, sym, ap, subst, ◌∙◌, arith, rules}
+use Rattle.std.proofs.lemmas.Bool.{true≢false}
+use Rattle.std.proofs.lemmas.List.{length-set, length_push}
+use Rattle.sas_core.specs.Grounded.{operator_at, effect_at, group_at}
+use Rattle.sas_mutex.specs.declared.family.Family.{Family}
+use Rattle.sas_mutex.specs.Effects.{family_of, IsKept, EffectKeeps}
+use Rattle.sas_mutex.specs.Firing.{EffectPlace, operator_of}
+use Rattle.sas_mutex.proofs.Counting.{count_fell}
+use Rattle.sas_mutex.proofs.FallingGroups.{none_fell, one_fell, never_jointly}
+use Rattle.sas_mutex.specs.Falling.{count, Falls, HasRoom, RestsAt, newly}
+use Rattle.sas_mutex.specs.Noting.{IsNotedFor, IsNotedAt}
+use Rattle.sas_mutex.proofs.ToldByNotes.{noted_fewer}
+use Rattle.sas_mutex.proofs.looking.look_at_group.Goals as goal
+use Rattle.sas_mutex.proofs.looking.look_at_group.Given.{Over}
+use Rattle.sas_mutex.proofs.looking.look_at_group.Goals.{After-take_away}
+
+pub returns-then-keeps_by_basis-clause-falls : goal.returns-then-keeps_by_basis-clause-falls
+returns-then-keeps_by_basis-clause-falls g c =
+    let p = c.args.firing.now.task in
+    subst (Falls p c.args.family.now) (sym c.keeps_by_basis.ensures.same) (none_fell p c.args.family.now)
+
+pub returns-then-keeps_by_basis-clause-rest : goal.returns-then-keeps_by_basis-clause-rest
+returns-then-keeps_by_basis-clause-rest g c =
+    let p = c.args.firing.now.task in
+    let start = c.args.family.now in
+    subst (λ (family : Family). RestsAt p family.kept (newly start family) c.args.firing.now.operator c.args.firing.now.effect c.args.group) (sym c.keeps_by_basis.ensures.same)
+    record { keeps = λ none w. c.keeps_by_basis.ensures.kept c.if-keeps_by_basis.true w }
+
+pub returns-then-keeps_by_basis-clause-alone : goal.returns-then-keeps_by_basis-clause-alone
+returns-then-keeps_by_basis-clause-alone g c t w = c.keeps_by_basis.ensures.basis c.if-keeps_by_basis.true
+
+pub returns-then-keeps_by_basis-clause-room : goal.returns-then-keeps_by_basis-clause-room
+returns-then-keeps_by_basis-clause-room g c = subst (HasRoom c.args.firing.now.task) (sym c.keeps_by_basis.ensures.same) c.requires.room
+
+pub returns-then-keeps_by_basis-clause-notes : goal.returns-then-keeps_by_basis-clause-notes
+returns-then-keeps_by_basis-clause-notes g c =
+    subst (λ (family : Family). IsNotedAt c.args.firing.now family.kept c.keeps_by_basis.new.marks) (sym c.keeps_by_basis.ensures.same) c.keeps_by_basis.ensures.notes
+
+pub returns-then-keeps_by_notes-clause-alone : goal.returns-then-keeps_by_notes-clause-alone
+returns-then-keeps_by_notes-clause-alone g c t = absurd (true≢false (sym t))
+
+-- what falls, of the family as it stands after the test by the basis
+fell : (g : Over) (c : After-take_away g) → Falls c.args.firing.now.task c.args.family.now c.take_away.new.self
+fell g c =
+    let p = c.args.firing.now.task in
+    let o = operator_at p c.args.firing.now.operator in
+    let start = c.args.family.now in
+    let before = c.keeps_by_basis.new.family in
+    subst (λ (family : Family). Falls p family c.take_away.new.self) c.keeps_by_basis.ensures.same
+    (one_fell p before c.take_away.new.self c.args.group c.take_away.ensures.kept c.take_away.ensures.fallen c.requires.group
+    (never_jointly p before.kept c.args.firing.now.operator c.args.firing.now.effect c.args.group
+    (subst (λ (s : EffectPlace). s.operator < length s.task.operators) c.firing.view_is c.firing.invariant.2)
+    (subst (λ (s : EffectPlace). s.effect < length (operator_of s).effects) c.firing.view_is c.firing.invariant.3)
+    c.requires.has
+    (λ keeps. c.keeps_by_notes.ensures.no c.if-keeps_by_notes.false (subst (λ (kept : List Bool). EffectKeeps (IsKept p kept) o (group_at p c.args.group) (effect_at o c.args.firing.now.effect))
+    (sym c.as_slice-2.ensures) keeps)))
+    (subst (λ (family : Family). length family.kept ≡ length p.groups) (sym c.keeps_by_basis.ensures.same) c.requires.room.one_each)
+    c.take_away.ensures.basis c.take_away.ensures.supports)
+
+pub returns-clause-falls : goal.returns-clause-falls
+returns-clause-falls g c = fell g (goal.at.returns-clause-falls g c).After-take_away
+
+pub returns-clause-room : goal.returns-clause-room
+returns-clause-room g c =
+    let p = c.args.firing.now.task in
+    let before = c.keeps_by_basis.new.family in
+    let after = c.take_away.new.self in
+    let same = c.keeps_by_basis.ensures.same in
+    let was : HasRoom p before = subst (HasRoom p) (sym same) c.requires.room in
+    let fell = ap count c.take_away.ensures.kept in
+    let kept : family_of before.kept c.args.group ≡ true = subst (λ (family : Family). family_of family.kept c.args.group ≡ true) (sym c.keeps_by_basis.ensures.same) (search rules) in
+    let less = count_fell before.kept c.args.group kept in
+    let more = ap length c.take_away.ensures.fallen ∙ length_push before.fallen.items c.args.group in
+    let basis = c.take_away.ensures.basis in
+    record {
+      one_each = ap length c.take_away.ensures.kept ∙ (length-set before.kept c.args.group _ ∙ was.one_each);
+      room = omega (arith, was.room, c.take_away.ensures.room);
+      few = omega (arith, was.few);
+      basis = record {
+        one_each = ap length basis ∙ was.basis.one_each;
+        only = λ place is. subst (λ (xs : List ℕ). Contains xs place) (sym c.take_away.ensures.supports) (was.basis.only place (subst (λ (xs : List Bool). family_of xs place ≡ true) basis is));
+        low = subst (All (λ (support : ℕ). support < length p.groups)) (sym c.take_away.ensures.supports) was.basis.low;
+      };
+    }
+
+pub returns-clause-notes : goal.returns-clause-notes
+returns-clause-notes g c =
+    let p = c.args.firing.now.task in
+    let marks = c.keeps_by_notes.new.marks in
+    record {
+      one_each = (returns-clause-room g c).one_each;
+      noted = noted_fewer p c.args.family.now.kept c.take_away.new.self.kept c.args.firing.now.operator c.args.firing.now.effect marks (fell g (goal.at.returns-clause-notes g c).After-take_away).less
+          (subst (λ (family : Family). IsNotedFor p family.kept c.args.firing.now.operator c.args.firing.now.effect marks) c.keeps_by_basis.ensures.same
+          (subst (λ (kept : List Bool). IsNotedFor p kept c.args.firing.now.operator c.args.firing.now.effect marks) c.as_slice-2.ensures c.keeps_by_notes.ensures.notes.noted));
+    }

@@ -1,0 +1,241 @@
+// The greatest family of groups that is kept jointly.
+ghost use Rattle.std.specs.Prelude.{◌≡◌, ◌<◌, ◌≤◌, ℕ, [], length, All, Contains, IsTrue};
+ghost use Rattle.sas_groups.specs.Families.{IsIn, IsGreatest};
+ghost use Rattle.sas_mutex.specs.Effects.{family_of};
+ghost use Rattle.sas_mutex.specs.Marks.{IsClean};
+ghost use Rattle.sas_mutex.specs.Falling.{IsReady, AreCandidates, newly, Falls, IsAtRest, RestsOn};
+ghost use Rattle.sas_mutex.specs.Basis.{KeepsByBasis};
+ghost use Rattle.sas_mutex.specs.Watching.{AreUnwatched, AreWatched, AreTold, IsTold, StayTold, IsWatchedAnew, AreLooseAtRest, RestsBy, WatchesMore};
+
+use crate::family::Family;
+use crate::indexed::IndexedTask;
+use crate::looking::look_at;
+use crate::marks::Marks;
+use crate::watches::Watches;
+use sas_core::Grounded;
+
+/// Removes from the family, which has the groups that may be exclusive, each group that some operator doesn't keep, until
+/// every operator keeps each group that is left. After a group fell, only operators that watch it are looked at again, and
+/// then those that are loose.
+pub fn find_greatest<T: Grounded>(
+    indexed: &IndexedTask<'_, '_, T>,
+    watches: &mut Watches,
+    family: &mut Family,
+    marks: &mut Marks,
+)
+    requires unwatched { let p = indexed.now in
+        AreUnwatched (length p.groups) (length p.operators) watches.old }
+    requires candidates { AreCandidates indexed.now family.old.kept }
+    requires none { family.old.fallen.items ≡ [] }
+    requires ready { IsReady indexed.now family.old }
+    requires clean { IsClean indexed.now marks.old }
+    ensures greatest { IsGreatest indexed.now (family_of family.new.kept) }
+    ensures one_each { length family.new.kept ≡ length indexed.now.groups }
+    ensures clean { IsClean indexed.now marks.new }
+{
+    loop {
+        let before = family.fallen.len();
+        look_at_loose(indexed, watches, family, marks);
+        if family.fallen.len() == before {
+            return;
+        }
+        tell_watching(indexed, before, watches, family, marks);
+    }
+}
+
+/// Looks at each operator that is loose.
+fn look_at_loose<T: Grounded>(
+    indexed: &IndexedTask<'_, '_, T>,
+    watches: &mut Watches,
+    family: &mut Family,
+    marks: &mut Marks,
+)
+    requires watched { AreWatched indexed.now family.old watches.old }
+    requires told { let fallen = family.old.fallen.items in
+        AreTold fallen (length fallen) watches.old }
+    requires ready { IsReady indexed.now family.old }
+    requires clean { IsClean indexed.now marks.old }
+    ensures falls { Falls indexed.now family.old family.new }
+    ensures rest { AreLooseAtRest indexed.now family.new.kept
+        (newly family.old family.new) watches.new (length indexed.now.operators) }
+    ensures watched { AreWatched indexed.now family.new watches.new }
+    ensures told { let fallen = family.old.fallen.items in
+        AreTold fallen (length fallen) watches.new }
+    ensures ready { IsReady indexed.now family.new }
+    ensures clean { IsClean indexed.now marks.new }
+{
+    for operator in 0..indexed.task.operators() {
+        if watches.is_loose(operator) {
+            look_once(indexed, operator, watches, family, marks);
+        }
+    }
+}
+
+/// Goes through the groups that fell, from this place among them on, and looks again at the operators that watch one, until no
+/// more falls.
+fn tell_watching<T: Grounded>(
+    indexed: &IndexedTask<'_, '_, T>,
+    from: usize,
+    watches: &mut Watches,
+    family: &mut Family,
+    marks: &mut Marks,
+)
+    requires watched { AreWatched indexed.now family.old watches.old }
+    requires from { from ≤ length family.old.fallen.items }
+    requires told { AreTold family.old.fallen.items from watches.old }
+    requires ready { IsReady indexed.now family.old }
+    requires clean { IsClean indexed.now marks.old }
+    ensures falls { Falls indexed.now family.old family.new }
+    ensures watched { AreWatched indexed.now family.new watches.new }
+    ensures told { let fallen = family.new.fallen.items in
+        AreTold fallen (length fallen) watches.new }
+    ensures ready { IsReady indexed.now family.new }
+    ensures clean { IsClean indexed.now marks.new }
+{
+    let mut next = from;
+    while next < family.fallen.len() {
+        let group = family.fallen[next];
+        tell_of(indexed, group, watches, family, marks);
+        next += 1;
+    }
+}
+
+/// Looks again at the operators that watch the group, which fell.
+fn tell_of<T: Grounded>(
+    indexed: &IndexedTask<'_, '_, T>,
+    group: u32,
+    watches: &mut Watches,
+    family: &mut Family,
+    marks: &mut Marks,
+)
+    requires group { group < length indexed.now.groups }
+    requires fell { IsTrue (family_of family.old.kept group) → ⊥ }
+    requires watched { AreWatched indexed.now family.old watches.old }
+    requires ready { IsReady indexed.now family.old }
+    requires clean { IsClean indexed.now marks.old }
+    ensures falls { Falls indexed.now family.old family.new }
+    ensures watched { AreWatched indexed.now family.new watches.new }
+    ensures told { IsTold watches.new group }
+    ensures still { StayTold family.old.kept watches.old watches.new }
+    ensures ready { IsReady indexed.now family.new }
+    ensures clean { IsClean indexed.now marks.new }
+{
+    let mut next = watches.last.as_slice()[group as usize];
+    while let Some(place) = next {
+        let watch = watches.made.as_slice()[place as usize];
+        if watches.counts(place, watch.operator) {
+            look_once(indexed, watch.operator, watches, family, marks);
+        }
+        next = watch.before;
+    }
+}
+
+/// Looks at the operator. It is noted since when it watches the groups on which it rests, or that it is loose.
+fn look_once<T: Grounded>(
+    indexed: &IndexedTask<'_, '_, T>,
+    operator: u32,
+    watches: &mut Watches,
+    family: &mut Family,
+    marks: &mut Marks,
+)
+    requires operator { operator < length indexed.now.operators }
+    requires watched { AreWatched indexed.now family.old watches.old }
+    requires ready { IsReady indexed.now family.old }
+    requires clean { IsClean indexed.now marks.old }
+    ensures falls { Falls indexed.now family.old family.new }
+    ensures rest { IsAtRest indexed.now family.new.kept
+        (newly family.old family.new) operator }
+    ensures watched { AreWatched indexed.now family.new watches.new }
+    ensures anew { IsWatchedAnew operator family.new.kept watches.old watches.new }
+    ensures ready { IsReady indexed.now family.new }
+    ensures clean { IsClean indexed.now marks.new }
+{
+    let start = watches.made.len() as u32;
+    if comes_to_rest(indexed, operator, watches, family, marks) {
+        watches.since.set(operator as usize, Some(start));
+        return;
+    }
+    watches.since.set(operator as usize, None);
+}
+
+/// Looks at the operator, and has it watch the groups on which it rests. Returns whether these are all, so that it stays at rest
+/// as long as they are in the family.
+fn comes_to_rest<T: Grounded>(
+    indexed: &IndexedTask<'_, '_, T>,
+    operator: u32,
+    watches: &mut Watches,
+    family: &mut Family,
+    marks: &mut Marks,
+) -> bool
+    requires operator { operator < length indexed.now.operators }
+    requires watched { AreWatched indexed.now family.old watches.old }
+    requires ready { IsReady indexed.now family.old }
+    requires clean { IsClean indexed.now marks.old }
+    ensures falls { Falls indexed.now family.old family.new }
+    ensures rest { IsAtRest indexed.now family.new.kept
+        (newly family.old family.new) operator }
+    ensures watches { WatchesMore operator family.new.kept watches.old watches.new }
+    ensures rests { IsTrue result → RestsBy indexed.now family.new.kept
+        watches.new.made operator (length watches.old.made) }
+    ensures ready { IsReady indexed.now family.new }
+    ensures clean { IsClean indexed.now marks.new }
+{
+    if look_until_quiet(indexed, operator, family, marks) {
+        return true;
+    }
+    let deciders = marks.deciding.groups();
+    let Some(groups) = deciders.as_slice() else {
+        return false;
+    };
+    rests_on(indexed, operator, groups, family, marks)
+        && watches.watch_all(operator, groups, family)
+}
+
+/// Looks at the operator until no group falls by it any more. Returns true only if the operator keeps each group that is left
+/// by that group alone.
+fn look_until_quiet<T: Grounded>(
+    indexed: &IndexedTask<'_, '_, T>,
+    operator: u32,
+    family: &mut Family,
+    marks: &mut Marks,
+) -> bool
+    requires operator { operator < length indexed.now.operators }
+    requires ready { IsReady indexed.now family.old }
+    requires clean { IsClean indexed.now marks.old }
+    ensures falls { Falls indexed.now family.old family.new }
+    ensures rest { IsAtRest indexed.now family.new.kept [] operator }
+    ensures alone { IsTrue result → RestsOn indexed.now family.new.kept [] operator }
+    ensures ready { IsReady indexed.now family.new }
+    ensures clean { IsClean indexed.now marks.new }
+{
+    loop {
+        let before = family.fallen.len();
+        marks.deciding.clear();
+        let alone = look_at(indexed, operator, family, marks);
+        if family.fallen.len() == before {
+            return alone;
+        }
+    }
+}
+
+/// Returns true only if the operator keeps each group that is left by these groups and that group alone. More groups may fall.
+fn rests_on<T: Grounded>(
+    indexed: &IndexedTask<'_, '_, T>,
+    operator: u32,
+    groups: &[u32],
+    family: &mut Family,
+    marks: &mut Marks,
+) -> bool
+    requires operator { operator < length indexed.now.operators }
+    requires ready { IsReady indexed.now family.old }
+    requires clean { IsClean indexed.now marks.old }
+    ensures falls { Falls indexed.now family.old family.new }
+    ensures rests { IsTrue result → RestsOn indexed.now family.new.kept groups.now operator }
+    ensures ready { IsReady indexed.now family.new }
+    ensures clean { IsClean indexed.now marks.new }
+{
+    family.suppose(groups);
+    let rests = look_at(indexed, operator, family, marks);
+    family.suppose_nothing();
+    rests
+}

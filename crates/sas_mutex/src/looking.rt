@@ -1,0 +1,406 @@
+// What an operator keeps of the family: the groups that it doesn't keep fall.
+ghost use Rattle.std.specs.Prelude.{◌≡◌, ◌<◌, [], length, Contains, IsTrue, IsFalse, All};
+ghost use Rattle.sas_core.specs.Grounded.{operator_at, group_at};
+ghost use Rattle.sas_group_index.specs.Index.{IsIndexOf};
+ghost use Rattle.sas_groups.specs.Clashes.{sets};
+ghost use Rattle.sas_groups.specs.Clashes.{Clash};
+ghost use Rattle.sas_groups.specs.Families.{IsIn};
+ghost use Rattle.sas_groups.specs.Lists.{known, known_on};
+ghost use Rattle.sas_core.specs.Variables.{FactExists};
+ghost use Rattle.sas_mutex.specs.Effects.{family_of, IsKept, IsPlain};
+ghost use Rattle.sas_mutex.specs.Firing.{effect_of};
+ghost use Rattle.sas_mutex.specs.Marks.{IsClean};
+ghost use Rattle.sas_mutex.specs.Noting.{AreNoted, IsNotedAt, KeepsGroup, KeepsGroupItself};
+ghost use Rattle.sas_mutex.specs.Falling.{HasRoom, newly, Falls};
+ghost use Rattle.sas_mutex.specs.Falling.{IsAtRest, IsEffectAtRest, ArePlainAtRest, RestsAt};
+ghost use Rattle.sas_mutex.specs.Basis.{KeptByBasis, KeepsByBasis, EffectKeepsByBasis, PlainKeepByBasis, PlainSetNone};
+
+use crate::effects::Firing;
+use crate::family::Family;
+use crate::indexed::IndexedTask;
+use crate::marks::{Marks, forget_known, note_known};
+use sas_core::{Fact, Grounded};
+use sas_group_index::Index;
+use sas_groups::Premises;
+use sas_meaning::Layered;
+
+/// Removes from the family the groups that the operator doesn't keep. Returns true only if the operator keeps each group that
+/// is left by the basis and that group alone.
+pub fn look_at<T: Grounded>(
+    indexed: &IndexedTask<'_, '_, T>,
+    operator: u32,
+    family: &mut Family,
+    marks: &mut Marks,
+) -> bool
+    requires operator { operator < length indexed.now.operators }
+    requires room { HasRoom indexed.now family.old }
+    requires clean { IsClean indexed.now marks.old }
+    ensures falls { Falls indexed.now family.old family.new }
+    ensures rest { IsAtRest indexed.now family.new.kept
+        (newly family.old family.new) operator }
+    ensures alone { IsTrue result → KeepsByBasis indexed.now family.old.basis family.new.kept operator }
+    ensures room { HasRoom indexed.now family.new }
+    ensures clean { IsClean indexed.now marks.new }
+{
+    let mut alone = look_at_plain(indexed, operator, family, marks);
+    for effect in 0..indexed.task.effects(operator) {
+        if !is_plain(indexed.task, operator, effect) {
+            let firing = Firing {
+                task: indexed.task,
+                index: indexed.index,
+                operator,
+                effect,
+            };
+            alone &= look_at_setting(&firing, family, marks);
+        }
+    }
+    alone
+}
+
+/// Removes from the family the groups that the operator's effects without conditions don't keep. Returns true only if they
+/// keep each group that is left by the basis and that group alone.
+fn look_at_plain<T: Grounded>(
+    indexed: &IndexedTask<'_, '_, T>,
+    operator: u32,
+    family: &mut Family,
+    marks: &mut Marks,
+) -> bool
+    requires operator { operator < length indexed.now.operators }
+    requires room { HasRoom indexed.now family.old }
+    requires clean { IsClean indexed.now marks.old }
+    ensures falls { Falls indexed.now family.old family.new }
+    ensures rest { ArePlainAtRest indexed.now family.new.kept
+        (newly family.old family.new) operator
+        (length (operator_at indexed.now operator).effects) }
+    ensures alone { IsTrue result → PlainKeepByBasis indexed.now family.old.basis family.new.kept
+        operator (length (operator_at indexed.now operator).effects) }
+    ensures room { HasRoom indexed.now family.new }
+    ensures clean { IsClean indexed.now marks.new }
+{
+    let basis_decides = look_where_plain_fire(indexed, operator, family, marks);
+    let premises = Premises {
+        operator,
+        first: &[],
+        second: &[],
+    };
+    let basis = family.basis.as_slice();
+    basis_decides || never_fires(indexed.task, indexed.index, basis, &premises, marks)
+}
+
+/// Removes from the family the groups that the operator's effects without conditions don't keep. Returns true only if they
+/// keep each group that is left by the basis and that group alone. The known facts where they fire are the same for all of them, and are
+/// noted once. If these clash, none of the effects ever fires.
+fn look_where_plain_fire<T: Grounded>(
+    indexed: &IndexedTask<'_, '_, T>,
+    operator: u32,
+    family: &mut Family,
+    marks: &mut Marks,
+) -> bool
+    requires operator { operator < length indexed.now.operators }
+    requires room { HasRoom indexed.now family.old }
+    requires clean { IsClean indexed.now marks.old }
+    ensures falls { Falls indexed.now family.old family.new }
+    ensures rest { ArePlainAtRest indexed.now family.new.kept
+        (newly family.old family.new) operator
+        (length (operator_at indexed.now operator).effects) }
+    ensures alone { IsTrue result → PlainKeepByBasis indexed.now family.old.basis family.new.kept
+        operator (length (operator_at indexed.now operator).effects) }
+    ensures room { HasRoom indexed.now family.new }
+    ensures clean { IsClean indexed.now marks.new }
+{
+    if !plain_sets_one(indexed, operator, family.kept.as_slice()) {
+        return true;
+    }
+    let premises = Premises {
+        operator,
+        first: &[],
+        second: &[],
+    };
+    let mut alone = false;
+    if !note_known(
+        indexed.task,
+        indexed.index,
+        family.kept.as_slice(),
+        &premises,
+        marks,
+    ) {
+        alone = look_at_each_plain(indexed, operator, family, marks);
+    }
+    forget_known(indexed.task, indexed.index, &premises, marks);
+    alone
+}
+
+/// Returns whether the known facts clash where the groups of the basis count.
+fn never_fires<T: Grounded>(
+    task: &Layered<T>,
+    index: &Index,
+    basis: &[bool],
+    premises: &Premises<'_>,
+    marks: &mut Marks,
+) -> bool
+    requires index { IsIndexOf task.now index.now }
+    requires one_each { length basis.now ≡ length task.now.groups }
+    requires operator { premises.now.operator < length task.now.operators }
+    requires first { All (FactExists task.now.variables) premises.now.first.now }
+    requires second { All (FactExists task.now.variables) premises.now.second.now }
+    requires clean { IsClean task.now marks.old }
+    ensures yes { IsTrue result
+        → Clash (IsKept task.now basis.now) (known_on task.now premises.now) }
+    ensures clean { IsClean task.now marks.new }
+{
+    let clash = note_known(task, index, basis, premises, marks);
+    forget_known(task, index, premises, marks);
+    clash
+}
+
+/// Removes from the family the groups that the operator's effects without conditions don't keep, by what is noted. Returns
+/// true only if they keep each group that is left by the basis and that group alone.
+fn look_at_each_plain<T: Grounded>(
+    indexed: &IndexedTask<'_, '_, T>,
+    operator: u32,
+    family: &mut Family,
+    marks: &mut Marks,
+) -> bool
+    requires operator { operator < length indexed.now.operators }
+    requires room { HasRoom indexed.now family.old }
+    requires noted { AreNoted indexed.now family.old.kept
+        (known (operator_at indexed.now operator) [] []) marks.old }
+    ensures falls { Falls indexed.now family.old family.new }
+    ensures rest { ArePlainAtRest indexed.now family.new.kept
+        (newly family.old family.new) operator
+        (length (operator_at indexed.now operator).effects) }
+    ensures alone { IsTrue result → PlainKeepByBasis indexed.now family.old.basis family.new.kept
+        operator (length (operator_at indexed.now operator).effects) }
+    ensures room { HasRoom indexed.now family.new }
+    ensures noted { AreNoted indexed.now family.new.kept
+        (known (operator_at indexed.now operator) [] []) marks.new }
+{
+    let mut alone = true;
+    let effects = indexed.task.effects(operator);
+    for effect in 0..effects {
+        if is_plain(indexed.task, operator, effect) {
+            let firing = Firing {
+                task: indexed.task,
+                index: indexed.index,
+                operator,
+                effect,
+            };
+            alone &= look_at_groups(&firing, family, marks);
+        }
+    }
+    alone
+}
+
+/// Returns whether some effect of the operator without conditions sets a fact of a group of the family.
+fn plain_sets_one<T: Grounded>(
+    indexed: &IndexedTask<'_, '_, T>,
+    operator: u32,
+    kept: &[bool],
+) -> bool
+    requires operator { operator < length indexed.now.operators }
+    requires one_each { length kept.now ≡ length indexed.now.groups }
+    ensures { IsFalse result → PlainSetNone indexed.now kept.now operator
+        (length (operator_at indexed.now operator).effects) }
+{
+    let effects = indexed.task.effects(operator);
+    for effect in 0..effects {
+        if is_plain(indexed.task, operator, effect) {
+            let firing = Firing {
+                task: indexed.task,
+                index: indexed.index,
+                operator,
+                effect,
+            };
+            if firing.sets_one_of(kept) {
+                return true;
+            }
+        }
+    }
+    false
+}
+
+/// Returns whether the effect has no conditions.
+fn is_plain<T: Grounded>(task: &Layered<T>, operator: u32, effect: u32) -> bool
+    requires operator { operator < length task.now.operators }
+    requires effect { effect < length (operator_at task.now operator).effects }
+    ensures yes { IsTrue result → IsPlain task.now operator effect }
+    ensures no { IsFalse result → IsPlain task.now operator effect → ⊥ }
+{
+    task.effect_conditions(operator, effect).is_empty()
+}
+
+/// Removes from the family the groups that the effect doesn't keep. Returns true only if it keeps each group that is left by
+/// that group alone. Where no group of the family has the fact that the effect sets, nothing is noted.
+fn look_at_setting<T: Grounded>(
+    firing: &Firing<'_, '_, T>,
+    family: &mut Family,
+    marks: &mut Marks,
+) -> bool
+    requires room { HasRoom firing.now.task family.old }
+    requires clean { IsClean firing.now.task marks.old }
+    ensures falls { Falls firing.now.task family.old family.new }
+    ensures rest { let f = firing.now in IsEffectAtRest f.task family.new.kept
+        (newly family.old family.new) f.operator f.effect }
+    ensures alone { let f = firing.now in IsTrue result
+        → EffectKeepsByBasis f.task family.old.basis family.new.kept f.operator f.effect }
+    ensures room { HasRoom firing.now.task family.new }
+    ensures clean { IsClean firing.now.task marks.new }
+{
+    if !firing.sets_one_of(family.kept.as_slice()) {
+        return true;
+    }
+    look_at_effect(firing, family, marks)
+}
+
+/// Removes from the family the groups that the effect doesn't keep. Returns true only if it keeps each group that is left by
+/// the basis and that group alone.
+fn look_at_effect<T: Grounded>(
+    firing: &Firing<'_, '_, T>,
+    family: &mut Family,
+    marks: &mut Marks,
+) -> bool
+    requires room { HasRoom firing.now.task family.old }
+    requires clean { IsClean firing.now.task marks.old }
+    ensures falls { Falls firing.now.task family.old family.new }
+    ensures rest { let f = firing.now in IsEffectAtRest f.task family.new.kept
+        (newly family.old family.new) f.operator f.effect }
+    ensures alone { let f = firing.now in IsTrue result
+        → EffectKeepsByBasis f.task family.old.basis family.new.kept f.operator f.effect }
+    ensures room { HasRoom firing.now.task family.new }
+    ensures clean { IsClean firing.now.task marks.new }
+{
+    let basis_decides = look_where_it_fires(firing, family, marks);
+    let premises = Premises {
+        operator: firing.operator,
+        first: firing
+            .task
+            .effect_conditions(firing.operator, firing.effect),
+        second: &[],
+    };
+    let basis = family.basis.as_slice();
+    basis_decides || never_fires(firing.task, firing.index, basis, &premises, marks)
+}
+
+/// Removes from the family the groups that the effect doesn't keep. Returns true only if it keeps each group that is left by
+/// the basis and that group alone. The known facts where it fires are noted once for all groups. If these clash, the effect never fires.
+fn look_where_it_fires<T: Grounded>(
+    firing: &Firing<'_, '_, T>,
+    family: &mut Family,
+    marks: &mut Marks,
+) -> bool
+    requires room { HasRoom firing.now.task family.old }
+    requires clean { IsClean firing.now.task marks.old }
+    ensures falls { Falls firing.now.task family.old family.new }
+    ensures rest { let f = firing.now in IsEffectAtRest f.task family.new.kept
+        (newly family.old family.new) f.operator f.effect }
+    ensures alone { let f = firing.now in IsTrue result
+        → EffectKeepsByBasis f.task family.old.basis family.new.kept f.operator f.effect }
+    ensures room { HasRoom firing.now.task family.new }
+    ensures clean { IsClean firing.now.task marks.new }
+{
+    let premises = Premises {
+        operator: firing.operator,
+        first: firing
+            .task
+            .effect_conditions(firing.operator, firing.effect),
+        second: &[],
+    };
+    let mut alone = false;
+    if !note_known(
+        firing.task,
+        firing.index,
+        family.kept.as_slice(),
+        &premises,
+        marks,
+    ) {
+        alone = look_at_groups(firing, family, marks);
+    }
+    forget_known(firing.task, firing.index, &premises, marks);
+    alone
+}
+
+/// Removes from the family the groups that the effect doesn't keep, by what is noted. Returns true only if it keeps each
+/// group that is left by that group alone.
+fn look_at_groups<T: Grounded>(
+    firing: &Firing<'_, '_, T>,
+    family: &mut Family,
+    marks: &mut Marks,
+) -> bool
+    requires room { HasRoom firing.now.task family.old }
+    requires notes { IsNotedAt firing.now family.old.kept marks.old }
+    ensures falls { Falls firing.now.task family.old family.new }
+    ensures rest { let f = firing.now in IsEffectAtRest f.task family.new.kept
+        (newly family.old family.new) f.operator f.effect }
+    ensures alone { let f = firing.now in IsTrue result
+        → EffectKeepsByBasis f.task family.old.basis family.new.kept f.operator f.effect }
+    ensures room { HasRoom firing.now.task family.new }
+    ensures notes { IsNotedAt firing.now family.new.kept marks.new }
+{
+    let change = firing.task.effect_change(firing.operator, firing.effect);
+    let set = Fact {
+        var: change.var,
+        value: change.new,
+    };
+    let mut alone = true;
+    let groups = firing.index.groups_of(set);
+    for group in groups {
+        alone &= look_at_group(firing, *group, family, marks);
+    }
+    alone
+}
+
+/// Removes the group from the family if the effect doesn't keep it, by what is noted. Returns true only if the effect keeps
+/// it by the group alone, or it isn't in the family any more. An effect that keeps a group by the group alone keeps it under
+/// every family that has the group.
+fn look_at_group<T: Grounded>(
+    firing: &Firing<'_, '_, T>,
+    group: u32,
+    family: &mut Family,
+    marks: &mut Marks,
+) -> bool
+    requires group { group < length firing.now.task.groups }
+    requires has { Contains (group_at firing.now.task group) (sets (effect_of firing.now)) }
+    requires room { HasRoom firing.now.task family.old }
+    requires notes { IsNotedAt firing.now family.old.kept marks.old }
+    ensures falls { Falls firing.now.task family.old family.new }
+    ensures rest { let f = firing.now in RestsAt f.task family.new.kept
+        (newly family.old family.new) f.operator f.effect group }
+    ensures alone { let f = firing.now in IsTrue result
+        → KeptByBasis f.task family.old.basis family.new.kept f.operator f.effect group }
+    ensures room { HasRoom firing.now.task family.new }
+    ensures notes { IsNotedAt firing.now family.new.kept marks.new }
+{
+    // Naming a field makes the invariant of the effect available.
+    let _ = &firing.task;
+    if !family.kept.as_slice()[group as usize] {
+        return true;
+    }
+    if keeps_by_basis(firing, group, family, marks) {
+        return true;
+    }
+    if firing.keeps_by_notes(family.kept.as_slice(), group, marks) {
+        return false;
+    }
+    family.take_away(group);
+    true
+}
+
+/// Returns true only if each group of the basis is in the family, and the effect keeps the group by these and the group
+/// alone. The family stays as it was.
+fn keeps_by_basis<T: Grounded>(
+    firing: &Firing<'_, '_, T>,
+    group: u32,
+    family: &mut Family,
+    marks: &mut Marks,
+) -> bool
+    requires group { group < length firing.now.task.groups }
+    requires room { HasRoom firing.now.task family.old }
+    requires notes { IsNotedAt firing.now family.old.kept marks.old }
+    ensures kept { IsTrue result → IsIn firing.now.task (family_of family.old.kept) group
+        → KeepsGroup firing.now family.old.kept group }
+    ensures basis { IsTrue result → KeepsGroupItself firing.now family.old.basis group }
+    ensures same { family.new ≡ family.old }
+    ensures notes { IsNotedAt firing.now family.old.kept marks.new }
+{
+    family.has_basis() && firing.keeps_with_itself(group, &mut family.basis, marks)
+}
