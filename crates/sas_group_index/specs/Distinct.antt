@@ -1,0 +1,24 @@
+-- The facts of a group, each once.
+use Rattle.std.specs.Prelude.{◌≡◌, ℕ, ◌<◌, ◌≤◌, ◌↔◌, List, [], ◌∷◌, length, slice_index_or, Contains}
+use Rattle.sas_core.specs.declared.parts.Fact.{Fact}
+use Rattle.sas_core.specs.declared.parts.Parts.{Parts}
+use Rattle.sas_core.specs.Grounded.{group_at}
+
+-- the group's own list, and where that is empty the facts as the group lists them
+unfoldable pub own_or : List Fact → List Fact → List Fact
+own_or [] listed = listed
+own_or (fact ∷ own) listed = fact ∷ own
+
+-- the facts of the group at this place, where these are the groups' own lists
+abbrev pub facts_at : Parts → List (List Fact) → ℕ → List Fact
+facts_at p own place = own_or (slice_index_or own place []) (group_at p place)
+
+-- the same facts, in lists of which the first is no longer
+pub record HaveSame (facts listed : List Fact) : Type 0 where
+  pub short : length facts ≤ length listed
+  pub same : (fact : Fact) → Contains facts fact ↔ Contains listed fact
+
+-- the groups' own lists
+pub record AreDistinct (p : Parts) (own : List (List Fact)) : Type 0 where
+  pub one_each : length own ≡ length p.groups
+  pub have : (place : ℕ) → place < length p.groups → HaveSame (facts_at p own place) (group_at p place)
