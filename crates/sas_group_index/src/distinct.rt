@@ -27,10 +27,7 @@ pub fn facts_of<'a, T: Grounded>(
 
 /// Returns a list of its own for each group of the task. It is empty if the group lists its facts in ascending order, each
 /// once.
-pub fn own_lists<T: Grounded>(
-    alloc: Global,
-    task: &Layered<T>,
-) -> Result<Lists<Fact>, AllocError>
+pub fn own_lists<T: Grounded>(alloc: Global, task: &Layered<T>) -> Result<Lists<Fact>, AllocError>
     ensures { IfOk result (λ own. AreDistinct task.now own) }
 {
     // By its contract the task is well ranged.

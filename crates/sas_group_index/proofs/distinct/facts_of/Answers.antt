@@ -1,5 +1,5 @@
 -- An own list that isn't empty stands for the listed one.
-use Rattle.std.proofs.Common.{◌≡◌, ℕ, List, [], length, get_or, rules, sym, ap, subst, ◌∙◌}
+use Rattle.std.proofs.Common.{◌≡◌, List, [], length, get_or, rules, subst, ◌∙◌}
 use Rattle.sas_core.specs.declared.parts.Fact.{Fact}
 use Rattle.sas_core.specs.Grounded.{group_at}
 use Rattle.sas_group_index.proofs.InOrder.{own_empty, own_some}

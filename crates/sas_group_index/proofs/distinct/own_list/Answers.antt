@@ -1,10 +1,7 @@
 -- A list that is put in order and loses what it repeats has the same facts.
-use Rattle.std.proofs.Common.{◌≡◌, rules, subst, Bool, ℕ, true, sym, length}
-use Rattle.std.specs.Cmp.{IsEquivalence}
-use Rattle.std.specs.List.Sorted.{IsPermutation}
-use Rattle.sas_core.specs.declared.parts.Fact.{Fact}
+use Rattle.std.proofs.Common.{rules}
 use Rattle.sas_group_index.proofs.InOrder.{none_own, own_have_same, in_order_same}
-use Rattle.sas_group_index.specs.Distinct.{own_or, HaveSame}
+use Rattle.sas_group_index.specs.Distinct.{HaveSame}
 use Rattle.sas_group_index.proofs.distinct.own_list.Goals as goal
 
 pub returns-then-is_ascending : goal.returns-then-is_ascending

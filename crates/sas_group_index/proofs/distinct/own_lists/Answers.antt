@@ -1,9 +1,8 @@
 -- One group more has its list.
-use Rattle.std.proofs.Common.{rules, arith, ◌≡◌, ◌+◌, ◌<◌, ◌++◌, ◌∷◌, [], ℕ, List, length, sym, subst, ap, ◌∙◌}
+use Rattle.std.proofs.Common.{rules, arith, ◌≡◌, ◌++◌, ◌∷◌, []}
 use Rattle.std.proofs.lemmas.List.{length_push}
-use Rattle.sas_core.specs.declared.parts.Fact.{Fact}
 use Rattle.sas_core.specs.Grounded.{group_at}
-use Rattle.sas_group_index.specs.Distinct.{facts_at, own_or, HaveSame}
+use Rattle.sas_group_index.specs.Distinct.{own_or, HaveSame}
 use Rattle.sas_group_index.proofs.InOrder.{own_more}
 use Rattle.sas_group_index.proofs.distinct.own_lists.Goals as goal
 
