@@ -15,7 +15,7 @@ use Rattle.sas_lists.specs.declared.by_key.Entry.{Entry}
 use Rattle.sas_lists.specs.ByKey.{by_key}
 use Rattle.sas_lists.proofs.ByKey.{under_holds, under_ascends}
 use Rattle.sas_meaning.proofs.Forced.{fact_within}
-use Rattle.sas_group_index.specs.Distinct.{facts_at, AreDistinct}
+use Rattle.sas_group_index.specs.Distinct.{facts_at, AreOwnLists}
 use Rattle.sas_group_index.specs.Index.{facts_below, number, entries_of, AreFirstNumbers, AreByFact, HasFact, under}
 use Rattle.sas_group_index.proofs.Lists.{in_map, from_map}
 use Rattle.sas_group_index.proofs.Numbering.{number_low, one_number}
@@ -34,9 +34,9 @@ on_numbered p firsts facts one_each each = subst (λ (n : ℕ). All (λ (f : Fac
     (All-from_recursion (FactExists p.variables) facts each))
 
 -- the facts of a group, each once
-module _ (p : Parts) (own : List (List Fact)) (ranged : WellRanged p) (distinct : AreDistinct p own) where
+module _ (p : Parts) (own : List (List Fact)) (ranged : WellRanged p) (distinct : AreOwnLists p own) where
   pub own_fact_exists : (group : ℕ) (fact : Fact) → group < length p.groups → Contains (facts_at p own group) fact → FactExists p.variables fact
-  own_fact_exists group fact lt there = group_fact_exists p group fact ranged lt (((distinct.have group lt).same fact).0 there)
+  own_fact_exists group fact lt there = group_fact_exists p group fact ranged lt (((distinct.are group lt).same fact).0 there)
 
   -- they are on variables that have a first number
   pub group_numbered : (firsts : List ℕ) (group : ℕ) → length firsts ≡ length p.variables → group < length p.groups
@@ -132,12 +132,12 @@ entered_by_fact p firsts facts_of n entries Has are exist has up = record {
     holds fact place = under_holds entries (facts_below p (length p.variables)) (number firsts fact) place (entered_low p firsts facts_of n entries are exist up)
 
 -- the facts of the groups
-pub group_facts_exist : (p : Parts) (own : List (List Fact)) → WellRanged p → AreDistinct p own → AllExist p (facts_at p own) (length p.groups)
+pub group_facts_exist : (p : Parts) (own : List (List Fact)) → WellRanged p → AreOwnLists p own → AllExist p (facts_at p own) (length p.groups)
 group_facts_exist p own ranged distinct group f lt there = own_fact_exists p own ranged distinct group f lt there
 
-pub group_has : (p : Parts) (own : List (List Fact)) → AreDistinct p own → (group : ℕ) (f : Fact)
+pub group_has : (p : Parts) (own : List (List Fact)) → AreOwnLists p own → (group : ℕ) (f : Fact)
     → HasFact p group f ↔ ((group < length p.groups) × Contains (facts_at p own group) f)
 group_has p own distinct group f = (
-  (λ has. (has.exists, ((distinct.have group has.exists).same f).1 has.among)),
-  (λ h. record { exists = h.0; among = ((distinct.have group h.0).same f).0 h.1 }),
+  (λ has. (has.exists, ((distinct.are group has.exists).same f).1 has.among)),
+  (λ h. record { exists = h.0; among = ((distinct.are group h.0).same f).0 h.1 }),
 )

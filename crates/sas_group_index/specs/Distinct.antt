@@ -1,5 +1,6 @@
 -- The facts of a group, each once.
-use Rattle.std.specs.Prelude.{◌≡◌, ℕ, ◌<◌, ◌≤◌, ◌↔◌, List, [], ◌∷◌, length, slice_index_or, Contains}
+use Rattle.std.specs.Prelude.{◌≡◌, ◌≢◌, ℕ, ◌<◌, ◌≤◌, ◌↔◌, ◌⊎◌, List, [], ◌∷◌, length, slice_index_or, Contains}
+use Rattle.std.specs.List.{AllPairs}
 use Rattle.sas_core.specs.declared.parts.Fact.{Fact}
 use Rattle.sas_core.specs.declared.parts.Parts.{Parts}
 use Rattle.sas_core.specs.Grounded.{group_at}
@@ -13,12 +14,18 @@ own_or (fact ∷ own) listed = fact ∷ own
 abbrev pub facts_at : Parts → List (List Fact) → ℕ → List Fact
 facts_at p own place = own_or (slice_index_or own place []) (group_at p place)
 
--- the same facts, in lists of which the first is no longer
-pub record HaveSame (facts listed : List Fact) : Type 0 where
+-- these are the facts that are listed, each once
+pub record AreDistinct (facts listed : List Fact) : Type 0 where
   pub short : length facts ≤ length listed
   pub same : (fact : Fact) → Contains facts fact ↔ Contains listed fact
+  pub once : AllPairs (λ (one other : Fact). one ≢ other) facts
 
--- the groups' own lists
-pub record AreDistinct (p : Parts) (own : List (List Fact)) : Type 0 where
+-- the groups' own lists: each group has its facts, each once
+pub record AreOwnLists (p : Parts) (own : List (List Fact)) : Type 0 where
   pub one_each : length own ≡ length p.groups
-  pub have : (place : ℕ) → place < length p.groups → HaveSame (facts_at p own place) (group_at p place)
+  pub are : (place : ℕ) → place < length p.groups
+      → AreDistinct (facts_at p own place) (group_at p place)
+
+-- the fact is on a lower variable, or on the same one and has a lower value
+abbrev pub IsBelow : Fact → Fact → Type 0
+IsBelow fact other = (fact.var < other.var) ⊎ ((fact.var ≡ other.var) × (fact.value < other.value))

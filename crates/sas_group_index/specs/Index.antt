@@ -12,7 +12,7 @@ use Rattle.sas_core.specs.Variables.{FactExists, range_of}
 use Rattle.sas_lists.specs.declared.by_key.Entry.{Entry}
 use Rattle.sas_meaning.specs.Steps.{preconditions, old_fact}
 use Rattle.sas_group_index.specs.declared.index.Index.{Index}
-use Rattle.sas_group_index.specs.Distinct.{AreDistinct}
+use Rattle.sas_group_index.specs.Distinct.{AreOwnLists}
 use Rattle.sas_group_index.specs.Runs.{AreRunsOf}
 use Rattle.sas_group_index.specs.ByVariable.{AreByVariable}
 
@@ -86,7 +86,7 @@ pub record IsIndexOf (p : Parts) (index : Index) : Type 0 where
   pub ascending : (fact : Fact) → IsNonDecreasing (groups_of index fact)
   pub operators : (fact : Fact) → FactExists p.variables fact
       → (operator : ℕ) → Contains (operators_of index fact) operator ↔ MentionsFact p operator fact
-  pub facts : AreDistinct p index.own_facts
+  pub facts : AreOwnLists p index.own_facts
   pub runs : AreRunsOf p index.own_facts index.runs
   pub effects : AreByVariable p index.effects
 

@@ -2,7 +2,7 @@
 ghost use Rattle.std.specs.Prelude.{◌≡◌, ◌<◌, ◌≤◌, ◌^◌, ◌++◌, [], ◌∷◌, ℕ, length, IfOk, OnOk, All};
 ghost use Rattle.sas_core.specs.declared.parts.Fact.{Fact};
 ghost use Rattle.sas_core.specs.Grounded.{operator_at, effect_at};
-ghost use Rattle.sas_group_index.specs.Distinct.{AreDistinct};
+ghost use Rattle.sas_group_index.specs.Distinct.{AreOwnLists};
 ghost use Rattle.sas_group_index.specs.Index.{AreFirstNumbers, facts_below, HasFact, MentionsFact, AreByFact};
 ghost use Rattle.sas_group_index.specs.Index.{entries_of, facts_of_effect, facts_of_operator};
 
@@ -21,7 +21,7 @@ pub fn groups_by_fact<T: Grounded>(
     firsts: &[usize],
     facts: usize,
 ) -> Result<Lists<u32>, AllocError>
-    requires own { AreDistinct task.now own.now }
+    requires own { AreOwnLists task.now own.now }
     requires firsts { AreFirstNumbers task.now firsts.now }
     requires low { All (λ (first : ℕ). first ≤ 2 ^ 62) firsts.now }
     requires all { facts ≡ facts_below task.now (length task.now.variables) }

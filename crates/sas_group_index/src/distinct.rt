@@ -1,6 +1,6 @@
 // The facts of each group, each once.
-ghost use Rattle.std.specs.Prelude.{◌≡◌, ◌<◌, length, IfOk};
-ghost use Rattle.sas_group_index.specs.Distinct.{facts_at, own_or, HaveSame, AreDistinct};
+ghost use Rattle.std.specs.Prelude.{◌≡◌, ◌<◌, length, IsTrue, IfOk};
+ghost use Rattle.sas_group_index.specs.Distinct.{facts_at, own_or, AreDistinct, AreOwnLists, IsBelow};
 
 use sas_core::{Fact, Grounded};
 use sas_lists::Lists;
@@ -28,7 +28,7 @@ pub fn facts_of<'a, T: Grounded>(
 /// Returns a list of its own for each group of the task. It is empty if the group lists its facts in ascending order, each
 /// once.
 pub fn own_lists<T: Grounded>(alloc: Global, task: &Layered<T>) -> Result<Lists<Fact>, AllocError>
-    ensures { IfOk result (λ own. AreDistinct task.now own) }
+    ensures { IfOk result (λ own. AreOwnLists task.now own) }
 {
     // By its contract the task is well ranged.
     let _ = task.task();
@@ -41,7 +41,7 @@ pub fn own_lists<T: Grounded>(alloc: Global, task: &Layered<T>) -> Result<Lists<
 
 /// Returns the facts in ascending order, each once, or none if they are listed so.
 fn own_list(alloc: Global, facts: &[Fact]) -> Result<Vec<Fact>, AllocError>
-    ensures { IfOk result (λ own. HaveSame (own_or own.items facts.now) facts.now) }
+    ensures { IfOk result (λ own. AreDistinct (own_or own.items facts.now) facts.now) }
 {
     let mut own = Vec::new(alloc);
     if is_ascending(facts) {
@@ -53,12 +53,21 @@ fn own_list(alloc: Global, facts: &[Fact]) -> Result<Vec<Fact>, AllocError>
     Ok(own)
 }
 
-/// Returns whether each of the facts is above the one before it.
-fn is_ascending(facts: &[Fact]) -> bool {
+/// Returns whether each of the facts is below the next one.
+fn is_ascending(facts: &[Fact]) -> bool
+    ensures { IsTrue result → AreDistinct facts.now facts.now }
+{
     for place in 1..facts.len() {
-        if facts[place - 1] >= facts[place] {
+        if !is_below(facts[place - 1], facts[place]) {
             return false;
         }
     }
     true
+}
+
+/// Returns whether the fact is on a lower variable than the other, or on the same one and has a lower value.
+fn is_below(fact: Fact, other: Fact) -> bool
+    ensures { IsTrue result → IsBelow fact other }
+{
+    fact.var < other.var || (fact.var == other.var && fact.value < other.value)
 }

@@ -1,7 +1,7 @@
 // The facts of a group, each once, that are in a row on one variable.
 ghost use Rattle.std.specs.Prelude.{◌≡◌, ℕ, ◌<◌, ◌≤◌, ◌^◌, length, take, All, IfOk, slice_index_or};
 ghost use Rattle.sas_core.specs.declared.parts.Fact.{Fact};
-ghost use Rattle.sas_group_index.specs.Distinct.{AreDistinct};
+ghost use Rattle.sas_group_index.specs.Distinct.{AreOwnLists};
 ghost use Rattle.sas_group_index.specs.Runs.{AreRuns, AreRunsOf};
 
 use crate::distinct::facts_of;
@@ -17,7 +17,7 @@ pub fn runs_of_groups<T: Grounded>(
     task: &Layered<T>,
     own: &Lists<Fact>,
 ) -> Result<Items<Items<u32>>, AllocError>
-    requires { AreDistinct task.now own.now }
+    requires { AreOwnLists task.now own.now }
     ensures { IfOk result (λ runs. AreRunsOf task.now own.now runs) }
 {
     // By its contract the task is well ranged.

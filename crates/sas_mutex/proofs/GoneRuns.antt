@@ -17,7 +17,7 @@ use Rattle.sas_mutex.specs.Effects.{IsKept}
 use Rattle.sas_group_index.specs.Index.{IsIndexOf}
 use Rattle.sas_mutex.specs.Marks.{value_note}
 use Rattle.sas_mutex.specs.Noting.{AreKnown, IsUnknown, IsDecidedByFirst}
-use Rattle.sas_group_index.specs.Distinct.{HaveSame}
+use Rattle.sas_group_index.specs.Distinct.{AreDistinct}
 use Rattle.sas_group_index.specs.Runs.{AreOnOne, AreRuns}
 use Rattle.sas_mutex.proofs.TaskFacts.{variable_below}
 use Rattle.sas_mutex.proofs.NotesOfFacts.{a_note, value_note_tells}
@@ -53,7 +53,7 @@ pub record SuchBefore (Such : Fact → Type 0) (group left : List Fact) (runs : 
   pub fall : AreRuns left runs
 
 -- at first, and when none is left
-pub such_none : (Such : Fact → Type 0) (group left : List Fact) (runs : List ℕ) → HaveSame left group → AreRuns left runs → SuchBefore Such group left runs
+pub such_none : (Such : Fact → Type 0) (group left : List Fact) (runs : List ℕ) → AreDistinct left group → AreRuns left runs → SuchBefore Such group left runs
 such_none Such group left runs have fall = record {
   before = [];
   only = λ f. (have.same f).0;

@@ -12,7 +12,7 @@ use Rattle.sas_mutex.specs.Effects.{IsKept}
 use Rattle.sas_mutex.specs.declared.marks.Noted.TheVariants.{One}
 use Rattle.sas_mutex.specs.Marks.{group_note}
 use Rattle.sas_mutex.specs.Noting.{IsUnknown}
-use Rattle.sas_group_index.specs.Distinct.{facts_at, HaveSame}
+use Rattle.sas_group_index.specs.Distinct.{facts_at, AreDistinct}
 use Rattle.sas_group_index.specs.Runs.{AreRuns}
 use Rattle.sas_group_index.proofs.Entering.{group_fact_exists}
 use Rattle.sas_mutex.proofs.GoneRuns.{SuchBefore, such_none, such_all, next_within, next_on_one, next_too, such_more}
@@ -59,11 +59,11 @@ loop-length-init g c =
     get_or_default runs c.args.group [] here below ∙ (ap (λ (lists : List (List ℕ)). get_or lists c.args.group here) (sym c.as_slice-2.ensures)
     ∙ (sym c.index-as_slice-group.is ∙ sym c.as_slice-length-items.ensures)) in
     let own = c.self.inside.index.now.own_facts in
-    let facts = c.self.invariant.1.facts.have c.args.group group.exists in
+    let facts = c.self.invariant.1.facts.are c.args.group group.exists in
     let fall : AreRuns (facts_at p own c.args.group) c.as_slice-length-items.result.now = subst (AreRuns (facts_at p own c.args.group)) same (all.are c.args.group group.exists) in
     let left : facts_at p own c.args.group ≡ c.facts_of-left.result.now = sym c.facts_of-left.ensures in
     rw (← c.self.view_is) (such_none (IsGone (IsKept p c.args.kept.now) o (effect_at o c.self.inside.effect)) (group_at p c.args.group) c.facts_of-left.result.now c.as_slice-length-items.result.now
-    (subst (λ (fs : List Fact). HaveSame fs (group_at p c.args.group)) left facts)
+    (subst (λ (fs : List Fact). AreDistinct fs (group_at p c.args.group)) left facts)
     (subst (λ (fs : List Fact). AreRuns fs c.as_slice-length-items.result.now) left fall))
 
 pub split_at-requires : goal.split_at-requires
