@@ -9,9 +9,8 @@ from axioms import text_of
 from families import line_of
 from large import over_input, task_with
 
-# how often a group lists a fact, or two by turns, and how many operators there are beside it; few, as the square is taken of the
-# first, and the cube of the second
-LISTED, BY_TURNS = 4000, 1000
+# how many facts a group lists, and how many operators there are beside it
+LISTED = 120_000
 # how many effects an operator has that set a fact of one group; few, as the cube is taken
 CONDITIONAL = 400
 # how many groups share a fact, with an operator each; few, as the square is taken
@@ -45,14 +44,19 @@ def setting(var, value=0):
 
 
 def listed_cases():
-    """One group that lists facts very often. Each operator sets a fact of it, and removes all others. They could show a program
-    that at each effect goes through the facts as they are listed."""
+    """One group that lists one fact very often, or two by turns, or facts of two variables by turns. Each operator sets a fact of
+    it, and removes all others. They could show a program that at each effect goes through the facts as they are listed."""
     often = [(0, 0)] * LISTED + [(1, 0)]
     swap = "go", [], [([], 0, 1, 0), setting(1, 1)], 1
     yield groups_case("a fact listed many times", facts_task(2, groups=[often], operators=[swap] * LISTED), ["Exclusive"])
-    turns = [(0, 0), (1, 0)] * (BY_TURNS // 2) + [(2, 0)]
+    turns = [(0, 0), (1, 0)] * (LISTED // 2) + [(2, 0)]
     swap = "go", [], [setting(0, 1), setting(1, 1), setting(2)], 1
-    yield groups_case("two facts listed by turns", facts_task(3, groups=[turns], operators=[swap] * BY_TURNS), ["Exclusive"])
+    yield groups_case("two facts listed by turns", facts_task(3, groups=[turns], operators=[swap] * LISTED), ["Exclusive"])
+    values = LISTED // 2
+    turns = [(var, value) for value in range(values) for var in range(2)]
+    chosen = [("go", [(1, values)], [setting(0, value)], 1) for value in range(values)]
+    task = task_with([values + 1] * 2, defaults=[values] * 2, groups=[turns], operators=chosen)
+    yield groups_case("two variables listed by turns", task, ["Exclusive"])
 
 
 def conditional_cases():

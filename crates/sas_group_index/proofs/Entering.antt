@@ -15,6 +15,7 @@ use Rattle.sas_lists.specs.declared.by_key.Entry.{Entry}
 use Rattle.sas_lists.specs.ByKey.{by_key}
 use Rattle.sas_lists.proofs.ByKey.{under_holds, under_ascends}
 use Rattle.sas_meaning.proofs.Forced.{fact_within}
+use Rattle.sas_group_index.specs.Distinct.{facts_at, AreOwnLists}
 use Rattle.sas_group_index.specs.Index.{facts_below, number, entries_of, AreFirstNumbers, AreByFact, HasFact, under}
 use Rattle.sas_group_index.proofs.Lists.{in_map, from_map}
 use Rattle.sas_group_index.proofs.Numbering.{number_low, one_number}
@@ -32,12 +33,19 @@ on_numbered p firsts facts one_each each = subst (λ (n : ℕ). All (λ (f : Fac
     (All-weaker (FactExists p.variables) (λ (f : Fact). f.var < length p.variables) (λ f exists. fact_within p f.var f.value exists) facts
     (All-from_recursion (FactExists p.variables) facts each))
 
--- and so are those of groups
-pub group_numbered : (p : Parts) (firsts : List ℕ) (group : ℕ) → WellRanged p → length firsts ≡ length p.variables → group < length p.groups
-    → All (λ (f : Fact). f.var < length firsts) (group_at p group)
-group_numbered p firsts group ranged one_each lt =
-    let listed : Listed (FactExists p.variables) (group_at p group) = holds_at (Listed (FactExists p.variables)) [] p.groups ranged.groups.each group lt in
-    on_numbered p firsts (group_at p group) one_each listed.each
+-- the facts of a group, each once
+module _ (p : Parts) (own : List (List Fact)) (ranged : WellRanged p) (distinct : AreOwnLists p own) where
+  pub own_fact_exists : (group : ℕ) (fact : Fact) → group < length p.groups → Contains (facts_at p own group) fact → FactExists p.variables fact
+  own_fact_exists group fact lt there = group_fact_exists p group fact ranged lt (((distinct.are group lt).same fact).0 there)
+
+  -- they are on variables that have a first number
+  pub group_numbered : (firsts : List ℕ) (group : ℕ) → length firsts ≡ length p.variables → group < length p.groups
+      → All (λ (f : Fact). f.var < length firsts) (facts_at p own group)
+  group_numbered firsts group one_each lt k d within =
+      let facts = facts_at p own group in
+      let fact = get_or facts k d in
+      let below = fact_within p fact.var fact.value (own_fact_exists group fact lt (Contains-get_or facts k d within)) in
+      omega arith
 
 -- entries of higher items come behind the others
 ascends_append : (k : ℕ) (entries more : List (Entry ℕ)) → IsNonDecreasingBy (λ (e : Entry ℕ). e.item) entries → ((e : Entry ℕ) → Contains entries e → e.item < k)
@@ -124,8 +132,12 @@ entered_by_fact p firsts facts_of n entries Has are exist has up = record {
     holds fact place = under_holds entries (facts_below p (length p.variables)) (number firsts fact) place (entered_low p firsts facts_of n entries are exist up)
 
 -- the facts of the groups
-pub group_facts_exist : (p : Parts) → WellRanged p → AllExist p (group_at p) (length p.groups)
-group_facts_exist p ranged group f lt there = group_fact_exists p group f ranged lt there
+pub group_facts_exist : (p : Parts) (own : List (List Fact)) → WellRanged p → AreOwnLists p own → AllExist p (facts_at p own) (length p.groups)
+group_facts_exist p own ranged distinct group f lt there = own_fact_exists p own ranged distinct group f lt there
 
-pub group_has : (p : Parts) (group : ℕ) (f : Fact) → HasFact p group f ↔ ((group < length p.groups) × Contains (group_at p group) f)
-group_has p group f = ((λ has. (has.exists, has.among)), (λ h. record { exists = h.0; among = h.1 }))
+pub group_has : (p : Parts) (own : List (List Fact)) → AreOwnLists p own → (group : ℕ) (f : Fact)
+    → HasFact p group f ↔ ((group < length p.groups) × Contains (facts_at p own group) f)
+group_has p own distinct group f = (
+  (λ has. (has.exists, ((distinct.are group has.exists).same f).1 has.among)),
+  (λ h. record { exists = h.0; among = ((distinct.are group h.0).same f).0 h.1 }),
+)

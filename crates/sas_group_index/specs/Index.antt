@@ -12,6 +12,7 @@ use Rattle.sas_core.specs.Variables.{FactExists, range_of}
 use Rattle.sas_lists.specs.declared.by_key.Entry.{Entry}
 use Rattle.sas_meaning.specs.Steps.{preconditions, old_fact}
 use Rattle.sas_group_index.specs.declared.index.Index.{Index}
+use Rattle.sas_group_index.specs.Distinct.{AreOwnLists}
 use Rattle.sas_group_index.specs.Runs.{AreRunsOf}
 use Rattle.sas_group_index.specs.ByVariable.{AreByVariable}
 
@@ -74,8 +75,9 @@ pub record AreByFact (p : Parts) (firsts : List ℕ) (Has : ℕ → Fact → Typ
       → (place : ℕ) → Contains (under lists (number firsts fact)) place ↔ Has place fact
   pub ascending : (key : ℕ) → IsNonDecreasing (under lists key)
 
--- for each fact of the task, the groups that have it and the operators that mention it; how the facts
--- of each group fall into runs on one variable; and the effects of large operators by variable
+-- for each fact of the task, the groups that have it and the operators that mention it; the facts of
+-- each group, each once, and how they fall into runs on one variable; and the effects of large
+-- operators by variable
 pub record IsIndexOf (p : Parts) (index : Index) : Type 0 where
   pub firsts : AreFirstNumbers p index.firsts.items
   pub low : All (λ (first : ℕ). first ≤ 2 ^ 62) index.firsts.items
@@ -84,7 +86,8 @@ pub record IsIndexOf (p : Parts) (index : Index) : Type 0 where
   pub ascending : (fact : Fact) → IsNonDecreasing (groups_of index fact)
   pub operators : (fact : Fact) → FactExists p.variables fact
       → (operator : ℕ) → Contains (operators_of index fact) operator ↔ MentionsFact p operator fact
-  pub runs : AreRunsOf p index.runs
+  pub facts : AreOwnLists p index.own_facts
+  pub runs : AreRunsOf p index.own_facts index.runs
   pub effects : AreByVariable p index.effects
 
 -- an entry of the item for each of the facts, under the fact's number

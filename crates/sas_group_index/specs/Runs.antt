@@ -1,8 +1,8 @@
--- Facts of a group that are in a row on one variable.
+-- The facts of a group, each once, that are in a row on one variable.
 use Rattle.std.specs.Prelude.{◌≡◌, ℕ, ◌<◌, ◌≤◌, List, [], ◌∷◌, length, take, drop, All, slice_index_or}
 use Rattle.sas_core.specs.declared.parts.Fact.{Fact}
 use Rattle.sas_core.specs.declared.parts.Parts.{Parts}
-use Rattle.sas_core.specs.Grounded.{group_at}
+use Rattle.sas_group_index.specs.Distinct.{facts_at}
 
 -- the facts are on one variable
 abbrev pub AreOnOne : List Fact → Type 0
@@ -19,7 +19,8 @@ AreRuns facts (n ∷ runs) = (n ≤ length facts)
 abbrev pub runs_at : List (List ℕ) → ℕ → List ℕ
 runs_at runs place = slice_index_or runs place []
 
--- the same for all groups of the task
-pub record AreRunsOf (p : Parts) (runs : List (List ℕ)) : Type 0 where
+-- the same for all groups of the task, where these are their own lists
+pub record AreRunsOf (p : Parts) (own : List (List Fact)) (runs : List (List ℕ)) : Type 0 where
   pub one_each : length runs ≡ length p.groups
-  pub are : (place : ℕ) → place < length p.groups → AreRuns (group_at p place) (runs_at runs place)
+  pub are : (place : ℕ) → place < length p.groups
+      → AreRuns (facts_at p own place) (runs_at runs place)

@@ -2,21 +2,26 @@
 ghost use Rattle.std.specs.Prelude.{◌≡◌, ◌<◌, ◌≤◌, ◌^◌, ◌++◌, [], ◌∷◌, ℕ, length, IfOk, OnOk, All};
 ghost use Rattle.sas_core.specs.declared.parts.Fact.{Fact};
 ghost use Rattle.sas_core.specs.Grounded.{operator_at, effect_at};
+ghost use Rattle.sas_group_index.specs.Distinct.{AreOwnLists};
 ghost use Rattle.sas_group_index.specs.Index.{AreFirstNumbers, facts_below, HasFact, MentionsFact, AreByFact};
 ghost use Rattle.sas_group_index.specs.Index.{entries_of, facts_of_effect, facts_of_operator};
 
+use crate::distinct::facts_of;
 use sas_core::{Fact, Grounded};
 use sas_lists::{Entry, Lists};
 use sas_meaning::Layered;
 use std::alloc::{AllocError, Global};
 
-/// Returns, under the number of each fact, the groups of the task that have it. `facts` is the number of all facts.
+/// Returns, under the number of each fact, the groups of the task that have it, each once. `own` has the groups' own lists.
+/// `facts` is the number of all facts.
 pub fn groups_by_fact<T: Grounded>(
     alloc: Global,
     task: &Layered<T>,
+    own: &Lists<Fact>,
     firsts: &[usize],
     facts: usize,
 ) -> Result<Lists<u32>, AllocError>
+    requires own { AreOwnLists task.now own.now }
     requires firsts { AreFirstNumbers task.now firsts.now }
     requires low { All (λ (first : ℕ). first ≤ 2 ^ 62) firsts.now }
     requires all { facts ≡ facts_below task.now (length task.now.variables) }
@@ -27,7 +32,7 @@ pub fn groups_by_fact<T: Grounded>(
     let _ = task.task();
     let mut entries = Vec::new(alloc);
     for group in 0..task.groups() {
-        enter_facts(firsts, group, task.group(group), &mut entries)?;
+        enter_facts(firsts, group, facts_of(task, own, group), &mut entries)?;
     }
     Lists::by_key(alloc, entries.as_slice(), facts)
 }

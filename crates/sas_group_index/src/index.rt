@@ -3,10 +3,12 @@ ghost use Rattle.std.specs.Prelude.{◌≡◌, ◌<◌, ◌≤◌, ◌^◌, ◌�
 ghost use Rattle.std.specs.List.Sorted.{IsNonDecreasing};
 ghost use Rattle.sas_group_index.specs.Index as spec;
 ghost use Rattle.sas_group_index.specs.ByVariable.{AreOn};
+ghost use Rattle.sas_group_index.specs.Distinct.{facts_at};
 ghost use Rattle.sas_group_index.specs.Index.{under, number, IsIndexOf, AreFirstNumbers, facts_below};
 
 use crate::by_fact::{groups_by_fact, operators_by_fact};
 use crate::by_variable::{FEW_EFFECTS, effects_by_variable, place_of};
+use crate::distinct::{facts_of, own_lists};
 use crate::runs::runs_of_groups;
 use sas_core::{Fact, Grounded, Items};
 use sas_lists::Lists;
@@ -27,6 +29,8 @@ pub struct Index {
     /// The operators under the number of each fact that they mention. One that mentions a fact several times may be there as
     /// often.
     pub operators: Lists<u32>,
+    /// For each group its facts in ascending order, each once, or none if the group lists them so.
+    pub own_facts: Lists<Fact>,
     /// For each group, the lengths of its runs, each of facts in a row on one variable.
     pub runs: Items<Items<u32>>,
     /// The effects of large operators under the places of the operator and the variable.
@@ -40,14 +44,16 @@ impl Index {
     {
         let mut firsts = Vec::with_capacity(alloc, task.variables() as usize)?;
         let facts = number_facts(task, &mut firsts)?;
-        let groups = groups_by_fact(alloc, task, firsts.as_slice(), facts)?;
+        let own_facts = own_lists(alloc, task)?;
+        let groups = groups_by_fact(alloc, task, &own_facts, firsts.as_slice(), facts)?;
         let operators = operators_by_fact(alloc, task, firsts.as_slice(), facts)?;
         let effects = effects_by_variable(alloc, task)?;
-        let runs = runs_of_groups(alloc, task)?;
+        let runs = runs_of_groups(alloc, task, &own_facts)?;
         Ok(Index {
             firsts,
             groups,
             operators,
+            own_facts,
             runs,
             effects,
         })
@@ -59,6 +65,15 @@ impl Index {
         ensures { result.now ≡ spec.groups_of self.now fact }
     {
         under(&self.groups, self.number_of(fact))
+    }
+
+    /// Returns the facts of the group, each once.
+    pub fn facts_of<'a, T: Grounded>(&'a self, task: &'a Layered<T>, group: u32) -> &'a [Fact]
+        requires index { IsIndexOf task.now self.now }
+        requires group { group < length task.now.groups }
+        ensures { result.now ≡ facts_at task.now self.now.own_facts group }
+    {
+        facts_of(task, &self.own_facts, group)
     }
 
     /// Returns the operators that mention the fact, as a precondition or as a condition of an effect.

@@ -4,6 +4,7 @@
 
 mod by_fact;
 mod by_variable;
+mod distinct;
 mod index;
 mod runs;
 

@@ -1,24 +1,30 @@
-// Facts of a group that are in a row on one variable.
+// The facts of a group, each once, that are in a row on one variable.
 ghost use Rattle.std.specs.Prelude.{◌≡◌, ℕ, ◌<◌, ◌≤◌, ◌^◌, length, take, All, IfOk, slice_index_or};
 ghost use Rattle.sas_core.specs.declared.parts.Fact.{Fact};
+ghost use Rattle.sas_group_index.specs.Distinct.{AreOwnLists};
 ghost use Rattle.sas_group_index.specs.Runs.{AreRuns, AreRunsOf};
 
+use crate::distinct::facts_of;
 use sas_core::{Fact, Grounded, Items};
+use sas_lists::Lists;
 use sas_meaning::Layered;
 use std::alloc::{AllocError, Global};
 
-/// Returns, for each group of the task, the lengths of its runs, each of facts in a row on one variable.
+/// Returns, for each group of the task, the lengths of its runs, each of facts in a row on one variable. `own` has the groups'
+/// own lists.
 pub fn runs_of_groups<T: Grounded>(
     alloc: Global,
     task: &Layered<T>,
+    own: &Lists<Fact>,
 ) -> Result<Items<Items<u32>>, AllocError>
-    ensures { IfOk result (λ runs. AreRunsOf task.now runs) }
+    requires { AreOwnLists task.now own.now }
+    ensures { IfOk result (λ runs. AreRunsOf task.now own.now runs) }
 {
     // By its contract the task is well ranged.
     let _ = task.task();
     let mut runs = Items::from_vec(Vec::with_capacity(alloc, task.groups() as usize)?);
     for group in 0..task.groups() {
-        runs.push(runs_in(alloc, task.group(group))?)?;
+        runs.push(runs_in(alloc, facts_of(task, own, group))?)?;
     }
     Ok(runs)
 }

@@ -3,7 +3,7 @@ use Rattle.std.proofs.Common.{◌≡◌, ℕ, ◌+◌, ◌<◌, ◌≤◌, lengt
 use Rattle.std.specs.List.{All, Contains}
 use Rattle.std.proofs.lemmas.Bool.{cases_eq}
 use Rattle.std.proofs.lemmas.List.{take-append-drop, drop_more}
-use Rattle.std.proofs.lemmas.List.Elements.{All-nil, All-append, Contains-append_left, Contains-append_right, Contains-get_or}
+use Rattle.std.proofs.lemmas.List.Elements.{All-nil, All-append, All-contains, Contains-append_left, Contains-append_right, Contains-get_or}
 use Rattle.sas_core.specs.declared.parts.Fact.{Fact}
 use Rattle.sas_core.specs.declared.parts.Effect.{Effect}
 use Rattle.sas_core.specs.declared.parts.Operator.{Operator}
@@ -17,6 +17,7 @@ use Rattle.sas_mutex.specs.Effects.{IsKept}
 use Rattle.sas_group_index.specs.Index.{IsIndexOf}
 use Rattle.sas_mutex.specs.Marks.{value_note}
 use Rattle.sas_mutex.specs.Noting.{AreKnown, IsUnknown, IsDecidedByFirst}
+use Rattle.sas_group_index.specs.Distinct.{AreDistinct}
 use Rattle.sas_group_index.specs.Runs.{AreOnOne, AreRuns}
 use Rattle.sas_mutex.proofs.TaskFacts.{variable_below}
 use Rattle.sas_mutex.proofs.NotesOfFacts.{a_note, value_note_tells}
@@ -43,29 +44,31 @@ settled_are_gone p index kept marks o e run indexed are exist (var, on_it) unkno
       ]
     ]
 
--- the facts before those that are left are such; those that are left fall into these runs
-pub record SuchBefore (Such : Fact → Type 0) (facts left : List Fact) (runs : List ℕ) : Type 0 where
+-- the facts of the group before those that are left are such; those that are left fall into these runs
+pub record SuchBefore (Such : Fact → Type 0) (group left : List Fact) (runs : List ℕ) : Type 0 where
   pub before : List Fact
-  pub all : facts ≡ before ++ left
+  pub only : (f : Fact) → Contains (before ++ left) f → Contains group f
+  pub all : (f : Fact) → Contains group f → Contains (before ++ left) f
   pub such : All Such before
   pub fall : AreRuns left runs
 
 -- at first, and when none is left
-pub such_none : (Such : Fact → Type 0) (facts left : List Fact) (runs : List ℕ) → left ≡ facts → AreRuns facts runs → SuchBefore Such facts left runs
-such_none Such facts left runs is fall = record {
+pub such_none : (Such : Fact → Type 0) (group left : List Fact) (runs : List ℕ) → AreDistinct left group → AreRuns left runs → SuchBefore Such group left runs
+such_none Such group left runs have fall = record {
   before = [];
-  all = sym is;
+  only = λ f. (have.same f).0;
+  all = λ f. (have.same f).1;
   such = All-nil Such;
-  fall = subst (λ (fs : List Fact). AreRuns fs runs) (sym is) fall;
+  fall = fall;
 }
 
-pub such_all : (Such : Fact → Type 0) (facts left : List Fact) → SuchBefore Such facts left [] → All Such facts
-such_all Such facts left so_far =
-    subst (All Such) (sym (so_far.all ∙ (ap (λ (xs : List Fact). so_far.before ++ xs) so_far.fall ∙ append-nil so_far.before))) so_far.such
+pub such_all : (Such : Fact → Type 0) (group left : List Fact) → SuchBefore Such group left [] → (f : Fact) → Contains group f → Such f
+such_all Such group left so_far f there = All-contains Such so_far.before f so_far.such
+    (subst (λ (fs : List Fact). Contains fs f) (ap (λ (xs : List Fact). so_far.before ++ xs) so_far.fall ∙ append-nil so_far.before) (so_far.all f there))
 
 -- the next run, and one run more that is such
-module _ (Such : Fact → Type 0) (facts left : List Fact) (runs : List ℕ) (place : ℕ) (below : place < length runs)
-    (so_far : SuchBefore Such facts left (drop place runs)) where
+module _ (Such : Fact → Type 0) (group left : List Fact) (runs : List ℕ) (place : ℕ) (below : place < length runs)
+    (so_far : SuchBefore Such group left (drop place runs)) where
   abbrev next : List Fact
   next = take (get_or runs place 0) left
 
@@ -78,20 +81,23 @@ module _ (Such : Fact → Type 0) (facts left : List Fact) (runs : List ℕ) (pl
   pub next_on_one : (run : List Fact) → run ≡ next → AreOnOne run
   next_on_one run is = subst AreOnOne (sym is) falls.1
 
-  next_among : (f : Fact) → Contains next f → Contains facts f
-  next_among f there = subst (λ (fs : List Fact). Contains fs f) (sym so_far.all)
+  next_among : (f : Fact) → Contains next f → Contains group f
+  next_among f there = so_far.only f
       (Contains-append_right so_far.before left f (subst (λ (fs : List Fact). Contains fs f) (take-append-drop (get_or runs place 0) left)
       (Contains-append_left next (drop (get_or runs place 0) left) f there)))
 
-  -- what all the facts have, those of the next run have
-  pub next_too : (P : Fact → Type 0) (run : List Fact) → run ≡ next → ((f : Fact) → Contains facts f → P f) → All P run
+  -- what all facts of the group have, those of the next run have
+  pub next_too : (P : Fact → Type 0) (run : List Fact) → run ≡ next → ((f : Fact) → Contains group f → P f) → All P run
   next_too P run is all = subst (All P) (sym is) (λ k d lt. all (get_or next k d) (next_among (get_or next k d) (Contains-get_or next k d lt)))
 
-  pub such_more : (run rest : List Fact) → run ≡ next → rest ≡ drop (get_or runs place 0) left → All Such run → SuchBefore Such facts rest (drop (place + 1) runs)
-  such_more run rest is is_rest here = subst (λ (fs : List Fact). SuchBefore Such facts fs (drop (place + 1) runs)) (sym is_rest) record {
+  whole : (so_far.before ++ next) ++ drop (get_or runs place 0) left ≡ so_far.before ++ left
+  whole = append_assoc so_far.before next (drop (get_or runs place 0) left) ∙ ap (λ (fs : List Fact). so_far.before ++ fs) (take-append-drop (get_or runs place 0) left)
+
+  pub such_more : (run rest : List Fact) → run ≡ next → rest ≡ drop (get_or runs place 0) left → All Such run → SuchBefore Such group rest (drop (place + 1) runs)
+  such_more run rest is is_rest here = subst (λ (fs : List Fact). SuchBefore Such group fs (drop (place + 1) runs)) (sym is_rest) record {
     before = so_far.before ++ next;
-    all = so_far.all ∙ (ap (λ (fs : List Fact). so_far.before ++ fs) (sym (take-append-drop (get_or runs place 0) left))
-        ∙ sym (append_assoc so_far.before next (drop (get_or runs place 0) left)));
+    only = λ f there. so_far.only f (subst (λ (fs : List Fact). Contains fs f) whole there);
+    all = λ f there. subst (λ (fs : List Fact). Contains fs f) (sym whole) (so_far.all f there);
     such = All-append Such so_far.before next so_far.such (subst (All Such) is here);
     fall = falls.2;
   }

@@ -239,7 +239,7 @@ impl<'a, 'b, T: Grounded> Firing<'a, 'b, T> {
         if let Some(fact) = marks.groups.as_slice()[group as usize].only() {
             return self.is_gone(kept, fact, marks);
         }
-        let mut left = self.task.group(group);
+        let mut left = self.index.facts_of(self.task, group);
         for length in self.index.runs.as_slice()[group as usize].as_slice() {
             let (run, rest) = left.split_at(*length as usize);
             if !self.run_is_gone(kept, run, marks) {

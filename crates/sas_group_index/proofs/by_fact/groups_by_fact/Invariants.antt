@@ -1,7 +1,7 @@
 -- The entries of the first groups.
-use Rattle.sas_core.specs.Grounded.{group_at}
+use Rattle.sas_group_index.specs.Distinct.{facts_at}
 use Rattle.sas_group_index.proofs.Entering.{EnteredUpTo}
 use Rattle.sas_group_index.proofs.by_fact.groups_by_fact.Given as goal
 
 abbrev pub invariant-loop-group : goal.invariant-loop-group
-invariant-loop-group g l = EnteredUpTo l.firsts (group_at l.task) l.group l.entries.items
+invariant-loop-group g l = EnteredUpTo l.firsts (facts_at l.task l.own) l.group l.entries.items

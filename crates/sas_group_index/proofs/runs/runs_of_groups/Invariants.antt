@@ -1,11 +1,11 @@
 -- The runs of the groups so far.
 use Rattle.std.proofs.Common.{◌≡◌, ℕ, ◌<◌, length}
-use Rattle.sas_core.specs.Grounded.{group_at}
+use Rattle.sas_group_index.specs.Distinct.{facts_at}
 use Rattle.sas_group_index.specs.Runs.{AreRuns, runs_at}
 use Rattle.sas_group_index.proofs.runs.runs_of_groups.Given as goal
 
 abbrev pub invariant-loop-group : goal.invariant-loop-group
 invariant-loop-group g l = record {
   one_each : length l.runs ≡ l.group;
-  are : (place : ℕ) → place < l.group → AreRuns (group_at l.task place) (runs_at l.runs place);
+  are : (place : ℕ) → place < l.group → AreRuns (facts_at l.task l.own place) (runs_at l.runs place);
 }

@@ -15,6 +15,7 @@ returns g c =
       groups = groups.are;
       ascending = λ fact. groups.ascending (number firsts fact);
       operators = operators.are;
+      facts = c.in_ok-own_facts.ensures;
       runs = c.in_ok-runs.ensures;
       effects = c.in_ok-effects.ensures;
     }

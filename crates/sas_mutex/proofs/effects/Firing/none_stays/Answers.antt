@@ -1,7 +1,6 @@
 -- One more run is gone, or the fact that is known.
 use Rattle.std.proofs.Common.{◌≡◌, ◌<◌, ℕ, List, [], length, get_or, drop, sym, ap, subst, ◌∙◌, arith, refl}
 use Rattle.std.proofs.lemmas.List.{get_or_default, drop_all}
-use Rattle.std.proofs.lemmas.List.Elements.{All-contains}
 use Rattle.sas_core.specs.declared.parts.Fact.{Fact}
 use Rattle.sas_core.specs.Grounded.{operator_at, effect_at, group_at}
 use Rattle.sas_core.specs.Variables.{FactExists}
@@ -13,6 +12,7 @@ use Rattle.sas_mutex.specs.Effects.{IsKept}
 use Rattle.sas_mutex.specs.declared.marks.Noted.TheVariants.{One}
 use Rattle.sas_mutex.specs.Marks.{group_note}
 use Rattle.sas_mutex.specs.Noting.{IsUnknown}
+use Rattle.sas_group_index.specs.Distinct.{facts_at, AreDistinct}
 use Rattle.sas_group_index.specs.Runs.{AreRuns}
 use Rattle.sas_group_index.proofs.Entering.{group_fact_exists}
 use Rattle.sas_mutex.proofs.GoneRuns.{SuchBefore, such_none, such_all, next_within, next_on_one, next_too, such_more}
@@ -58,8 +58,13 @@ loop-length-init g c =
     let same : get_or runs c.args.group [] ≡ c.as_slice-length-items.result.now =
     get_or_default runs c.args.group [] here below ∙ (ap (λ (lists : List (List ℕ)). get_or lists c.args.group here) (sym c.as_slice-2.ensures)
     ∙ (sym c.index-as_slice-group.is ∙ sym c.as_slice-length-items.ensures)) in
-    rw (← c.self.view_is) (such_none (IsGone (IsKept p c.args.kept.now) o (effect_at o c.self.inside.effect)) (group_at p c.args.group) c.group-left.result.now c.as_slice-length-items.result.now c.group-left.ensures
-    (subst (AreRuns (group_at p c.args.group)) same (all.are c.args.group group.exists)))
+    let own = c.self.inside.index.now.own_facts in
+    let facts = c.self.invariant.1.facts.are c.args.group group.exists in
+    let fall : AreRuns (facts_at p own c.args.group) c.as_slice-length-items.result.now = subst (AreRuns (facts_at p own c.args.group)) same (all.are c.args.group group.exists) in
+    let left : facts_at p own c.args.group ≡ c.facts_of-left.result.now = sym c.facts_of-left.ensures in
+    rw (← c.self.view_is) (such_none (IsGone (IsKept p c.args.kept.now) o (effect_at o c.self.inside.effect)) (group_at p c.args.group) c.facts_of-left.result.now c.as_slice-length-items.result.now
+    (subst (λ (fs : List Fact). AreDistinct fs (group_at p c.args.group)) left facts)
+    (subst (λ (fs : List Fact). AreRuns fs c.as_slice-length-items.result.now) left fall))
 
 pub split_at-requires : goal.split_at-requires
 split_at-requires g c =
@@ -122,5 +127,4 @@ returns-clause-yes g c =
     let group = group_at p c.args.group in
     let items = c.as_slice-length-items.result.now in
     let end : drop c.loop-length.length-index items ≡ [] = drop_all c.loop-length.length-index items c.loop-length-test.false in
-    λ t f in_group. All-contains Gone group f
-    (such_all Gone group c.loop-length.left.now (subst (SuchBefore Gone group c.loop-length.left.now) end c.loop-length.invariant)) in_group
+    λ t f in_group. such_all Gone group c.loop-length.left.now (subst (SuchBefore Gone group c.loop-length.left.now) end c.loop-length.invariant) f in_group

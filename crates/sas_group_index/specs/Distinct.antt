@@ -1,0 +1,31 @@
+-- The facts of a group, each once.
+use Rattle.std.specs.Prelude.{◌≡◌, ◌≢◌, ℕ, ◌<◌, ◌≤◌, ◌↔◌, ◌⊎◌, List, [], ◌∷◌, length, slice_index_or, Contains}
+use Rattle.std.specs.List.{AllPairs}
+use Rattle.sas_core.specs.declared.parts.Fact.{Fact}
+use Rattle.sas_core.specs.declared.parts.Parts.{Parts}
+use Rattle.sas_core.specs.Grounded.{group_at}
+
+-- the group's own list, and where that is empty the facts as the group lists them
+unfoldable pub own_or : List Fact → List Fact → List Fact
+own_or [] listed = listed
+own_or (fact ∷ own) listed = fact ∷ own
+
+-- the facts of the group at this place, where these are the groups' own lists
+abbrev pub facts_at : Parts → List (List Fact) → ℕ → List Fact
+facts_at p own place = own_or (slice_index_or own place []) (group_at p place)
+
+-- these are the facts that are listed, each once
+pub record AreDistinct (facts listed : List Fact) : Type 0 where
+  pub short : length facts ≤ length listed
+  pub same : (fact : Fact) → Contains facts fact ↔ Contains listed fact
+  pub once : AllPairs (λ (one other : Fact). one ≢ other) facts
+
+-- the groups' own lists: each group has its facts, each once
+pub record AreOwnLists (p : Parts) (own : List (List Fact)) : Type 0 where
+  pub one_each : length own ≡ length p.groups
+  pub are : (place : ℕ) → place < length p.groups
+      → AreDistinct (facts_at p own place) (group_at p place)
+
+-- the fact is on a lower variable, or on the same one and has a lower value
+abbrev pub IsBelow : Fact → Fact → Type 0
+IsBelow fact other = (fact.var < other.var) ⊎ ((fact.var ≡ other.var) × (fact.value < other.value))
