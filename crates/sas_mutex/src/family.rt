@@ -247,7 +247,7 @@ fn look_once<T: Grounded>(
     // By its contract the task is well ranged, so the number of its groups fits in a `u32`.
     let _ = indexed.task.task();
     let fallen = family.fallen.len() as u32;
-    marks.deciding.set(NO_GROUP);
+    marks.deciding.last.set(NO_GROUP);
     if look_at(indexed, operator, family, marks) {
         looks.fallen.set(operator as usize, FOR_GOOD);
         return;
@@ -275,7 +275,7 @@ fn support_of<T: Grounded>(
 {
     // By its contract the task is well ranged, so that no group has the number `NO_GROUP`.
     let _ = indexed.task.task();
-    let guess = marks.deciding.get();
+    let guess = marks.deciding.last.get();
     if !family.has(guess) {
         return NO_GROUP;
     }
