@@ -18,7 +18,7 @@ use Rattle.sas_mutex.specs.declared.marks.Noted.TheVariants.{Nothing, One, Sever
 use Rattle.sas_mutex.specs.Effects.{family_of, IsKept}
 use Rattle.sas_group_index.specs.Index.{IsIndexOf, HasFact, groups_of}
 use Rattle.sas_mutex.specs.Marks.{value_note, group_note, IsWide, AreBlank, AreFrom, IsValueNote, IsOfGroup, IsOfGroupBeside, IsNoteOf, IsGroupNote, AreNotesOf}
-use Rattle.sas_mutex.specs.Noting.{IsNotedToo, Takes, TakenBySome, ShareKept, IsContradicted, ChangesAt, IsThere, IsNew, IsSetApart, IsSet, IsCompleted, Forgets, IsForgotten, AreKnown}
+use Rattle.sas_mutex.specs.Noting.{IsNotedToo, Takes, TakenBySome, ShareKept, ShareOne, IsContradicted, ChangesAt, IsThere, IsNew, IsSetApart, IsSet, IsCompleted, Forgets, IsForgotten, AreKnown}
 use Rattle.sas_group_index.proofs.Lists.{in_none, is_among}
 use Rattle.sas_mutex.proofs.TaskFacts.{variable_below}
 
@@ -267,6 +267,31 @@ contradicts_shares p index kept f g indexed f_exists g_exists apart (inr one) =
       second = (indexed.groups g g_exists place).1 (record { exists = in_family.exists; among = subst (λ (facts : List Fact). Contains facts g) same one.second });
       kept_there = in_family.chosen;
     }
+
+-- a group that is kept has both, by the index or by the task
+pub share_one : (p : Parts) (index : Index) (kept : List Bool) (f g : Fact) → IsIndexOf p index → FactExists p.variables f → FactExists p.variables g
+    → ShareKept index kept f g → ShareOne p kept f g
+share_one p index kept f g indexed f_exists g_exists share =
+    let first : HasFact p share.place f = (indexed.groups f f_exists share.place).0 share.first in
+    let second : HasFact p share.place g = (indexed.groups g g_exists share.place).0 share.second in
+    record {
+      place = share.place;
+      in_family = record { exists = first.exists; chosen = share.kept_there };
+      first = first.among;
+      second = second.among;
+    }
+
+pub share_kept : (p : Parts) (index : Index) (kept : List Bool) (f g : Fact) → IsIndexOf p index → FactExists p.variables f → FactExists p.variables g
+    → ShareOne p kept f g → ShareKept index kept f g
+share_kept p index kept f g indexed f_exists g_exists share = record {
+  place = share.place;
+  first = (indexed.groups f f_exists share.place).1 (record { exists = share.in_family.exists; among = share.first });
+  second = (indexed.groups g g_exists share.place).1 (record { exists = share.in_family.exists; among = share.second });
+  kept_there = share.in_family.chosen;
+}
+
+pub shared_turned : (index : Index) (kept : List Bool) (f g : Fact) → ShareKept index kept f g → ShareKept index kept g f
+shared_turned index kept f g share = record { place = share.place; first = share.second; second = share.first; kept_there = share.kept_there }
 
 -- what is noted for a group, completed by the fact apart, is what is noted of all facts
 pub completed : (p : Parts) (index : Index) (facts : List Fact) (notes : Notes) (place : ℕ) (noted : Noted) → IsIndexOf p index

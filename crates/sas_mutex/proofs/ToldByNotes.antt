@@ -22,9 +22,9 @@ use Rattle.sas_groups.proofs.GreatestFamily.{clash_more, group_of_larger}
 use Rattle.sas_mutex.specs.Effects.{family_of, IsKept, EffectKeeps}
 use Rattle.sas_group_index.specs.Index.{IsIndexOf, HasFact, groups_of}
 use Rattle.sas_mutex.specs.Marks.{value_note, group_note, IsOfGroupBeside}
-use Rattle.sas_mutex.specs.Noting.{HasOtherValue, HasNotedGroup, ShareKept, SharesApart, IsMet, Removes, SomeRemoves, AreKnown, AreGone, IsNotedFor, known_at}
+use Rattle.sas_mutex.specs.Noting.{HasOtherValue, HasNotedGroup, ShareKept, ShareOne, SharesApart, IsMet, Removes, SomeRemoves, AreKnown, AreGone, IsNotedFor, known_at}
 use Rattle.sas_mutex.proofs.TaskFacts.{variable_below}
-use Rattle.sas_mutex.proofs.NotesOfFacts.{a_note, apart_or_not, one_or_two, value_note_tells, no_value_note_tells, no_note_tells, some_note_tells, contradict_turned, not_itself, shares_contradicts, contradicts_shares}
+use Rattle.sas_mutex.proofs.NotesOfFacts.{a_note, apart_or_not, one_or_two, value_note_tells, no_value_note_tells, no_note_tells, some_note_tells, contradict_turned, not_itself, shares_contradicts, contradicts_shares, share_one, share_kept, shared_turned}
 
 module _ (p : Parts) (index : Index) (kept : List Bool) (notes : Notes) (o : Operator) (conditions : List Fact) (indexed : IsIndexOf p index)
     (are : AreKnown p kept (known o conditions []) notes) (fact : Fact) (exists : FactExists p.variables fact) where
@@ -90,16 +90,9 @@ module _ (p : Parts) (index : Index) (kept : List Bool) (notes : Notes) (o : Ope
     pub apart_clashes : SharesApart index kept fact notes.apart → Clash (IsKept p kept) with
     apart_clashes (one, is_apart, share) = shared_clashes one (are.noted.one_apart one is_apart) share
 
-    pub noted_clashes : HasNotedGroup (groups_of index fact) kept notes.groups → Clash (IsKept p kept) with
-    noted_clashes noted =
-        let has : HasFact p noted.place fact = (indexed.groups fact exists noted.place).0 noted.among in
-        let (g, beside) = some_note_tells (IsOfGroupBeside p before notes.apart noted.place) (group_note notes.groups noted.place) (are.noted.groups noted.place has.exists) noted.some in
-        shared_clashes g beside.of.among (record {
-          place = noted.place;
-          first = noted.among;
-          second = (indexed.groups g (there g beside.of.among) noted.place).1 beside.of.has;
-          kept_there = noted.kept_there;
-        })
+    pub beside_clashes : (g : Fact) → Contains before g → ShareOne p kept g fact → Clash (IsKept p kept) with
+    beside_clashes g known_g share =
+        shared_clashes g known_g (shared_turned index kept g fact (share_kept p index kept g fact indexed (there g known_g) exists share))
 
     shares_with : (g : Fact) → Contains before g → Contradict (IsKept p kept) fact g → (h : Fact) × Contains before h × ShareKept index kept fact h
     shares_with g known_g contradict = (g, known_g, contradicts_shares p index kept fact g indexed exists (there g known_g) (not_on g known_g) contradict)
@@ -117,20 +110,35 @@ module _ (p : Parts) (index : Index) (kept : List Bool) (notes : Notes) (o : Ope
       ]
     ]
 
-    -- the known one is apart, or noted for the group
-    pub apart_or_noted : (g : Fact) → Contains before g → ShareKept index kept fact g
-        → SharesApart index kept fact notes.apart ⊎ HasNotedGroup (groups_of index fact) kept notes.groups
-    apart_or_noted g known_g share = elim (apart_or_not notes.apart g) [
+    -- the known one is apart, or another
+    pub apart_or_beside : (g : Fact) → Contains before g → ShareKept index kept fact g
+        → SharesApart index kept fact notes.apart ⊎ ((h : Fact) × Contains before h × (notes.apart ≢ Some h) × ShareOne p kept h fact)
+    apart_or_beside g known_g share = elim (apart_or_not notes.apart g) [
       | inl e ↦ inl (g, e, share)
-      | inr ne ↦ inr (record {
-        place = share.place;
-        among = share.first;
-        kept_there = share.kept_there;
-        some = λ nothing. (let has : HasFact p share.place g = (indexed.groups g (there g known_g) share.place).0 share.second in
-            no_note_tells (IsOfGroupBeside p before notes.apart share.place) (group_note notes.groups share.place) (are.noted.groups share.place has.exists) nothing
-            g (record { of = record { among = known_g; has = has }; beside = ne }));
-      })
+      | inr ne ↦ inr (g, known_g, ne, share_one p index kept g fact indexed (there g known_g) exists (shared_turned index kept fact g share))
     ]
+
+  -- for a group of the fact a note is kept if it has another known fact that isn't the one apart
+  pub noted_beside : HasNotedGroup (groups_of index fact) kept notes.groups
+      → (g : Fact) × Contains before g × (notes.apart ≢ Some g) × ShareOne p kept g fact
+  noted_beside noted =
+      let has : HasFact p noted.place fact = (indexed.groups fact exists noted.place).0 noted.among in
+      let (g, beside) = some_note_tells (IsOfGroupBeside p before notes.apart noted.place) (group_note notes.groups noted.place) (are.noted.groups noted.place has.exists) noted.some in
+      (g, beside.of.among, beside.beside, record {
+        place = noted.place;
+        in_family = record { exists = has.exists; chosen = noted.kept_there };
+        first = beside.of.has.among;
+        second = has.among;
+      })
+
+  pub beside_noted : (g : Fact) → Contains before g → notes.apart ≢ Some g → ShareOne p kept g fact → HasNotedGroup (groups_of index fact) kept notes.groups
+  beside_noted g known_g ne share = record {
+    place = share.place;
+    among = (indexed.groups fact exists share.place).1 (record { exists = share.in_family.exists; among = share.second });
+    kept_there = share.in_family.chosen;
+    some = λ nothing. no_note_tells (IsOfGroupBeside p before notes.apart share.place) (group_note notes.groups share.place) (are.noted.groups share.place share.in_family.exists) nothing
+        g (record { of = record { among = known_g; has = record { exists = share.in_family.exists; among = share.first } }; beside = ne });
+  }
 
   -- a condition that exists is met if it is one of the facts that are known then
   met_is_in : (c : Fact) → FactExists p.variables c → IsMet notes fact c → Contains with c

@@ -13,6 +13,7 @@ use Rattle.sas_mutex.specs.declared.marks.Notes.{Notes}
 use Rattle.sas_mutex.specs.declared.marks.Noted.{Noted}
 use Rattle.sas_mutex.specs.declared.marks.Noted.TheVariants.{Nothing, One, Several}
 use Rattle.sas_groups.specs.Checks.{NotBoth, IsGone}
+use Rattle.sas_groups.specs.Families.{IsIn}
 use Rattle.sas_mutex.specs.Effects.{family_of, IsKept, KeepsAt, KeepsWithItself}
 use Rattle.std.specs.List.Sorted.{IsNonDecreasing}
 use Rattle.sas_group_index.specs.declared.index.Index.{Index}
@@ -35,6 +36,13 @@ pub record ShareKept (index : Index) (kept : List Bool) (f g : Fact) : Type 0 wh
   pub first : Contains (groups_of index f) place
   pub second : Contains (groups_of index g) place
   pub kept_there : IsTrue (family_of kept place)
+
+-- the same of a task
+pub record ShareOne (p : Parts) (kept : List Bool) (f g : Fact) : Type 0 where
+  pub place : ℕ
+  pub in_family : IsIn p (family_of kept) place
+  pub first : Contains (group_at p place) f
+  pub second : Contains (group_at p place) g
 
 -- a group that is kept has this fact and the one apart
 abbrev pub SharesApart : Index → List Bool → Fact → Option Fact → Type 0
@@ -247,6 +255,13 @@ ClashesAt f kept fact =
 -- one of these facts does
 abbrev pub SomeClashesAt : EffectPlace → List Bool → List Fact → Type 0
 SomeClashesAt f kept facts = (fact : Fact) × Contains facts fact × ClashesAt f kept fact
+
+-- a group of the family has this fact and a known one that isn't the one apart
+abbrev pub SharesBesideAt : EffectPlace → List Bool → Fact → Option Fact → Type 0
+SharesBesideAt f kept fact apart = (known : Fact)
+    × Contains (known_at f.task f.operator f.effect) known
+    × (apart ≢ Some known)
+    × ShareOne f.task kept known fact
 
 abbrev pub NotBothAt : EffectPlace → List Bool → ℕ → ℕ → Type 0
 NotBothAt f kept other place = NotBoth (IsKept f.task kept) (operator_of f)

@@ -11,14 +11,14 @@ ghost use Rattle.sas_mutex.specs.Firing.{operator_of, effect_of};
 ghost use Rattle.sas_mutex.specs.Marks.{IsWide, IsGroupNote, value_note};
 ghost use Rattle.sas_mutex.specs.Noting.{AreBelow, IsMet, SomeRemoves, Removes, known_at};
 ghost use Rattle.sas_mutex.specs.Noting.{IsNotedAt, KeepsGroup, KeepsGroupItself, BothClashAt, NotBothAt};
-ghost use Rattle.sas_mutex.specs.Noting.{ClashesAt, SomeClashesAt};
+ghost use Rattle.sas_mutex.specs.Noting.{ClashesAt, SomeClashesAt, SharesBesideAt};
 ghost use Rattle.sas_mutex.specs.Noting.{IsSingleAt, IsGoneAt, AreGoneAt, IsUnknownAt, IsDecidedByFirst};
 ghost use Rattle.sas_mutex.specs.Basis.{SetsNone};
 
-use crate::marks::{Marks, Noted, Notes, forget_known, has_noted, note_known, shares_apart};
+use crate::marks::{Marks, Noted, Notes, forget_known, has_noted, note_known, shares_apart, some_has};
 use sas_core::{Fact, Grounded, Items};
 use sas_group_index::Index;
-use sas_groups::Premises;
+use sas_groups::{Known, Premises};
 use sas_meaning::Layered;
 use std::marker::Model;
 
@@ -221,8 +221,46 @@ impl<'a, 'b, T: Grounded> Firing<'a, 'b, T> {
         if shares_apart(self.index, kept, fact, marks.known.apart, &marks.deciding) {
             return true;
         }
-        let noted = marks.known.groups.as_slice();
-        has_noted(self.index.groups_of(fact), kept, noted, &marks.deciding)
+        self.shares_beside(kept, fact, marks)
+    }
+
+    /// Returns whether a group of the family has the fact and a known one that isn't the one apart. Either the groups of the
+    /// fact are gone through, or those of the known ones, if they are fewer.
+    fn shares_beside(&self, kept: &[bool], fact: Fact, marks: &Marks) -> bool
+        requires notes { IsNotedAt self.now kept.now marks.now }
+        requires fact { FactExists self.now.task.variables fact }
+        ensures yes { IsTrue result → SharesBesideAt self.now kept.now fact marks.now.known.apart }
+        ensures no { IsFalse result
+            → SharesBesideAt self.now kept.now fact marks.now.known.apart → ⊥ }
+    {
+        let groups = self.index.groups_of(fact);
+        if groups.len() <= marks.known.spread {
+            let noted = marks.known.groups.as_slice();
+            return has_noted(groups, kept, noted, &marks.deciding);
+        }
+        self.known_share(kept, fact, marks)
+    }
+
+    /// Does the same by the groups of the known facts.
+    fn known_share(&self, kept: &[bool], fact: Fact, marks: &Marks) -> bool
+        requires fact { FactExists self.now.task.variables fact }
+        ensures yes { IsTrue result → SharesBesideAt self.now kept.now fact marks.now.known.apart }
+        ensures no { IsFalse result
+            → SharesBesideAt self.now kept.now fact marks.now.known.apart → ⊥ }
+    {
+        let premises = Premises {
+            operator: self.operator,
+            first: self.task.effect_conditions(self.operator, self.effect),
+            second: &[],
+        };
+        for known in Known::new(self.task, &premises) {
+            if !marks.known.is_apart(known)
+                && some_has(self.index, kept, known, fact, &marks.deciding)
+            {
+                return true;
+            }
+        }
+        false
     }
 
     /// Returns whether no other fact of the group stays where this effect fires. Mostly an old value decides this at once.

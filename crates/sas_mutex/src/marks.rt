@@ -82,6 +82,9 @@ pub struct Notes {
     /// A fact that is noted by its variable alone, since so many groups have it. Which of them a group has is asked of the
     /// index.
     pub apart: Option<Fact>,
+    /// How many groups there are to note facts for, each counted as often as it has one: what it takes to go through the
+    /// groups of all facts that are noted, but for the one apart. It is a hint, of which no contract speaks.
+    pub spread: usize,
 }
 
 /// What is noted while effects are looked at.
@@ -130,6 +133,7 @@ impl Notes {
             values: Items::from_vec(vec![in alloc; None; task.variables() as usize]?),
             groups: Items::from_vec(vec![in alloc; Noted::Nothing; task.groups() as usize]?),
             apart: None,
+            spread: 0,
         })
     }
 
@@ -147,7 +151,7 @@ impl Notes {
     }
 
     /// Returns whether this is the fact apart.
-    fn is_apart(&self, fact: Fact) -> bool
+    pub fn is_apart(&self, fact: Fact) -> bool
         ensures { IsTrue result ↔ (self.now.apart ≡ Some fact) }
     {
         match self.apart {
@@ -254,6 +258,7 @@ fn note(index: &Index, kept: &[bool], fact: Fact, notes: &mut Notes, deciding: &
             }
             notes.values.set(fact.var as usize, Some(fact.value));
             let groups = index.groups_of(fact);
+            notes.spread = notes.spread.saturating_add(groups.len());
             note_in_groups(groups, kept, fact, &mut notes.groups, deciding)
         }
     }
@@ -374,6 +379,7 @@ pub fn forget_known<T: Grounded>(
         forget(index, fact, &mut marks.known);
     }
     marks.known.apart = None;
+    marks.known.spread = 0;
 }
 
 /// Takes back what is noted of the fact. For the groups of the one apart nothing is noted of it.
