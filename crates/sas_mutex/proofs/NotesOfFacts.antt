@@ -1,10 +1,10 @@
 -- What is noted after one fact more is noted or forgotten.
-use Rattle.std.proofs.Common.{◌≡◌, ◌≢◌, ◌⊎◌, ℕ, ◌<◌, Bool, IsTrue, [], length, set, List, ◌∷◌, ◌++◌, Option, None, Some, subst, refl, sym, ap, ◌∙◌, inl, inr, arith}
+use Rattle.std.proofs.Common.{◌≡◌, ◌≢◌, ◌⊎◌, ℕ, ◌<◌, Bool, IsTrue, [], length, get_or, set, List, ◌∷◌, ◌++◌, Option, None, Some, subst, refl, sym, ap, ◌∙◌, inl, inr, arith}
 use Rattle.std.specs.List.{All, Contains}
 use Rattle.std.specs.Option.{option_to_list}
 use Rattle.std.specs.Prelude.{IfSome}
 use Rattle.std.proofs.lemmas.Bool.{cases_eq}
-use Rattle.std.proofs.lemmas.List.{get_or-set_same, get_or-set_other, length-set}
+use Rattle.std.proofs.lemmas.List.{get_or_default, get_or-set_same, get_or-set_other, length-set}
 use Rattle.std.proofs.lemmas.List.Elements.{All-contains, Contains-append_left, Contains-push, Contains-push_cases}
 use Rattle.sas_core.specs.declared.parts.Fact.{Fact}
 use Rattle.sas_core.specs.declared.parts.Parts.{Parts}
@@ -751,3 +751,10 @@ module _ (p : Parts) (kept : List Bool) (all : List Fact) (exist : All (FactExis
   pub all_known : (came : List Fact) (notes : Notes) → all ≡ came → AreSoFar p kept all came notes → AreKnown p kept all notes
   all_known came notes is so_far = known_alike p kept so_far.seen all notes so_far.within
       (λ f among. so_far.covers f (subst (λ (facts : List Fact). Contains facts f) is among)) so_far.known
+
+-- a fact alone doesn't clash
+pub few_apart : (Counts : List Fact → Type 0) (facts : List Fact) → length facts < 2 → Clash Counts facts → ⊥
+few_apart Counts facts few (f, g, (n, n_below, n_is), (m, m_below, m_is), why) =
+    let same : n ≡ m = omega arith in
+    let is : f ≡ g = sym n_is ∙ (ap (λ i. get_or facts i f) same ∙ (get_or_default facts m f g m_below ∙ m_is)) in
+    not_itself Counts g (subst (λ (x : Fact). Contradict Counts x g) is why)

@@ -3,7 +3,7 @@ use Rattle.std.proofs.Common.{◌≡◌, ◌≢◌, ◌⊎◌, ℕ, ◌<◌, Boo
 use Rattle.std.specs.List.{All, Contains}
 use Rattle.std.proofs.lemmas.Bool.{cases_eq}
 use Rattle.std.proofs.lemmas.List.{get_or_default}
-use Rattle.std.proofs.lemmas.List.Elements.{Contains-append_left, Contains-append_right, Contains-push, Contains-push_cases, Contains-get_or}
+use Rattle.std.proofs.lemmas.List.Elements.{Contains-append_left, Contains-append_right, Contains-append_cases, Contains-push, Contains-push_cases, Contains-get_or}
 use Rattle.sas_core.specs.declared.parts.Fact.{Fact}
 use Rattle.sas_core.specs.declared.parts.Effect.{Effect}
 use Rattle.sas_core.specs.declared.parts.Operator.{Operator}
@@ -123,13 +123,17 @@ module _ (p : Parts) (index : Index) (kept : List Bool) (notes : Notes) (o : Ope
       → (g : Fact) × Contains before g × (notes.apart ≢ Some g) × ShareOne p kept g fact
   noted_beside noted =
       let has : HasFact p noted.place fact = (indexed.groups fact exists noted.place).0 noted.among in
-      let (g, beside) = some_note_tells (IsOfGroupBeside p before notes.apart noted.place) (group_note notes.groups noted.place) (are.noted.groups noted.place has.exists) noted.some in
-      (g, beside.of.among, beside.beside, record {
-        place = noted.place;
-        in_family = record { exists = has.exists; chosen = noted.kept_there };
-        first = beside.of.has.among;
-        second = has.among;
-      })
+      let (g, beside) = some_note_tells (IsOfGroupBeside p before notes.apart noted.place) (group_note notes.groups noted.place) (are.noted.groups noted.place has.exists) noted.some in (
+        g,
+        beside.of.among,
+        beside.beside,
+        record {
+          place = noted.place;
+          in_family = record { exists = has.exists; chosen = noted.kept_there };
+          first = beside.of.has.among;
+          second = has.among;
+        },
+      )
 
   pub beside_noted : (g : Fact) → Contains before g → notes.apart ≢ Some g → ShareOne p kept g fact → HasNotedGroup (groups_of index fact) kept notes.groups
   beside_noted g known_g ne share = record {
@@ -209,6 +213,30 @@ one_clashes Counts o conditions facts fact among clash = (clash.0, clash.1, ther
       | inl w ↦ subst (λ (xs : List Fact). Contains (xs ++ facts) x) (append-nil (preconditions o ++ conditions)) (Contains-append_left (known o conditions []) facts x w)
       | inr e ↦ subst (λ (f : Fact). Contains (known o conditions facts) f) e (Contains-append_right (preconditions o ++ conditions) facts fact among)
     ]
+
+-- where what is known doesn't clash, it clashes with further facts if one of them clashes with it, or they clash themselves
+module _ (Counts : List Fact → Type 0) (o : Operator) (conditions facts : List Fact) where
+  pub themselves_clash : Clash Counts facts → Clash Counts (known o conditions facts)
+  themselves_clash clash = (clash.0, clash.1, there clash.0 clash.2, there clash.1 clash.3, clash.4)
+    where
+      there : (x : Fact) → Contains facts x → Contains (known o conditions facts) x
+      there x among = Contains-append_right (preconditions o ++ conditions) facts x among
+
+  abbrev first : List Fact
+  first = preconditions o ++ conditions
+
+  pub one_or_themselves : (Clash Counts (known o conditions []) → ⊥) → Clash Counts (known o conditions facts)
+      → ((fact : Fact) × Contains facts fact × Clash Counts (known o conditions (fact ∷ []))) ⊎ Clash Counts facts
+  one_or_themselves apart (f, g, f_in, g_in, why) = elim (Contains-append_cases first facts f f_in) [
+    | inl f_first ↦ elim (Contains-append_cases first facts g g_in) [
+      | inl g_first ↦ absurd (apart (f, g, Contains-append_left first [] f f_first, Contains-append_left first [] g g_first, why))
+      | inr g_among ↦ inl (g, g_among, (f, g, Contains-append_left first (g ∷ []) f f_first, Contains-push first g, why))
+    ]
+    | inr f_among ↦ elim (Contains-append_cases first facts g g_in) [
+      | inl g_first ↦ inl (f, f_among, (f, g, Contains-push first f, Contains-append_left first (f ∷ []) g g_first, why))
+      | inr g_among ↦ inr (f, g, f_among, g_among, why)
+    ]
+  ]
 
 -- what clashes never is, so that an effect that fires only there keeps each group
 pub clash_keeps : (Counts : List Fact → Type 0) (o : Operator) (group : List Fact) (e : Effect) → Clash Counts (known o e.conditions [])

@@ -15,7 +15,8 @@ ghost use Rattle.sas_mutex.specs.Noting.{ClashesAt, SomeClashesAt, SharesBesideA
 ghost use Rattle.sas_mutex.specs.Noting.{IsSingleAt, IsGoneAt, AreGoneAt, IsUnknownAt, IsDecidedByFirst};
 ghost use Rattle.sas_mutex.specs.Basis.{SetsNone};
 
-use crate::marks::{Marks, Noted, Notes, forget_known, has_noted, note_known, shares_apart, some_has};
+use crate::indexed::IndexedTask;
+use crate::marks::{Marks, Noted, Notes, facts_clash, has_noted, shares_apart, some_has};
 use sas_core::{Fact, Grounded, Items};
 use sas_group_index::Index;
 use sas_groups::{Known, Premises};
@@ -145,8 +146,8 @@ impl<'a, 'b, T: Grounded> Firing<'a, 'b, T> {
         self.both_clash(kept, other, marks)
     }
 
-    /// Returns whether the known facts where both effects fire clash. The known facts where this effect fires are noted
-    /// before and after.
+    /// Returns whether the known facts where both effects fire clash. Those where this effect fires don't. So a condition of
+    /// the other effect clashes with them, or its conditions clash among themselves.
     fn both_clash(&self, kept: &[bool], other: u32, marks: &mut Marks) -> bool
         requires notes { IsNotedAt self.now kept.now marks.old }
         requires other { other < length (operator_of self.now).effects }
@@ -154,36 +155,23 @@ impl<'a, 'b, T: Grounded> Firing<'a, 'b, T> {
         ensures yes { IsTrue result → BothClashAt self.now kept.now other }
         ensures no { IsFalse result → BothClashAt self.now kept.now other → ⊥ }
     {
-        let first = self.task.effect_conditions(self.operator, self.effect);
         let second = self.task.effect_conditions(self.operator, other);
-        if second.is_empty() {
-            return false;
-        }
         if self.some_clashes(kept, second, marks) {
             return true;
         }
-        let one = Premises {
-            operator: self.operator,
-            first,
-            second: &[],
+        let indexed = IndexedTask {
+            task: self.task,
+            index: self.index,
         };
-        let both = Premises {
-            operator: self.operator,
-            first,
-            second,
-        };
-        forget_known(self.task, self.index, &one, marks);
-        let clash = note_known(self.task, self.index, kept, &both, marks);
-        forget_known(self.task, self.index, &both, marks);
-        let _ = note_known(self.task, self.index, kept, &one, marks);
-        clash
+        facts_clash(&indexed, kept, second, &mut marks.others, &marks.deciding)
     }
 
     /// Returns whether one of these facts clashes with the known facts where this effect fires.
     fn some_clashes(&self, kept: &[bool], facts: &[Fact], marks: &Marks) -> bool
         requires notes { IsNotedAt self.now kept.now marks.now }
         requires exist { All (FactExists self.now.task.variables) facts.now }
-        ensures { IsTrue result → SomeClashesAt self.now kept.now facts.now }
+        ensures yes { IsTrue result → SomeClashesAt self.now kept.now facts.now }
+        ensures no { IsFalse result → SomeClashesAt self.now kept.now facts.now → ⊥ }
     {
         // Naming a field makes the invariant of the effect available.
         let _ = &self.task;

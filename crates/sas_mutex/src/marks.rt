@@ -7,12 +7,13 @@ ghost use Rattle.sas_mutex.specs.Effects.{family_of, IsKept};
 ghost use Rattle.sas_core.specs.WellRanged.{WellRanged};
 ghost use Rattle.sas_mutex.specs.declared.marks.Noted.TheVariants.{Nothing, One, Several};
 ghost use Rattle.sas_group_index.specs.Index.{IsIndexOf, groups_of};
-ghost use Rattle.sas_mutex.specs.Marks.{AreBlank, IsClean, IsNotedFrom, IsNoted};
+ghost use Rattle.sas_mutex.specs.Marks.{AreBlank, AreFrom, IsClean, IsNotedFrom, IsNoted};
 ghost use Rattle.sas_mutex.specs.Noting.{AreBelow, IsReadable, ShareKept, SharesApart, IsContradicted};
 ghost use Rattle.sas_mutex.specs.Noting.{IsNotedToo, IsRefused, TakenBySome, TakenByAll, HasOtherValue};
 ghost use Rattle.sas_mutex.specs.Noting.{ChangesAt, IsThere, IsNew, ForgetsGroups, Forgets, IsSetApart, IsCompleted};
 ghost use Rattle.sas_mutex.specs.Noting.{HasNotedGroup};
 
+use crate::indexed::IndexedTask;
 use sas_core::{Fact, Grounded, Items};
 use sas_group_index::Index;
 use sas_groups::{Known, Premises};
@@ -403,4 +404,76 @@ fn forget_groups(groups: &[u32], noted: &mut Items<Noted>)
     for group in groups {
         noted.set(*group as usize, Noted::Nothing);
     }
+}
+
+/// Returns whether the facts clash. Nothing is noted before and after.
+pub fn facts_clash<T: Grounded>(
+    indexed: &IndexedTask<'_, '_, T>,
+    kept: &[bool],
+    facts: &[Fact],
+    notes: &mut Notes,
+    deciding: &Deciding,
+) -> bool
+    requires exist { All (FactExists indexed.now.variables) facts.now }
+    requires blank { AreBlank indexed.now notes.old }
+    ensures yes { IsTrue result → Clash (IsKept indexed.now kept.now) facts.now }
+    ensures no { IsFalse result → Clash (IsKept indexed.now kept.now) facts.now → ⊥ }
+    ensures blank { AreBlank indexed.now notes.new }
+{
+    // A fact doesn't clash with itself.
+    if facts.len() < 2 {
+        return false;
+    }
+    let clash = note_facts(indexed, kept, facts, notes, deciding);
+    forget_facts(indexed, facts, notes);
+    clash
+}
+
+/// Notes the facts, and returns whether they clash. If they do, not all of them are noted.
+fn note_facts<T: Grounded>(
+    indexed: &IndexedTask<'_, '_, T>,
+    kept: &[bool],
+    facts: &[Fact],
+    notes: &mut Notes,
+    deciding: &Deciding,
+) -> bool
+    requires exist { All (FactExists indexed.now.variables) facts.now }
+    requires blank { AreBlank indexed.now notes.old }
+    ensures yes { IsTrue result → Clash (IsKept indexed.now kept.now) facts.now }
+    ensures no { IsFalse result → Clash (IsKept indexed.now kept.now) facts.now → ⊥ }
+    ensures from { AreFrom indexed.now facts.now notes.new }
+{
+    let widest = widest_of(indexed.index, facts);
+    set_apart(widest, notes);
+    for fact in facts {
+        if !note(indexed.index, kept, *fact, notes, deciding) {
+            return true;
+        }
+    }
+    false
+}
+
+/// Returns, of those of the facts that many groups have, one that most have.
+fn widest_of(index: &Index, facts: &[Fact]) -> Option<Fact>
+    requires { IsReadable index.now }
+    ensures { IfSome result (Contains facts.now) }
+{
+    let mut widest = None;
+    for fact in facts {
+        widest = wider(index, *fact, widest);
+    }
+    widest
+}
+
+/// Takes back what is noted of the facts.
+fn forget_facts<T: Grounded>(indexed: &IndexedTask<'_, '_, T>, facts: &[Fact], notes: &mut Notes)
+    requires exist { All (FactExists indexed.now.variables) facts.now }
+    requires from { AreFrom indexed.now facts.now notes.old }
+    ensures { AreBlank indexed.now notes.new }
+{
+    for fact in facts {
+        forget(indexed.index, *fact, notes);
+    }
+    notes.apart = None;
+    notes.spread = 0;
 }
