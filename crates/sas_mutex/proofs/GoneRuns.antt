@@ -12,7 +12,7 @@ use Rattle.sas_core.specs.Variables.{FactExists}
 use Rattle.sas_groups.specs.Checks.{IsGone}
 use Rattle.sas_groups.specs.Lists.{known}
 use Rattle.sas_group_index.specs.declared.index.Index.{Index}
-use Rattle.sas_mutex.specs.declared.marks.Marks.{Marks}
+use Rattle.sas_mutex.specs.declared.marks.Notes.{Notes}
 use Rattle.sas_mutex.specs.Effects.{IsKept}
 use Rattle.sas_group_index.specs.Index.{IsIndexOf}
 use Rattle.sas_mutex.specs.Marks.{value_note}
@@ -21,25 +21,25 @@ use Rattle.sas_group_index.specs.Distinct.{AreDistinct}
 use Rattle.sas_group_index.specs.Runs.{AreOnOne, AreRuns}
 use Rattle.sas_mutex.proofs.TaskFacts.{variable_below}
 use Rattle.sas_mutex.proofs.NotesOfFacts.{a_note, value_note_tells}
-use Rattle.sas_mutex.proofs.ToldByNotes.{against_clashes}
+use Rattle.sas_mutex.proofs.ToldByNotes.{other_value_clashes}
 
 -- of the facts of a run that is settled none is known, so that what is noted for their variable is another value
-pub settled_are_gone : (p : Parts) (index : Index) (kept : List Bool) (marks : Marks) (o : Operator) (e : Effect) (run : List Fact)
-    → IsIndexOf p index → AreKnown p kept (known o e.conditions []) marks → All (FactExists p.variables) run → AreOnOne run
-    → All (IsUnknown o e) run → IsDecidedByFirst e run marks → All (IsGone (IsKept p kept) o e) run
-settled_are_gone p index kept marks o e run indexed are exist (var, on_it) unknown settled k d below on_other =
+pub settled_are_gone : (p : Parts) (index : Index) (kept : List Bool) (notes : Notes) (o : Operator) (e : Effect) (run : List Fact)
+    → IsIndexOf p index → AreKnown p kept (known o e.conditions []) notes → All (FactExists p.variables) run → AreOnOne run
+    → All (IsUnknown o e) run → IsDecidedByFirst e run notes → All (IsGone (IsKept p kept) o e) run
+settled_are_gone p index kept notes o e run indexed are exist (var, on_it) unknown settled k d below on_other =
     let fact = get_or run k d in
     let some : 0 < length run = omega arith in
     let same : (get_or run 0 d).var ≡ fact.var = on_it 0 d some ∙ sym (on_it k d below) in
     let exists = exist k d below in
     elim (settled (get_or run 0 d) d some refl) [
       | inl its ↦ absurd (on_other (its ∙ same))
-      | inr noted ↦ elim (a_note (value_note marks.values fact.var)) [
-        | inl none ↦ absurd (noted (ap (value_note marks.values) same ∙ none))
+      | inr noted ↦ elim (a_note (value_note notes.values fact.var)) [
+        | inl none ↦ absurd (noted (ap (value_note notes.values) same ∙ none))
         | inr w ↦ elim (cases_eq w.0 fact.value) [
-          | inl its ↦ absurd (unknown k d below (value_note_tells (known o e.conditions []) fact.var fact.value (value_note marks.values fact.var)
+          | inl its ↦ absurd (unknown k d below (value_note_tells (known o e.conditions []) fact.var fact.value (value_note notes.values fact.var)
               (are.noted.values fact.var (variable_below p fact exists)) (w.1 ∙ ap (λ v. Some v) its)))
-          | inr differs ↦ inl (against_clashes p index kept marks o e.conditions indexed are fact exists (inl (w.0, w.1, differs)))
+          | inr differs ↦ inl (other_value_clashes p index kept notes o e.conditions indexed are fact exists (w.0, w.1, differs))
         ]
       ]
     ]

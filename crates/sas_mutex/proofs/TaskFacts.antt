@@ -1,8 +1,8 @@
 -- The facts that a task mentions exist, and the groups that have one are groups of the task.
 use Rattle.std.proofs.Common.{◌≡◌, ℕ, ◌<◌, [], length, get_or, List, ◌∷◌, ◌++◌, Option, None, Some, subst, sym}
 use Rattle.std.specs.Prelude.{filter_map}
-use Rattle.std.specs.List.{All, cons_option}
-use Rattle.std.proofs.lemmas.List.Elements.{All-nil, All-cons, All-append, All-from_recursion, All-head, All-tail, Contains-get_or}
+use Rattle.std.specs.List.{All, Contains, cons_option}
+use Rattle.std.proofs.lemmas.List.Elements.{All-nil, All-cons, All-append, All-from_recursion, All-contains, All-head, All-tail, Contains-get_or}
 use Rattle.sas_core.specs.declared.parts.Fact.{Fact}
 use Rattle.sas_core.specs.declared.parts.Effect.{Effect}
 use Rattle.sas_core.specs.declared.parts.Parts.{Parts}
@@ -58,6 +58,12 @@ module _ (p : Parts) (ranged : WellRanged p) where
         (olds_exist o.effects (All-from_recursion (EffectFits p.variables) o.effects fits.effects.each)))
         its)
         theirs
+
+    -- what is known where an effect fires exists
+    pub known_at_exist : (effect : ℕ) → effect < length (operator_at p operator).effects
+        → (f : Fact) → Contains (known (operator_at p operator) (effect_at (operator_at p operator) effect).conditions []) f → FactExists p.variables f
+    known_at_exist effect below f among = All-contains (FactExists p.variables) (known (operator_at p operator) (effect_at (operator_at p operator) effect).conditions []) f
+        (known_exist (effect_at (operator_at p operator) effect).conditions [] (conditions_exist effect below) (All-nil (FactExists p.variables))) among
 
 -- the variable of a fact that exists, and the groups that have it
 pub variable_below : (p : Parts) (fact : Fact) → FactExists p.variables fact → fact.var < length p.variables

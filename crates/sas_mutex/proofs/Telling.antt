@@ -18,13 +18,14 @@ use Rattle.sas_groups.specs.Verdicts.{IsJointVerdict}
 use Rattle.sas_groups.specs.Checks.{IsFirstVerdict}
 use Rattle.sas_groups.proofs.GreatestFamily.{outside_is_broken, clash_more}
 use Rattle.sas_mutex.specs.declared.marks.Marks.{Marks}
+use Rattle.sas_mutex.specs.declared.marks.Noted.{Noted}
 use Rattle.sas_mutex.specs.declared.marks.Noted.TheVariants.{Several}
 use Rattle.sas_mutex.specs.Effects.{family_of, IsKept, EffectKeeps, KeepsWithItself}
 use Rattle.sas_mutex.specs.Falling.{AreCandidates}
 use Rattle.sas_group_index.specs.Index.{HasFact}
 use Rattle.sas_mutex.specs.Joint.{verdict_at, AreJointVerdicts}
 use Rattle.sas_mutex.specs.Judging.{AreFirstVerdicts, IsUntold, KeptSoFar, IsVerdictSoFar, AreVerdictsSoFar}
-use Rattle.sas_mutex.specs.Marks.{group_note, IsGroupNote}
+use Rattle.sas_mutex.specs.Marks.{IsGroupNote}
 use Rattle.sas_mutex.specs.Noting.{IsNotedFor, known_at}
 use Rattle.sas_mutex.proofs.Keeping.{effect_keeps_more, keeps_from_effects, effect_of_keeps}
 use Rattle.sas_mutex.proofs.NotesOfFacts.{at_most_one, several_clash}
@@ -127,16 +128,12 @@ module _ (p : Parts) (kept : List Bool) (place : ℕ) (exists : place < length p
       (clash_more (IsKept p kept) (IsGroupOfOr p (family_of kept) (group_at p place)) (known_at p operator effect) (λ g counts. inl counts) clash)
 
   module _ (operator effect : ℕ) (marks : Marks) (noted : IsNotedFor p kept operator effect marks) where
-    note : IsGroupNote p (known_at p operator effect) place (group_note marks.groups place)
-    note = noted.are.noted.groups place exists
-
-    pub several_never_fire : group_note marks.groups place ≡ Several → KeepsWithItself p kept operator effect place
-    several_never_fire several = never_fires operator effect (several_clash p (IsGroupOfOr p (family_of kept) (group_at p place)) (known_at p operator effect) place
-        (inr refl) (subst (IsGroupNote p (known_at p operator effect) place) several note))
+    pub several_never_fire : IsGroupNote p (known_at p operator effect) place Several → KeepsWithItself p kept operator effect place
+    several_never_fire note = never_fires operator effect (several_clash p (IsGroupOfOr p (family_of kept) (group_at p place)) (known_at p operator effect) place (inr refl) note)
 
     -- where not several facts of it are known, nothing clashes for it
-    pub noted_with : group_note marks.groups place ≢ Several → IsNotedFor p (set kept place true) operator effect marks
-    noted_with few = record {
+    pub noted_with : (note : Noted) → IsGroupNote p (known_at p operator effect) place note → note ≢ Several → IsNotedFor p (set kept place true) operator effect marks
+    noted_with note tells few = record {
       are = record {
         noted = noted.are.noted;
         apart = λ (f, g, in_f, in_g, why). elim why [
@@ -144,7 +141,7 @@ module _ (p : Parts) (kept : List Bool) (place : ℕ) (exists : place < length p
           | inr one ↦ elim (with_place one.group one.counts) [
             | inl counts ↦ noted.are.apart
                 (f, g, in_f, in_g, inr (record { differ = one.differ; group = one.group; counts = counts; first = one.first; second = one.second }))
-            | inr is ↦ one.differ (at_most_one p (known_at p operator effect) place (group_note marks.groups place) note few f g
+            | inr is ↦ one.differ (at_most_one p (known_at p operator effect) place note tells few f g
                 (record { among = in_f; has = record { exists = exists; among = subst (λ (facts : List Fact). Contains facts f) is one.first } })
                 (record { among = in_g; has = record { exists = exists; among = subst (λ (facts : List Fact). Contains facts g) is one.second } }))
           ]

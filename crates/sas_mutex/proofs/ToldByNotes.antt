@@ -1,9 +1,9 @@
 -- What the notes of facts that don't clash tell of one fact more.
-use Rattle.std.proofs.Common.{◌≡◌, ◌⊎◌, ℕ, ◌<◌, Bool, [], length, get_or, List, ◌∷◌, ◌++◌, None, Some, subst, refl, sym, ap, ◌∙◌, inl, inr, append-nil}
+use Rattle.std.proofs.Common.{◌≡◌, ◌≢◌, ◌⊎◌, ℕ, ◌<◌, Bool, [], length, get_or, List, ◌∷◌, ◌++◌, None, Some, subst, refl, sym, ap, ◌∙◌, inl, inr, append-nil}
 use Rattle.std.specs.List.{All, Contains}
 use Rattle.std.proofs.lemmas.Bool.{cases_eq}
 use Rattle.std.proofs.lemmas.List.{get_or_default}
-use Rattle.std.proofs.lemmas.List.Elements.{Contains-append_left, Contains-append_right, Contains-push, Contains-push_cases, Contains-get_or}
+use Rattle.std.proofs.lemmas.List.Elements.{Contains-append_left, Contains-append_right, Contains-append_cases, Contains-push, Contains-push_cases, Contains-get_or}
 use Rattle.sas_core.specs.declared.parts.Fact.{Fact}
 use Rattle.sas_core.specs.declared.parts.Effect.{Effect}
 use Rattle.sas_core.specs.declared.parts.Operator.{Operator}
@@ -16,17 +16,18 @@ use Rattle.sas_groups.specs.Families.{IsIn}
 use Rattle.sas_groups.specs.Lists.{known}
 use Rattle.sas_group_index.specs.declared.index.Index.{Index}
 use Rattle.sas_mutex.specs.declared.marks.Marks.{Marks}
+use Rattle.sas_mutex.specs.declared.marks.Notes.{Notes}
 use Rattle.sas_groups.specs.Checks.{IsGone}
 use Rattle.sas_groups.proofs.GreatestFamily.{clash_more, group_of_larger}
 use Rattle.sas_mutex.specs.Effects.{family_of, IsKept, EffectKeeps}
 use Rattle.sas_group_index.specs.Index.{IsIndexOf, HasFact, groups_of}
-use Rattle.sas_mutex.specs.Marks.{value_note, group_note}
-use Rattle.sas_mutex.specs.Noting.{IsAgainst, IsMet, Removes, SomeRemoves, AreKnown, AreGone, IsNotedFor, known_at}
+use Rattle.sas_mutex.specs.Marks.{value_note, group_note, IsOfGroupBeside}
+use Rattle.sas_mutex.specs.Noting.{HasOtherValue, HasNotedGroup, ShareKept, ShareOne, SharesApart, IsMet, Removes, SomeRemoves, AreKnown, AreGone, IsNotedFor, known_at}
 use Rattle.sas_mutex.proofs.TaskFacts.{variable_below}
-use Rattle.sas_mutex.proofs.NotesOfFacts.{a_note, one_or_two, value_note_tells, no_value_note_tells, no_note_tells, some_note_tells, contradict_turned, not_itself}
+use Rattle.sas_mutex.proofs.NotesOfFacts.{a_note, apart_or_not, one_or_two, value_note_tells, no_value_note_tells, no_note_tells, some_note_tells, contradict_turned, not_itself, shares_contradicts, contradicts_shares, share_one, share_kept, shared_turned}
 
-module _ (p : Parts) (index : Index) (kept : List Bool) (marks : Marks) (o : Operator) (conditions : List Fact) (indexed : IsIndexOf p index)
-    (are : AreKnown p kept (known o conditions []) marks) (fact : Fact) (exists : FactExists p.variables fact) where
+module _ (p : Parts) (index : Index) (kept : List Bool) (notes : Notes) (o : Operator) (conditions : List Fact) (indexed : IsIndexOf p index)
+    (are : AreKnown p kept (known o conditions []) notes) (fact : Fact) (exists : FactExists p.variables fact) where
   abbrev before : List Fact
   before = known o conditions []
 
@@ -48,32 +49,16 @@ module _ (p : Parts) (index : Index) (kept : List Bool) (marks : Marks) (o : Ope
   on_variable : fact.var < length p.variables
   on_variable = variable_below p fact exists
 
-  -- where the notes speak against the fact, it clashes with what is known
-  pub against_clashes : IsAgainst (groups_of index fact) kept fact marks → Clash (IsKept p kept) with
-  against_clashes (inl (value, at, differs)) = (
+  -- where another value is noted for its variable, the fact clashes with what is known
+  pub other_value_clashes : HasOtherValue notes.values fact → Clash (IsKept p kept) with
+  other_value_clashes (value, at, differs) = (
     fact,
     record { var = fact.var; value = value },
     itself,
     also (record { var = fact.var; value = value })
-        (value_note_tells before fact.var value (value_note marks.values fact.var) (are.noted.values fact.var on_variable) at),
+        (value_note_tells before fact.var value (value_note notes.values fact.var) (are.noted.values fact.var on_variable) at),
     inl (refl, λ e. differs (sym e)),
   )
-  against_clashes (inr bar) =
-      let has : HasFact p bar.group.place fact = (indexed.groups fact exists bar.group.place).0 bar.group.among in
-      let (other, of) = some_note_tells p before bar.group.place (group_note marks.groups bar.group.place) (are.noted.groups bar.group.place has.exists) bar.group.some in (
-        fact,
-        other,
-        itself,
-        also other of.among,
-        inr (record {
-          differ = λ e. no_value_note_tells before fact.var (value_note marks.values fact.var) (are.noted.values fact.var on_variable) bar.none other of.among
-              (ap (λ (x : Fact). x.var) (sym e));
-          group = group_at p bar.group.place;
-          counts = (bar.group.place, record { exists = has.exists; chosen = bar.group.kept_there }, refl);
-          first = has.among;
-          second = of.has.among;
-        }),
-      )
 
   -- a fact that is noted doesn't clash with what is known, which doesn't clash by itself
   there_no_clash : Contains before fact → Clash (IsKept p kept) with → ⊥
@@ -85,62 +70,96 @@ module _ (p : Parts) (index : Index) (kept : List Bool) (marks : Marks) (o : Ope
         | inr e ↦ subst (λ (x : Fact). Contains before x) e here
       ]
 
-  -- where the fact clashes with one that is known, the notes speak against it
-  contradicted : (f : Fact) → Contains before f → Contradict (IsKept p kept) f fact → value_note marks.values fact.var ≡ None
-      → IsAgainst (groups_of index fact) kept fact marks
-  contradicted f in_before (inl (var, value)) none =
-      absurd (no_value_note_tells before fact.var (value_note marks.values fact.var) (are.noted.values fact.var on_variable) none f in_before var)
-  contradicted f in_before (inr one) none =
-      let (place, in_family, same) = one.counts in
-      let among : Contains (group_at p place) fact = subst (λ (g : List Fact). Contains g fact) same one.second in
-      let among_f : Contains (group_at p place) f = subst (λ (g : List Fact). Contains g f) same one.first in
-      inr (record {
-        none = none;
-        group = record {
-          place = place;
-          among = (indexed.groups fact exists place).1 (record { exists = in_family.exists; among = among });
-          kept_there = in_family.chosen;
-          some = λ nothing. no_note_tells p before place (group_note marks.groups place) (are.noted.groups place in_family.exists) nothing
-              f (record { among = in_before; has = record { exists = in_family.exists; among = among_f } });
-        };
-      })
+  pub noted_no_clash : value_note notes.values fact.var ≡ Some fact.value → Clash (IsKept p kept) with → ⊥
+  noted_no_clash at = there_no_clash (value_note_tells before fact.var fact.value (value_note notes.values fact.var) (are.noted.values fact.var on_variable) at)
 
-  pub clash_is_against : Clash (IsKept p kept) with → IsAgainst (groups_of index fact) kept fact marks
-  clash_is_against clash = elim (a_note (value_note marks.values fact.var)) [
-    | inr w ↦ elim (cases_eq w.0 fact.value) [
-      | inr differs ↦ inl (w.0, w.1, differs)
-      | inl e ↦ absurd (there_no_clash (value_note_tells before fact.var fact.value (value_note marks.values fact.var) (are.noted.values fact.var on_variable)
-          (w.1 ∙ ap (λ v. Some v) e)) clash)
-    ]
-    | inl none ↦ elim (either clash.0 clash.2) [
+  -- where no fact is known on its variable, the fact clashes if a group that is kept has it and a known one
+  module _ (there : (f : Fact) → Contains before f → FactExists p.variables f) (none : value_note notes.values fact.var ≡ None) where
+    not_on : (g : Fact) → Contains before g → fact.var ≢ g.var
+    not_on g known_g e = no_value_note_tells before fact.var (value_note notes.values fact.var) (are.noted.values fact.var on_variable) none g known_g (sym e)
+
+    pub shared_clashes : (g : Fact) → Contains before g → ShareKept index kept fact g → Clash (IsKept p kept) with
+    shared_clashes g known_g share = (
+      fact,
+      g,
+      itself,
+      also g known_g,
+      shares_contradicts p index kept fact g indexed exists (there g known_g) (λ e. not_on g known_g (ap (λ (x : Fact). x.var) e)) share,
+    )
+
+    pub apart_clashes : SharesApart index kept fact notes.apart → Clash (IsKept p kept) with
+    apart_clashes (one, is_apart, share) = shared_clashes one (are.noted.one_apart one is_apart) share
+
+    pub beside_clashes : (g : Fact) → Contains before g → ShareOne p kept g fact → Clash (IsKept p kept) with
+    beside_clashes g known_g share =
+        shared_clashes g known_g (shared_turned index kept g fact (share_kept p index kept g fact indexed (there g known_g) exists share))
+
+    shares_with : (g : Fact) → Contains before g → Contradict (IsKept p kept) fact g → (h : Fact) × Contains before h × ShareKept index kept fact h
+    shares_with g known_g contradict = (g, known_g, contradicts_shares p index kept fact g indexed exists (there g known_g) (not_on g known_g) contradict)
+
+    pub clash_shares : Clash (IsKept p kept) with → (g : Fact) × Contains before g × ShareKept index kept fact g
+    clash_shares clash = elim (either clash.0 clash.2) [
       | inl f_in ↦ elim (either clash.1 clash.3) [
         | inl g_in ↦ absurd (are.apart (clash.0, clash.1, f_in, g_in, clash.4))
-        | inr e ↦ contradicted clash.0 f_in (subst (λ (x : Fact). Contradict (IsKept p kept) clash.0 x) (sym e) clash.4) none
+        | inr e ↦ shares_with clash.0 f_in (contradict_turned (IsKept p kept) clash.0 fact (subst (λ (x : Fact). Contradict (IsKept p kept) clash.0 x) (sym e) clash.4))
       ]
       | inr e ↦ elim (either clash.1 clash.3) [
-        | inl g_in ↦ contradicted clash.1 g_in (contradict_turned (IsKept p kept) fact clash.1 (subst (λ (x : Fact). Contradict (IsKept p kept) x clash.1) (sym e) clash.4)) none
+        | inl g_in ↦ shares_with clash.1 g_in (subst (λ (x : Fact). Contradict (IsKept p kept) x clash.1) (sym e) clash.4)
         | inr e' ↦ absurd (not_itself (IsKept p kept) fact (subst (λ (x : Fact). Contradict (IsKept p kept) x fact) (sym e)
             (subst (λ (x : Fact). Contradict (IsKept p kept) clash.0 x) (sym e') clash.4)))
       ]
     ]
-  ]
+
+    -- the known one is apart, or another
+    pub apart_or_beside : (g : Fact) → Contains before g → ShareKept index kept fact g
+        → SharesApart index kept fact notes.apart ⊎ ((h : Fact) × Contains before h × (notes.apart ≢ Some h) × ShareOne p kept h fact)
+    apart_or_beside g known_g share = elim (apart_or_not notes.apart g) [
+      | inl e ↦ inl (g, e, share)
+      | inr ne ↦ inr (g, known_g, ne, share_one p index kept g fact indexed (there g known_g) exists (shared_turned index kept fact g share))
+    ]
+
+  -- for a group of the fact a note is kept if it has another known fact that isn't the one apart
+  pub noted_beside : HasNotedGroup (groups_of index fact) kept notes.groups
+      → (g : Fact) × Contains before g × (notes.apart ≢ Some g) × ShareOne p kept g fact
+  noted_beside noted =
+      let has : HasFact p noted.place fact = (indexed.groups fact exists noted.place).0 noted.among in
+      let (g, beside) = some_note_tells (IsOfGroupBeside p before notes.apart noted.place) (group_note notes.groups noted.place) (are.noted.groups noted.place has.exists) noted.some in (
+        g,
+        beside.of.among,
+        beside.beside,
+        record {
+          place = noted.place;
+          in_family = record { exists = has.exists; chosen = noted.kept_there };
+          first = beside.of.has.among;
+          second = has.among;
+        },
+      )
+
+  pub beside_noted : (g : Fact) → Contains before g → notes.apart ≢ Some g → ShareOne p kept g fact → HasNotedGroup (groups_of index fact) kept notes.groups
+  beside_noted g known_g ne share = record {
+    place = share.place;
+    among = (indexed.groups fact exists share.place).1 (record { exists = share.in_family.exists; among = share.second });
+    kept_there = share.in_family.chosen;
+    some = λ nothing. no_note_tells (IsOfGroupBeside p before notes.apart share.place) (group_note notes.groups share.place) (are.noted.groups share.place share.in_family.exists) nothing
+        g (record { of = record { among = known_g; has = record { exists = share.in_family.exists; among = share.first } }; beside = ne });
+  }
 
   -- a condition that exists is met if it is one of the facts that are known then
-  met_is_in : (c : Fact) → FactExists p.variables c → IsMet marks fact c → Contains with c
+  met_is_in : (c : Fact) → FactExists p.variables c → IsMet notes fact c → Contains with c
   met_is_in c there (inl e) = subst (λ (x : Fact). Contains with x) (sym e) itself
-  met_is_in c there (inr at) = also c (value_note_tells before c.var c.value (value_note marks.values c.var) (are.noted.values c.var (variable_below p c there)) at)
+  met_is_in c there (inr at) = also c (value_note_tells before c.var c.value (value_note notes.values c.var) (are.noted.values c.var (variable_below p c there)) at)
 
-  in_is_met : (c : Fact) → FactExists p.variables c → Contains with c → IsMet marks fact c
+  in_is_met : (c : Fact) → FactExists p.variables c → Contains with c → IsMet notes fact c
   in_is_met c there in_all = elim (either c in_all) [
     | inr e ↦ inl (sym e)
-    | inl in_before ↦ inr (elim (a_note (value_note marks.values c.var)) [
-      | inl none ↦ absurd (no_value_note_tells before c.var (value_note marks.values c.var) (are.noted.values c.var (variable_below p c there)) none c in_before refl)
+    | inl in_before ↦ inr (elim (a_note (value_note notes.values c.var)) [
+      | inl none ↦ absurd (no_value_note_tells before c.var (value_note notes.values c.var) (are.noted.values c.var (variable_below p c there)) none c in_before refl)
       | inr w ↦ elim (cases_eq w.0 c.value) [
         | inl e ↦ w.1 ∙ ap (λ v. Some v) e
         | inr differs ↦ absurd (are.apart (
           record { var = c.var; value = w.0 },
           c,
-          value_note_tells before c.var w.0 (value_note marks.values c.var) (are.noted.values c.var (variable_below p c there)) w.1,
+          value_note_tells before c.var w.0 (value_note notes.values c.var) (are.noted.values c.var (variable_below p c there)) w.1,
           in_before,
           inl (refl, differs),
         ))
@@ -149,7 +168,7 @@ module _ (p : Parts) (index : Index) (kept : List Bool) (marks : Marks) (o : Ope
   ]
 
   module _ (conditions_there : (effect : ℕ) → effect < length o.effects → All (FactExists p.variables) (effect_at o effect).conditions) where
-    pub removes_is_removed : SomeRemoves o marks fact → IsRemoved o with fact
+    pub removes_is_removed : SomeRemoves o notes fact → IsRemoved o with fact
     removes_is_removed (effect, lt, removes) = record {
       effect = effect_at o effect;
       among = Contains-get_or o.effects effect (record { conditions = []; var = 0; old = None; new = 0 }) lt;
@@ -158,13 +177,13 @@ module _ (p : Parts) (index : Index) (kept : List Bool) (marks : Marks) (o : Ope
       other = removes.other;
     }
 
-    pub removed_is_removes : IsRemoved o with fact → SomeRemoves o marks fact
+    pub removed_is_removes : IsRemoved o with fact → SomeRemoves o notes fact
     removed_is_removes is =
         let (effect, lt, at) = is.among in
         let same : effect_at o effect ≡ is.effect = get_or_default o.effects effect (record { conditions = []; var = 0; old = None; new = 0 }) is.effect lt ∙ at in (
           effect,
           lt,
-          subst (λ (e : Effect). Removes marks fact e) (sym same) (record {
+          subst (λ (e : Effect). Removes notes fact e) (sym same) (record {
             fires = λ k d below. in_is_met (get_or is.effect.conditions k d)
                 (subst (λ (e : Effect). All (FactExists p.variables) e.conditions) same (conditions_there effect lt) k d below) (is.fires k d below);
             var = is.var;
@@ -194,6 +213,30 @@ one_clashes Counts o conditions facts fact among clash = (clash.0, clash.1, ther
       | inl w ↦ subst (λ (xs : List Fact). Contains (xs ++ facts) x) (append-nil (preconditions o ++ conditions)) (Contains-append_left (known o conditions []) facts x w)
       | inr e ↦ subst (λ (f : Fact). Contains (known o conditions facts) f) e (Contains-append_right (preconditions o ++ conditions) facts fact among)
     ]
+
+-- where what is known doesn't clash, it clashes with further facts if one of them clashes with it, or they clash themselves
+module _ (Counts : List Fact → Type 0) (o : Operator) (conditions facts : List Fact) where
+  pub themselves_clash : Clash Counts facts → Clash Counts (known o conditions facts)
+  themselves_clash clash = (clash.0, clash.1, there clash.0 clash.2, there clash.1 clash.3, clash.4)
+    where
+      there : (x : Fact) → Contains facts x → Contains (known o conditions facts) x
+      there x among = Contains-append_right (preconditions o ++ conditions) facts x among
+
+  abbrev first : List Fact
+  first = preconditions o ++ conditions
+
+  pub one_or_themselves : (Clash Counts (known o conditions []) → ⊥) → Clash Counts (known o conditions facts)
+      → ((fact : Fact) × Contains facts fact × Clash Counts (known o conditions (fact ∷ []))) ⊎ Clash Counts facts
+  one_or_themselves apart (f, g, f_in, g_in, why) = elim (Contains-append_cases first facts f f_in) [
+    | inl f_first ↦ elim (Contains-append_cases first facts g g_in) [
+      | inl g_first ↦ absurd (apart (f, g, Contains-append_left first [] f f_first, Contains-append_left first [] g g_first, why))
+      | inr g_among ↦ inl (g, g_among, (f, g, Contains-append_left first (g ∷ []) f f_first, Contains-push first g, why))
+    ]
+    | inr f_among ↦ elim (Contains-append_cases first facts g g_in) [
+      | inl g_first ↦ inl (f, f_among, (f, g, Contains-push first f, Contains-append_left first (f ∷ []) g g_first, why))
+      | inr g_among ↦ inr (f, g, f_among, g_among, why)
+    ]
+  ]
 
 -- what clashes never is, so that an effect that fires only there keeps each group
 pub clash_keeps : (Counts : List Fact → Type 0) (o : Operator) (group : List Fact) (e : Effect) → Clash Counts (known o e.conditions [])

@@ -1,5 +1,5 @@
 -- What one fact changes of what is noted, and what follows from the notes for one fact.
-use Rattle.std.specs.Prelude.{◌≡◌, ◌≢◌, ◌⊎◌, ℕ, ◌<◌, Bool, IsTrue, Option, None, Some}
+use Rattle.std.specs.Prelude.{◌≡◌, ◌≢◌, ◌⊎◌, ℕ, ◌<◌, ◌≤◌, ◌^◌, Bool, IsTrue, Option, None, Some}
 use Rattle.std.specs.Prelude.{List, [], ◌∷◌, length, slice_index_or, slice_set, All, Contains}
 use Rattle.sas_core.specs.declared.parts.Fact.{Fact}
 use Rattle.sas_core.specs.declared.parts.Effect.{Effect}
@@ -9,17 +9,49 @@ use Rattle.sas_core.specs.Grounded.{operator_at, effect_at, group_at}
 use Rattle.sas_groups.specs.Clashes.{Clash}
 use Rattle.sas_groups.specs.Lists.{known}
 use Rattle.sas_mutex.specs.declared.marks.Marks.{Marks}
+use Rattle.sas_mutex.specs.declared.marks.Notes.{Notes}
 use Rattle.sas_mutex.specs.declared.marks.Noted.{Noted}
 use Rattle.sas_mutex.specs.declared.marks.Noted.TheVariants.{Nothing, One, Several}
 use Rattle.sas_groups.specs.Checks.{NotBoth, IsGone}
+use Rattle.sas_groups.specs.Families.{IsIn}
 use Rattle.sas_mutex.specs.Effects.{family_of, IsKept, KeepsAt, KeepsWithItself}
-use Rattle.sas_group_index.specs.Index.{HasFact}
+use Rattle.std.specs.List.Sorted.{IsNonDecreasing}
+use Rattle.sas_group_index.specs.declared.index.Index.{Index}
+use Rattle.sas_group_index.specs.Index.{HasFact, groups_of}
 use Rattle.sas_mutex.specs.Firing.{EffectPlace, operator_of, effect_of}
-use Rattle.sas_mutex.specs.Marks.{value_note, group_note, IsNotedFrom, IsNoted}
+use Rattle.sas_mutex.specs.Marks.{value_note, group_note, IsNotedFrom, AreNotesOf}
 
 -- places below a number
 abbrev pub AreBelow : ℕ → List ℕ → Type 0
 AreBelow n places = All (λ (place : ℕ). place < n) places
+
+-- the index may be asked for the groups of any fact, which are in ascending order
+pub record IsReadable (index : Index) : Type 0 where
+  pub low : All (λ (first : ℕ). first ≤ 2 ^ 62) index.firsts.items
+  pub ascending : (fact : Fact) → IsNonDecreasing (groups_of index fact)
+
+-- a group that is kept has both facts
+pub record ShareKept (index : Index) (kept : List Bool) (f g : Fact) : Type 0 where
+  pub place : ℕ
+  pub first : Contains (groups_of index f) place
+  pub second : Contains (groups_of index g) place
+  pub kept_there : IsTrue (family_of kept place)
+
+-- the same of a task
+pub record ShareOne (p : Parts) (kept : List Bool) (f g : Fact) : Type 0 where
+  pub place : ℕ
+  pub in_family : IsIn p (family_of kept) place
+  pub first : Contains (group_at p place) f
+  pub second : Contains (group_at p place) g
+
+-- a group that is kept has this fact and the one apart
+abbrev pub SharesApart : Index → List Bool → Fact → Option Fact → Type 0
+SharesApart index kept fact apart =
+    (other : Fact) × (apart ≡ Some other) × ShareKept index kept fact other
+
+-- the fact is apart, and the group at this place has it
+abbrev pub HasApart : Index → ℕ → Option Fact → Fact → Type 0
+HasApart index place apart fact = (apart ≡ Some fact) × Contains (groups_of index fact) place
 
 -- what is noted for a group, once this fact of it is noted too
 abbrev pub IsNotedToo : Noted → Fact → Noted → Type 0
@@ -61,27 +93,55 @@ HasOtherValue values fact = (value : ℕ)
     × (value_note values fact.var ≡ Some value)
     × (value ≢ fact.value)
 
--- what changes is the note for the fact's variable, and those for these groups
-pub record ChangesAt (groups : List ℕ) (fact : Fact) (before after : Marks) : Type 0 where
+-- the fact contradicts one that is noted
+abbrev pub IsContradicted : Index → List Bool → Fact → Notes → Type 0
+IsContradicted index kept fact notes = HasOtherValue notes.values fact
+    ⊎ (IsRefused (groups_of index fact) kept fact notes.groups
+    ⊎ (value_note notes.values fact.var ≡ None) × SharesApart index kept fact notes.apart)
+
+-- what changes is the note for the fact's variable, and those for its groups
+pub record ChangesAt (groups : List ℕ) (fact : Fact) (before after : Notes) : Type 0 where
   pub as_many_values : length after.values ≡ length before.values
   pub as_many_groups : length after.groups ≡ length before.groups
   pub values : (var : ℕ)
       → (value_note after.values var ≡ value_note before.values var) ⊎ (var ≡ fact.var)
   pub by_group : (place : ℕ)
-      → (group_note after.groups place ≡ group_note before.groups place) ⊎ Contains groups place
+      → (group_note after.groups place ≡ group_note before.groups place)
+      ⊎ (Contains groups place × (value_note before.values fact.var ≡ None))
+  pub same_apart : after.apart ≡ before.apart
 
 -- the fact was noted before
-pub record IsThere (fact : Fact) (before after : Marks) : Type 0 where
+pub record IsThere (fact : Fact) (before after : Notes) : Type 0 where
   pub noted : value_note before.values fact.var ≡ Some fact.value
   pub same : after ≡ before
 
 -- no fact was noted on the variable, and this one is noted now
-pub record IsNew (groups : List ℕ) (kept : List Bool) (fact : Fact) (before after : Marks)
+pub record IsNew (index : Index) (kept : List Bool) (fact : Fact) (before after : Notes)
     : Type 0 where
   pub none : value_note before.values fact.var ≡ None
   pub values : after.values ≡ slice_set before.values fact.var (Some fact.value)
-  pub some : TakenBySome groups kept fact before.groups after.groups
-  pub all : TakenByAll groups kept fact before.groups after.groups
+  pub some : TakenBySome (groups_of index fact) kept fact before.groups after.groups
+  pub all : TakenByAll (groups_of index fact) kept fact before.groups after.groups
+  pub same_apart : after.apart ≡ before.apart
+  pub alone : SharesApart index kept fact before.apart → ⊥
+
+-- the value of the fact, if there is one, is noted for its variable
+abbrev pub IsSet : Option Fact → List (Option ℕ) → List (Option ℕ) → Type 0
+IsSet None before after = after ≡ before
+IsSet (Some fact) before after = after ≡ slice_set before fact.var (Some fact.value)
+
+-- the fact, if there is one, is noted by its variable and set apart
+pub record IsSetApart (apart : Option Fact) (before after : Notes) : Type 0 where
+  pub now : after.apart ≡ apart
+  pub values : IsSet apart before.values after.values
+  pub same_groups : after.groups ≡ before.groups
+
+-- what is noted for the group at this place, completed by the fact apart
+pub record IsCompleted (index : Index) (notes : Notes) (place : ℕ) (noted : Noted) : Type 0 where
+  pub with_apart : (fact : Fact) → HasApart index place notes.apart fact
+      → IsNotedToo (group_note notes.groups place) fact noted
+  pub without : ((fact : Fact) → HasApart index place notes.apart fact → ⊥)
+      → noted ≡ group_note notes.groups place
 
 -- nothing is noted for these groups, and for each other group what was noted before, or nothing
 pub record ForgetsGroups (groups : List ℕ) (before after : List Noted) : Type 0 where
@@ -90,15 +150,18 @@ pub record ForgetsGroups (groups : List ℕ) (before after : List Noted) : Type 
   pub each : (place : ℕ)
       → (group_note after place ≡ group_note before place) ⊎ (group_note after place ≡ Nothing)
 
--- what is noted of the fact is taken back
-pub record Forgets (groups : List ℕ) (fact : Fact) (before after : Marks) : Type 0 where
+-- what is noted of the fact is taken back; the one apart is noted for no group
+pub record Forgets (groups : List ℕ) (fact : Fact) (before after : Notes) : Type 0 where
   pub values : after.values ≡ slice_set before.values fact.var None
-  pub by_group : ForgetsGroups groups before.groups after.groups
+  pub by_group : (before.apart ≡ Some fact × (after.groups ≡ before.groups))
+      ⊎ ForgetsGroups groups before.groups after.groups
+  pub same_apart : after.apart ≡ before.apart
 
--- for no variable and no group of the fact is anything noted
-pub record IsForgotten (p : Parts) (marks : Marks) (fact : Fact) : Type 0 where
-  pub value : value_note marks.values fact.var ≡ None
-  pub groups : (place : ℕ) → HasFact p place fact → group_note marks.groups place ≡ Nothing
+-- the fact isn't noted for its variable, nor, if it isn't apart, for a group
+pub record IsForgotten (p : Parts) (notes : Notes) (fact : Fact) : Type 0 where
+  pub value : value_note notes.values fact.var ≡ None
+  pub groups : (place : ℕ) → HasFact p place fact
+      → (notes.apart ≡ Some fact) ⊎ (group_note notes.groups place ≡ Nothing)
 
 -- a fact is noted for one of these groups that is kept
 pub record HasNotedGroup (groups : List ℕ) (kept : List Bool) (noted : List Noted) : Type 0 where
@@ -107,37 +170,27 @@ pub record HasNotedGroup (groups : List ℕ) (kept : List Bool) (noted : List No
   pub kept_there : IsTrue (family_of kept place)
   pub some : group_note noted place ≢ Nothing
 
--- no fact is noted on the variable, and one is noted for a group that is kept
-pub record IsBarred (groups : List ℕ) (kept : List Bool) (fact : Fact) (marks : Marks)
-    : Type 0 where
-  pub none : value_note marks.values fact.var ≡ None
-  pub group : HasNotedGroup groups kept marks.groups
-
--- the notes contradict the fact
-abbrev pub IsAgainst : List ℕ → List Bool → Fact → Marks → Type 0
-IsAgainst groups kept fact marks = HasOtherValue marks.values fact ⊎ IsBarred groups kept fact marks
-
 -- the condition is this fact, or noted
-abbrev pub IsMet : Marks → Fact → Fact → Type 0
-IsMet marks fact condition =
-    (condition ≡ fact) ⊎ (value_note marks.values condition.var ≡ Some condition.value)
+abbrev pub IsMet : Notes → Fact → Fact → Type 0
+IsMet notes fact condition =
+    (condition ≡ fact) ⊎ (value_note notes.values condition.var ≡ Some condition.value)
 
 -- an effect whose conditions are all met sets the variable of the fact to another value
-pub record Removes (marks : Marks) (fact : Fact) (e : Effect) : Type 0 where
-  pub fires : All (IsMet marks fact) e.conditions
+pub record Removes (notes : Notes) (fact : Fact) (e : Effect) : Type 0 where
+  pub fires : All (IsMet notes fact) e.conditions
   pub var : e.var ≡ fact.var
   pub other : e.new ≢ fact.value
 
 -- some effect of the operator removes the fact
-abbrev pub SomeRemoves : Operator → Marks → Fact → Type 0
-SomeRemoves o marks fact = (effect : ℕ)
+abbrev pub SomeRemoves : Operator → Notes → Fact → Type 0
+SomeRemoves o notes fact = (effect : ℕ)
     × (effect < length o.effects)
-    × Removes marks fact (effect_at o effect)
+    × Removes notes fact (effect_at o effect)
 
 -- the facts are noted and don't clash
-pub record AreKnown (p : Parts) (kept : List Bool) (facts : List Fact) (marks : Marks)
+pub record AreKnown (p : Parts) (kept : List Bool) (facts : List Fact) (notes : Notes)
     : Type 0 where
-  pub noted : IsNoted p facts marks
+  pub noted : AreNotesOf p facts notes
   pub apart : Clash (IsKept p kept) facts → ⊥
 
 -- the known facts where the effect at this place of this operator fires
@@ -148,7 +201,7 @@ known_at p operator effect =
 -- these facts are noted, and no others, and don't clash
 pub record AreNoted (p : Parts) (kept : List Bool) (facts : List Fact) (marks : Marks)
     : Type 0 where
-  pub are : AreKnown p kept facts marks
+  pub are : AreKnown p kept facts marks.known
   pub from : IsNotedFrom p facts marks
 
 -- the known facts where the effect fires are noted, and no others, and don't clash
@@ -170,10 +223,10 @@ IsUnknown o e fact = Contains (known o e.conditions []) fact → ⊥
 
 -- the first of the facts, if there is one, is on the effect's variable, or a value is noted for its
 -- variable
-abbrev pub IsDecidedByFirst : Effect → List Fact → Marks → Type 0
-IsDecidedByFirst e facts marks = (first : Fact) (d : Fact) → 0 < length facts
+abbrev pub IsDecidedByFirst : Effect → List Fact → Notes → Type 0
+IsDecidedByFirst e facts notes = (first : Fact) (d : Fact) → 0 < length facts
     → slice_index_or facts 0 d ≡ first
-    → (e.var ≡ first.var) ⊎ (value_note marks.values first.var ≢ None)
+    → (e.var ≡ first.var) ⊎ (value_note notes.values first.var ≢ None)
 
 -- ---- the same of an effect and a group of a task, where the groups of the family count
 
@@ -202,6 +255,13 @@ ClashesAt f kept fact =
 -- one of these facts does
 abbrev pub SomeClashesAt : EffectPlace → List Bool → List Fact → Type 0
 SomeClashesAt f kept facts = (fact : Fact) × Contains facts fact × ClashesAt f kept fact
+
+-- a group of the family has this fact and a known one that isn't the one apart
+abbrev pub SharesBesideAt : EffectPlace → List Bool → Fact → Option Fact → Type 0
+SharesBesideAt f kept fact apart = (known : Fact)
+    × Contains (known_at f.task f.operator f.effect) known
+    × (apart ≢ Some known)
+    × ShareOne f.task kept known fact
 
 abbrev pub NotBothAt : EffectPlace → List Bool → ℕ → ℕ → Type 0
 NotBothAt f kept other place = NotBoth (IsKept f.task kept) (operator_of f)

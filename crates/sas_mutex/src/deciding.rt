@@ -58,7 +58,7 @@ impl Deciding {
     }
 
     /// Notes that the group decided a test.
-    pub fn note(&self, group: u32) {
+    pub fn decided_by(&self, group: u32) {
         self.noted.set(self.noted.get().with(group));
     }
 

@@ -8,17 +8,18 @@ ghost use Rattle.sas_group_index.specs.ByVariable.{AreOn};
 ghost use Rattle.sas_group_index.specs.Runs.{AreOnOne};
 ghost use Rattle.sas_mutex.specs.Effects.{family_of};
 ghost use Rattle.sas_mutex.specs.Firing.{operator_of, effect_of};
-ghost use Rattle.sas_mutex.specs.Marks.{IsWide};
-ghost use Rattle.sas_mutex.specs.Noting.{AreBelow, HasNotedGroup, IsAgainst, IsMet, SomeRemoves, Removes};
+ghost use Rattle.sas_mutex.specs.Marks.{IsWide, IsGroupNote, value_note};
+ghost use Rattle.sas_mutex.specs.Noting.{AreBelow, IsMet, SomeRemoves, Removes, known_at};
 ghost use Rattle.sas_mutex.specs.Noting.{IsNotedAt, KeepsGroup, KeepsGroupItself, BothClashAt, NotBothAt};
-ghost use Rattle.sas_mutex.specs.Noting.{ClashesAt, SomeClashesAt};
+ghost use Rattle.sas_mutex.specs.Noting.{ClashesAt, SomeClashesAt, SharesBesideAt};
 ghost use Rattle.sas_mutex.specs.Noting.{IsSingleAt, IsGoneAt, AreGoneAt, IsUnknownAt, IsDecidedByFirst};
 ghost use Rattle.sas_mutex.specs.Basis.{SetsNone};
 
-use crate::marks::{Marks, forget_known, note_known};
+use crate::indexed::IndexedTask;
+use crate::marks::{Marks, Noted, Notes, facts_clash, has_noted, shares_apart, some_has};
 use sas_core::{Fact, Grounded, Items};
 use sas_group_index::Index;
-use sas_groups::Premises;
+use sas_groups::{Known, Premises};
 use sas_meaning::Layered;
 use std::marker::Model;
 
@@ -89,7 +90,7 @@ impl<'a, 'b, T: Grounded> Firing<'a, 'b, T> {
         ensures notes { IsNotedAt self.now kept.old marks.new }
     {
         // Two facts of the group are known where the effect fires. Since the group counts, it never fires.
-        if marks.groups.as_slice()[group as usize].is_several() {
+        if self.noted(group, marks).is_several() {
             return true;
         }
         let counts = kept.as_slice()[group as usize];
@@ -97,6 +98,16 @@ impl<'a, 'b, T: Grounded> Firing<'a, 'b, T> {
         let keeps = self.keeps_by_notes(kept.as_slice(), group, marks);
         kept.set(group as usize, counts);
         keeps
+    }
+
+    /// Returns which of the known facts where this effect fires the group has.
+    fn noted(&self, group: u32, marks: &Marks) -> Noted
+        requires wide { IsWide self.now.task marks.now.known }
+        requires group { group < length self.now.task.groups }
+        ensures { let f = self.now in (kept : List Bool) → IsNotedAt f kept marks.now
+            → IsGroupNote f.task (known_at f.task f.operator f.effect) group result }
+    {
+        marks.known.noted(self.index, group)
     }
 
     /// Returns whether no effect that may fire together with this one sets a fact of the group too, on another variable.
@@ -135,8 +146,8 @@ impl<'a, 'b, T: Grounded> Firing<'a, 'b, T> {
         self.both_clash(kept, other, marks)
     }
 
-    /// Returns whether the known facts where both effects fire clash. The known facts where this effect fires are noted
-    /// before and after.
+    /// Returns whether the known facts where both effects fire clash. Those where this effect fires don't. So a condition of
+    /// the other effect clashes with them, or its conditions clash among themselves.
     fn both_clash(&self, kept: &[bool], other: u32, marks: &mut Marks) -> bool
         requires notes { IsNotedAt self.now kept.now marks.old }
         requires other { other < length (operator_of self.now).effects }
@@ -144,36 +155,23 @@ impl<'a, 'b, T: Grounded> Firing<'a, 'b, T> {
         ensures yes { IsTrue result → BothClashAt self.now kept.now other }
         ensures no { IsFalse result → BothClashAt self.now kept.now other → ⊥ }
     {
-        let first = self.task.effect_conditions(self.operator, self.effect);
         let second = self.task.effect_conditions(self.operator, other);
-        if second.is_empty() {
-            return false;
-        }
         if self.some_clashes(kept, second, marks) {
             return true;
         }
-        let one = Premises {
-            operator: self.operator,
-            first,
-            second: &[],
+        let indexed = IndexedTask {
+            task: self.task,
+            index: self.index,
         };
-        let both = Premises {
-            operator: self.operator,
-            first,
-            second,
-        };
-        forget_known(self.task, self.index, &one, marks);
-        let clash = note_known(self.task, self.index, kept, &both, marks);
-        forget_known(self.task, self.index, &both, marks);
-        let _ = note_known(self.task, self.index, kept, &one, marks);
-        clash
+        facts_clash(&indexed, kept, second, &mut marks.others, &marks.deciding)
     }
 
     /// Returns whether one of these facts clashes with the known facts where this effect fires.
     fn some_clashes(&self, kept: &[bool], facts: &[Fact], marks: &Marks) -> bool
         requires notes { IsNotedAt self.now kept.now marks.now }
         requires exist { All (FactExists self.now.task.variables) facts.now }
-        ensures { IsTrue result → SomeClashesAt self.now kept.now facts.now }
+        ensures yes { IsTrue result → SomeClashesAt self.now kept.now facts.now }
+        ensures no { IsFalse result → SomeClashesAt self.now kept.now facts.now → ⊥ }
     {
         // Naming a field makes the invariant of the effect available.
         let _ = &self.task;
@@ -189,11 +187,68 @@ impl<'a, 'b, T: Grounded> Firing<'a, 'b, T> {
     fn clashes(&self, kept: &[bool], fact: Fact, marks: &Marks) -> bool
         requires notes { IsNotedAt self.now kept.now marks.now }
         requires fact { FactExists self.now.task.variables fact }
-        ensures { IsTrue result → ClashesAt self.now kept.now fact }
+        ensures yes { IsTrue result → ClashesAt self.now kept.now fact }
+        ensures no { IsFalse result → ClashesAt self.now kept.now fact → ⊥ }
     {
         // Naming a field makes the invariant of the effect available.
         let _ = &self.task;
-        contradicts(self.index, kept, fact, marks)
+        match marks.known.values.as_slice()[fact.var as usize] {
+            Some(value) => value != fact.value,
+            None => self.shares_known(kept, fact, marks),
+        }
+    }
+
+    /// Returns whether a group of the family has the fact and a known one, where no fact is known on its variable.
+    fn shares_known(&self, kept: &[bool], fact: Fact, marks: &Marks) -> bool
+        requires notes { IsNotedAt self.now kept.now marks.now }
+        requires fact { FactExists self.now.task.variables fact }
+        requires none { value_note marks.now.known.values fact.var ≡ None }
+        ensures yes { IsTrue result → ClashesAt self.now kept.now fact }
+        ensures no { IsFalse result → ClashesAt self.now kept.now fact → ⊥ }
+    {
+        if shares_apart(self.index, kept, fact, marks.known.apart, &marks.deciding) {
+            return true;
+        }
+        self.shares_beside(kept, fact, marks)
+    }
+
+    /// Returns whether a group of the family has the fact and a known one that isn't the one apart. Either the groups of the
+    /// fact are gone through, or those of the known ones, if they are fewer.
+    fn shares_beside(&self, kept: &[bool], fact: Fact, marks: &Marks) -> bool
+        requires notes { IsNotedAt self.now kept.now marks.now }
+        requires fact { FactExists self.now.task.variables fact }
+        ensures yes { IsTrue result → SharesBesideAt self.now kept.now fact marks.now.known.apart }
+        ensures no { IsFalse result
+            → SharesBesideAt self.now kept.now fact marks.now.known.apart → ⊥ }
+    {
+        let groups = self.index.groups_of(fact);
+        if groups.len() <= marks.known.spread {
+            let noted = marks.known.groups.as_slice();
+            return has_noted(groups, kept, noted, &marks.deciding);
+        }
+        self.known_share(kept, fact, marks)
+    }
+
+    /// Does the same by the groups of the known facts.
+    fn known_share(&self, kept: &[bool], fact: Fact, marks: &Marks) -> bool
+        requires fact { FactExists self.now.task.variables fact }
+        ensures yes { IsTrue result → SharesBesideAt self.now kept.now fact marks.now.known.apart }
+        ensures no { IsFalse result
+            → SharesBesideAt self.now kept.now fact marks.now.known.apart → ⊥ }
+    {
+        let premises = Premises {
+            operator: self.operator,
+            first: self.task.effect_conditions(self.operator, self.effect),
+            second: &[],
+        };
+        for known in Known::new(self.task, &premises) {
+            if !marks.known.is_apart(known)
+                && some_has(self.index, kept, known, fact, &marks.deciding)
+            {
+                return true;
+            }
+        }
+        false
     }
 
     /// Returns whether no other fact of the group stays where this effect fires. Mostly an old value decides this at once.
@@ -236,7 +291,7 @@ impl<'a, 'b, T: Grounded> Firing<'a, 'b, T> {
         // Naming a field makes the invariant of the effect available.
         let _ = &self.task;
         // Where a fact of the group is known, it contradicts all the others.
-        if let Some(fact) = marks.groups.as_slice()[group as usize].only() {
+        if let Some(fact) = self.noted(group, marks).only() {
             return self.is_gone(kept, fact, marks);
         }
         let mut left = self.index.facts_of(self.task, group);
@@ -262,7 +317,7 @@ impl<'a, 'b, T: Grounded> Firing<'a, 'b, T> {
     {
         // Naming a field makes the invariant of the effect available.
         let _ = &self.index;
-        if self.is_settled(run, marks) {
+        if self.is_settled(run, &marks.known) {
             return true;
         }
         for fact in run {
@@ -274,14 +329,14 @@ impl<'a, 'b, T: Grounded> Firing<'a, 'b, T> {
     }
 
     /// Returns whether the first of the facts is on the effect's variable, or a value of its variable is known.
-    fn is_settled(&self, run: &[Fact], marks: &Marks) -> bool
-        requires values { All (λ (f : Fact). f.var < length marks.now.values) run.now }
-        ensures { IsTrue result → IsDecidedByFirst (effect_of self.now) run.now marks.now }
+    fn is_settled(&self, run: &[Fact], notes: &Notes) -> bool
+        requires values { All (λ (f : Fact). f.var < length notes.now.values) run.now }
+        ensures { IsTrue result → IsDecidedByFirst (effect_of self.now) run.now notes.now }
     {
         match run.first() {
             Some(first) => {
                 self.task.effect_change(self.operator, self.effect).var == first.var
-                    || marks.values.as_slice()[first.var as usize].is_some()
+                    || notes.values.as_slice()[first.var as usize].is_some()
             }
             None => true,
         }
@@ -297,66 +352,33 @@ impl<'a, 'b, T: Grounded> Firing<'a, 'b, T> {
         if self.task.effect_change(self.operator, self.effect).var == fact.var {
             return true;
         }
-        contradicts(self.index, kept, fact, marks) || self.is_removed(fact, marks)
+        self.clashes(kept, fact, marks) || self.is_removed(fact, &marks.known)
     }
 
     /// Returns whether an effect of the operator, each of whose conditions is this fact or noted, sets the variable of the
     /// fact to another value. Of a large operator only effects on that variable are looked at.
-    fn is_removed(&self, fact: Fact, marks: &Marks) -> bool
-        requires wide { IsWide self.now.task marks.now }
-        ensures yes { IsTrue result → SomeRemoves (operator_of self.now) marks.now fact }
-        ensures no { IsFalse result → SomeRemoves (operator_of self.now) marks.now fact → ⊥ }
+    fn is_removed(&self, fact: Fact, notes: &Notes) -> bool
+        requires wide { IsWide self.now.task notes.now }
+        ensures yes { IsTrue result → SomeRemoves (operator_of self.now) notes.now fact }
+        ensures no { IsFalse result → SomeRemoves (operator_of self.now) notes.now fact → ⊥ }
     {
         match self.index.effects_on(self.task, self.operator, fact.var) {
-            Some(effects) => one_removes(self.task, self.operator, effects, fact, marks),
-            None => some_removes(self.task, self.operator, fact, marks),
+            Some(effects) => one_removes(self.task, self.operator, effects, fact, notes),
+            None => some_removes(self.task, self.operator, fact, notes),
         }
     }
-}
-
-/// Returns whether the fact contradicts one that is noted.
-fn contradicts(index: &Index, kept: &[bool], fact: Fact, marks: &Marks) -> bool
-    requires low { All (λ (first : ℕ). first ≤ 2 ^ 62) index.now.firsts.items }
-    requires value { fact.var < length marks.now.values }
-    requires kept { AreBelow (length kept.now) (groups_of index.now fact) }
-    requires groups { AreBelow (length marks.now.groups) (groups_of index.now fact) }
-    ensures yes { IsTrue result
-        → IsAgainst (groups_of index.now fact) kept.now fact marks.now }
-    ensures no { IsFalse result
-        → IsAgainst (groups_of index.now fact) kept.now fact marks.now → ⊥ }
-{
-    match marks.values.as_slice()[fact.var as usize] {
-        Some(value) => value != fact.value,
-        None => has_noted(index.groups_of(fact), kept, marks),
-    }
-}
-
-/// Returns whether a fact is noted for one of these groups that is kept.
-fn has_noted(groups: &[u32], kept: &[bool], marks: &Marks) -> bool
-    requires kept { AreBelow (length kept.now) groups.now }
-    requires noted { AreBelow (length marks.now.groups) groups.now }
-    ensures yes { IsTrue result → HasNotedGroup groups.now kept.now marks.now.groups }
-    ensures no { IsFalse result → HasNotedGroup groups.now kept.now marks.now.groups → ⊥ }
-{
-    for group in groups {
-        if kept[*group as usize] && !marks.groups.as_slice()[*group as usize].is_nothing() {
-            marks.deciding.note(*group);
-            return true;
-        }
-    }
-    false
 }
 
 /// Returns whether an effect of the operator, each of whose conditions is this fact or noted, sets the variable of the fact
 /// to another value.
-fn some_removes<T: Grounded>(task: &Layered<T>, operator: u32, fact: Fact, marks: &Marks) -> bool
-    requires wide { IsWide task.now marks.now }
+fn some_removes<T: Grounded>(task: &Layered<T>, operator: u32, fact: Fact, notes: &Notes) -> bool
+    requires wide { IsWide task.now notes.now }
     requires operator { operator < length task.now.operators }
-    ensures yes { IsTrue result → SomeRemoves (operator_at task.now operator) marks.now fact }
-    ensures no { IsFalse result → SomeRemoves (operator_at task.now operator) marks.now fact → ⊥ }
+    ensures yes { IsTrue result → SomeRemoves (operator_at task.now operator) notes.now fact }
+    ensures no { IsFalse result → SomeRemoves (operator_at task.now operator) notes.now fact → ⊥ }
 {
     for effect in 0..task.effects(operator) {
-        if removes(task, operator, effect, fact, marks) {
+        if removes(task, operator, effect, fact, notes) {
             return true;
         }
     }
@@ -370,16 +392,16 @@ fn one_removes<T: Grounded>(
     operator: u32,
     effects: &[u32],
     fact: Fact,
-    marks: &Marks,
+    notes: &Notes,
 ) -> bool
-    requires wide { IsWide task.now marks.now }
+    requires wide { IsWide task.now notes.now }
     requires operator { operator < length task.now.operators }
     requires all { AreOn task.now operator fact.var effects.now }
-    ensures yes { IsTrue result → SomeRemoves (operator_at task.now operator) marks.now fact }
-    ensures no { IsFalse result → SomeRemoves (operator_at task.now operator) marks.now fact → ⊥ }
+    ensures yes { IsTrue result → SomeRemoves (operator_at task.now operator) notes.now fact }
+    ensures no { IsFalse result → SomeRemoves (operator_at task.now operator) notes.now fact → ⊥ }
 {
     for effect in effects {
-        if *effect < task.effects(operator) && removes(task, operator, *effect, fact, marks) {
+        if *effect < task.effects(operator) && removes(task, operator, *effect, fact, notes) {
             return true;
         }
     }
@@ -393,15 +415,15 @@ fn removes<T: Grounded>(
     operator: u32,
     effect: u32,
     fact: Fact,
-    marks: &Marks,
+    notes: &Notes,
 ) -> bool
-    requires wide { IsWide task.now marks.now }
+    requires wide { IsWide task.now notes.now }
     requires operator { operator < length task.now.operators }
     requires effect { effect < length (operator_at task.now operator).effects }
     ensures yes { IsTrue result
-        → Removes marks.now fact (effect_at (operator_at task.now operator) effect) }
+        → Removes notes.now fact (effect_at (operator_at task.now operator) effect) }
     ensures no { IsFalse result
-        → Removes marks.now fact (effect_at (operator_at task.now operator) effect) → ⊥ }
+        → Removes notes.now fact (effect_at (operator_at task.now operator) effect) → ⊥ }
 {
     // By its contract the task is well ranged.
     let _ = task.task();
@@ -409,17 +431,17 @@ fn removes<T: Grounded>(
     if change.var != fact.var || change.new == fact.value {
         return false;
     }
-    all_met(task.effect_conditions(operator, effect), fact, marks)
+    all_met(task.effect_conditions(operator, effect), fact, notes)
 }
 
 /// Returns whether each of the conditions is this fact or noted.
-fn all_met(conditions: &[Fact], fact: Fact, marks: &Marks) -> bool
-    requires { All (λ (c : Fact). c.var < length marks.now.values) conditions.now }
-    ensures yes { IsTrue result → All (IsMet marks.now fact) conditions.now }
-    ensures no { IsFalse result → All (IsMet marks.now fact) conditions.now → ⊥ }
+fn all_met(conditions: &[Fact], fact: Fact, notes: &Notes) -> bool
+    requires { All (λ (c : Fact). c.var < length notes.now.values) conditions.now }
+    ensures yes { IsTrue result → All (IsMet notes.now fact) conditions.now }
+    ensures no { IsFalse result → All (IsMet notes.now fact) conditions.now → ⊥ }
 {
     for condition in conditions {
-        if !is_met(*condition, fact, marks) {
+        if !is_met(*condition, fact, notes) {
             return false;
         }
     }
@@ -427,12 +449,12 @@ fn all_met(conditions: &[Fact], fact: Fact, marks: &Marks) -> bool
 }
 
 /// Returns whether the condition is this fact or noted.
-fn is_met(condition: Fact, fact: Fact, marks: &Marks) -> bool
-    requires { condition.var < length marks.now.values }
-    ensures yes { IsTrue result → IsMet marks.now fact condition }
-    ensures no { IsFalse result → IsMet marks.now fact condition → ⊥ }
+fn is_met(condition: Fact, fact: Fact, notes: &Notes) -> bool
+    requires { condition.var < length notes.now.values }
+    ensures yes { IsTrue result → IsMet notes.now fact condition }
+    ensures no { IsFalse result → IsMet notes.now fact condition → ⊥ }
 {
-    condition == fact || marks.values.as_slice()[condition.var as usize] == Some(condition.value)
+    condition == fact || notes.values.as_slice()[condition.var as usize] == Some(condition.value)
 }
 
 /// Returns whether one of these groups is in the family.

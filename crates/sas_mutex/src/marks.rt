@@ -1,22 +1,28 @@
 // Facts noted by variable and by group, so that each further one is compared with all in a fixed time.
-ghost use Rattle.std.specs.Prelude.{◌≡◌, ◌≢◌, ◌<◌, ◌≤◌, ◌^◌, ◌⊎◌, ◌↔◌, ℕ, length, Some, None, IsTrue, IsFalse, IfOk, All};
+ghost use Rattle.std.specs.Prelude.{◌≡◌, ◌≢◌, ◌<◌, ◌≤◌, ◌^◌, ◌⊎◌, ◌↔◌, ℕ, length, Some, None, IsTrue, IsFalse, IfOk, IfSome, All, Contains};
 ghost use Rattle.sas_core.specs.Variables.{FactExists};
 ghost use Rattle.sas_groups.specs.Clashes.{Clash};
 ghost use Rattle.sas_groups.specs.Lists.{known_on};
-ghost use Rattle.sas_mutex.specs.Effects.{IsKept};
+ghost use Rattle.sas_mutex.specs.Effects.{family_of, IsKept};
 ghost use Rattle.sas_core.specs.WellRanged.{WellRanged};
 ghost use Rattle.sas_mutex.specs.declared.marks.Noted.TheVariants.{Nothing, One, Several};
 ghost use Rattle.sas_group_index.specs.Index.{IsIndexOf, groups_of};
-ghost use Rattle.sas_mutex.specs.Marks.{IsClean, IsNotedFrom, IsNoted};
-ghost use Rattle.sas_mutex.specs.Noting.{AreBelow, IsNotedToo, IsRefused, TakenBySome, TakenByAll, HasOtherValue};
-ghost use Rattle.sas_mutex.specs.Noting.{ChangesAt, IsThere, IsNew, ForgetsGroups, Forgets};
+ghost use Rattle.sas_mutex.specs.Marks.{AreBlank, AreFrom, IsClean, IsNotedFrom, IsNoted};
+ghost use Rattle.sas_mutex.specs.Noting.{AreBelow, IsReadable, ShareKept, SharesApart, IsContradicted};
+ghost use Rattle.sas_mutex.specs.Noting.{IsNotedToo, IsRefused, TakenBySome, TakenByAll, HasOtherValue};
+ghost use Rattle.sas_mutex.specs.Noting.{ChangesAt, IsThere, IsNew, ForgetsGroups, Forgets, IsSetApart, IsCompleted};
+ghost use Rattle.sas_mutex.specs.Noting.{HasNotedGroup};
 
 use crate::deciding::Deciding;
+use crate::indexed::IndexedTask;
 use sas_core::{Fact, Grounded, Items};
 use sas_group_index::Index;
 use sas_groups::{Known, Premises};
 use sas_meaning::Layered;
 use std::alloc::{AllocError, Global};
+
+/// A fact that more groups have may stand apart: it is noted for none of them.
+const FEW_GROUPS: usize = 8;
 
 /// Which facts of a group are noted.
 #[derive(Clone, Copy)]
@@ -69,12 +75,27 @@ impl Noted {
 
 /// Some facts, noted by variable and by group. What is noted for a group doesn't depend on whether it counts.
 #[derive(Drop)]
-pub struct Marks {
+pub struct Notes {
     /// For each variable, the value of a fact on it.
     pub values: Items<Option<u32>>,
-    /// For each group, which facts of it are noted.
+    /// For each group, which facts of it are noted, but for the one apart.
     pub groups: Items<Noted>,
-    /// The groups that decided tests in which a fact contradicted another.
+    /// A fact that is noted by its variable alone, since so many groups have it. Which of them a group has is asked of the
+    /// index.
+    pub apart: Option<Fact>,
+    /// How many groups there are to note facts for, each counted as often as it has one: what it takes to go through the
+    /// groups of all facts that are noted, but for the one apart. It is a hint, of which no contract speaks.
+    pub spread: usize,
+}
+
+/// What is noted while effects are looked at.
+#[derive(Drop)]
+pub struct Marks {
+    /// The known facts where effects fire.
+    pub known: Notes,
+    /// Other facts for a short time, to see whether they clash.
+    pub others: Notes,
+    /// Which groups decided tests.
     pub deciding: Deciding,
 }
 
@@ -84,14 +105,52 @@ impl Marks {
         ensures { IfOk result (λ marks. IsClean task.now marks) }
     {
         Ok(Marks {
-            values: Items::from_vec(vec![in alloc; None; task.variables() as usize]?),
-            groups: Items::from_vec(vec![in alloc; Noted::Nothing; task.groups() as usize]?),
+            known: Notes::new(alloc, task)?,
+            others: Notes::new(alloc, task)?,
             deciding: Deciding::new(),
         })
     }
 }
 
-/// Notes the known facts, and returns whether they clash. If they do, not all of them are noted.
+impl Notes {
+    /// Returns notes of no facts.
+    fn new<T: Grounded>(alloc: Global, task: &Layered<T>) -> Result<Notes, AllocError>
+        ensures { IfOk result (λ notes. AreBlank task.now notes) }
+    {
+        Ok(Notes {
+            values: Items::from_vec(vec![in alloc; None; task.variables() as usize]?),
+            groups: Items::from_vec(vec![in alloc; Noted::Nothing; task.groups() as usize]?),
+            apart: None,
+            spread: 0,
+        })
+    }
+
+    /// Returns which facts of the group are noted, by its note and by the fact apart.
+    pub fn noted(&self, index: &Index, group: u32) -> Noted
+        requires index { IsReadable index.now }
+        requires group { group < length self.now.groups }
+        ensures { IsCompleted index.now self.now group result }
+    {
+        let noted = self.groups.as_slice()[group as usize];
+        match self.apart {
+            Some(fact) if index.has(group, fact) => noted.with(fact),
+            _ => noted,
+        }
+    }
+
+    /// Returns whether this is the fact apart.
+    pub fn is_apart(&self, fact: Fact) -> bool
+        ensures { IsTrue result ↔ (self.now.apart ≡ Some fact) }
+    {
+        match self.apart {
+            Some(apart) => apart == fact,
+            None => false,
+        }
+    }
+}
+
+/// Notes the known facts, and returns whether they clash. If they do, not all of them are noted. A fact that many groups have
+/// stands apart.
 pub fn note_known<T: Grounded>(
     task: &Layered<T>,
     index: &Index,
@@ -115,33 +174,137 @@ pub fn note_known<T: Grounded>(
 {
     // By its contract the task is well ranged.
     let _ = task.task();
+    let widest = widest_known(task, index, premises);
+    set_apart(widest, &mut marks.known);
     for fact in Known::new(task, premises) {
-        if !note(index, kept, fact, marks) {
+        if !note(index, kept, fact, &mut marks.known, &marks.deciding) {
             return true;
         }
     }
     false
 }
 
-/// Notes the fact, and returns whether it contradicts none that is noted. If it does, it may be noted in part.
-fn note(index: &Index, kept: &[bool], fact: Fact, marks: &mut Marks) -> bool
-    requires low { All (λ (first : ℕ). first ≤ 2 ^ 62) index.now.firsts.items }
-    requires value { fact.var < length marks.old.values }
-    requires kept { AreBelow (length kept.now) (groups_of index.now fact) }
-    requires groups { AreBelow (length marks.old.groups) (groups_of index.now fact) }
-    ensures yes { IsTrue result → IsThere fact marks.old marks.new
-        ⊎ IsNew (groups_of index.now fact) kept.now fact marks.old marks.new }
-    ensures no { IsFalse result → HasOtherValue marks.old.values fact
-        ⊎ IsRefused (groups_of index.now fact) kept.now fact marks.old.groups }
-    ensures changes { ChangesAt (groups_of index.now fact) fact marks.old marks.new }
+/// Returns, of the known facts that many groups have, one that most have.
+fn widest_known<T: Grounded>(
+    task: &Layered<T>,
+    index: &Index,
+    premises: &Premises<'_>,
+) -> Option<Fact>
+    requires index { IsReadable index.now }
+    requires operator { premises.now.operator < length task.now.operators }
+    ensures { IfSome result (Contains (known_on task.now premises.now)) }
 {
-    match marks.values.as_slice()[fact.var as usize] {
+    let mut widest = None;
+    for fact in Known::new(task, premises) {
+        widest = wider(index, fact, widest);
+    }
+    widest
+}
+
+/// Returns the fact if many groups have it, and more than have the other fact. Otherwise returns the other.
+fn wider(index: &Index, fact: Fact, other: Option<Fact>) -> Option<Fact>
+    requires { IsReadable index.now }
+    ensures { (result ≡ Some fact) ⊎ (result ≡ other) }
+{
+    let most = match other {
+        Some(other) => index.groups_of(other).len(),
+        None => FEW_GROUPS,
+    };
+    if index.groups_of(fact).len() > most {
+        Some(fact)
+    } else {
+        other
+    }
+}
+
+/// Notes the fact, if there is one, by its variable, and sets it apart.
+fn set_apart(apart: Option<Fact>, notes: &mut Notes)
+    requires { IfSome apart (λ fact. fact.var < length notes.old.values) }
+    ensures { IsSetApart apart notes.old notes.new }
+{
+    if let Some(fact) = apart {
+        notes.values.set(fact.var as usize, Some(fact.value));
+    }
+    notes.apart = apart;
+}
+
+/// Notes the fact, and returns whether it contradicts none that is noted. If it does, it may be noted in part.
+fn note(index: &Index, kept: &[bool], fact: Fact, notes: &mut Notes, deciding: &Deciding) -> bool
+    requires index { IsReadable index.now }
+    requires value { fact.var < length notes.old.values }
+    requires groups { AreBelow (length notes.old.groups) (groups_of index.now fact) }
+    ensures yes { IsTrue result → IsThere fact notes.old notes.new
+        ⊎ IsNew index.now kept.now fact notes.old notes.new }
+    ensures no { IsFalse result → IsContradicted index.now kept.now fact notes.old }
+    ensures changes { ChangesAt (groups_of index.now fact) fact notes.old notes.new }
+{
+    match notes.values.as_slice()[fact.var as usize] {
         Some(value) => value == fact.value,
         None => {
-            marks.values.set(fact.var as usize, Some(fact.value));
+            if shares_apart(index, kept, fact, notes.apart, deciding) {
+                return false;
+            }
+            notes.values.set(fact.var as usize, Some(fact.value));
             let groups = index.groups_of(fact);
-            note_in_groups(groups, kept, fact, &mut marks.groups, &marks.deciding)
+            notes.spread = notes.spread.saturating_add(groups.len());
+            note_in_groups(groups, kept, fact, &mut notes.groups, deciding)
         }
+    }
+}
+
+/// Returns whether a group that is kept has this fact and the one apart.
+pub fn shares_apart(
+    index: &Index,
+    kept: &[bool],
+    fact: Fact,
+    apart: Option<Fact>,
+    deciding: &Deciding,
+) -> bool
+    requires { IsReadable index.now }
+    ensures yes { IsTrue result → SharesApart index.now kept.now fact apart }
+    ensures no { IsFalse result → SharesApart index.now kept.now fact apart → ⊥ }
+{
+    match apart {
+        Some(other) => share_kept(index, kept, fact, other, deciding),
+        None => false,
+    }
+}
+
+/// Returns whether a group that is kept has both facts. The groups of that fact are gone through which fewer groups have.
+fn share_kept(index: &Index, kept: &[bool], fact: Fact, other: Fact, deciding: &Deciding) -> bool
+    requires { IsReadable index.now }
+    ensures yes { IsTrue result → ShareKept index.now kept.now fact other }
+    ensures no { IsFalse result → ShareKept index.now kept.now fact other → ⊥ }
+{
+    if index.groups_of(fact).len() <= index.groups_of(other).len() {
+        some_has(index, kept, fact, other, deciding)
+    } else {
+        some_has(index, kept, other, fact, deciding)
+    }
+}
+
+/// Returns whether a group that is kept has both facts. The groups of the first one are gone through.
+pub fn some_has(index: &Index, kept: &[bool], fact: Fact, other: Fact, deciding: &Deciding) -> bool
+    requires { IsReadable index.now }
+    ensures yes { IsTrue result → ShareKept index.now kept.now fact other }
+    ensures no { IsFalse result → ShareKept index.now kept.now fact other → ⊥ }
+{
+    for group in index.groups_of(fact) {
+        if is_kept(kept, *group) && index.has(*group, other) {
+            deciding.decided_by(*group);
+            return true;
+        }
+    }
+    false
+}
+
+/// Returns whether the group is in the family.
+pub fn is_kept(kept: &[bool], group: u32) -> bool
+    ensures { result ≡ family_of kept.now group }
+{
+    match kept.get(group as usize) {
+        Some(kept) => *kept,
+        None => false,
     }
 }
 
@@ -153,21 +316,35 @@ fn note_in_groups(
     noted: &mut Items<Noted>,
     deciding: &Deciding,
 ) -> bool
-    requires kept { AreBelow (length kept.now) groups.now }
-    requires noted { AreBelow (length noted.old) groups.now }
+    requires { AreBelow (length noted.old) groups.now }
     ensures yes { IsTrue result → TakenByAll groups.now kept.now fact noted.old noted.new }
     ensures no { IsFalse result → IsRefused groups.now kept.now fact noted.old }
     ensures some { TakenBySome groups.now kept.now fact noted.old noted.new }
 {
     for group in groups {
         let now = noted.as_slice()[*group as usize].with(fact);
-        if now.is_several() && kept[*group as usize] {
-            deciding.note(*group);
+        if now.is_several() && is_kept(kept, *group) {
+            deciding.decided_by(*group);
             return false;
         }
         noted.set(*group as usize, now);
     }
     true
+}
+
+/// Returns whether a fact is noted for one of these groups that is kept.
+pub fn has_noted(groups: &[u32], kept: &[bool], noted: &[Noted], deciding: &Deciding) -> bool
+    requires { AreBelow (length noted.now) groups.now }
+    ensures yes { IsTrue result → HasNotedGroup groups.now kept.now noted.now }
+    ensures no { IsFalse result → HasNotedGroup groups.now kept.now noted.now → ⊥ }
+{
+    for group in groups {
+        if is_kept(kept, *group) && !noted[*group as usize].is_nothing() {
+            deciding.decided_by(*group);
+            return true;
+        }
+    }
+    false
 }
 
 /// Takes back what is noted of the known facts.
@@ -187,19 +364,23 @@ pub fn forget_known<T: Grounded>(
     // By its contract the task is well ranged.
     let _ = task.task();
     for fact in Known::new(task, premises) {
-        forget(index, fact, marks);
+        forget(index, fact, &mut marks.known);
     }
+    marks.known.apart = None;
+    marks.known.spread = 0;
 }
 
-/// Takes back what is noted of the fact.
-fn forget(index: &Index, fact: Fact, marks: &mut Marks)
-    requires low { All (λ (first : ℕ). first ≤ 2 ^ 62) index.now.firsts.items }
-    requires value { fact.var < length marks.old.values }
-    requires groups { AreBelow (length marks.old.groups) (groups_of index.now fact) }
-    ensures { Forgets (groups_of index.now fact) fact marks.old marks.new }
+/// Takes back what is noted of the fact. For the groups of the one apart nothing is noted of it.
+fn forget(index: &Index, fact: Fact, notes: &mut Notes)
+    requires index { IsReadable index.now }
+    requires value { fact.var < length notes.old.values }
+    requires groups { AreBelow (length notes.old.groups) (groups_of index.now fact) }
+    ensures { Forgets (groups_of index.now fact) fact notes.old notes.new }
 {
-    marks.values.set(fact.var as usize, None);
-    forget_groups(index.groups_of(fact), &mut marks.groups);
+    notes.values.set(fact.var as usize, None);
+    if !notes.is_apart(fact) {
+        forget_groups(index.groups_of(fact), &mut notes.groups);
+    }
 }
 
 /// Takes back what is noted for these groups.
@@ -210,4 +391,76 @@ fn forget_groups(groups: &[u32], noted: &mut Items<Noted>)
     for group in groups {
         noted.set(*group as usize, Noted::Nothing);
     }
+}
+
+/// Returns whether the facts clash. Nothing is noted before and after.
+pub fn facts_clash<T: Grounded>(
+    indexed: &IndexedTask<'_, '_, T>,
+    kept: &[bool],
+    facts: &[Fact],
+    notes: &mut Notes,
+    deciding: &Deciding,
+) -> bool
+    requires exist { All (FactExists indexed.now.variables) facts.now }
+    requires blank { AreBlank indexed.now notes.old }
+    ensures yes { IsTrue result → Clash (IsKept indexed.now kept.now) facts.now }
+    ensures no { IsFalse result → Clash (IsKept indexed.now kept.now) facts.now → ⊥ }
+    ensures blank { AreBlank indexed.now notes.new }
+{
+    // A fact doesn't clash with itself.
+    if facts.len() < 2 {
+        return false;
+    }
+    let clash = note_facts(indexed, kept, facts, notes, deciding);
+    forget_facts(indexed, facts, notes);
+    clash
+}
+
+/// Notes the facts, and returns whether they clash. If they do, not all of them are noted.
+fn note_facts<T: Grounded>(
+    indexed: &IndexedTask<'_, '_, T>,
+    kept: &[bool],
+    facts: &[Fact],
+    notes: &mut Notes,
+    deciding: &Deciding,
+) -> bool
+    requires exist { All (FactExists indexed.now.variables) facts.now }
+    requires blank { AreBlank indexed.now notes.old }
+    ensures yes { IsTrue result → Clash (IsKept indexed.now kept.now) facts.now }
+    ensures no { IsFalse result → Clash (IsKept indexed.now kept.now) facts.now → ⊥ }
+    ensures from { AreFrom indexed.now facts.now notes.new }
+{
+    let widest = widest_of(indexed.index, facts);
+    set_apart(widest, notes);
+    for fact in facts {
+        if !note(indexed.index, kept, *fact, notes, deciding) {
+            return true;
+        }
+    }
+    false
+}
+
+/// Returns, of those of the facts that many groups have, one that most have.
+fn widest_of(index: &Index, facts: &[Fact]) -> Option<Fact>
+    requires { IsReadable index.now }
+    ensures { IfSome result (Contains facts.now) }
+{
+    let mut widest = None;
+    for fact in facts {
+        widest = wider(index, *fact, widest);
+    }
+    widest
+}
+
+/// Takes back what is noted of the facts.
+fn forget_facts<T: Grounded>(indexed: &IndexedTask<'_, '_, T>, facts: &[Fact], notes: &mut Notes)
+    requires exist { All (FactExists indexed.now.variables) facts.now }
+    requires from { AreFrom indexed.now facts.now notes.old }
+    ensures { AreBlank indexed.now notes.new }
+{
+    for fact in facts {
+        forget(indexed.index, *fact, notes);
+    }
+    notes.apart = None;
+    notes.spread = 0;
 }

@@ -5,4 +5,4 @@ use Rattle.sas_mutex.specs.Noting.{IsMet}
 use Rattle.sas_mutex.proofs.effects.all_met.Given as goal
 
 abbrev pub invariant-loop-condition : goal.invariant-loop-condition
-invariant-loop-condition l = (k : ℕ) (d : Fact) → k < l.condition-index → IsMet l.marks l.fact (get_or l.conditions k d)
+invariant-loop-condition l = (k : ℕ) (d : Fact) → k < l.condition-index → IsMet l.notes l.fact (get_or l.conditions k d)

@@ -12,4 +12,4 @@ returns-clause-no g c =
     λ f (effect, lt, removes). (let there = c.requires.all effect lt removes.var in
     let at = get_or_default effects there.0 0 effect there.1 ∙ there.2 in
     c.loop-effect.invariant there.0 (let within = there.1 in omega arith) (subst (λ (n : ℕ). n < length o.effects) (sym at) lt)
-    (subst (λ (n : ℕ). Removes c.args.marks.now c.args.fact (effect_at o n)) (sym at) removes))
+    (subst (λ (n : ℕ). Removes c.args.notes.now c.args.fact (effect_at o n)) (sym at) removes))

@@ -6,4 +6,4 @@ use Rattle.sas_mutex.proofs.effects.one_removes.Given as goal
 
 abbrev pub invariant-loop-effect : goal.invariant-loop-effect
 invariant-loop-effect g l = (k : ℕ) → k < l.effect-index → get_or l.effects k 0 < length (operator_at l.task l.operator).effects
-    → Removes l.marks l.fact (effect_at (operator_at l.task l.operator) (get_or l.effects k 0)) → ⊥
+    → Removes l.notes l.fact (effect_at (operator_at l.task l.operator) (get_or l.effects k 0)) → ⊥

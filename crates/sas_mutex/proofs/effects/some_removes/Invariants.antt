@@ -5,4 +5,4 @@ use Rattle.sas_mutex.specs.Noting.{Removes}
 use Rattle.sas_mutex.proofs.effects.some_removes.Given as goal
 
 abbrev pub invariant-loop-effect : goal.invariant-loop-effect
-invariant-loop-effect g l = (k : ℕ) → k < l.effect → Removes l.marks l.fact (effect_at (operator_at l.task l.operator) k) → ⊥
+invariant-loop-effect g l = (k : ℕ) → k < l.effect → Removes l.notes l.fact (effect_at (operator_at l.task l.operator) k) → ⊥

@@ -9,6 +9,6 @@ use Rattle.sas_mutex.proofs.marks.forget_known.Given as goal
 abbrev pub invariant-loop-fact : goal.invariant-loop-fact
 invariant-loop-fact g l = record {
   left : known_on l.task l.fn.premises ≡ l.yielded ++ known_left l.fact-iterator;
-  came : All (IsForgotten l.task l.marks) l.yielded;
+  came : All (IsForgotten l.task l.marks.known) l.yielded;
   from : IsNotedFrom l.task (known_on l.task l.fn.premises) l.marks;
 }

@@ -1,5 +1,5 @@
 -- One more group took the fact.
-use Rattle.std.proofs.Common.{◌≢◌, ◌<◌, List, length, get_or, IsTrue, subst, arith}
+use Rattle.std.proofs.Common.{◌≢◌, ◌<◌, List, length, get_or, IsTrue, subst, sym, ◌∙◌, arith}
 use Rattle.std.proofs.lemmas.Bool.{both_ways}
 use Rattle.std.proofs.lemmas.List.Elements.{Contains-get_or}
 use Rattle.sas_groups.proofs.Turns.{each_more}
@@ -10,10 +10,10 @@ use Rattle.sas_mutex.specs.Marks.{group_note}
 use Rattle.sas_mutex.specs.Noting.{IsNotedToo, Takes}
 use Rattle.sas_mutex.proofs.NotesOfFacts.{since_before, takes_still, takes_here, taken_more}
 use Rattle.sas_mutex.proofs.marks.note_in_groups.Goals as goal
-use Rattle.sas_mutex.proofs.marks.note_in_groups.Goals.{else-is_several-via-then-is_several+else-kept-group, else-is_several-via-else-is_several}
+use Rattle.sas_mutex.proofs.marks.note_in_groups.Goals.{else-is_several-via-then-is_several+else-is_kept, else-is_several-via-else-is_several}
 
-pub returns-then-kept-group-clause-no : goal.returns-then-kept-group-clause-no
-returns-then-kept-group-clause-no c =
+pub returns-then-is_kept-clause-no : goal.returns-then-is_kept-clause-no
+returns-then-is_kept-clause-no c =
     let groups = c.args.groups.now in
     let kept = c.args.kept.now in
     let fact = c.args.fact in
@@ -26,7 +26,7 @@ returns-then-kept-group-clause-no c =
     λ _. record {
       place = place;
       among = Contains-get_or groups n 0 c.loop-group-test.true;
-      kept_there = c.if-kept-group.true;
+      kept_there = sym c.is_kept.ensures ∙ c.if-is_kept.true;
       other = since_before groups kept fact c.args.noted.now now c.loop-group.invariant.some place Several
           (subst (λ (after : Noted). IsNotedToo (group_note now place) fact after) several too);
     }
@@ -42,10 +42,10 @@ loop-group-preserved c =
     let after = c.with-now.result in
     let inv = c.loop-group.invariant in
     let among = Contains-get_or groups n 0 c.loop-group-test.true in
-    let below : place < length now = let e = inv.some.as_many in let h = c.requires.noted n 0 c.loop-group-test.true in omega arith in
+    let below : place < length now = let e = inv.some.as_many in let h = c.requires n 0 c.loop-group-test.true in omega arith in
     let too : IsNotedToo (group_note now place) fact after = subst (λ (xs : List Noted). IsNotedToo (group_note xs place) fact after) c.as_slice.ensures c.with-now.ensures in
     let alone : IsTrue (family_of kept place) → after ≢ Several = λ in_family several. elim c.else-is_several.branch [
-      | else-is_several-via-then-is_several+else-kept-group w ↦ both_ways (family_of kept place) w.if-kept-group.false in_family
+      | else-is_several-via-then-is_several+else-is_kept w ↦ both_ways (family_of kept place) (sym w.is_kept.ensures ∙ w.if-is_kept.false) in_family
       | else-is_several-via-else-is_several w ↦ both_ways c.is_several.result w.if-is_several.false (c.is_several.ensures.1 several)
     ] in
     rw c.set.ensures record {

@@ -1,13 +1,12 @@
 -- The family with the group has the groups of the family, and this one.
-use Rattle.std.proofs.Common.{◌≡◌, ◌≢◌, Bool, true, false, List, length, get_or, set, sym, ap, ◌∙◌, subst}
+use Rattle.std.proofs.Common.{◌≢◌, Bool, true, false, List, length, get_or, set, sym, ap, ◌∙◌, subst}
 use Rattle.std.proofs.lemmas.Bool.{true≢false, both_ways}
 use Rattle.std.proofs.lemmas.List.{length-set}
 use Rattle.sas_core.specs.Grounded.{operator_at, effect_at, group_at}
-use Rattle.sas_mutex.specs.declared.marks.Noted.{Noted}
 use Rattle.sas_mutex.specs.declared.marks.Noted.TheVariants.{Several}
 use Rattle.sas_mutex.specs.Effects.{IsKept, EffectKeeps}
-use Rattle.sas_mutex.specs.Marks.{group_note}
-use Rattle.sas_mutex.specs.Noting.{IsNotedFor}
+use Rattle.sas_mutex.specs.Marks.{IsGroupNote}
+use Rattle.sas_mutex.specs.Noting.{IsNotedFor, known_at}
 use Rattle.sas_mutex.proofs.Telling.{keeps_then, keeps_itself, put_back, several_never_fire, noted_with, is_more}
 use Rattle.sas_mutex.proofs.ToldByNotes.{noted_fewer}
 use Rattle.sas_mutex.proofs.effects.Firing.keeps_with_itself.Goals as goal
@@ -15,8 +14,8 @@ use Rattle.sas_mutex.proofs.effects.Firing.keeps_with_itself.Goals as goal
 pub returns-then-is_several-clause-yes : goal.returns-then-is_several-clause-yes
 returns-then-is_several-clause-yes g c =
     let p = c.args.self.now.task in
-    let several : group_note c.args.marks.now.groups c.args.group ≡ Several =
-    ap (λ (xs : List Noted). group_note xs c.args.group) (sym c.as_slice.ensures) ∙ c.is_several.ensures.0 c.if-is_several.true in
+    let several = subst (IsGroupNote p (known_at p c.args.self.now.operator c.args.self.now.effect) c.args.group) (c.is_several.ensures.0 c.if-is_several.true)
+    (c.noted.ensures c.args.kept.now c.requires.notes) in
     λ _. several_never_fire p c.args.kept.now c.args.group c.requires.group c.requires.notes.one_each c.args.self.now.operator c.args.self.now.effect c.args.marks.now c.requires.notes.noted several
 
 pub returns-then-is_several-clause-no : goal.returns-then-is_several-clause-no
@@ -25,13 +24,11 @@ returns-then-is_several-clause-no g c f = absurd (true≢false f)
 pub keeps_by_notes-keeps-requires-clause-notes : goal.keeps_by_notes-keeps-requires-clause-notes
 keeps_by_notes-keeps-requires-clause-notes g c =
     let p = c.args.self.now.task in
-    let few : group_note c.args.marks.now.groups c.args.group ≢ Several =
-    λ several. both_ways c.is_several.result c.if-is_several.false
-    (c.is_several.ensures.1 (ap (λ (xs : List Noted). group_note xs c.args.group) c.as_slice.ensures ∙ several)) in
+    let few : c.noted.result ≢ Several = λ several. both_ways c.is_several.result c.if-is_several.false (c.is_several.ensures.1 several) in
     record {
-      one_each = ap length (c.as_slice-3.ensures ∙ c.set.ensures) ∙ (length-set c.args.kept.now c.args.group true ∙ c.requires.notes.one_each);
-      noted = subst (λ (xs : List Bool). IsNotedFor p xs c.args.self.now.operator c.args.self.now.effect c.args.marks.now) (sym (c.as_slice-3.ensures ∙ c.set.ensures))
-          (noted_with p c.args.kept.now c.args.group c.requires.group c.requires.notes.one_each c.args.self.now.operator c.args.self.now.effect c.args.marks.now c.requires.notes.noted few);
+      one_each = ap length (c.as_slice-2.ensures ∙ c.set.ensures) ∙ (length-set c.args.kept.now c.args.group true ∙ c.requires.notes.one_each);
+      noted = subst (λ (xs : List Bool). IsNotedFor p xs c.args.self.now.operator c.args.self.now.effect c.args.marks.now) (sym (c.as_slice-2.ensures ∙ c.set.ensures))
+          (noted_with p c.args.kept.now c.args.group c.requires.group c.requires.notes.one_each c.args.self.now.operator c.args.self.now.effect c.args.marks.now c.requires.notes.noted c.noted.result (c.noted.ensures c.args.kept.now c.requires.notes) few);
     }
 
 pub returns-clause-yes : goal.returns-clause-yes
@@ -40,7 +37,7 @@ returns-clause-yes g c =
     let o = operator_at p c.args.self.now.operator in
     λ t. keeps_itself p c.args.kept.now c.args.group c.requires.group c.requires.notes.one_each c.args.self.now.operator c.args.self.now.effect
     (subst (λ (kept : List Bool). EffectKeeps (IsKept p kept) o (group_at p c.args.group) (effect_at o c.args.self.now.effect))
-    (c.as_slice-3.ensures ∙ c.set.ensures) (c.keeps_by_notes-keeps.ensures.yes t))
+    (c.as_slice-2.ensures ∙ c.set.ensures) (c.keeps_by_notes-keeps.ensures.yes t))
 
 pub returns-clause-no : goal.returns-clause-no
 returns-clause-no g c =
@@ -48,15 +45,15 @@ returns-clause-no g c =
     let o = operator_at p c.args.self.now.operator in
     λ t keeps. c.keeps_by_notes-keeps.ensures.no t
     (subst (λ (kept : List Bool). EffectKeeps (IsKept p kept) o (group_at p c.args.group) (effect_at o c.args.self.now.effect))
-    (sym (c.as_slice-3.ensures ∙ c.set.ensures))
+    (sym (c.as_slice-2.ensures ∙ c.set.ensures))
     (keeps_then p c.args.kept.now c.args.group c.requires.group c.requires.notes.one_each c.args.self.now.operator c.args.self.now.effect keeps))
 
 pub returns-clause-kept : goal.returns-clause-kept
 returns-clause-kept g c =
     let kept = c.args.kept.now in
-    let was = get_or c.as_slice-2.result.now c.args.group false in
+    let was = get_or c.as_slice.result.now c.args.group false in
     c.set-2.ensures ∙ (ap (λ (xs : List Bool). set xs c.args.group was) c.set.ensures
-    ∙ put_back kept c.args.group was (ap (λ (xs : List Bool). get_or xs c.args.group false) (sym c.as_slice-2.ensures)))
+    ∙ put_back kept c.args.group was (ap (λ (xs : List Bool). get_or xs c.args.group false) (sym c.as_slice.ensures)))
 
 pub returns-clause-notes : goal.returns-clause-notes
 returns-clause-notes g c =
@@ -67,5 +64,5 @@ returns-clause-notes g c =
       one_each = c.requires.notes.one_each;
       noted = noted_fewer p (set kept c.args.group true) kept c.args.self.now.operator c.args.self.now.effect marks
           (is_more p kept c.args.group c.requires.group c.requires.notes.one_each)
-          (subst (λ (xs : List Bool). IsNotedFor p xs c.args.self.now.operator c.args.self.now.effect marks) (c.as_slice-3.ensures ∙ c.set.ensures) c.keeps_by_notes-keeps.ensures.notes.noted);
+          (subst (λ (xs : List Bool). IsNotedFor p xs c.args.self.now.operator c.args.self.now.effect marks) (c.as_slice-2.ensures ∙ c.set.ensures) c.keeps_by_notes-keeps.ensures.notes.noted);
     }

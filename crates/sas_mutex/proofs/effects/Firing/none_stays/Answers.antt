@@ -10,7 +10,6 @@ use Rattle.sas_core.specs.WellRanged.{WellRanged}
 use Rattle.sas_mutex.specs.Firing.{EffectPlace}
 use Rattle.sas_mutex.specs.Effects.{IsKept}
 use Rattle.sas_mutex.specs.declared.marks.Noted.TheVariants.{One}
-use Rattle.sas_mutex.specs.Marks.{group_note}
 use Rattle.sas_mutex.specs.Noting.{IsUnknown}
 use Rattle.sas_group_index.specs.Distinct.{facts_at, AreDistinct}
 use Rattle.sas_group_index.specs.Runs.{AreRuns}
@@ -26,11 +25,8 @@ is_gone-requires-clause-fact g c =
     let o = operator_at p c.args.self.now.operator in
     let e = effect_at o c.args.self.now.effect in
     let place = c.args.group in
-    let notes = c.args.marks.now.groups in
-    let at : group_note notes place ≡ One c.in-Some.fact =
-    ap (λ list. group_note list place) (sym c.as_slice.ensures) ∙ c.only.ensures.some c.in-Some.fact c.in-Some.is in
-    let of = (one_note_tells p (known o e.conditions []) place c.in-Some.fact (group_note notes place)
-    (c.requires.notes.noted.are.noted.groups place c.requires.group.exists) at).0 in
+    let of = (one_note_tells p (known o e.conditions []) place c.in-Some.fact c.noted.result
+    (c.noted.ensures c.args.kept.now c.requires.notes) (c.only.ensures.some c.in-Some.fact c.in-Some.is)).0 in
     group_fact_exists p place c.in-Some.fact (subst (λ (s : EffectPlace). WellRanged s.task) c.self.view_is c.self.invariant.0) c.requires.group.exists of.has.among
 
 pub returns-in-Some-clause-yes : goal.returns-in-Some-clause-yes
@@ -39,11 +35,8 @@ returns-in-Some-clause-yes g c =
     let o = operator_at p c.args.self.now.operator in
     let e = effect_at o c.args.self.now.effect in
     let place = c.args.group in
-    let notes = c.args.marks.now.groups in
-    let at : group_note notes place ≡ One c.in-Some.fact =
-    ap (λ list. group_note list place) (sym c.as_slice.ensures) ∙ c.only.ensures.some c.in-Some.fact c.in-Some.is in
-    let of = (one_note_tells p (known o e.conditions []) place c.in-Some.fact (group_note notes place)
-    (c.requires.notes.noted.are.noted.groups place c.requires.group.exists) at).0 in
+    let of = (one_note_tells p (known o e.conditions []) place c.in-Some.fact c.noted.result
+    (c.noted.ensures c.args.kept.now c.requires.notes) (c.only.ensures.some c.in-Some.fact c.in-Some.is)).0 in
     λ t. known_one_is_all p c.args.kept.now o place e c.in-Some.fact c.requires.group of.among of.has.among (c.is_gone.ensures.yes t)
 
 pub loop-length-init : goal.loop-length-init
@@ -56,7 +49,7 @@ loop-length-init g c =
     let below : c.args.group < length runs = let lt = group.exists in let each = all.one_each in omega arith in
     let here = c.index-as_slice-group.result in
     let same : get_or runs c.args.group [] ≡ c.as_slice-length-items.result.now =
-    get_or_default runs c.args.group [] here below ∙ (ap (λ (lists : List (List ℕ)). get_or lists c.args.group here) (sym c.as_slice-2.ensures)
+    get_or_default runs c.args.group [] here below ∙ (ap (λ (lists : List (List ℕ)). get_or lists c.args.group here) (sym c.as_slice.ensures)
     ∙ (sym c.index-as_slice-group.is ∙ sym c.as_slice-length-items.ensures)) in
     let own = c.self.inside.index.now.own_facts in
     let facts = c.self.invariant.1.facts.are c.args.group group.exists in
@@ -94,12 +87,11 @@ run_is_gone-requires-clause-unknown g c =
     let o = operator_at p c.args.self.now.operator in
     let e = effect_at o c.args.self.now.effect in
     let place = c.args.group in
-    let notes = c.args.marks.now.groups in
-    let not_one = λ (f : Fact) (one : group_note notes place ≡ One f). c.only.ensures.none c.in_default.is f (ap (λ list. group_note list place) c.as_slice.ensures ∙ one) in
+    let not_one = λ (f : Fact) (one : c.noted.result ≡ One f). c.only.ensures.none c.in_default.is f one in
     next_too (IsGone (IsKept p c.args.kept.now) o e) (group_at p place) c.loop-length.left.now c.as_slice-length-items.result.now
     c.loop-length.length-index c.loop-length-test.true c.loop-length.invariant (IsUnknown o e) c.split_at.result.0.now c.split_at.ensures.front
     (λ f among in_known. none_if_not_one p (known o e.conditions []) place (IsKept p c.args.kept.now) (place, c.requires.group, refl)
-    c.requires.notes.noted.are.apart (group_note notes place) (c.requires.notes.noted.are.noted.groups place c.requires.group.exists) not_one
+    c.requires.notes.noted.are.apart c.noted.result (c.noted.ensures c.args.kept.now c.requires.notes) not_one
     f (record { among = in_known; has = record { exists = c.requires.group.exists; among = among } }))
 
 pub returns-then-not-run_is_gone-clause-no : goal.returns-then-not-run_is_gone-clause-no

@@ -14,7 +14,7 @@ pub returns-then-is_settled-clause-yes : goal.returns-then-is_settled-clause-yes
 returns-then-is_settled-clause-yes g c =
     let p = c.args.self.now.task in
     let o = operator_at p c.args.self.now.operator in
-    λ t. settled_are_gone p c.self.inside.index.now c.args.kept.now c.args.marks.now o (effect_at o c.args.self.now.effect) c.args.run.now
+    λ t. settled_are_gone p c.self.inside.index.now c.args.kept.now c.args.marks.now.known o (effect_at o c.args.self.now.effect) c.args.run.now
     (subst (λ (s : EffectPlace). IsIndexOf s.task c.self.inside.index.now) c.self.view_is c.self.invariant.1) c.requires.notes.noted.are c.requires.exist c.requires.one c.requires.unknown (c.is_settled.ensures c.if-is_settled.true)
 
 pub loop-fact-preserved : goal.loop-fact-preserved

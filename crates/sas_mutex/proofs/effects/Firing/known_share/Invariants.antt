@@ -1,0 +1,13 @@
+-- No group of the family has the fact and one of the known ones so far, but maybe the one apart.
+use Rattle.std.proofs.Common.{◌≡◌, ◌≢◌, ◌++◌, Some}
+use Rattle.std.specs.List.{All}
+use Rattle.sas_core.specs.declared.parts.Fact.{Fact}
+use Rattle.sas_groups.specs.Lists.{known_left}
+use Rattle.sas_mutex.specs.Noting.{ShareOne, known_at}
+use Rattle.sas_mutex.proofs.effects.Firing.known_share.Given as goal
+
+abbrev pub invariant-loop-known : goal.invariant-loop-known
+invariant-loop-known g l = record {
+  left : known_at l.self.task l.self.operator l.self.effect ≡ l.yielded ++ known_left l.known-iterator;
+  none : All (λ (known : Fact). l.marks.known.apart ≢ Some known → ShareOne l.self.task l.kept known l.fact → ⊥) l.yielded;
+}

@@ -1,0 +1,39 @@
+-- A known fact that isn't the one apart is noted for each group that has it.
+use Rattle.std.proofs.Common.{ℕ, List, length, sym, subst, ◌∙◌, ap}
+use Rattle.sas_core.specs.Grounded.{operator_at, effect_at}
+use Rattle.sas_group_index.specs.Index.{groups_of}
+use Rattle.sas_mutex.specs.declared.marks.Noted.{Noted}
+use Rattle.sas_mutex.specs.Noting.{AreBelow, HasNotedGroup}
+use Rattle.sas_mutex.proofs.TaskFacts.{groups_below}
+use Rattle.sas_mutex.proofs.ToldByNotes.{noted_beside, beside_noted}
+use Rattle.sas_mutex.proofs.effects.Firing.shares_beside.Goals as goal
+
+pub has_noted-requires : goal.has_noted-requires
+has_noted-requires g c =
+    let fact = rw (← c.self.view_is) at c.requires.fact in
+    let notes = rw (← c.self.view_is) at c.requires.notes in
+    let p = c.self.inside.task.now in
+    subst (λ (groups : List ℕ). AreBelow (length c.as_slice-noted.result.now) groups) (sym c.groups_of-groups.ensures)
+    (groups_below p c.self.inside.index.now c.args.fact (length c.as_slice-noted.result.now) c.self.invariant.1 fact (ap length c.as_slice-noted.ensures ∙ notes.noted.from.known.wide.groups))
+
+pub returns-then-groups-marks-clause-yes : goal.returns-then-groups-marks-clause-yes
+returns-then-groups-marks-clause-yes g c =
+    let fact = rw (← c.self.view_is) at c.requires.fact in
+    let notes = rw (← c.self.view_is) at c.requires.notes in
+    let p = c.self.inside.task.now in
+    let o = operator_at p c.self.inside.operator in
+    let index = c.self.inside.index.now in
+    rw (← c.self.view_is) (λ t. noted_beside p index c.args.kept.now c.args.marks.now.known o (effect_at o c.self.inside.effect).conditions c.self.invariant.1 notes.noted.are c.args.fact fact
+    (subst (λ (noted : List Noted). HasNotedGroup (groups_of index c.args.fact) c.args.kept.now noted) c.as_slice-noted.ensures
+    (subst (λ (groups : List ℕ). HasNotedGroup groups c.args.kept.now c.as_slice-noted.result.now) c.groups_of-groups.ensures (c.has_noted.ensures.yes t))))
+
+pub returns-then-groups-marks-clause-no : goal.returns-then-groups-marks-clause-no
+returns-then-groups-marks-clause-no g c =
+    let fact = rw (← c.self.view_is) at c.requires.fact in
+    let notes = rw (← c.self.view_is) at c.requires.notes in
+    let p = c.self.inside.task.now in
+    let o = operator_at p c.self.inside.operator in
+    let index = c.self.inside.index.now in
+    rw (← c.self.view_is) (λ t (known, among, beside, share). c.has_noted.ensures.no t (subst (λ (groups : List ℕ). HasNotedGroup groups c.args.kept.now c.as_slice-noted.result.now) (sym c.groups_of-groups.ensures)
+    (subst (λ (noted : List Noted). HasNotedGroup (groups_of index c.args.fact) c.args.kept.now noted) (sym c.as_slice-noted.ensures)
+    (beside_noted p index c.args.kept.now c.args.marks.now.known o (effect_at o c.self.inside.effect).conditions c.self.invariant.1 notes.noted.are c.args.fact fact known among beside share))))

@@ -1,0 +1,7 @@
+-- The facts so far are noted, and don't clash.
+use Rattle.std.proofs.Common.{take}
+use Rattle.sas_mutex.proofs.NotesOfFacts.{AreSoFar}
+use Rattle.sas_mutex.proofs.marks.note_facts.Given as goal
+
+abbrev pub invariant-loop-fact : goal.invariant-loop-fact
+invariant-loop-fact g l = AreSoFar l.indexed l.kept l.facts (take l.fact-index l.facts) l.notes

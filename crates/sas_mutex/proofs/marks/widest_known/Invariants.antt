@@ -1,0 +1,12 @@
+-- The fact that is chosen is one of those that are known.
+use Rattle.std.proofs.Common.{◌≡◌, ◌++◌}
+use Rattle.std.specs.List.{Contains}
+use Rattle.std.specs.Prelude.{IfSome}
+use Rattle.sas_groups.specs.Lists.{known_on, known_left}
+use Rattle.sas_mutex.proofs.marks.widest_known.Given as goal
+
+abbrev pub invariant-loop-fact : goal.invariant-loop-fact
+invariant-loop-fact g l = record {
+  left : known_on l.task l.fn.premises ≡ l.yielded ++ known_left l.fact-iterator;
+  chosen : IfSome l.widest (Contains (known_on l.task l.fn.premises));
+}
