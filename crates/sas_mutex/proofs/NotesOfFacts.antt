@@ -268,6 +268,19 @@ contradicts_shares p index kept f g indexed f_exists g_exists apart (inr one) =
       kept_there = in_family.chosen;
     }
 
+-- what is known by notes is so by others that say the same
+known_same : (p : Parts) (kept : List Bool) (facts : List Fact) (old new : Notes) → new.values ≡ old.values → new.groups ≡ old.groups → new.apart ≡ old.apart
+    → AreKnown p kept facts old → AreKnown p kept facts new
+known_same p kept facts old new values groups apart known = record {
+  noted = record {
+    values = λ var lt. subst (λ vs. IsValueNote facts var (value_note vs var)) (sym values) (known.noted.values var lt);
+    groups = λ place lt. subst (λ gs. IsNoteOf (IsOfGroupBeside p facts new.apart place) (group_note gs place)) (sym groups)
+        (subst (λ (one : Option Fact). IsNoteOf (IsOfGroupBeside p facts one place) (group_note old.groups place)) (sym apart) (known.noted.groups place lt));
+    one_apart = λ f e. known.noted.one_apart f (sym apart ∙ e);
+  };
+  apart = known.apart;
+}
+
 -- a group that is kept has both, by the index or by the task
 pub share_one : (p : Parts) (index : Index) (kept : List Bool) (f g : Fact) → IsIndexOf p index → FactExists p.variables f → FactExists p.variables g
     → ShareKept index kept f g → ShareOne p kept f g
@@ -330,6 +343,15 @@ completed p index facts notes place noted indexed there exists are is = elim (a_
       beside = λ e. out (subst (λ (x : Fact). Contains (groups_of index x) place) (same_inside f one (sym e ∙ is_one))
           ((indexed.groups f (there f of.among) place).1 of.has));
     })
+
+-- nothing is noted by notes that say the same as others by which nothing is
+pub blank_same : (p : Parts) (old new : Notes) → new.values ≡ old.values → new.groups ≡ old.groups → new.apart ≡ old.apart → AreBlank p old → AreBlank p new
+blank_same p old new values groups apart blank = record {
+  wide = record { variables = ap length values ∙ blank.wide.variables; groups = ap length groups ∙ blank.wide.groups };
+  values = λ var lt. ap (λ vs. value_note vs var) values ∙ blank.values var lt;
+  groups = λ place lt. ap (λ gs. group_note gs place) groups ∙ blank.groups place lt;
+  none_apart = apart ∙ blank.none_apart;
+}
 
 -- at first one fact is known at most: the one apart
 module _ (p : Parts) (kept : List Bool) (old new : Notes) (blank : AreBlank p old) where
@@ -407,7 +429,7 @@ module _ (p : Parts) (index : Index) (kept : List Bool) (before : List Fact) (ol
 
   -- facts of which one more stands there already
   pub known_already : (new : Notes) → IsThere fact old new → AreKnown p kept (before ++ fact ∷ []) new
-  known_already new is_there = subst (λ (n : Notes). AreKnown p kept (before ++ fact ∷ []) n) (sym is_there.same) record {
+  known_already new is_there = known_same p kept (before ++ fact ∷ []) old new is_there.same_values is_there.same_groups is_there.same_apart record {
     noted = record {
       values = λ var lt. value_note_of (before ++ fact ∷ []) var (value_note old.values var)
           (λ value at. Contains-append_left before (fact ∷ []) (record { var = var; value = value }) (value_note_tells before var value (value_note old.values var) (known.noted.values var lt) at))

@@ -113,7 +113,9 @@ pub record ChangesAt (groups : List ℕ) (fact : Fact) (before after : Notes) : 
 -- the fact was noted before
 pub record IsThere (fact : Fact) (before after : Notes) : Type 0 where
   pub noted : value_note before.values fact.var ≡ Some fact.value
-  pub same : after ≡ before
+  pub same_values : after.values ≡ before.values
+  pub same_groups : after.groups ≡ before.groups
+  pub same_apart : after.apart ≡ before.apart
 
 -- no fact was noted on the variable, and this one is noted now
 pub record IsNew (index : Index) (kept : List Bool) (fact : Fact) (before after : Notes)

@@ -83,8 +83,8 @@ pub struct Notes {
     /// A fact that is noted by its variable alone, since so many groups have it. Which of them a group has is asked of the
     /// index.
     pub apart: Option<Fact>,
-    /// How many groups there are to note facts for, each counted as often as it has one: what it takes to go through the
-    /// groups of all facts that are noted, but for the one apart. It is a hint, of which no contract speaks.
+    /// What it takes to go through the facts again, and through the groups of each but the one apart. It is a hint, of which no
+    /// contract speaks.
     pub spread: usize,
 }
 
@@ -147,6 +147,18 @@ impl Notes {
             None => false,
         }
     }
+
+    /// Returns the spread, with this fact too.
+    fn spread_with(&self, index: &Index, fact: Fact) -> usize
+        requires { IsReadable index.now }
+    {
+        let groups = if self.is_apart(fact) {
+            0
+        } else {
+            index.groups_of(fact).len()
+        };
+        self.spread.saturating_add(groups).saturating_add(1)
+    }
 }
 
 /// Notes the known facts, and returns whether they clash. If they do, not all of them are noted. A fact that many groups have
@@ -175,6 +187,8 @@ pub fn note_known<T: Grounded>(
     // By its contract the task is well ranged.
     let _ = task.task();
     let widest = widest_known(task, index, premises);
+    // To find the preconditions, each effect is looked at.
+    marks.known.spread = task.effects(premises.operator) as usize;
     set_apart(widest, &mut marks.known);
     for fact in Known::new(task, premises) {
         if !note(index, kept, fact, &mut marks.known, &marks.deciding) {
@@ -238,6 +252,7 @@ fn note(index: &Index, kept: &[bool], fact: Fact, notes: &mut Notes, deciding: &
     ensures no { IsFalse result → IsContradicted index.now kept.now fact notes.old }
     ensures changes { ChangesAt (groups_of index.now fact) fact notes.old notes.new }
 {
+    notes.spread = notes.spread_with(index, fact);
     match notes.values.as_slice()[fact.var as usize] {
         Some(value) => value == fact.value,
         None => {
@@ -246,7 +261,6 @@ fn note(index: &Index, kept: &[bool], fact: Fact, notes: &mut Notes, deciding: &
             }
             notes.values.set(fact.var as usize, Some(fact.value));
             let groups = index.groups_of(fact);
-            notes.spread = notes.spread.saturating_add(groups.len());
             note_in_groups(groups, kept, fact, &mut notes.groups, deciding)
         }
     }

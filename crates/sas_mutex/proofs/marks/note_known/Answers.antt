@@ -1,5 +1,5 @@
 -- One more fact came.
-use Rattle.std.proofs.Common.{◌≡◌, ◌<◌, ℕ, List, [], ◌++◌, length, ap, sym, ◌∙◌, append-nil, arith}
+use Rattle.std.proofs.Common.{◌≡◌, ◌<◌, ℕ, List, [], ◌++◌, length, refl, ap, sym, ◌∙◌, append-nil, arith}
 use Rattle.std.specs.Prelude.{IfSome, Option, Some, None}
 use Rattle.std.specs.List.{All, Contains}
 use Rattle.std.proofs.lemmas.List.Elements.{All-contains}
@@ -9,7 +9,7 @@ use Rattle.sas_core.specs.Variables.{FactExists}
 use Rattle.sas_groups.specs.Lists.{known_on, known_left}
 use Rattle.sas_groups.proofs.Turns.{turn_has, turn_left}
 use Rattle.sas_mutex.proofs.TaskFacts.{known_exist, variable_below, groups_below}
-use Rattle.sas_mutex.proofs.NotesOfFacts.{none_so_far, one_so_far, refused_so_far, from_still, all_known}
+use Rattle.sas_mutex.proofs.NotesOfFacts.{blank_same, none_so_far, one_so_far, refused_so_far, from_still, all_known}
 use Rattle.sas_mutex.proofs.marks.note_known.Goals as goal
 
 all_came : (all came left : List Fact) → all ≡ came ++ left → left ≡ [] → all ≡ came
@@ -34,7 +34,8 @@ loop-fact-init g c =
     let exist = known_exist p c.task.ensures.well_ranged c.args.premises.now.operator c.requires.operator c.args.premises.now.first.now c.args.premises.now.second.now c.requires.first c.requires.second in
     record {
       left = sym (ap known_left c.into_iter-fact-iterator.ensures.into_iter_gives ∙ c.new-fact-items.ensures);
-      so_far = none_so_far p c.args.kept.now all exist c.widest_known-widest.result c.args.marks.now.known c.set_apart.new.notes c.widest_known-widest.ensures c.requires.clean.known c.set_apart.ensures;
+      so_far = none_so_far p c.args.kept.now all exist c.widest_known-widest.result _ c.set_apart.new.notes c.widest_known-widest.ensures
+          (blank_same p c.args.marks.now.known _ refl refl refl c.requires.clean.known) c.set_apart.ensures;
       others = c.requires.clean.others;
     }
 
