@@ -36,7 +36,7 @@ on_numbered p firsts facts one_each each = subst (λ (n : ℕ). All (λ (f : Fac
 -- the facts of a group, each once
 module _ (p : Parts) (own : List (List Fact)) (ranged : WellRanged p) (distinct : AreOwnLists p own) where
   pub own_fact_exists : (group : ℕ) (fact : Fact) → group < length p.groups → Contains (facts_at p own group) fact → FactExists p.variables fact
-  own_fact_exists group fact lt there = group_fact_exists p group fact ranged lt (((distinct.are group lt).same fact).0 there)
+  own_fact_exists group fact lt there = group_fact_exists p group fact ranged lt (((distinct group lt).same fact).0 there)
 
   -- they are on variables that have a first number
   pub group_numbered : (firsts : List ℕ) (group : ℕ) → length firsts ≡ length p.variables → group < length p.groups
@@ -138,6 +138,6 @@ group_facts_exist p own ranged distinct group f lt there = own_fact_exists p own
 pub group_has : (p : Parts) (own : List (List Fact)) → AreOwnLists p own → (group : ℕ) (f : Fact)
     → HasFact p group f ↔ ((group < length p.groups) × Contains (facts_at p own group) f)
 group_has p own distinct group f = (
-  (λ has. (has.exists, ((distinct.are group has.exists).same f).1 has.among)),
-  (λ h. record { exists = h.0; among = ((distinct.are group h.0).same f).0 h.1 }),
+  (λ has. (has.exists, ((distinct group has.exists).same f).1 has.among)),
+  (λ h. record { exists = h.0; among = ((distinct group h.0).same f).0 h.1 }),
 )

@@ -29,7 +29,7 @@ pub struct Index {
     /// The operators under the number of each fact that they mention. One that mentions a fact several times may be there as
     /// often.
     pub operators: Lists<u32>,
-    /// For each group its facts in ascending order, each once, or none if the group lists them so.
+    /// For each group its facts in ascending order, each once. A group that lists them so has none here, or no list.
     pub own_facts: Lists<Fact>,
     /// For each group, the lengths of its runs, each of facts in a row on one variable.
     pub runs: Items<Items<u32>>,
@@ -69,8 +69,7 @@ impl Index {
 
     /// Returns the facts of the group, each once.
     pub fn facts_of<'a, T: Grounded>(&'a self, task: &'a Layered<T>, group: u32) -> &'a [Fact]
-        requires index { IsIndexOf task.now self.now }
-        requires group { group < length task.now.groups }
+        requires { group < length task.now.groups }
         ensures { result.now ≡ facts_at task.now self.now.own_facts group }
     {
         facts_of(task, &self.own_facts, group)
