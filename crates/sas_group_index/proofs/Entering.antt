@@ -1,4 +1,4 @@
--- The entries of places under the numbers of facts: of groups under those that they have, of operators under those that they mention.
+-- The entries of groups under the numbers of the facts that they have.
 use Rattle.std.proofs.Common.{◌≡◌, ℕ, ◌+◌, ◌-◌, ◌<◌, ◌≤◌, ◌↔◌, List, [], ◌++◌, length, get_or, refl, sym, ap, subst, ◌∙◌, inl, inr, arith}
 use Rattle.std.specs.List.{All, AllByRecursion, Contains}
 use Rattle.std.specs.List.Sorted.{IsNonDecreasingBy}
@@ -113,10 +113,10 @@ entered_low p firsts facts_of n entries are exist up k d lt =
     omega arith
 
 -- by key, these entries have the places of each fact under the fact's number, in ascending order
-pub entered_by_fact : (p : Parts) (firsts : List ℕ) (facts_of : ℕ → List Fact) (n : ℕ) (entries : List (Entry ℕ)) (Has : ℕ → Fact → Type 0) → AreFirstNumbers p firsts
-    → AllExist p facts_of n → ((place : ℕ) (f : Fact) → Has place f ↔ ((place < n) × Contains (facts_of place) f)) → EnteredUpTo firsts facts_of n entries
-    → AreByFact p firsts Has (by_key entries (facts_below p (length p.variables)))
-entered_by_fact p firsts facts_of n entries Has are exist has up = record {
+pub entered_by_fact : (p : Parts) (firsts : List ℕ) (facts_of : ℕ → List Fact) (n : ℕ) (entries : List (Entry ℕ)) → AreFirstNumbers p firsts
+    → AllExist p facts_of n → ((place : ℕ) (f : Fact) → HasFact p place f ↔ ((place < n) × Contains (facts_of place) f)) → EnteredUpTo firsts facts_of n entries
+    → AreByFact p firsts (by_key entries (facts_below p (length p.variables)))
+entered_by_fact p firsts facts_of n entries are exist has up = record {
   are = λ fact exists place. (
     (λ there. (let h = up.only (entry_of firsts place fact) ((holds fact place).0 there) in
         let other = exist place h.1.0 h.0 h.1.1 in
