@@ -9,7 +9,7 @@ from axioms import text_of
 from families import line_of
 from large import over_input, task_with
 
-# how many facts a group lists, and how many operators there are beside it
+# how often a group lists facts, and how many operators there are beside it
 LISTED = 120_000
 # how many effects an operator has that set a fact of one group; few, as the cube is taken
 CONDITIONAL = 400
@@ -52,10 +52,9 @@ def listed_cases():
     turns = [(0, 0), (1, 0)] * (LISTED // 2) + [(2, 0)]
     swap = "go", [], [setting(0, 1), setting(1, 1), setting(2)], 1
     yield groups_case("two facts listed by turns", facts_task(3, groups=[turns], operators=[swap] * LISTED), ["Exclusive"])
-    values = LISTED // 2
-    turns = [(var, value) for value in range(values) for var in range(2)]
-    chosen = [("go", [(1, values)], [setting(0, value)], 1) for value in range(values)]
-    task = task_with([values + 1] * 2, defaults=[values] * 2, groups=[turns], operators=chosen)
+    turns = [(var, value) for value in range(LISTED) for var in range(2)]
+    chosen = [("go", [(1, LISTED)], [setting(0, value)], 1) for value in range(LISTED)]
+    task = task_with([LISTED + 1] * 2, defaults=[LISTED] * 2, groups=[turns], operators=chosen)
     yield groups_case("two variables listed by turns", task, ["Exclusive"])
 
 

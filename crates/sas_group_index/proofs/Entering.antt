@@ -1,4 +1,4 @@
--- The entries of places under the numbers of facts: of groups under those that they have, of operators under those that they mention.
+-- The entries of groups under the numbers of the facts that they have.
 use Rattle.std.proofs.Common.{◌≡◌, ℕ, ◌+◌, ◌-◌, ◌<◌, ◌≤◌, ◌↔◌, List, [], ◌++◌, length, get_or, refl, sym, ap, subst, ◌∙◌, inl, inr, arith}
 use Rattle.std.specs.List.{All, AllByRecursion, Contains}
 use Rattle.std.specs.List.Sorted.{IsNonDecreasingBy}
@@ -36,7 +36,7 @@ on_numbered p firsts facts one_each each = subst (λ (n : ℕ). All (λ (f : Fac
 -- the facts of a group, each once
 module _ (p : Parts) (own : List (List Fact)) (ranged : WellRanged p) (distinct : AreOwnLists p own) where
   pub own_fact_exists : (group : ℕ) (fact : Fact) → group < length p.groups → Contains (facts_at p own group) fact → FactExists p.variables fact
-  own_fact_exists group fact lt there = group_fact_exists p group fact ranged lt (((distinct.are group lt).same fact).0 there)
+  own_fact_exists group fact lt there = group_fact_exists p group fact ranged lt (((distinct group lt).same fact).0 there)
 
   -- they are on variables that have a first number
   pub group_numbered : (firsts : List ℕ) (group : ℕ) → length firsts ≡ length p.variables → group < length p.groups
@@ -113,10 +113,10 @@ entered_low p firsts facts_of n entries are exist up k d lt =
     omega arith
 
 -- by key, these entries have the places of each fact under the fact's number, in ascending order
-pub entered_by_fact : (p : Parts) (firsts : List ℕ) (facts_of : ℕ → List Fact) (n : ℕ) (entries : List (Entry ℕ)) (Has : ℕ → Fact → Type 0) → AreFirstNumbers p firsts
-    → AllExist p facts_of n → ((place : ℕ) (f : Fact) → Has place f ↔ ((place < n) × Contains (facts_of place) f)) → EnteredUpTo firsts facts_of n entries
-    → AreByFact p firsts Has (by_key entries (facts_below p (length p.variables)))
-entered_by_fact p firsts facts_of n entries Has are exist has up = record {
+pub entered_by_fact : (p : Parts) (firsts : List ℕ) (facts_of : ℕ → List Fact) (n : ℕ) (entries : List (Entry ℕ)) → AreFirstNumbers p firsts
+    → AllExist p facts_of n → ((place : ℕ) (f : Fact) → HasFact p place f ↔ ((place < n) × Contains (facts_of place) f)) → EnteredUpTo firsts facts_of n entries
+    → AreByFact p firsts (by_key entries (facts_below p (length p.variables)))
+entered_by_fact p firsts facts_of n entries are exist has up = record {
   are = λ fact exists place. (
     (λ there. (let h = up.only (entry_of firsts place fact) ((holds fact place).0 there) in
         let other = exist place h.1.0 h.0 h.1.1 in
@@ -138,6 +138,6 @@ group_facts_exist p own ranged distinct group f lt there = own_fact_exists p own
 pub group_has : (p : Parts) (own : List (List Fact)) → AreOwnLists p own → (group : ℕ) (f : Fact)
     → HasFact p group f ↔ ((group < length p.groups) × Contains (facts_at p own group) f)
 group_has p own distinct group f = (
-  (λ has. (has.exists, ((distinct.are group has.exists).same f).1 has.among)),
-  (λ h. record { exists = h.0; among = ((distinct.are group h.0).same f).0 h.1 }),
+  (λ has. (has.exists, ((distinct group has.exists).same f).1 has.among)),
+  (λ h. record { exists = h.0; among = ((distinct group h.0).same f).0 h.1 }),
 )

@@ -1,12 +1,13 @@
 -- Lists in order that repeat nothing have the facts of those that they were made of.
-use Rattle.std.proofs.Common.{Ordering, Less, Equal, Greater, ◌≡◌, ◌≢◌, ℕ, zero, suc, get_or, ap, ◌+◌, ◌<◌, ◌≤◌, Bool, true, List, [], ◌∷◌, ◌++◌, length, refl, sym, ◌∙◌, subst, inl, inr, arith}
+use Rattle.std.proofs.Common.{replicate, ◌-◌, Ordering, Less, Equal, Greater, ◌≡◌, ◌≢◌, ℕ, zero, suc, get_or, ap, ◌+◌, ◌<◌, ◌≤◌, Bool, true, List, [], ◌∷◌, ◌++◌, length, refl, sym, ◌∙◌, subst, inl, inr, arith}
 use Rattle.std.specs.Cmp.{IsEquivalence, IsTotalOrder}
 use Rattle.std.specs.Ordering.{eq_by_cmp, nat_cmp, ordering_reverse, ordering_then}
 use Rattle.std.specs.List.{Contains}
 use Rattle.std.specs.List.Retain.{IsFiltered, DiffersFromLast}
 use Rattle.std.specs.List.Sorted.{IsPermutation, IsSorted, IsStrictlySortedBy}
-use Rattle.std.proofs.lemmas.Bool.{cases_eq}
-use Rattle.std.proofs.lemmas.List.{get_or_append_left, get_or_push}
+use Rattle.std.proofs.lemmas.Bool.{cases_eq, cases_lt}
+use Rattle.std.proofs.lemmas.List.{get_or_append_left, get_or-append_right, get_or_push, get_or-replicate, length-append, length-replicate, length_push}
+use Rattle.std.proofs.Math.ListN.{get_or-eq_default}
 use Rattle.std.proofs.lemmas.List.Filters.{dedup_is}
 use Rattle.std.proofs.lemmas.List.Kept.{Contains-dedup, Contains-from_dedup, IsStrictlySortedBy-dedup}
 use Rattle.std.proofs.lemmas.Map.Keys.{Less-from_sorted}
@@ -54,19 +55,48 @@ unfolding own_or
 own_empty [] listed empty = refl
 own_empty (fact ∷ own) listed empty = absurd (omega arith)
 
-pub own_some : (own listed : List Fact) → (own ≡ [] → ⊥) → own ≡ own_or own listed
+pub own_some : (own listed : List Fact) → 0 < length own → own ≡ own_or own listed
 unfolding own_or
-own_some [] listed some = absurd (some refl)
+own_some [] listed some = absurd (omega arith)
 own_some (fact ∷ own) listed some = refl
 
--- one group more has its list
-pub own_more : (p : Parts) (group : ℕ) (own : List (List Fact)) (its : List Fact) → length own ≡ group
-    → ((place : ℕ) → place < group → AreDistinct (facts_at p own place) (group_at p place)) → AreDistinct (own_or its (group_at p group)) (group_at p group)
-    → (place : ℕ) → place < group + 1 → AreDistinct (facts_at p (own ++ its ∷ []) place) (group_at p place)
-own_more p group own its many have here place lt = elim (cases_eq place group) [
-  | inl is ↦ rw (get_or_push own its [] place (sym (is ∙ sym many)), is) here
-  | inr ne ↦ rw (get_or_append_left own (its ∷ []) [] place (omega arith)) (have place (omega arith))
-]
+-- the lists of the first groups, where empty ones may be left out in the end
+module _ (p : Parts) (group : ℕ) (own : List (List Fact)) (short : length own ≤ group)
+    (are : (place : ℕ) → place < group → AreDistinct (facts_at p own place) (group_at p place)) where
+  -- empty lists are filled in
+  abbrev pub filled : List (List Fact)
+  filled = own ++ replicate (group - length own) []
+
+  filled_length : length filled ≡ group
+  filled_length = omega (arith, length-append own (replicate (group - length own) []), length-replicate {A = List Fact} (group - length own) [])
+
+  filled_same : (place : ℕ) → place < group → get_or filled place [] ≡ get_or own place []
+  filled_same place lt = elim (cases_lt place (length own)) [
+    | inl within ↦ get_or_append_left own (replicate (group - length own) []) [] place within
+    | inr behind ↦ get_or-append_right own (replicate (group - length own) []) (length own) place [] refl behind
+        ∙ get_or-replicate (group - length own) (place - length own) [] [] (omega arith)
+        ∙ sym (get_or-eq_default own [] behind)
+  ]
+
+  -- one group more has its list
+  pub own_more : (its : List Fact) (lists : List (List Fact)) → lists ≡ filled ++ its ∷ [] → AreDistinct (own_or its (group_at p group)) (group_at p group)
+      → (length lists ≤ group + 1) × ((place : ℕ) → place < group + 1 → AreDistinct (facts_at p lists place) (group_at p place))
+  own_more its lists is here = rw is (
+    omega (arith, length_push filled its, filled_length),
+    (λ place lt. elim (cases_eq place group) [
+      | inl at ↦ rw (get_or_push filled its [] place (sym (at ∙ sym filled_length)), at) here
+      | inr ne ↦ rw (get_or_append_left filled (its ∷ []) [] place (omega (arith, filled_length)), filled_same place (omega arith)) (are place (omega arith))
+    ]),
+  )
+
+  -- one group more needs none
+  pub own_passed : (its : List Fact) → length its ≡ 0 → AreDistinct (own_or its (group_at p group)) (group_at p group)
+      → (place : ℕ) → place < group + 1 → AreDistinct (facts_at p own place) (group_at p place)
+  own_passed its none here place lt = elim (cases_eq place group) [
+    | inl at ↦ rw (at, get_or-eq_default own [] short) (subst (λ (fs : List Fact). AreDistinct fs (group_at p group)) (sym (own_empty its (group_at p group) none)
+        ∙ own_empty [] (group_at p group) refl) here)
+    | inr ne ↦ are place (omega arith)
+  ]
 
 pub none_own : (own listed : List Fact) → length own ≡ 0 → AreDistinct listed listed → AreDistinct (own_or own listed) listed
 none_own own listed empty once = subst (λ (fs : List Fact). AreDistinct fs listed) (own_empty own listed empty) once

@@ -1,7 +1,6 @@
 pub mod Numbering
 pub mod Lists
 pub mod Entering
-pub mod Mentioning
 pub mod InOrder
 pub mod RunLengths
 pub mod ByVariable

@@ -31,13 +31,6 @@ in_flat f (z ∷ zs) x y there its = elim (Contains-append_cases (z ∷ []) zs x
     only_one : {Z : Type 0} (z x : Z) → Contains (z ∷ []) x → z ≡ x
     only_one z x here = let first : here.0 ≡ 0 = let lt = here.1 in omega arith in subst (λ k. get_or (z ∷ []) k x ≡ x) first here.2
 
-pub from_flat : {X Y : Type 0} (f : X → List Y) (xs : List X) (y : Y) → Contains (flat_map f xs) y → (x : X) × Contains xs x × Contains (f x) y
-from_flat f [] y there = absurd (in_none y there)
-from_flat f (z ∷ zs) y there = elim (Contains-append_cases (f z) (flat_map f zs) y there) [
-  | inl here ↦ (z, Contains-append_left (z ∷ []) zs z (0, omega arith, refl), here)
-  | inr later ↦ (let h = from_flat f zs y later in (h.0, Contains-append_right (z ∷ []) zs h.0 h.1, h.2))
-]
-
 -- what is given of some items is the lists of at most one item each, joined
 pub given_is : {X Y : Type 0} (h : X → Option Y) (xs : List X) → filter_map h xs ≡ flat_map (λ x. option_to_list (h x)) xs
 given_is h [] = refl

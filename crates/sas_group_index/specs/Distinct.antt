@@ -21,10 +21,9 @@ pub record AreDistinct (facts listed : List Fact) : Type 0 where
   pub once : AllPairs (λ (one other : Fact). one ≢ other) facts
 
 -- the groups' own lists: each group has its facts, each once
-pub record AreOwnLists (p : Parts) (own : List (List Fact)) : Type 0 where
-  pub one_each : length own ≡ length p.groups
-  pub are : (place : ℕ) → place < length p.groups
-      → AreDistinct (facts_at p own place) (group_at p place)
+abbrev pub AreOwnLists : Parts → List (List Fact) → Type 0
+AreOwnLists p own = (place : ℕ) → place < length p.groups
+    → AreDistinct (facts_at p own place) (group_at p place)
 
 -- the fact is on a lower variable, or on the same one and has a lower value
 abbrev pub IsBelow : Fact → Fact → Type 0

@@ -1,16 +1,11 @@
--- Which groups have a fact, and which operators mention one.
-use Rattle.std.specs.Prelude.{◌≡◌, ℕ, zero, suc, ◌+◌, ◌<◌, ◌≤◌, ◌^◌, ◌⊎◌, ◌↔◌, List, [], ◌++◌, length, map, slice_index, slice_index_or, All, Contains}
-use Rattle.std.specs.List.{flat_map}
+-- Which groups have a fact.
+use Rattle.std.specs.Prelude.{◌≡◌, ℕ, zero, suc, ◌+◌, ◌<◌, ◌≤◌, ◌^◌, ◌↔◌, List, [], length, map, slice_index, slice_index_or, All, Contains}
 use Rattle.std.specs.List.Sorted.{IsNonDecreasing}
-use Rattle.std.specs.Option.{option_to_list}
 use Rattle.sas_core.specs.declared.parts.Fact.{Fact}
-use Rattle.sas_core.specs.declared.parts.Effect.{Effect}
-use Rattle.sas_core.specs.declared.parts.Operator.{Operator}
 use Rattle.sas_core.specs.declared.parts.Parts.{Parts}
-use Rattle.sas_core.specs.Grounded.{operator_at, group_at}
+use Rattle.sas_core.specs.Grounded.{group_at}
 use Rattle.sas_core.specs.Variables.{FactExists, range_of}
 use Rattle.sas_lists.specs.declared.by_key.Entry.{Entry}
-use Rattle.sas_meaning.specs.Steps.{preconditions, old_fact}
 use Rattle.sas_group_index.specs.declared.index.Index.{Index}
 use Rattle.sas_group_index.specs.Distinct.{AreOwnLists}
 use Rattle.sas_group_index.specs.Runs.{AreRunsOf}
@@ -37,23 +32,6 @@ pub record HasFact (p : Parts) (place : ℕ) (fact : Fact) : Type 0 where
   pub exists : place < length p.groups
   pub among : Contains (group_at p place) fact
 
--- the operator mentions the fact: as a precondition, or as a condition of an effect
-abbrev pub Mentions : Operator → Fact → Type 0
-Mentions o fact = Contains (preconditions o) fact
-    ⊎ ((e : Effect) × Contains o.effects e × Contains e.conditions fact)
-
--- the operator at this place mentions the fact
-pub record MentionsFact (p : Parts) (operator : ℕ) (fact : Fact) : Type 0 where
-  pub exists : operator < length p.operators
-  pub mentions : Mentions (operator_at p operator) fact
-
--- the operator mentions a fact of the group at this place
-pub record MentionsGroup (p : Parts) (operator place : ℕ) : Type 0 where
-  pub exists : operator < length p.operators
-  pub fact : Fact
-  pub mentions : Mentions (operator_at p operator) fact
-  pub among : Contains (group_at p place) fact
-
 -- the list under this key; behind the last list it is empty
 abbrev pub under : List (List ℕ) → ℕ → List ℕ
 under lists key = slice_index_or lists key []
@@ -62,30 +40,21 @@ under lists key = slice_index_or lists key []
 abbrev pub groups_of : Index → Fact → List ℕ
 groups_of index fact = under index.groups (number index.firsts.items fact)
 
--- the operators under the number of the fact
-abbrev pub operators_of : Index → Fact → List ℕ
-operators_of index fact = under index.operators (number index.firsts.items fact)
-
--- under the number of each fact of the task the places that have it: those of the groups that have
--- the fact, or of the operators that mention it; and under each number the places in ascending order
-pub record AreByFact (p : Parts) (firsts : List ℕ) (Has : ℕ → Fact → Type 0)
-    (lists : List (List ℕ))
-    : Type 0 where
+-- under the number of each fact of the task the groups that have it, and under each number the groups
+-- in ascending order
+pub record AreByFact (p : Parts) (firsts : List ℕ) (groups : List (List ℕ)) : Type 0 where
   pub are : (fact : Fact) → FactExists p.variables fact
-      → (place : ℕ) → Contains (under lists (number firsts fact)) place ↔ Has place fact
-  pub ascending : (key : ℕ) → IsNonDecreasing (under lists key)
+      → (place : ℕ) → Contains (under groups (number firsts fact)) place ↔ HasFact p place fact
+  pub ascending : (key : ℕ) → IsNonDecreasing (under groups key)
 
--- for each fact of the task, the groups that have it and the operators that mention it; the facts of
--- each group, each once, and how they fall into runs on one variable; and the effects of large
--- operators by variable
+-- for each fact of the task, the groups that have it; the facts of each group, each once, and how they
+-- fall into runs on one variable; and the effects of large operators by variable
 pub record IsIndexOf (p : Parts) (index : Index) : Type 0 where
   pub firsts : AreFirstNumbers p index.firsts.items
   pub low : All (λ (first : ℕ). first ≤ 2 ^ 62) index.firsts.items
   pub groups : (fact : Fact) → FactExists p.variables fact
       → (place : ℕ) → Contains (groups_of index fact) place ↔ HasFact p place fact
   pub ascending : (fact : Fact) → IsNonDecreasing (groups_of index fact)
-  pub operators : (fact : Fact) → FactExists p.variables fact
-      → (operator : ℕ) → Contains (operators_of index fact) operator ↔ MentionsFact p operator fact
   pub facts : AreOwnLists p index.own_facts
   pub runs : AreRunsOf p index.own_facts index.runs
   pub effects : AreByVariable p index.effects
@@ -94,12 +63,3 @@ pub record IsIndexOf (p : Parts) (index : Index) : Type 0 where
 abbrev pub entries_of : List ℕ → ℕ → List Fact → List (Entry ℕ)
 entries_of firsts item facts =
     map (λ (fact : Fact). record { key = number firsts fact; item = item }) facts
-
--- the facts that the effect mentions: its variable's old value, if it requires one, and its
--- conditions
-abbrev pub facts_of_effect : Effect → List Fact
-facts_of_effect e = option_to_list (old_fact e) ++ e.conditions
-
--- the facts that the operator mentions
-abbrev pub facts_of_operator : Operator → List Fact
-facts_of_operator o = o.prevail ++ flat_map facts_of_effect o.effects

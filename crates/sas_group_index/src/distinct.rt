@@ -13,20 +13,19 @@ pub fn facts_of<'a, T: Grounded>(
     own: &'a Lists<Fact>,
     group: u32,
 ) -> &'a [Fact]
-    requires group { group < length task.now.groups }
-    requires own { length own.now ≡ length task.now.groups }
+    requires { group < length task.now.groups }
     ensures { result.now ≡ facts_at task.now own.now group }
 {
-    let facts = own.get(group as usize);
-    if facts.is_empty() {
-        task.group(group)
+    let place = group as usize;
+    if place < own.len() && !own.get(place).is_empty() {
+        own.get(place)
     } else {
-        facts
+        task.group(group)
     }
 }
 
-/// Returns a list of its own for each group of the task. It is empty if the group lists its facts in ascending order, each
-/// once.
+/// Returns a list of its own for each group of the task. It is empty, or left out behind the last one, if the group lists its
+/// facts in ascending order, each once.
 pub fn own_lists<T: Grounded>(alloc: Global, task: &Layered<T>) -> Result<Lists<Fact>, AllocError>
     ensures { IfOk result (λ own. AreOwnLists task.now own) }
 {
@@ -34,7 +33,11 @@ pub fn own_lists<T: Grounded>(alloc: Global, task: &Layered<T>) -> Result<Lists<
     let _ = task.task();
     let mut own = Lists::new(alloc);
     for group in 0..task.groups() {
-        own.push(own_list(alloc, task.group(group))?.as_slice())?;
+        let facts = own_list(alloc, task.group(group))?;
+        if !facts.is_empty() {
+            own.fill(group as usize)?;
+            own.push(facts.as_slice())?;
+        }
     }
     Ok(own)
 }

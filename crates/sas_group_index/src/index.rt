@@ -1,4 +1,4 @@
-// Which groups have which facts, and which operators mention which.
+// Which groups have which facts.
 ghost use Rattle.std.specs.Prelude.{◌≡◌, ◌<◌, ◌≤◌, ◌^◌, ◌↔◌, ℕ, [], length, IsTrue, IfOk, OnOk, IfSome, All, Contains};
 ghost use Rattle.std.specs.List.Sorted.{IsNonDecreasing};
 ghost use Rattle.sas_group_index.specs.Index as spec;
@@ -6,7 +6,7 @@ ghost use Rattle.sas_group_index.specs.ByVariable.{AreOn};
 ghost use Rattle.sas_group_index.specs.Distinct.{facts_at};
 ghost use Rattle.sas_group_index.specs.Index.{under, number, IsIndexOf, AreFirstNumbers, facts_below};
 
-use crate::by_fact::{groups_by_fact, operators_by_fact};
+use crate::by_fact::groups_by_fact;
 use crate::by_variable::{FEW_EFFECTS, effects_by_variable, place_of};
 use crate::distinct::{facts_of, own_lists};
 use crate::runs::runs_of_groups;
@@ -18,18 +18,15 @@ use std::alloc::{AllocError, Global};
 /// Among so few groups one is sooner found by a look at each.
 const FEW_GROUPS: usize = 4;
 
-/// Which groups have which fact, and which operators mention which. Facts are numbered, variable after variable, so one is
-/// looked up in a fixed time.
+/// Which groups have which fact, and which effects of large operators set which variable. Facts are numbered, variable after
+/// variable, so one is looked up in a fixed time.
 #[derive(Drop)]
 pub struct Index {
     /// The number of each variable's first fact.
     pub firsts: Vec<usize>,
     /// The groups under the number of each fact of theirs.
     pub groups: Lists<u32>,
-    /// The operators under the number of each fact that they mention. One that mentions a fact several times may be there as
-    /// often.
-    pub operators: Lists<u32>,
-    /// For each group its facts in ascending order, each once, or none if the group lists them so.
+    /// For each group its facts in ascending order, each once. A group that lists them so has none here, or no list.
     pub own_facts: Lists<Fact>,
     /// For each group, the lengths of its runs, each of facts in a row on one variable.
     pub runs: Items<Items<u32>>,
@@ -46,13 +43,11 @@ impl Index {
         let facts = number_facts(task, &mut firsts)?;
         let own_facts = own_lists(alloc, task)?;
         let groups = groups_by_fact(alloc, task, &own_facts, firsts.as_slice(), facts)?;
-        let operators = operators_by_fact(alloc, task, firsts.as_slice(), facts)?;
         let effects = effects_by_variable(alloc, task)?;
         let runs = runs_of_groups(alloc, task, &own_facts)?;
         Ok(Index {
             firsts,
             groups,
-            operators,
             own_facts,
             runs,
             effects,
@@ -69,19 +64,10 @@ impl Index {
 
     /// Returns the facts of the group, each once.
     pub fn facts_of<'a, T: Grounded>(&'a self, task: &'a Layered<T>, group: u32) -> &'a [Fact]
-        requires index { IsIndexOf task.now self.now }
-        requires group { group < length task.now.groups }
+        requires { group < length task.now.groups }
         ensures { result.now ≡ facts_at task.now self.now.own_facts group }
     {
         facts_of(task, &self.own_facts, group)
-    }
-
-    /// Returns the operators that mention the fact, as a precondition or as a condition of an effect.
-    pub fn operators_of(&self, fact: Fact) -> &[u32]
-        requires { All (λ (first : ℕ). first ≤ 2 ^ 62) self.now.firsts.items }
-        ensures { result.now ≡ spec.operators_of self.now fact }
-    {
-        under(&self.operators, self.number_of(fact))
     }
 
     /// Returns effects of the operator, if it is large: all that set the variable, and maybe others.

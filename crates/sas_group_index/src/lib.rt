@@ -1,5 +1,5 @@
-//! Which groups of a task have which facts, which operators mention which, and how the facts of a group fall into runs on one
-//! variable.
+//! Which groups of a task have which facts, how the facts of a group fall into runs on one variable, and which effects of large
+//! operators set which variable.
 #![tactic(auto)]
 
 mod by_fact;

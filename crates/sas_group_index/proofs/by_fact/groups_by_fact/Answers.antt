@@ -5,7 +5,7 @@ use Rattle.std.proofs.lemmas.Result.{IfOk-weaker}
 use Rattle.sas_core.specs.declared.parts.Fact.{Fact}
 use Rattle.sas_group_index.specs.Distinct.{facts_at}
 use Rattle.sas_lists.specs.ByKey.{by_key}
-use Rattle.sas_group_index.specs.Index.{facts_below, entries_of, HasFact, AreByFact}
+use Rattle.sas_group_index.specs.Index.{facts_below, entries_of, AreByFact}
 use Rattle.sas_group_index.proofs.Entering.{EnteredUpTo, group_numbered, group_facts_exist, group_has, entered_more, entered_low, entered_by_fact}
 use Rattle.sas_group_index.proofs.by_fact.groups_by_fact.Goals as goal
 
@@ -45,8 +45,8 @@ returns g c =
     let entries = c.loop-group.entries.items in
     let done : c.loop-group.group ≡ length p.groups = let count = c.groups-group-end.ensures in omega (arith, count) in
     let up : EnteredUpTo firsts (facts_at p own) (length p.groups) entries = rw done at c.loop-group.invariant in
-    let all : AreByFact p firsts (HasFact p) (by_key entries (facts_below p (length p.variables))) =
-    entered_by_fact p firsts (facts_at p own) (length p.groups) entries (HasFact p) c.requires.firsts (group_facts_exist p own c.task.ensures.well_ranged c.requires.own) (group_has p own c.requires.own) up in
-    IfOk-weaker c.by_key.result (λ lists. lists ≡ by_key c.as_slice.result.now c.args.facts) (AreByFact p firsts (HasFact p))
-    (λ lists is. subst (AreByFact p firsts (HasFact p)) (sym (is ∙ ap (λ es. by_key es c.args.facts) c.as_slice.ensures.value ∙ ap (λ n. by_key entries n) c.requires.all)) all)
+    let all : AreByFact p firsts (by_key entries (facts_below p (length p.variables))) =
+    entered_by_fact p firsts (facts_at p own) (length p.groups) entries c.requires.firsts (group_facts_exist p own c.task.ensures.well_ranged c.requires.own) (group_has p own c.requires.own) up in
+    IfOk-weaker c.by_key.result (λ lists. lists ≡ by_key c.as_slice.result.now c.args.facts) (AreByFact p firsts)
+    (λ lists is. subst (AreByFact p firsts) (sym (is ∙ ap (λ es. by_key es c.args.facts) c.as_slice.ensures.value ∙ ap (λ n. by_key entries n) c.requires.all)) all)
     c.by_key.ensures

@@ -1,20 +1,23 @@
--- One group more has its list.
-use Rattle.std.proofs.Common.{rules, arith, ◌≡◌, ◌++◌, ◌∷◌, []}
-use Rattle.std.proofs.lemmas.List.{length_push}
+-- One group more has its list, or needs none.
+use Rattle.std.proofs.Common.{rules, arith, ◌≡◌, ◌++◌, ◌∷◌, [], length}
 use Rattle.sas_core.specs.Grounded.{group_at}
 use Rattle.sas_group_index.specs.Distinct.{own_or, AreDistinct}
-use Rattle.sas_group_index.proofs.InOrder.{own_more}
+use Rattle.sas_group_index.proofs.InOrder.{filled, own_more, own_passed}
 use Rattle.sas_group_index.proofs.distinct.own_lists.Goals as goal
+use Rattle.sas_group_index.proofs.distinct.own_lists.Goals.{then-not-is_empty+in_ok-fill+in_ok-push, else-not-is_empty}
 
 pub loop-group-preserved : goal.loop-group-preserved
 loop-group-preserved g c =
     let p = c.args.task.now in
     let group = c.loop-group.group in
     let own = c.loop-group.own in
-    let its = c.in_ok-own_list.field-0.items in
-    let more : c.push.new.self ≡ own ++ its ∷ [] = search rules in
+    let inv = c.loop-group.invariant in
+    let its = c.in_ok-facts.facts.items in
     let here : AreDistinct (own_or its (group_at p group)) (group_at p group) = search rules in
-    rw more record {
-      one_each = let many = c.loop-group.invariant.one_each in omega (arith, length_push own its, many);
-      are = own_more p group own its c.loop-group.invariant.one_each c.loop-group.invariant.are here;
-    }
+    elim c.if-not-is_empty.branch [
+      | then-not-is_empty+in_ok-fill+in_ok-push w ↦ (let more : w.push.new.self ≡ filled p group own inv.short inv.are ++ its ∷ [] = search rules in
+          let h = own_more p group own inv.short inv.are its w.push.new.self more here in
+          rw (w.own-is) record { short = h.0; are = h.1 })
+      | else-not-is_empty w ↦ (let none : length its ≡ 0 = search rules in
+          rw (w.own-is) record { short = let before = inv.short in omega arith; are = own_passed p group own inv.short inv.are its none here })
+    ]

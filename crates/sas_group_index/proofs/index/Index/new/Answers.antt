@@ -1,20 +1,18 @@
 -- Each part is what the call that makes it promises.
 use Rattle.std.proofs.Common.{ℕ, List, subst}
-use Rattle.sas_group_index.specs.Index.{number, HasFact, MentionsFact, AreByFact}
+use Rattle.sas_group_index.specs.Index.{number, AreByFact}
 use Rattle.sas_group_index.proofs.index.Index.new.Goals as goal
 
 pub returns : goal.returns
 returns g c =
     let p = c.args.task.now in
     let firsts = c.number_facts.new.firsts.items in
-    let groups = subst (λ (numbers : List ℕ). AreByFact p numbers (HasFact p) c.in_ok-groups.groups) c.as_slice.ensures.value c.in_ok-groups.ensures in
-    let operators = subst (λ (numbers : List ℕ). AreByFact p numbers (MentionsFact p) c.in_ok-operators.operators) c.as_slice-2.ensures.value c.in_ok-operators.ensures in
+    let groups = subst (λ (numbers : List ℕ). AreByFact p numbers c.in_ok-groups.groups) c.as_slice.ensures.value c.in_ok-groups.ensures in
     record {
       firsts = c.in_ok-facts.ensures.firsts;
       low = c.in_ok-facts.ensures.low;
       groups = groups.are;
       ascending = λ fact. groups.ascending (number firsts fact);
-      operators = operators.are;
       facts = c.in_ok-own_facts.ensures;
       runs = c.in_ok-runs.ensures;
       effects = c.in_ok-effects.ensures;

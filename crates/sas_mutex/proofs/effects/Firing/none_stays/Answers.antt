@@ -52,7 +52,7 @@ loop-length-init g c =
     get_or_default runs c.args.group [] here below ∙ (ap (λ (lists : List (List ℕ)). get_or lists c.args.group here) (sym c.as_slice.ensures)
     ∙ (sym c.index-as_slice-group.is ∙ sym c.as_slice-length-items.ensures)) in
     let own = c.self.inside.index.now.own_facts in
-    let facts = c.self.invariant.1.facts.are c.args.group group.exists in
+    let facts = c.self.invariant.1.facts c.args.group group.exists in
     let fall : AreRuns (facts_at p own c.args.group) c.as_slice-length-items.result.now = subst (AreRuns (facts_at p own c.args.group)) same (all.are c.args.group group.exists) in
     let left : facts_at p own c.args.group ≡ c.facts_of-left.result.now = sym c.facts_of-left.ensures in
     rw (← c.self.view_is) (such_none (IsGone (IsKept p c.args.kept.now) o (effect_at o c.self.inside.effect)) (group_at p c.args.group) c.facts_of-left.result.now c.as_slice-length-items.result.now
