@@ -8,12 +8,12 @@ ghost use Rattle.sas_answers.specs.PlanWords.{valid_line, fault_words, step_word
 ghost use Rattle.sas_answers.specs.PlanWords.{goal_words, sum_words, invalid_line};
 
 use sas_axioms::Worklist;
-use sas_core::Stepwise;
+use sas_core::{Grounded, Stepwise};
 use sas_flat::{FlatPlan, FlatTask};
 use sas_lines::{push_line, push_number};
 use sas_meaning::Layered;
 use sas_output::{Status, Told};
-use sas_run::{PlanFault, Runner, Valid};
+use sas_run::{PlanFault, Runner, Valid, check_once};
 use std::alloc::{AllocError, Global};
 
 /// Returns the answer about whether the plan is valid.
@@ -33,7 +33,8 @@ pub fn verdict_answer(
     }
 }
 
-/// Checks whether the plan is valid, with an evaluator that counts open conditions.
+/// Checks whether the plan is valid, with an evaluator that counts open conditions. A map holds the names of the plan's steps,
+/// or those of the operators, whichever are fewer.
 fn check_plan(
     alloc: Global,
     layered: &Layered<FlatTask>,
@@ -45,6 +46,9 @@ fn check_plan(
     let Ok(worklist) = Worklist::new(alloc, layered) else {
         return Err(PlanFault::Memory);
     };
+    if plan.steps() < layered.operators() as usize {
+        return check_once(alloc, layered, worklist, plan);
+    }
     let Ok(mut runner) = Runner::new(alloc, layered, worklist) else {
         return Err(PlanFault::Memory);
     };

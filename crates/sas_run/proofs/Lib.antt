@@ -12,3 +12,6 @@ pub mod Gone
 pub mod NamedAlike
 pub mod Going
 pub mod PlanStates
+pub mod StepNumbers
+pub mod ChainsFrom
+pub mod FoundSteps

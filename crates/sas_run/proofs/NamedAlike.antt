@@ -1,10 +1,11 @@
 -- The operators of one name, in order.
-use Rattle.std.proofs.Common.{ℕ, ◌+◌, ◌-◌, ◌<◌, ◌≤◌, List, length, Option, None, Some, sym, subst, refl, ◌∙◌, inl, inr, arith}
+use Rattle.std.proofs.Common.{◌≡◌, ℕ, ◌+◌, ◌-◌, ◌<◌, ◌≤◌, List, length, get_or, Option, None, Some, sym, subst, refl, ◌∙◌, inl, inr, arith}
 use Rattle.std.proofs.lemmas.Bool.{cases_eq, cases_lt}
 use Rattle.sas_core.specs.declared.parts.Parts.{Parts}
 use Rattle.sas_core.specs.Grounded.{operator_at}
 use Rattle.sas_run.specs.declared.runner.Choice.TheVariants.{Blocked, Found}
 use Rattle.sas_run.specs.Plans.{IsApplicable, IsNamed}
+use Rattle.sas_run.specs.Chains.{IsChain}
 use Rattle.sas_run.specs.Names.{IsNextNamed}
 use Rattle.sas_run.specs.Running.{IsFirstChosen, IsChoice}
 
@@ -25,31 +26,43 @@ left p None = 0
 pub search_starts : (p : Parts) (s : List ℕ) (first : ℕ) → first < length p.operators → SearchedTo p s first (Some first)
 search_starts p s first lt = (omega arith, record { exists = lt; named = refl }, λ lower ge below. absurd (omega arith))
 
-pub search_goes_on : (p : Parts) (s : List ℕ) (first operator : ℕ) (next : Option ℕ) → SearchedTo p s first (Some operator) → (IsApplicable s (operator_at p operator) → ⊥)
-    → IsNextNamed p (operator_at p operator).name (operator + 1) next → SearchedTo p s first next
-search_goes_on p s first operator (Some k) (le, named, none) not next = (
+goes_on : (p : Parts) (s : List ℕ) (first operator : ℕ) (next : Option ℕ) → SearchedTo p s first (Some operator) → (IsApplicable s (operator_at p operator) → ⊥)
+    → IsNextNamed p (operator_at p first).name (operator + 1) next → SearchedTo p s first next
+goes_on p s first operator (Some k) (le, named, none) not next = (
   (let ge = next.from_on in omega arith),
-  record { exists = next.of_name.exists; named = next.of_name.named ∙ named.named },
+  next.of_name,
   λ lower ge below of_name holds. elim (cases_lt lower operator) [
     | inl early ↦ none lower ge early of_name holds
     | inr late ↦ elim (cases_eq lower operator) [
       | inl e ↦ not (subst (λ n. IsApplicable s (operator_at p n)) e holds)
-      | inr ne ↦ next.first lower (omega arith) below (record { exists = of_name.exists; named = of_name.named ∙ sym named.named })
+      | inr ne ↦ next.first lower (omega arith) below of_name
     ]
   ],
 )
-search_goes_on p s first operator None (le, named, none) not next = λ lower ge of_name holds. elim (cases_lt lower operator) [
+goes_on p s first operator None (le, named, none) not next = λ lower ge of_name holds. elim (cases_lt lower operator) [
   | inl early ↦ none lower ge early of_name holds
   | inr late ↦ elim (cases_eq lower operator) [
     | inl e ↦ not (subst (λ n. IsApplicable s (operator_at p n)) e holds)
-    | inr ne ↦ next lower (omega arith) (record { exists = of_name.exists; named = of_name.named ∙ sym named.named })
+    | inr ne ↦ next lower (omega arith) of_name
   ]
 ]
 
-pub less_left : (p : Parts) (s : List ℕ) (first operator : ℕ) (next : Option ℕ) → SearchedTo p s first (Some operator) → IsNextNamed p (operator_at p operator).name (operator + 1) next
+less : (p : Parts) (s : List ℕ) (first operator : ℕ) (next : Option ℕ) → SearchedTo p s first (Some operator) → IsNextNamed p (operator_at p first).name (operator + 1) next
     → left p next < left p (Some operator)
-less_left p s first operator (Some k) (le, named, none) next = let ge = next.from_on in let a = next.of_name.exists in let b = named.exists in omega arith
-less_left p s first operator None (le, named, none) next = let b = named.exists in omega arith
+less p s first operator (Some k) (le, named, none) next = let ge = next.from_on in let a = next.of_name.exists in let b = named.exists in omega arith
+less p s first operator None (le, named, none) next = let b = named.exists in omega arith
+
+-- what a list has for the operator is what is to be searched next
+module _ (p : Parts) (s : List ℕ) (first operator : ℕ) (nexts : List (Option ℕ)) (next : Option ℕ) (chain : IsChain p first nexts)
+    (searched : SearchedTo p s first (Some operator)) (is : next ≡ get_or nexts operator None) where
+  is_next : IsNextNamed p (operator_at p first).name (operator + 1) next
+  is_next = subst (IsNextNamed p (operator_at p first).name (operator + 1)) (sym is) (chain operator searched.1)
+
+  pub search_goes_on : (IsApplicable s (operator_at p operator) → ⊥) → SearchedTo p s first next
+  search_goes_on not = goes_on p s first operator next searched not is_next
+
+  pub less_left : left p next < left p (Some operator)
+  less_left = less p s first operator next searched is_next
 
 -- what is found of the first operator of a name, is the choice of the name
 pub found_is_choice : (p : Parts) (s name : List ℕ) (first operator : ℕ) → IsNextNamed p name 0 (Some first) → IsFirstChosen p s first (Some operator) → IsChoice p s name (Found operator)

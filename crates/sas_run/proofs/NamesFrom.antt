@@ -27,7 +27,7 @@ AreNamesFrom-end p from tells table all one_each none = record {
 }
 
 -- an operator that doesn't have the name is passed over
-IsNextNamed-pass : (p : Parts) (name : List ℕ) (operator : ℕ) → (IsNamed p name operator → ⊥) → (r : Option ℕ)
+pub IsNextNamed-pass : (p : Parts) (name : List ℕ) (operator : ℕ) → (IsNamed p name operator → ⊥) → (r : Option ℕ)
     → IsNextNamed p name (operator + 1) r → IsNextNamed p name operator r
 IsNextNamed-pass p name operator other None none = λ lower from_on named.
     elim (eq-or-lt_of_le from_on) [

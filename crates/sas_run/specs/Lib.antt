@@ -5,6 +5,8 @@ pub mod Laws
 pub mod Names
 pub mod NameHash
 pub mod NameTable
+pub mod StepNames
+pub mod Chains
 pub mod Running
 pub mod Given
 pub mod Walking

@@ -1,10 +1,10 @@
 // The operators of a task by their names.
-ghost use Rattle.std.specs.Prelude.{◌≡◌, ◌+◌, ◌<◌, length, IfOk, OnOk};
+ghost use Rattle.std.specs.Prelude.{◌≡◌, ℕ, IfOk, OnOk};
 ghost use Rattle.indexmap.specs.IndexMap.{get_by};
 ghost use Rattle.sas_core.specs.declared.parts.Parts.{Parts};
-ghost use Rattle.sas_core.specs.Grounded.{operator_at};
 ghost use Rattle.sas_run.specs.NameTable.{AreNames, Puts, is_called};
 ghost use Rattle.sas_run.specs.Names.{IsNextNamed};
+ghost use Rattle.sas_run.specs.Chains.{IsChain};
 
 use crate::name_key::NameKey;
 use indexmap::IndexMap;
@@ -44,15 +44,11 @@ impl<'a> Names<'a> {
         self.first.get(NameKey { bytes: name }).copied()
     }
 
-    /// Returns the next operator of the same name, if there is one. It takes no memory.
-    pub fn next(&self, operator: u32) -> Option<u32>
-        ensures { (p : Parts) → AreNames p self.now → operator < length p.operators
-            → IsNextNamed p (operator_at p operator).name (operator + 1) result }
+    /// Returns for each operator the next one of the same name. It takes no memory.
+    pub fn next(&self) -> &[Option<u32>]
+        ensures { (p : Parts) → AreNames p self.now → (first : ℕ) → IsChain p first result.now }
     {
-        match self.next.get(operator as usize) {
-            Some(next) => *next,
-            None => None,
-        }
+        self.next.as_slice()
     }
 }
 

@@ -5,15 +5,18 @@ ghost use Rattle.sas_core.specs.Grounded.{operator_at};
 ghost use Rattle.sas_core.specs.Variables.{IsState};
 ghost use Rattle.sas_meaning.specs.Reachable.{IsInitial};
 ghost use Rattle.sas_run.specs.Plans.{IsValid, GoThrough, cost_of_all};
+ghost use Rattle.sas_run.specs.Chains.{IsChain, HaveChains};
 ghost use Rattle.sas_run.specs.Names.{AreFirsts, HaveFirsts, IsFirst, IsNextNamed};
 ghost use Rattle.sas_run.specs.Verdicts.{IsFaultOf};
 ghost use Rattle.sas_run.specs.Running.{GoesOn, StopsAt, GoesThrough};
 ghost use Rattle.sas_run.specs.Walking.{IsPrepared};
 
+use crate::chains::Chains;
 use crate::holding::first_missed;
 use crate::names::NamedTask;
 use crate::runner::{Runner, first_applicable};
-use crate::walker::{Walker, go_on_from, initial_of};
+use crate::step_names::StepNames;
+use crate::walker::{Walker, go_on_from, initial_of, walker_for};
 use sas_core::{Grounded, Stepwise};
 use sas_meaning::{Layered, Settle, State};
 use std::alloc::{AllocError, Global};
@@ -59,6 +62,15 @@ struct NextStep {
     number: usize,
 }
 
+/// What the names of a plan's steps mean.
+#[derive(Clone, Copy)]
+struct Found<'f> {
+    /// The lowest operators of the steps.
+    firsts: &'f [u32],
+    /// For each operator of the name of one of these, the next one of its name.
+    nexts: &'f [Option<u32>],
+}
+
 /// How far a plan has come: the state, and the operators of the steps so far.
 #[derive(Drop)]
 struct Walk {
@@ -81,42 +93,95 @@ impl<'a, E: Settle<T> + Drop, T: Grounded> Runner<'a, E, T> {
             names: &self.names,
         };
         let firsts = first_operators(alloc, &named, plan)?;
-        let operators = Vec::with_capacity(alloc, plan.steps())?;
-        let state = initial_of(alloc, self.layered, &mut self.walker)?;
-        let mut walk = Walk { state, operators };
-        judge(&named, &mut self.walker, plan, firsts.as_slice(), &mut walk)?;
-        Ok(Valid {
-            operators: walk.operators,
-            cost: plan.cost(),
-        })
+        let found = Found {
+            firsts: firsts.as_slice(),
+            nexts: self.names.next(),
+        };
+        check_found(alloc, self.layered, &mut self.walker, plan, found)
     }
 }
 
-/// Checks whether the plan is valid, where `firsts` are the lowest operators of its steps. Adds the plan's operators, for
-/// which there is room. Without an allocator it can ask for no memory.
-fn judge<E: Settle<T> + Drop, T: Grounded, P: Stepwise>(
-    named: &NamedTask<'_, '_, T>,
+/// Checks whether the plan of the task is valid, as `Runner::check_plan` does, with an evaluator that is ready for the task.
+/// It looks up the operators' names among those of the plan's steps, and not the other way round. So it is for one plan that
+/// has fewer steps than the task has operators. All memory is asked for before the first step.
+pub fn check_once<E: Settle<T> + Drop, T: Grounded, P: Stepwise>(
+    alloc: Global,
+    layered: &Layered<T>,
+    evaluator: E,
+    plan: &P,
+) -> Result<Valid, PlanFault>
+    requires { E.ready evaluator layered.now }
+    ensures valid { IfOk result (λ v. IsValid layered.now (P.says plan.now) v.operators.items) }
+    ensures cost { IfOk result (λ v. v.cost ≡ (P.says plan.now).cost) }
+    ensures fault { IfErr result (λ f. f ≢ PlanFault.Memory
+        → IsFaultOf layered.now (P.says plan.now) f) }
+{
+    let Ok(mut walker) = walker_for(alloc, layered, evaluator) else {
+        return Err(PlanFault::Memory);
+    };
+    let names = StepNames::new(alloc, plan)?;
+    let chains = Chains::new(alloc, layered, &names)?;
+    let firsts = chains.firsts(alloc, names.of_steps())?;
+    let found = Found {
+        firsts: firsts.as_slice(),
+        nexts: chains.next(),
+    };
+    check_found(alloc, layered, &mut walker, plan, found)
+}
+
+/// Checks whether the plan is valid, where it is found what the names of its steps mean.
+fn check_found<E: Settle<T> + Drop, T: Grounded, P: Stepwise>(
+    alloc: Global,
+    layered: &Layered<T>,
     walker: &mut Walker<E>,
     plan: &P,
-    firsts: &[u32],
+    found: Found<'_>,
+) -> Result<Valid, PlanFault>
+    requires prepared { IsPrepared E.ready layered.now walker.old }
+    requires firsts { AreFirsts layered.now (P.says plan.now).steps found.firsts.now }
+    requires chains { HaveChains layered.now found.firsts.now found.nexts.now }
+    ensures prepared { IsPrepared E.ready layered.now walker.new }
+    ensures valid { IfOk result (λ v. IsValid layered.now (P.says plan.now) v.operators.items) }
+    ensures cost { IfOk result (λ v. v.cost ≡ (P.says plan.now).cost) }
+    ensures fault { IfErr result (λ f. f ≢ PlanFault.Memory
+        → IsFaultOf layered.now (P.says plan.now) f) }
+{
+    let operators = Vec::with_capacity(alloc, plan.steps())?;
+    let state = initial_of(alloc, layered, walker)?;
+    let mut walk = Walk { state, operators };
+    judge(layered, walker, plan, found, &mut walk)?;
+    Ok(Valid {
+        operators: walk.operators,
+        cost: plan.cost(),
+    })
+}
+
+/// Checks whether the plan is valid, where it is found what the names of its steps mean. Adds the plan's operators, for
+/// which there is room. Without an allocator it can ask for no memory.
+fn judge<E: Settle<T> + Drop, T: Grounded, P: Stepwise>(
+    layered: &Layered<T>,
+    walker: &mut Walker<E>,
+    plan: &P,
+    found: Found<'_>,
     walk: &mut Walk,
 ) -> Result<(), PlanFault>
-    requires prepared { IsPrepared E.ready named.now walker.old }
-    requires follows { E.follows walker.old.evaluator named.now walk.old.state }
-    requires firsts { AreFirsts named.now (P.says plan.now).steps firsts.now }
-    requires initial { IsInitial named.now walk.old.state }
+    requires prepared { IsPrepared E.ready layered.now walker.old }
+    requires follows { E.follows walker.old.evaluator layered.now walk.old.state }
+    requires firsts { AreFirsts layered.now (P.says plan.now).steps found.firsts.now }
+    requires chains { HaveChains layered.now found.firsts.now found.nexts.now }
+    requires initial { IsInitial layered.now walk.old.state }
     requires room { length (P.says plan.now).steps ≤ vec_capacity walk.old.operators }
     requires empty { walk.old.operators.items ≡ [] }
-    ensures prepared { IsPrepared E.ready named.now walker.new }
-    ensures valid { OnOk result (IsValid named.now (P.says plan.now) walk.new.operators.items) }
-    ensures fault { IfErr result (IsFaultOf named.now (P.says plan.now)) }
+    ensures prepared { IsPrepared E.ready layered.now walker.new }
+    ensures valid { OnOk result (IsValid layered.now (P.says plan.now) walk.new.operators.items) }
+    ensures fault { IfErr result (IsFaultOf layered.now (P.says plan.now)) }
 {
-    go_through(named, walker, plan, firsts, walk)?;
-    if let Some(index) = first_missed(&walk.state, named.task.task().goal()) {
+    go_through(layered, walker, plan, found, walk)?;
+    if let Some(index) = first_missed(&walk.state, layered.task().goal()) {
         let index = index as u32;
         return Err(PlanFault::GoalMissed { index });
     }
-    let sum = cost_of(named.task, walk.operators.as_slice());
+    let sum = cost_of(layered, walk.operators.as_slice());
     if sum != u128::from(plan.cost()) {
         return Err(PlanFault::CostDiffers { sum });
     }
@@ -163,36 +228,36 @@ fn next_first<T: Grounded, P: Stepwise>(
     }
 }
 
-/// Makes the plan's steps in turn, where `firsts` are their lowest operators. Adds their operators, for which there is
-/// room.
+/// Makes the plan's steps in turn, where it is found what their names mean. Adds their operators, for which there is room.
 fn go_through<E: Settle<T> + Drop, T: Grounded, P: Stepwise>(
-    named: &NamedTask<'_, '_, T>,
+    layered: &Layered<T>,
     walker: &mut Walker<E>,
     plan: &P,
-    firsts: &[u32],
+    found: Found<'_>,
     walk: &mut Walk,
 ) -> Result<(), PlanFault>
-    requires prepared { IsPrepared E.ready named.now walker.old }
-    requires follows { E.follows walker.old.evaluator named.now walk.old.state }
-    requires firsts { AreFirsts named.now (P.says plan.now).steps firsts.now }
-    requires state { IsState named.now.variables walk.old.state }
+    requires prepared { IsPrepared E.ready layered.now walker.old }
+    requires follows { E.follows walker.old.evaluator layered.now walk.old.state }
+    requires firsts { AreFirsts layered.now (P.says plan.now).steps found.firsts.now }
+    requires chains { HaveChains layered.now found.firsts.now found.nexts.now }
+    requires state { IsState layered.now.variables walk.old.state }
     requires room { length (P.says plan.now).steps ≤ vec_capacity walk.old.operators }
     requires empty { walk.old.operators.items ≡ [] }
-    ensures prepared { IsPrepared E.ready named.now walker.new }
-    ensures goes { GoesThrough named.now walk.old.state (P.says plan.now).steps
+    ensures prepared { IsPrepared E.ready layered.now walker.new }
+    ensures goes { GoesThrough layered.now walk.old.state (P.says plan.now).steps
         walk.new.operators.items walk.new.state result }
 {
-    for before in 0..firsts.len() {
+    for before in 0..found.firsts.len() {
         let next = NextStep {
-            first: firsts[before],
+            first: found.firsts[before],
             number: before + 1,
         };
-        let operator = go_on(named, walker, next, &mut walk.state)?;
+        let operator = go_on(layered, walker, found.nexts, next, &mut walk.state)?;
         walk.operators.push(operator).unwrap();
     }
-    if firsts.len() < plan.steps() {
+    if found.firsts.len() < plan.steps() {
         return Err(PlanFault::NoOperator {
-            step: firsts.len() + 1,
+            step: found.firsts.len() + 1,
         });
     }
     Ok(())
@@ -200,27 +265,29 @@ fn go_through<E: Settle<T> + Drop, T: Grounded, P: Stepwise>(
 
 /// Makes the next step, from the state that the evaluator settled last, and returns its operator.
 fn go_on<E: Settle<T> + Drop, T: Grounded>(
-    named: &NamedTask<'_, '_, T>,
+    layered: &Layered<T>,
     walker: &mut Walker<E>,
+    nexts: &[Option<u32>],
     next: NextStep,
     state: &mut State,
 ) -> Result<u32, PlanFault>
-    requires prepared { IsPrepared E.ready named.now walker.old }
-    requires follows { E.follows walker.old.evaluator named.now state.old }
-    requires first { IsFirst named.now next.first }
-    requires state { IsState named.now.variables state.old }
-    ensures prepared { IsPrepared E.ready named.now walker.new }
-    ensures follows { IfOk result (λ _. E.follows walker.new.evaluator named.now state.new) }
-    ensures ok { IfOk result (λ operator. GoesOn named.now state.old
-        (operator_at named.now next.first).name operator state.new) }
-    ensures err { IfErr result (λ fault. StopsAt named.now state.old
-        (operator_at named.now next.first).name next.number fault) }
+    requires prepared { IsPrepared E.ready layered.now walker.old }
+    requires follows { E.follows walker.old.evaluator layered.now state.old }
+    requires first { IsFirst layered.now next.first }
+    requires chain { IsChain layered.now next.first nexts.now }
+    requires state { IsState layered.now.variables state.old }
+    ensures prepared { IsPrepared E.ready layered.now walker.new }
+    ensures follows { IfOk result (λ _. E.follows walker.new.evaluator layered.now state.new) }
+    ensures ok { IfOk result (λ operator. GoesOn layered.now state.old
+        (operator_at layered.now next.first).name operator state.new) }
+    ensures err { IfErr result (λ fault. StopsAt layered.now state.old
+        (operator_at layered.now next.first).name next.number fault) }
 {
     let step = next.number;
-    let Some(operator) = first_applicable(named.task, named.names, state, next.first) else {
+    let Some(operator) = first_applicable(layered, nexts, state, next.first) else {
         return Err(PlanFault::NotApplicable { step });
     };
-    match go_on_from(named.task, walker, operator, state) {
+    match go_on_from(layered, walker, operator, state) {
         Ok(()) => Ok(operator),
         Err(_) => Err(PlanFault::Conflict { step, operator }),
     }

@@ -1,9 +1,10 @@
 // Runners, which make the steps of plans.
-ghost use Rattle.std.specs.Prelude.{◌≡◌, ◌<◌, ◌↔◌, length, IfOk, IfErr, IfSome, IfNone, IsTrue, slice_index};
+ghost use Rattle.std.specs.Prelude.{◌≡◌, ◌<◌, ◌↔◌, length, IfOk, IfErr, IfSome, None, IfNone, IsTrue};
+ghost use Rattle.std.specs.Prelude.{slice_index, slice_index_or};
 ghost use Rattle.sas_core.specs.Grounded.{operator_at};
 ghost use Rattle.sas_core.specs.Variables.{IsState};
 ghost use Rattle.sas_meaning.specs.Reachable.{IsInitial};
-ghost use Rattle.sas_run.specs.NameTable.{AreNames};
+ghost use Rattle.sas_run.specs.Chains.{IsChain};
 ghost use Rattle.sas_run.specs.Names.{IsNextNamed};
 ghost use Rattle.sas_run.specs.Plans.{IsApplicable, IsNamed};
 ghost use Rattle.sas_run.specs.Running.{IsChoice, IsFirstChosen, IsGoalAnswer, Steps};
@@ -118,7 +119,7 @@ impl<'a, E: Settle<T> + Drop, T: Grounded> Runner<'a, E, T> {
         requires first { first < length self.now.operators }
         ensures { IsFirstChosen self.now state.now first result }
     {
-        first_applicable(self.layered, &self.names, state, first)
+        first_applicable(self.layered, self.names.next(), state, first)
     }
 
     /// Makes the step of the operator, if there is one. Otherwise leaves the state as it was, and returns the fault. It takes
@@ -166,14 +167,15 @@ fn is_applicable<T: Grounded>(task: &Layered<T>, state: &State, operator: u32) -
     }
 }
 
-/// Returns the first operator that is applicable, of this one and those behind it that have its name.
+/// Returns the first operator that is applicable, of this one and those behind it that have its name. `nexts` has for each of
+/// them the next one.
 pub fn first_applicable<T: Grounded>(
     task: &Layered<T>,
-    names: &Names<'_>,
+    nexts: &[Option<u32>],
     state: &State,
     first: u32,
 ) -> Option<u32>
-    requires names { AreNames task.now names.now }
+    requires chain { IsChain task.now first nexts.now }
     requires first { first < length task.now.operators }
     requires state { IsState task.now.variables state.now }
     ensures { IsFirstChosen task.now state.now first result }
@@ -183,7 +185,17 @@ pub fn first_applicable<T: Grounded>(
         if is_applicable(task, state, operator) {
             return Some(operator);
         }
-        next = names.next(operator);
+        next = next_in(nexts, operator);
     }
     None
+}
+
+/// Returns what the list has for the operator.
+fn next_in(nexts: &[Option<u32>], operator: u32) -> Option<u32>
+    ensures { result ≡ slice_index_or nexts.now operator None }
+{
+    match nexts.get(operator as usize) {
+        Some(next) => *next,
+        None => None,
+    }
 }

@@ -7,8 +7,8 @@ use Rattle.sas_run.proofs.plan_check.go_on.Goals as goal
 
 pub returns-in-Err-clause-err : goal.returns-in-Err-clause-err
 returns-in-Err-clause-err g c =
-    let chosen = found_is_choice c.args.named.now c.args.state.now (operator_at c.args.named.now c.args.next.first).name c.args.next.first c.in-Some.operator c.requires.first (rw c.named.view_is at c.in-Some.ensures) in (
+    let chosen = found_is_choice c.args.layered.now c.args.state.now (operator_at c.args.layered.now c.args.next.first).name c.args.next.first c.in-Some.operator c.requires.first c.in-Some.ensures in (
       refl,
       chosen,
-      fault_is_conflict c.args.state.now (operator_at c.args.named.now c.in-Some.operator) c.in-Err.field-0 chosen.applicable (rw c.named.view_is at c.in-Err.ensures.steps.0),
+      fault_is_conflict c.args.state.now (operator_at c.args.layered.now c.in-Some.operator) c.in-Err.field-0 chosen.applicable c.in-Err.ensures.steps.0,
     )

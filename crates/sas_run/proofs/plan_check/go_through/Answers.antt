@@ -12,12 +12,12 @@ use Rattle.sas_run.proofs.plan_check.go_through.Goals as goal
 
 pub returns-in_err-operator-clause-goes : goal.returns-in_err-operator-clause-goes
 returns-in_err-operator-clause-goes g c =
-    let p = c.args.named.now in
+    let p = c.args.layered.now in
     let steps = (g.P.Stepwise.says c.args.plan.now).steps in
     let n = c.loop-before.before in
     let inv = c.loop-before.invariant in
     let below : n < length steps = search rules in
-    let name = (operator_at p (get_or c.args.firsts.now n 0)).name in
+    let name = (operator_at p (get_or c.args.found.firsts.now n 0)).name in
     let named : name ≡ get_or steps n [] = (c.requires.firsts.each n c.loop-before-test.true).of_name.named in
     let stops = c.in_err-operator.ensures.err in
     let goes = inv.goes in
@@ -34,12 +34,12 @@ returns-in_err-operator-clause-goes g c =
 
 pub loop-before-preserved : goal.loop-before-preserved
 loop-before-preserved g c =
-    let p = c.args.named.now in
+    let p = c.args.layered.now in
     let steps = (g.P.Stepwise.says c.args.plan.now).steps in
     let n = c.loop-before.before in
     let inv = c.loop-before.invariant in
     let below : n < length steps = search rules in
-    let name = (operator_at p (get_or c.args.firsts.now n 0)).name in
+    let name = (operator_at p (get_or c.args.found.firsts.now n 0)).name in
     let named : name ≡ get_or steps n [] = (c.requires.firsts.each n c.loop-before-test.true).of_name.named in
     let items = rw c.unwrap.ensures at c.push.ensures.items in
     let on : GoesOn p c.loop-before.walk.state name c.in_ok-operator.operator c.go_on.new.state = c.in_ok-operator.ensures.ok in
@@ -58,11 +58,11 @@ loop-before-preserved g c =
     }
 
 -- Behind the steps that were looked up stands one whose name no operator has.
-pub returns-then-firsts-steps-clause-goes : goal.returns-then-firsts-steps-clause-goes
-returns-then-firsts-steps-clause-goes g c =
-    let p = c.args.named.now in
+pub returns-then-found-steps-clause-goes : goal.returns-then-found-steps-clause-goes
+returns-then-found-steps-clause-goes g c =
+    let p = c.args.layered.now in
     let steps = (g.P.Stepwise.says c.args.plan.now).steps in
-    let n = length c.args.firsts.now in
+    let n = length c.args.found.firsts.now in
     let inv = c.loop-before.invariant in
     let below : n < length steps = search rules in
     let at_end : c.loop-before.before ≡ n = search rules in

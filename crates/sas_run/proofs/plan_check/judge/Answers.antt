@@ -7,7 +7,7 @@ use Rattle.sas_run.proofs.plan_check.judge.Goals as goal
 
 pub returns-in_err-go_through-clause-fault : goal.returns-in_err-go_through-clause-fault
 returns-in_err-go_through-clause-fault g c =
-    let p = c.args.named.now in
+    let p = c.args.layered.now in
     let plan = g.P.Stepwise.says c.args.plan.now in
     let same : c.from_residual.result ≡ Err c.in_err-go_through.field-0.0 = search rules in
     subst (λ r. IfErr r (IsFaultOf p plan)) (sym same)

@@ -1,5 +1,18 @@
-use Rattle.std.proofs.Common.{rules}
+-- One operator more isn't applicable.
+use Rattle.std.proofs.Common.{◌≡◌, get_or, None, Some, sym, ◌∙◌, true≢false}
+use Rattle.sas_core.specs.Grounded.{operator_at}
+use Rattle.sas_run.specs.Plans.{IsApplicable}
+use Rattle.sas_run.proofs.NamedAlike.{SearchedTo, search_goes_on}
 use Rattle.sas_run.proofs.runner.first_applicable.Goals as goal
 
 pub loop-next-preserved : goal.loop-next-preserved
-loop-next-preserved g c = search rules
+loop-next-preserved g c =
+    let p = c.args.task.now in
+    let s = c.args.state.now in
+    let operator = c.in-Some.operator in
+    let searched : SearchedTo p s c.args.first (Some operator) = rw c.in-Some.is at c.loop-next.invariant.searched in
+    let is : c.next_in-next.result ≡ get_or c.args.nexts.now operator None = c.next_in-next.ensures in
+    record {
+      searched = search_goes_on p s c.args.first operator c.args.nexts.now c.next_in-next.result c.requires.chain searched is
+          (λ holds. true≢false (sym (c.is_applicable.ensures.1 holds) ∙ c.if-is_applicable.false));
+    }
