@@ -7,10 +7,12 @@ use Rattle.sas_core.specs.declared.parts.Operator.{Operator}
 use Rattle.sas_core.specs.declared.parts.Rule.{Rule}
 use Rattle.sas_core.specs.Names.{IsName}
 use Rattle.sas_core.specs.declared.grounded.Change.{Change}
-use Rattle.sas_lines.specs.Lines.{text}
+use Rattle.sas_lines.specs.Lines.{text, lines}
 use Rattle.sas_reader.specs.declared.reader.Front.{Front}
 use Rattle.sas_reader.specs.Machine.{IsFront}
 use Rattle.sas_task_format.specs.TaskFormat.{TaskLine, task_line_bytes, TaskLineFits, variable_lines, group_lines, operator_lines, rule_lines}
+use Rattle.sas_task_line.specs.declared.ahead.Ending.{Ending}
+use Rattle.sas_task_line.specs.declared.ahead.Ending.TheVariants as ending
 use Rattle.sas_task_line.specs.declared.sections.Gathered.{Gathered}
 use Rattle.sas_flat.specs.Effects.{plain_effect}
 use Rattle.sas_task_line.specs.TaskRanges.{fact_in_ranges, effect_in_ranges, change_in}
@@ -24,7 +26,12 @@ spelled items = map task_line_bytes items
 pub record LinesAhead (items : List TaskLine) (bytes : List ℕ) (front : Front) : Type 0 where
   pub fits : AllByRecursion TaskLineFits items
   pub stands : IsFront (spelled items) bytes front
-  pub whole : take front.bytes bytes ≡ text (spelled items)
+  pub some : 0 < front.bytes
+
+-- the lines of a front end so: if with LF, then their text is the front itself
+abbrev pub EndsSo : Ending → List ℕ → Front → Type 0
+EndsSo ending.Lf bytes front = text (lines (take front.bytes bytes)) ≡ take front.bytes bytes
+EndsSo ending.CrLf bytes front = Unit {0}
 
 -- the variable has a name and at least one value, each of which has a name
 pub record HasNames (v : Variable) : Type 0 where

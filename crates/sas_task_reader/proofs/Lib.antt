@@ -1,2 +1,3 @@
 mod TaskStanding
 mod Outlines
+mod FirstLines

@@ -1,13 +1,14 @@
 // Stores the text of a task file, and nothing else of the task.
 ghost use Rattle.std.specs.Prelude.{◌≡◌, ◌++◌, ◌≤◌, [], length, take, OnOk, IfErr};
+ghost use Rattle.sas_lines.specs.Lines.{text, lines};
 
 use crate::fronts::{NO_VARIABLE, group_front, operator_front, rule_front, variable_front};
 use sas_core::Items;
-use sas_lines::push_line;
+use sas_lines::{first_line, push_line};
 use sas_reader::{Front, Kind};
 use sas_task_judge::{Keeper, VariableKept};
-use sas_task_line::{Event, Gathered, Said};
-use std::alloc::Global;
+use sas_task_line::{CR, Event, Gathered, LF, Said};
+use std::alloc::{AllocError, Global};
 use std::marker::Model;
 
 /// The lines so far, each ended by LF. In a contract it represents this text.
@@ -24,6 +25,21 @@ impl Model for TaskText {
     ghost Value = { List ℕ };
 
     ghost view = { λ t. t.text.items };
+}
+
+/// Appends all complete lines of the bytes, each with LF as its end. After an `Err` some may be there.
+fn push_lines(out: &mut Vec<u8>, bytes: &[u8]) -> Result<(), AllocError>
+    ensures { OnOk result (out.new.items ≡ out.old.items ++ text (lines bytes.now)) }
+{
+    // Room for all of them at once: without their CRs they take less.
+    out.reserve(bytes.len())?;
+    let mut rest = bytes;
+    while let Some(first) = first_line(rest) {
+        out.extend_from_slice(first.line)?;
+        out.push(b'\n')?;
+        rest = &rest[first.taken..];
+    }
+    Ok(())
 }
 
 impl TaskText {
@@ -45,13 +61,28 @@ impl TaskText {
         text
     }
 
-    /// Takes so many of the bytes, which are whole lines.
-    fn take(&mut self, bytes: &[u8], count: usize) -> Result<(), Kind>
-        requires { count ≤ length bytes.now }
-        ensures ok { OnOk result (self.new ≡ self.old ++ take count bytes.now) }
+    /// Takes the lines in front of the bytes, which end with LF, so that they are their own text.
+    #[inline(always)]
+    fn take(&mut self, bytes: &[u8], front: Front) -> Result<(), Kind>
+        requires within { front.bytes ≤ length bytes.now }
+        requires ends { text (lines (take front.bytes bytes.now)) ≡ take front.bytes bytes.now }
+        ensures ok { OnOk result
+            (self.new ≡ self.old ++ text (lines (take front.bytes bytes.now))) }
         ensures err { IfErr result (λ k. k ≡ Kind.Memory) }
     {
-        self.text.extend_from_slice(&bytes[..count])?;
+        self.text.extend_from_slice(&bytes[..front.bytes])?;
+        Ok(())
+    }
+
+    /// Takes the lines in front of the bytes, however they end.
+    #[inline(never)]
+    fn take_each(&mut self, bytes: &[u8], front: Front) -> Result<(), Kind>
+        requires { front.bytes ≤ length bytes.now }
+        ensures ok { OnOk result
+            (self.new ≡ self.old ++ text (lines (take front.bytes bytes.now))) }
+        ensures err { IfErr result (λ k. k ≡ Kind.Memory) }
+    {
+        push_lines(&mut self.text, &bytes[..front.bytes])?;
         Ok(())
     }
 }
@@ -68,34 +99,50 @@ impl Keeper for TaskText {
     }
 
     fn keep_variable(&mut self, bytes: &[u8]) -> Result<VariableKept, Kind> {
-        let Some(kept) = variable_front(bytes, &mut self.gathered)? else {
+        if let Some(kept) = variable_front::<LF>(bytes, &mut self.gathered)? {
+            self.take(bytes, kept.front)?;
+            return Ok(kept);
+        }
+        let Some(kept) = variable_front::<CR>(bytes, &mut self.gathered)? else {
             return Ok(NO_VARIABLE);
         };
-        self.take(bytes, kept.front.bytes)?;
+        self.take_each(bytes, kept.front)?;
         Ok(kept)
     }
 
     fn keep_group(&mut self, ranges: &Items<u32>, bytes: &[u8]) -> Result<Front, Kind> {
-        let Some(front) = group_front(ranges, bytes, &mut self.gathered)? else {
+        if let Some(front) = group_front::<LF>(ranges, bytes, &mut self.gathered)? {
+            self.take(bytes, front)?;
+            return Ok(front);
+        }
+        let Some(front) = group_front::<CR>(ranges, bytes, &mut self.gathered)? else {
             return Ok(Front::EMPTY);
         };
-        self.take(bytes, front.bytes)?;
+        self.take_each(bytes, front)?;
         Ok(front)
     }
 
     fn keep_operator(&mut self, ranges: &Items<u32>, bytes: &[u8]) -> Result<Front, Kind> {
-        let Some(front) = operator_front(ranges, bytes, &mut self.gathered)? else {
+        if let Some(front) = operator_front::<LF>(ranges, bytes, &mut self.gathered)? {
+            self.take(bytes, front)?;
+            return Ok(front);
+        }
+        let Some(front) = operator_front::<CR>(ranges, bytes, &mut self.gathered)? else {
             return Ok(Front::EMPTY);
         };
-        self.take(bytes, front.bytes)?;
+        self.take_each(bytes, front)?;
         Ok(front)
     }
 
     fn keep_rule(&mut self, ranges: &Items<u32>, bytes: &[u8]) -> Result<Front, Kind> {
-        let Some(front) = rule_front(ranges, bytes, &mut self.gathered)? else {
+        if let Some(front) = rule_front::<LF>(ranges, bytes, &mut self.gathered)? {
+            self.take(bytes, front)?;
+            return Ok(front);
+        }
+        let Some(front) = rule_front::<CR>(ranges, bytes, &mut self.gathered)? else {
             return Ok(Front::EMPTY);
         };
-        self.take(bytes, front.bytes)?;
+        self.take_each(bytes, front)?;
         Ok(front)
     }
 }
