@@ -17,9 +17,7 @@ use Rattle.sas_task_format.proofs.TaskPlain.{Sayable, plain-line}
 use Rattle.sas_core.specs.declared.grounded.Change.{Change}
 use Rattle.sas_task_line.proofs.Digits.{digit_is, digit_more, digits_more}
 use Rattle.sas_lines.specs.Spelling.{signed_decimal}
-use Rattle.sas_task_line.specs.declared.ahead.Ending.{Ending}
-use Rattle.sas_task_line.specs.declared.ahead.Ending.TheVariants as ending
-use Rattle.sas_task_line.specs.Ahead.{SpellsAhead, LineAhead, NumberAhead, SignedAhead, ChangeAhead, end_bytes}
+use Rattle.sas_task_line.specs.Ahead.{Ending, with_lf, SpellsAhead, LineAhead, NumberAhead, SignedAhead, ChangeAhead, end_bytes}
 use Rattle.sas_flat.specs.Effects.{plain_effect}
 
 -- ---- a line and its end
@@ -29,7 +27,7 @@ pub says_line : (e : Ending) (i : TaskLine) (bytes rest : List ℕ) → TaskLine
 says_line e i bytes rest fits says before = record { fits = fits; plain = plain-line i says; before = before }
 
 -- what a line takes with its LF
-pub line_is_ahead : (i : TaskLine) (bytes rest : List ℕ) (taken : ℕ) → LineAhead ending.Lf i bytes rest → length (task_line_bytes i) + 1 ≡ taken → SpellsAhead i bytes taken
+pub line_is_ahead : (i : TaskLine) (bytes rest : List ℕ) (taken : ℕ) → LineAhead with_lf i bytes rest → length (task_line_bytes i) + 1 ≡ taken → SpellsAhead i bytes taken
 line_is_ahead i bytes rest taken h n =
     let line = task_line_bytes i in
     record {
@@ -39,7 +37,7 @@ line_is_ahead i bytes rest taken h n =
     }
 
 -- the same where the rest tells how many bytes were taken
-pub spells_ahead : (i : TaskLine) (bytes rest : List ℕ) (taken : ℕ) → LineAhead ending.Lf i bytes rest → taken ≡ length bytes - length rest → SpellsAhead i bytes taken
+pub spells_ahead : (i : TaskLine) (bytes rest : List ℕ) (taken : ℕ) → LineAhead with_lf i bytes rest → taken ≡ length bytes - length rest → SpellsAhead i bytes taken
 spells_ahead i bytes rest taken h n = line_is_ahead i bytes rest taken h (omega (arith, n, ap length h.before, length-append (task_line_bytes i) (10 ∷ rest)))
 
 -- ---- bytes in front

@@ -1,8 +1,9 @@
 -- Reading several lines, each up to its LF.
-use Rattle.std.proofs.Common.{◌≡◌, ℕ, ◌+◌, ◌-◌, ◌<◌, Bool, ◌&&◌, List, [], ◌∷◌, ◌++◌, length, map, take, Option, refl, sym, ap, subst, ◌∙◌, append_assoc, length-append, arith, IsTrue, codes}
+use Rattle.std.proofs.Common.{◌≡◌, ℕ, ◌+◌, ◌-◌, ◌<◌, Bool, ◌&&◌, List, [], ◌∷◌, ◌++◌, length, map, take, Option, refl, sym, ap, subst, ◌∙◌, append_assoc, length-append, arith, IsTrue, codes, cond, not, ◌==◌}
 use Rattle.std.specs.List.{flat_map, list_all, AllByRecursion}
-use Rattle.std.proofs.lemmas.Bool.{and_parts}
+use Rattle.std.proofs.lemmas.Bool.{and_parts, ne_eqb}
 use Rattle.std.proofs.lemmas.Grind.{flat_map-append}
+use Rattle.std.proofs.lemmas.List.Elements.{filter-append}
 use Rattle.std.proofs.lemmas.List.{map-append, take_at, length-map}
 use Rattle.std.proofs.lemmas.List.Folds.{list_all-append}
 use Rattle.sas_core.specs.declared.parts.Fact.{Fact}
@@ -15,12 +16,10 @@ use Rattle.sas_reader.proofs.Plain.{plain, lines-return, unfinished-return}
 use Rattle.sas_reader.specs.System.{IsPlain}
 use Rattle.sas_task_format.specs.TaskFormat.{TaskLine, word, name, number, signed, fact, effect, head, line, task_line_bytes, TaskLineFits, variable_lines, group_lines, operator_lines, rule_lines}
 use Rattle.sas_task_line.specs.declared.sections.Gathered.{Gathered}
-use Rattle.sas_task_line.specs.declared.ahead.Ending.{Ending}
-use Rattle.sas_task_line.specs.declared.ahead.Ending.TheVariants as ending
-use Rattle.sas_task_line.specs.Ahead.{LineAhead, end_bytes}
+use Rattle.sas_task_line.specs.Ahead.{Ending, with_lf, with_cr_lf, LineAhead, end_bytes}
 use Rattle.sas_flat.specs.Effects.{plain_effect}
 use Rattle.sas_task_line.specs.LinesBefore.{text_ended, LinesBefore, CountedBefore, NamesBefore, FactsBefore, ChangesBefore}
-use Rattle.sas_task_line.specs.Sections.{spelled, LinesAhead, EndsSo, VariableAhead, GroupAhead, OperatorAhead, RuleAhead, gathered_variable, gathered_operator, gathered_rule}
+use Rattle.sas_task_line.specs.Sections.{spelled, LinesAhead, EndsSo, without_returns, VariableAhead, GroupAhead, OperatorAhead, RuleAhead, gathered_variable, gathered_operator, gathered_rule}
 use Rattle.sas_task_line.specs.TaskRanges.{effect_in_ranges, change_in}
 
 -- ---- some lines, then more
@@ -76,8 +75,8 @@ one_change_more ranges changes c h g exist = rw (map-append plain_effect changes
 
 -- one line and its end
 line-ended : (e : Ending) (l : List ℕ) → IsPlain l → (lines (l ++ end_bytes e) ≡ l ∷ []) × (unfinished (l ++ end_bytes e) ≡ [])
-line-ended ending.Lf l h = (lines-one l (plain l h).no_end ∙ ap (λ (x : List ℕ). x ∷ []) (plain l h).no_return, unfinished-one l (plain l h).no_end)
-line-ended ending.CrLf l h =
+line-ended with_lf l h = (lines-one l (plain l h).no_end ∙ ap (λ (x : List ℕ). x ∷ []) (plain l h).no_return, unfinished-one l (plain l h).no_end)
+line-ended with_cr_lf l h =
     let whole : l ++ 13 ∷ 10 ∷ [] ≡ (l ++ 13 ∷ []) ++ 10 ∷ [] = sym (append_assoc l (13 ∷ []) (10 ∷ [])) in
     (ap lines whole ∙ lines-return l h, ap unfinished whole ∙ unfinished-return l h)
 
@@ -94,10 +93,24 @@ lines-ended e (l ∷ ls) h =
       unfinished-append (l ++ end_bytes e) (text_ended e ls) ∙ ap (λ (u : List ℕ). unfinished (u ++ text_ended e ls)) one.1 ∙ more.1,
     )
 
+-- no CR is in a line, so it goes where CRs go
+no_return_goes : (l : List ℕ) → IsPlain l → without_returns l ≡ l
+no_return_goes [] h = refl
+no_return_goes (b ∷ l) h = ap (λ c. cond (not c) (b ∷ without_returns l) (without_returns l)) (ne_eqb b 13 h.0.1) ∙ ap (λ (x : List ℕ). b ∷ x) (no_return_goes l h.1)
+
+-- where they go, what is left is the text
+returns_go : (ls : List (List ℕ)) → AllByRecursion IsPlain ls → without_returns (text_ended with_cr_lf ls) ≡ text ls
+returns_go [] h = refl
+returns_go (l ∷ ls) h =
+    let more = text_ended with_cr_lf ls in
+    filter-append (λ b. not (b == 13)) (l ++ 13 ∷ 10 ∷ []) more
+    ∙ ap (λ (x : List ℕ). x ++ without_returns more) (filter-append (λ b. not (b == 13)) l (13 ∷ 10 ∷ []) ∙ ap (λ (x : List ℕ). x ++ 10 ∷ []) (no_return_goes l h.0))
+    ∙ ap (λ (x : List ℕ). (l ++ 10 ∷ []) ++ x) (returns_go ls h.1)
+
 some_text : (e : Ending) (ls : List (List ℕ)) → 0 < length ls → 0 < length (text_ended e ls)
 some_text e [] some = absurd (omega (arith, some))
-some_text ending.Lf (l ∷ ls) some = omega (arith, length-append (l ++ 10 ∷ []) (text_ended ending.Lf ls), length-append l (10 ∷ []))
-some_text ending.CrLf (l ∷ ls) some = omega (arith, length-append (l ++ 13 ∷ 10 ∷ []) (text_ended ending.CrLf ls), length-append l (13 ∷ 10 ∷ []))
+some_text with_lf (l ∷ ls) some = omega (arith, length-append (l ++ 10 ∷ []) (text_ended with_lf ls), length-append l (10 ∷ []))
+some_text with_cr_lf (l ∷ ls) some = omega (arith, length-append (l ++ 13 ∷ 10 ∷ []) (text_ended with_cr_lf ls), length-append l (13 ∷ 10 ∷ []))
 
 module _ (e : Ending) (items : List TaskLine) (bytes rest : List ℕ) (front : Front) (h : LinesBefore e items bytes rest) (taken : front.bytes ≡ length bytes - length rest) where
   as_long : front.bytes ≡ length (text_ended e (spelled items))
@@ -122,12 +135,14 @@ module _ (e : Ending) (items : List TaskLine) (bytes rest : List ℕ) (front : F
         some = omega (arith, as_long, some_text e (spelled items) (omega (arith, length-map items task_line_bytes, some)));
       }
 
-  -- with LF they are their own text
+  -- with LF they are their own text, else without their CRs
   lines_end_so : (f : Ending) → e ≡ f → EndsSo f bytes front
-  lines_end_so ending.Lf same =
+  lines_end_so with_lf same =
       let is_text : take front.bytes bytes ≡ text (spelled items) = up_to ∙ ap (λ (x : Ending). text_ended x (spelled items)) same in
       ap text (ap lines up_to ∙ (lines-ended e (spelled items) h.plain).0) ∙ sym is_text
-  lines_end_so ending.CrLf same = tt
+  lines_end_so with_cr_lf same =
+      let is_text : take front.bytes bytes ≡ text_ended with_cr_lf (spelled items) = up_to ∙ ap (λ (x : Ending). text_ended x (spelled items)) same in
+      ap text (ap lines up_to ∙ (lines-ended e (spelled items) h.plain).0) ∙ sym (ap without_returns is_text ∙ returns_go (spelled items) h.plain)
 
   pub ends_so : EndsSo e bytes front
   ends_so = lines_end_so e refl

@@ -7,8 +7,6 @@ use Rattle.sas_lines.specs.Spelling.{signed_decimal, joined}
 use Rattle.sas_reader.specs.System.{IsPlain}
 use Rattle.sas_task_format.specs.TaskFormat.{TaskLine, task_line_bytes, TaskLineFits, head_words, HeadNumbers}
 use Rattle.sas_core.specs.declared.grounded.Change.{Change}
-use Rattle.sas_task_line.specs.declared.ahead.Ending.{Ending}
-use Rattle.sas_task_line.specs.declared.ahead.Ending.TheVariants as ending
 
 -- the bytes begin with this line, which has numbers that a file can spell, and with its LF it takes
 -- so many of them
@@ -17,14 +15,19 @@ pub record SpellsAhead (i : TaskLine) (bytes : List ℕ) (taken : ℕ) : Type 0 
   pub first : LineStandsFirst bytes (task_line_bytes i) taken
   pub before_end : task_line_bytes i ≡ take (taken - 1) bytes
 
+-- how a line ends: with LF, or with CR LF
+pub data Ending : Type 0 where
+  with_lf : Ending
+  with_cr_lf : Ending
+
 -- how lines end whose ends begin with this byte, LF or CR
 abbrev pub ending_with : ℕ → Ending
-ending_with first = if first == 13 then ending.CrLf else ending.Lf
+ending_with first = if first == 13 then with_cr_lf else with_lf
 
 -- the bytes of such a line end
 abbrev pub end_bytes : Ending → List ℕ
-end_bytes ending.Lf = 10 ∷ []
-end_bytes ending.CrLf = 13 ∷ 10 ∷ []
+end_bytes with_lf = 10 ∷ []
+end_bytes with_cr_lf = 13 ∷ 10 ∷ []
 
 -- the bytes are this line, which has numbers that a file can spell, its end, and the rest
 pub record LineAhead (e : Ending) (i : TaskLine) (bytes rest : List ℕ) : Type 0 where

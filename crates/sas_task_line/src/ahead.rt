@@ -17,15 +17,6 @@ pub const LF: u8 = b'\n';
 
 pub const CR: u8 = b'\r';
 
-/// How a line ends.
-#[derive(Clone, Copy, Debug, PartialEq, Eq)]
-pub enum Ending {
-    /// With LF.
-    Lf,
-    /// With CR LF.
-    CrLf,
-}
-
 /// Returns what follows the end of a line whose first byte, LF or CR, stood before these.
 #[inline(always)]
 fn behind_end<const END: u8>(bytes: &[u8]) -> Option<&[u8]>

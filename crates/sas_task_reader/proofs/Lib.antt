@@ -1,3 +1,2 @@
 mod TaskStanding
 mod Outlines
-mod FirstLines

@@ -1,10 +1,12 @@
 // Stores the text of a task file, and nothing else of the task.
 ghost use Rattle.std.specs.Prelude.{◌≡◌, ◌++◌, ◌≤◌, [], length, take, OnOk, IfErr};
 ghost use Rattle.sas_lines.specs.Lines.{text, lines};
+ghost use Rattle.sas_task_line.specs.Ahead.{with_lf, with_cr_lf};
+ghost use Rattle.sas_task_line.specs.Sections.{EndsSo, without_returns};
 
 use crate::fronts::{NO_VARIABLE, group_front, operator_front, rule_front, variable_front};
 use sas_core::Items;
-use sas_lines::{first_line, push_line};
+use sas_lines::push_line;
 use sas_reader::{Front, Kind};
 use sas_task_judge::{Keeper, VariableKept};
 use sas_task_line::{CR, Event, Gathered, LF, Said};
@@ -27,18 +29,31 @@ impl Model for TaskText {
     ghost view = { λ t. t.text.items };
 }
 
-/// Appends all complete lines of the bytes, each with LF as its end. After an `Err` some may be there.
-fn push_lines(out: &mut Vec<u8>, bytes: &[u8]) -> Result<(), AllocError>
-    ensures { OnOk result (out.new.items ≡ out.old.items ++ text (lines bytes.now)) }
+/// Moves all bytes but CR to the front, in their order. Returns how many these are.
+fn move_up(bytes: &mut [u8]) -> usize
+    ensures front { take result bytes.new ≡ without_returns bytes.old }
+    ensures within { result ≤ length bytes.new }
 {
-    // Room for all of them at once: without their CRs they take less.
-    out.reserve(bytes.len())?;
-    let mut rest = bytes;
-    while let Some(first) = first_line(rest) {
-        out.extend_from_slice(first.line)?;
-        out.push(b'\n')?;
-        rest = &rest[first.taken..];
+    let mut kept = 0;
+    for i in 0..bytes.len() {
+        // A CR is written too, and then written over, so that no byte is a jump.
+        let byte = bytes[i];
+        bytes[kept] = byte;
+        if byte != b'\r' {
+            kept += 1;
+        }
     }
+    kept
+}
+
+/// Appends all bytes but CR.
+fn push_without_returns(out: &mut Vec<u8>, bytes: &[u8]) -> Result<(), AllocError>
+    ensures { OnOk result (out.new.items ≡ out.old.items ++ without_returns bytes.now) }
+{
+    let start = out.len();
+    out.extend_from_slice(bytes)?;
+    let kept = move_up(&mut out[start..]);
+    out.truncate(start + kept);
     Ok(())
 }
 
@@ -61,11 +76,11 @@ impl TaskText {
         text
     }
 
-    /// Takes the lines in front of the bytes, which end with LF, so that they are their own text.
+    /// Takes the lines in front of the bytes, which end with LF.
     #[inline(always)]
     fn take(&mut self, bytes: &[u8], front: Front) -> Result<(), Kind>
         requires within { front.bytes ≤ length bytes.now }
-        requires ends { text (lines (take front.bytes bytes.now)) ≡ take front.bytes bytes.now }
+        requires ends { EndsSo with_lf bytes.now front }
         ensures ok { OnOk result
             (self.new ≡ self.old ++ text (lines (take front.bytes bytes.now))) }
         ensures err { IfErr result (λ k. k ≡ Kind.Memory) }
@@ -74,15 +89,16 @@ impl TaskText {
         Ok(())
     }
 
-    /// Takes the lines in front of the bytes, however they end.
+    /// Takes the lines in front of the bytes, which end with CR LF.
     #[inline(never)]
-    fn take_each(&mut self, bytes: &[u8], front: Front) -> Result<(), Kind>
-        requires { front.bytes ≤ length bytes.now }
+    fn take_without_returns(&mut self, bytes: &[u8], front: Front) -> Result<(), Kind>
+        requires within { front.bytes ≤ length bytes.now }
+        requires ends { EndsSo with_cr_lf bytes.now front }
         ensures ok { OnOk result
             (self.new ≡ self.old ++ text (lines (take front.bytes bytes.now))) }
         ensures err { IfErr result (λ k. k ≡ Kind.Memory) }
     {
-        push_lines(&mut self.text, &bytes[..front.bytes])?;
+        push_without_returns(&mut self.text, &bytes[..front.bytes])?;
         Ok(())
     }
 }
@@ -106,7 +122,7 @@ impl Keeper for TaskText {
         let Some(kept) = variable_front::<CR>(bytes, &mut self.gathered)? else {
             return Ok(NO_VARIABLE);
         };
-        self.take_each(bytes, kept.front)?;
+        self.take_without_returns(bytes, kept.front)?;
         Ok(kept)
     }
 
@@ -118,7 +134,7 @@ impl Keeper for TaskText {
         let Some(front) = group_front::<CR>(ranges, bytes, &mut self.gathered)? else {
             return Ok(Front::EMPTY);
         };
-        self.take_each(bytes, front)?;
+        self.take_without_returns(bytes, front)?;
         Ok(front)
     }
 
@@ -130,7 +146,7 @@ impl Keeper for TaskText {
         let Some(front) = operator_front::<CR>(ranges, bytes, &mut self.gathered)? else {
             return Ok(Front::EMPTY);
         };
-        self.take_each(bytes, front)?;
+        self.take_without_returns(bytes, front)?;
         Ok(front)
     }
 
@@ -142,7 +158,7 @@ impl Keeper for TaskText {
         let Some(front) = rule_front::<CR>(ranges, bytes, &mut self.gathered)? else {
             return Ok(Front::EMPTY);
         };
-        self.take_each(bytes, front)?;
+        self.take_without_returns(bytes, front)?;
         Ok(front)
     }
 }
