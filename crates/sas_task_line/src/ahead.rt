@@ -1,5 +1,5 @@
-// The first line of some bytes, read straight off these, where it is quick to see that it ends as is asked for and holds what
-// is asked for. All else is left to the functions that are given the line by itself, and report its fault.
+// The first line of some bytes, read straight off these, where it is quick to see that it ends as is asked for and
+// holds what is asked for. All else is left to the functions that are given the line by itself, and report its fault.
 ghost use Rattle.std.specs.Prelude.{◌≡◌, ◌+◌, ◌<◌, ◌∷◌, ◌++◌, length, IfSome};
 ghost use Rattle.std.specs.Fmt.{decimal};
 ghost use Rattle.sas_core.specs.Names.{IsName};
@@ -11,14 +11,15 @@ ghost use Rattle.sas_flat.specs.Effects.{plain_effect};
 use memchr::memchr2;
 use sas_core::{Change, Fact};
 
-/// What the ends of lines begin with: LF, which is an end by itself, or CR, with LF behind it. Functions that read lines with
-/// their ends have it as a parameter that is constant, so that neither sort of file pays for the other.
+/// What the ends of lines begin with, where each is LF alone. Functions that read lines with their ends have this or
+/// `CR` as a constant parameter, so that neither sort of file pays for the other.
 pub const LF: u8 = b'\n';
 
+/// The same, where each is CR LF.
 pub const CR: u8 = b'\r';
 
 /// Returns what follows the end of a line whose first byte, LF or CR, stood before these.
-#[inline(always)]
+#[inline]
 fn behind_end<const END: u8>(bytes: &[u8]) -> Option<&[u8]>
     ensures { IfSome result (λ rest. END ∷ bytes.now ≡ end_bytes (ending_with END) ++ rest.now) }
 {
@@ -98,7 +99,7 @@ pub(crate) fn signed_before(bytes: &[u8], end: u8) -> Option<(Option<u32>, &[u8]
     Some((Some(number), rest))
 }
 
-/// Returns the number that stands before the end of a line, which has a CR or none, and what follows the end.
+/// Returns the number that stands before such an end of a line, and what follows the end.
 #[inline(always)]
 pub(crate) fn number_line<const END: u8>(bytes: &[u8]) -> Option<(u32, &[u8])>
     ensures { IfSome result
@@ -109,7 +110,7 @@ pub(crate) fn number_line<const END: u8>(bytes: &[u8]) -> Option<(u32, &[u8])>
     Some((number, rest))
 }
 
-/// Returns the number, or `-1` for none, that stands before the end of a line, which has a CR or none, and what follows the end.
+/// Returns the number, or `-1` for none, that stands before such an end of a line, and what follows the end.
 #[inline(always)]
 pub(crate) fn signed_line<const END: u8>(bytes: &[u8]) -> Option<(Option<u32>, &[u8])>
     ensures { IfSome result
@@ -120,7 +121,7 @@ pub(crate) fn signed_line<const END: u8>(bytes: &[u8]) -> Option<(Option<u32>, &
     Some((number, rest))
 }
 
-/// Returns the change that stands before the end of a line, which has a CR or none, and what follows the end.
+/// Returns the change that stands before such an end of a line, and what follows the end.
 #[inline(always)]
 pub(crate) fn change_line<const END: u8>(bytes: &[u8]) -> Option<(Change, &[u8])>
     ensures { IfSome result (λ found. ChangeAhead (ending_with END) bytes.now found.0 found.1.now) }
@@ -131,22 +132,23 @@ pub(crate) fn change_line<const END: u8>(bytes: &[u8]) -> Option<(Change, &[u8])
     Some((Change { var, old, new }, rest))
 }
 
-/// Returns the fact that stands before the end of a line, which has a CR or none, whether it exists or not, and what follows the end.
+/// Returns the fact that stands before such an end of a line, whether it exists or not, and what follows the end.
 #[inline(always)]
 pub(crate) fn fact_line<const END: u8>(bytes: &[u8]) -> Option<(Fact, &[u8])>
-    ensures { IfSome result (λ found. LineAhead (ending_with END) (format.fact found.0) bytes.now found.1.now) }
+    ensures { IfSome result
+        (λ found. LineAhead (ending_with END) (format.fact found.0) bytes.now found.1.now) }
 {
     let (var, rest) = number_before(bytes, b' ')?;
     let (value, rest) = number_line::<END>(rest)?;
     Some((Fact { var, value }, rest))
 }
 
-/// Returns the effect without conditions that stands before the end of a line, which has a CR or none, by its change, whether
-/// its facts exist or not, and what follows the end.
+/// Returns the effect without conditions that stands before such an end of a line, by its change, whether its facts
+/// exist or not, and what follows the end.
 #[inline(always)]
 pub(crate) fn effect_line<const END: u8>(bytes: &[u8]) -> Option<(Change, &[u8])>
-    ensures { IfSome result
-        (λ found. LineAhead (ending_with END) (format.effect (plain_effect found.0)) bytes.now found.1.now) }
+    ensures { IfSome result (λ found.
+        LineAhead (ending_with END) (format.effect (plain_effect found.0)) bytes.now found.1.now) }
 {
     let [b'0', b' ', rest @ ..] = bytes else {
         return None;
@@ -155,10 +157,11 @@ pub(crate) fn effect_line<const END: u8>(bytes: &[u8]) -> Option<(Change, &[u8])
 }
 
 /// Returns what follows the fixed word and such an end, where the bytes begin with them.
-#[inline(always)]
+#[inline]
 pub(crate) fn word_line<'a, const END: u8>(bytes: &'a [u8], word: &[u8]) -> Option<&'a [u8]>
     requires { IsName word.now }
-    ensures { IfSome result (λ rest. LineAhead (ending_with END) (format.word word.now) bytes.now rest.now) }
+    ensures { IfSome result
+        (λ rest. LineAhead (ending_with END) (format.word word.now) bytes.now rest.now) }
 {
     let [byte, rest @ ..] = bytes.strip_prefix(word)? else {
         return None;
@@ -169,10 +172,10 @@ pub(crate) fn word_line<'a, const END: u8>(bytes: &'a [u8], word: &[u8]) -> Opti
     behind_end::<END>(rest)
 }
 
-/// Returns the name that stands before the end of a line, which has a CR or none, and what follows the end.
+/// Returns the name that stands before such an end of a line, and what follows the end.
 pub(crate) fn name_line<const END: u8>(bytes: &[u8]) -> Option<(&[u8], &[u8])>
-    ensures { IfSome result (λ found.
-        IsName found.0.now × LineAhead (ending_with END) (format.name found.0.now) bytes.now found.1.now) }
+    ensures { IfSome result (λ found. IsName found.0.now
+        × LineAhead (ending_with END) (format.name found.0.now) bytes.now found.1.now) }
 {
     let end = memchr2(b'\n', b'\r', bytes)?;
     if end == 0 || bytes[end] != END {

@@ -118,8 +118,8 @@ fn changes_before<'a, const END: u8>(
 #[inline(always)]
 fn end_before<const END: u8>(bytes: &[u8]) -> Option<(u32, &[u8])>
     ensures { IfSome result (λ found.
-        LinesBefore (ending_with END) (format.number found.0 ∷ format.word (codes "end_operator") ∷ [])
-        bytes.now found.1.now) }
+        LinesBefore (ending_with END)
+        (format.number found.0 ∷ format.word (codes "end_operator") ∷ []) bytes.now found.1.now) }
 {
     let (cost, rest) = number_line::<END>(bytes)?;
     let rest = word_line::<END>(rest, b"end_operator")?;
@@ -130,16 +130,16 @@ fn end_before<const END: u8>(bytes: &[u8]) -> Option<(u32, &[u8])>
 #[inline(always)]
 fn begin_before<const END: u8>(bytes: &[u8]) -> Option<(&[u8], &[u8])>
     ensures { IfSome result (λ found. IsName found.0.now
-        × LinesBefore (ending_with END) (format.word (codes "begin_operator") ∷ format.name found.0.now ∷ [])
-        bytes.now found.1.now) }
+        × LinesBefore (ending_with END)
+        (format.word (codes "begin_operator") ∷ format.name found.0.now ∷ []) bytes.now found.1.now) }
 {
     let rest = word_line::<END>(bytes, b"begin_operator")?;
     name_line::<END>(rest)
 }
 
-/// Returns the operator that stands first in the bytes, where the ends of its lines begin with this byte, LF or CR, and it is
-/// quick to see that its facts exist and its effects have no conditions. Its prevail conditions and changes are gathered. After
-/// `None` or an `Err` anything may be gathered.
+/// Returns the operator that stands first in the bytes, where the ends of its lines begin with this byte, LF or CR, and
+/// it is quick to see that its facts exist and its effects have no conditions. Its prevail conditions and changes are
+/// gathered. After `None` or an `Err` anything may be gathered.
 #[inline(always)]
 pub fn operator_found<'a, const END: u8>(
     ranges: &Items<u32>,
@@ -189,8 +189,8 @@ fn head_before<'a, const END: u8>(
     Some((head, rest))
 }
 
-/// Returns the rule that stands first in the bytes likewise, where it is quick to see that its facts exist. Its conditions are
-/// gathered.
+/// Returns the rule that stands first in the bytes likewise, where it is quick to see that its facts exist. Its
+/// conditions are gathered.
 #[inline(always)]
 pub fn rule_found<const END: u8>(
     ranges: &Items<u32>,

@@ -60,8 +60,8 @@ fn names_before<'a, const END: u8>(
     Ok(Some(rest))
 }
 
-/// Returns the variable that stands first in the bytes, where the ends of its lines begin with this byte, LF or CR, if it is
-/// quick to see. Its values are gathered. After `None` or an `Err` any may be gathered.
+/// Returns the variable that stands first in the bytes, where the ends of its lines begin with this byte, LF or CR, if
+/// it is quick to see. Its values are gathered. After `None` or an `Err` any may be gathered.
 #[inline(always)]
 pub fn variable_found<'a, const END: u8>(
     bytes: &'a [u8],
@@ -87,8 +87,8 @@ pub fn variable_found<'a, const END: u8>(
     Ok(Some(VariableFound { name, layer, front }))
 }
 
-/// Returns how many lines and bytes the mutex group takes up that stands first in the bytes likewise, where it is quick to see
-/// that its facts exist. These are gathered.
+/// Returns how many lines and bytes the mutex group takes up that stands first in the bytes likewise, where it is quick
+/// to see that its facts exist. These are gathered.
 #[inline(always)]
 pub fn group_found<const END: u8>(
     ranges: &Items<u32>,

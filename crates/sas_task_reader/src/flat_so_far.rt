@@ -13,15 +13,14 @@ ghost use Rattle.sas_task_judge.specs.Sections.{VariableWithRange, behind_variab
 ghost use Rattle.sas_task_judge.specs.Sections.{behind_group, behind_operator, behind_rule};
 ghost use Rattle.sas_task_reader.specs.TaskOutline.{outline_with};
 
+use crate::first_sections::{first_group, first_operator, first_rule, first_variable};
 use crate::fronts::NO_VARIABLE;
 use sas_core::{Change, Fact, Items};
 use sas_flat::{Effects, FlatTask, Operators, Outline, Rules, TaskColumns, Variables};
 use sas_lists::Lists;
 use sas_reader::{Front, Kind};
 use sas_task_judge::{Keeper, VariableKept};
-use sas_task_line::{
-    CR, Event, Gathered, LF, Said, group_found, operator_found, rule_found, variable_found,
-};
+use sas_task_line::{Event, Gathered, Said};
 use std::alloc::{AllocError, Global};
 use std::marker::Model;
 
@@ -204,17 +203,16 @@ impl FlatSoFar {
         Ok(())
     }
 
-    /// Takes the variable that stands first in the bytes, all its lines at once, where the ends of these begin with this byte,
-    /// LF or CR, and it is found. Returns how long they are, and how many values the variable has. After an `Err` anything
-    /// may have been taken.
+    /// Takes the variable that stands first in the bytes, all its lines at once, where it is found. Returns how long
+    /// they are, and how many values the variable has. After an `Err` anything may have been taken.
     #[inline(always)]
-    fn variable_ahead<const END: u8>(&mut self, bytes: &[u8]) -> Result<VariableKept, AllocError>
+    fn variable_ahead(&mut self, bytes: &[u8]) -> Result<VariableKept, AllocError>
         ensures took { IfOk result (λ kept. 0 < kept.front.bytes
             → (v : Variable) × VariableWithRange bytes.now v kept
             × (self.new ≡ behind_variable self.old v)) }
         ensures none { IfOk result (λ kept. kept.front.bytes ≡ 0 → self.new ≡ self.old) }
     {
-        let found = variable_found::<END>(bytes, &mut self.begun.gathered)?;
+        let found = first_variable(bytes, &mut self.begun.gathered)?;
         let Some(found) = found else {
             return Ok(NO_VARIABLE);
         };
@@ -231,17 +229,13 @@ impl FlatSoFar {
     }
 
     /// Takes the mutex group that stands first in the bytes likewise. Returns how long its lines are.
-    fn group_ahead<const END: u8>(
-        &mut self,
-        ranges: &Items<u32>,
-        bytes: &[u8],
-    ) -> Result<Front, AllocError>
+    fn group_ahead(&mut self, ranges: &Items<u32>, bytes: &[u8]) -> Result<Front, AllocError>
         ensures took { IfOk result (λ front. 0 < front.bytes
             → (facts : List Fact) × GroupAhead ranges.now bytes.now facts front
             × (self.new ≡ behind_group self.old facts)) }
         ensures none { IfOk result (λ front. front.bytes ≡ 0 → self.new ≡ self.old) }
     {
-        let found = group_found::<END>(ranges, bytes, &mut self.begun.gathered)?;
+        let found = first_group(ranges, bytes, &mut self.begun.gathered)?;
         let Some(front) = found else {
             return Ok(Front::EMPTY);
         };
@@ -253,17 +247,13 @@ impl FlatSoFar {
     }
 
     /// Takes the operator that stands first in the bytes likewise.
-    fn operator_ahead<const END: u8>(
-        &mut self,
-        ranges: &Items<u32>,
-        bytes: &[u8],
-    ) -> Result<Front, AllocError>
+    fn operator_ahead(&mut self, ranges: &Items<u32>, bytes: &[u8]) -> Result<Front, AllocError>
         ensures took { IfOk result (λ front. 0 < front.bytes
             → (o : Operator) × OperatorAhead ranges.now bytes.now o front
             × (self.new ≡ behind_operator self.old o)) }
         ensures none { IfOk result (λ front. front.bytes ≡ 0 → self.new ≡ self.old) }
     {
-        let found = operator_found::<END>(ranges, bytes, &mut self.begun.gathered)?;
+        let found = first_operator(ranges, bytes, &mut self.begun.gathered)?;
         let Some(found) = found else {
             return Ok(Front::EMPTY);
         };
@@ -280,17 +270,13 @@ impl FlatSoFar {
     }
 
     /// Takes the rule that stands first in the bytes likewise.
-    fn rule_ahead<const END: u8>(
-        &mut self,
-        ranges: &Items<u32>,
-        bytes: &[u8],
-    ) -> Result<Front, AllocError>
+    fn rule_ahead(&mut self, ranges: &Items<u32>, bytes: &[u8]) -> Result<Front, AllocError>
         ensures took { IfOk result (λ front. 0 < front.bytes
             → (r : Rule) × RuleAhead ranges.now bytes.now r front
             × (self.new ≡ behind_rule self.old r)) }
         ensures none { IfOk result (λ front. front.bytes ≡ 0 → self.new ≡ self.old) }
     {
-        let found = rule_found::<END>(ranges, bytes, &mut self.begun.gathered)?;
+        let found = first_rule(ranges, bytes, &mut self.begun.gathered)?;
         let Some(found) = found else {
             return Ok(Front::EMPTY);
         };
@@ -299,51 +285,6 @@ impl FlatSoFar {
             .push(self.begun.gathered.facts.as_slice(), found.head)?;
         self.begun.facts.clear();
         Ok(found.front)
-    }
-
-    /// Takes the variable that stands first in the bytes, where its lines end with CR LF. It stands by itself, so that the way
-    /// through lines with LF stays short.
-    #[inline(never)]
-    fn variable_with_cr(&mut self, bytes: &[u8]) -> Result<VariableKept, AllocError>
-        ensures took { IfOk result (λ kept. 0 < kept.front.bytes
-            → (v : Variable) × VariableWithRange bytes.now v kept
-            × (self.new ≡ behind_variable self.old v)) }
-        ensures none { IfOk result (λ kept. kept.front.bytes ≡ 0 → self.new ≡ self.old) }
-    {
-        self.variable_ahead::<CR>(bytes)
-    }
-
-    /// Takes the mutex group that stands first in the bytes likewise.
-    #[inline(never)]
-    fn group_with_cr(&mut self, ranges: &Items<u32>, bytes: &[u8]) -> Result<Front, AllocError>
-        ensures took { IfOk result (λ front. 0 < front.bytes
-            → (facts : List Fact) × GroupAhead ranges.now bytes.now facts front
-            × (self.new ≡ behind_group self.old facts)) }
-        ensures none { IfOk result (λ front. front.bytes ≡ 0 → self.new ≡ self.old) }
-    {
-        self.group_ahead::<CR>(ranges, bytes)
-    }
-
-    /// Takes the operator that stands first in the bytes likewise.
-    #[inline(never)]
-    fn operator_with_cr(&mut self, ranges: &Items<u32>, bytes: &[u8]) -> Result<Front, AllocError>
-        ensures took { IfOk result (λ front. 0 < front.bytes
-            → (o : Operator) × OperatorAhead ranges.now bytes.now o front
-            × (self.new ≡ behind_operator self.old o)) }
-        ensures none { IfOk result (λ front. front.bytes ≡ 0 → self.new ≡ self.old) }
-    {
-        self.operator_ahead::<CR>(ranges, bytes)
-    }
-
-    /// Takes the rule that stands first in the bytes likewise.
-    #[inline(never)]
-    fn rule_with_cr(&mut self, ranges: &Items<u32>, bytes: &[u8]) -> Result<Front, AllocError>
-        ensures took { IfOk result (λ front. 0 < front.bytes
-            → (r : Rule) × RuleAhead ranges.now bytes.now r front
-            × (self.new ≡ behind_rule self.old r)) }
-        ensures none { IfOk result (λ front. front.bytes ≡ 0 → self.new ≡ self.old) }
-    {
-        self.rule_ahead::<CR>(ranges, bytes)
     }
 
     /// Adds what the line holds to what has come.
@@ -384,34 +325,18 @@ impl Keeper for FlatSoFar {
 
     #[inline(always)]
     fn keep_variable(&mut self, bytes: &[u8]) -> Result<VariableKept, Kind> {
-        let kept = self.variable_ahead::<LF>(bytes)?;
-        if kept.front.bytes == 0 {
-            return Ok(self.variable_with_cr(bytes)?);
-        }
-        Ok(kept)
+        Ok(self.variable_ahead(bytes)?)
     }
 
     fn keep_group(&mut self, ranges: &Items<u32>, bytes: &[u8]) -> Result<Front, Kind> {
-        let front = self.group_ahead::<LF>(ranges, bytes)?;
-        if front.bytes == 0 {
-            return Ok(self.group_with_cr(ranges, bytes)?);
-        }
-        Ok(front)
+        Ok(self.group_ahead(ranges, bytes)?)
     }
 
     fn keep_operator(&mut self, ranges: &Items<u32>, bytes: &[u8]) -> Result<Front, Kind> {
-        let front = self.operator_ahead::<LF>(ranges, bytes)?;
-        if front.bytes == 0 {
-            return Ok(self.operator_with_cr(ranges, bytes)?);
-        }
-        Ok(front)
+        Ok(self.operator_ahead(ranges, bytes)?)
     }
 
     fn keep_rule(&mut self, ranges: &Items<u32>, bytes: &[u8]) -> Result<Front, Kind> {
-        let front = self.rule_ahead::<LF>(ranges, bytes)?;
-        if front.bytes == 0 {
-            return Ok(self.rule_with_cr(ranges, bytes)?);
-        }
-        Ok(front)
+        Ok(self.rule_ahead(ranges, bytes)?)
     }
 }
