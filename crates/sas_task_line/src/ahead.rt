@@ -157,7 +157,7 @@ pub(crate) fn effect_line<const END: u8>(bytes: &[u8]) -> Option<(Change, &[u8])
 }
 
 /// Returns what follows the fixed word and such an end, where the bytes begin with them.
-#[inline]
+#[inline(always)]
 pub(crate) fn word_line<'a, const END: u8>(bytes: &'a [u8], word: &[u8]) -> Option<&'a [u8]>
     requires { IsName word.now }
     ensures { IfSome result

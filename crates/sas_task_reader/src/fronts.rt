@@ -8,11 +8,10 @@ ghost use Rattle.sas_task_judge.specs.Sections.{VariableWithRange};
 ghost use Rattle.sas_task_line.specs.Ahead.{ending_with};
 ghost use Rattle.sas_task_line.specs.Sections.{GroupAhead, OperatorAhead, RuleAhead, EndsSo};
 
-use crate::first_sections::{group_with_cr, operator_with_cr, rule_with_cr, variable_with_cr};
 use sas_core::Items;
 use sas_reader::{Front, Kind};
 use sas_task_judge::VariableKept;
-use sas_task_line::{CR, Gathered, LF, group_found, operator_found, rule_found, variable_found};
+use sas_task_line::{Gathered, group_found, operator_found, rule_found, variable_found};
 
 /// No variable was kept.
 pub const NO_VARIABLE: VariableKept = VariableKept {
@@ -21,85 +20,69 @@ pub const NO_VARIABLE: VariableKept = VariableKept {
 };
 
 /// Returns how many lines and bytes the variable takes up that stands first in the bytes, and how many values it has,
-/// where it is found, and what the ends of its lines begin with, LF or CR. Anything may be gathered.
-pub fn variable_front(
+/// where the ends of its lines begin with this byte, LF or CR, and it is found. Anything may be gathered.
+pub fn variable_front<const END: u8>(
     bytes: &[u8],
     gathered: &mut Gathered,
-) -> Result<Option<(VariableKept, u8)>, Kind>
+) -> Result<Option<VariableKept>, Kind>
     ensures found { IfOk result (λ found. IfSome found (λ kept.
-        ((v : Variable) × VariableWithRange bytes.now v kept.0)
-        × EndsSo (ending_with kept.1) bytes.now kept.0.front)) }
+        ((v : Variable) × VariableWithRange bytes.now v kept)
+        × EndsSo (ending_with END) bytes.now kept.front)) }
     ensures err { IfErr result (λ k. k ≡ Kind.Memory) }
 {
-    if let Some(found) = variable_found::<LF>(bytes, gathered)? {
-        let range = gathered.values.len() as u32;
-        let front = found.front;
-        return Ok(Some((VariableKept { front, range }, LF)));
-    }
-    let Some(found) = variable_with_cr(bytes, gathered)? else {
+    let Some(found) = variable_found::<END>(bytes, gathered)? else {
         return Ok(None);
     };
-    let range = gathered.values.len() as u32;
-    let front = found.front;
-    Ok(Some((VariableKept { front, range }, CR)))
+    Ok(Some(VariableKept {
+        front: found.front,
+        range: gathered.values.len() as u32,
+    }))
 }
 
 /// Returns how many lines and bytes the mutex group takes up that stands first in the bytes, likewise.
-pub fn group_front(
+pub fn group_front<const END: u8>(
     ranges: &Items<u32>,
     bytes: &[u8],
     gathered: &mut Gathered,
-) -> Result<Option<(Front, u8)>, Kind>
+) -> Result<Option<Front>, Kind>
     ensures found { IfOk result (λ found. IfSome found (λ front.
-        ((facts : List Fact) × GroupAhead ranges.now bytes.now facts front.0)
-        × EndsSo (ending_with front.1) bytes.now front.0)) }
+        ((facts : List Fact) × GroupAhead ranges.now bytes.now facts front)
+        × EndsSo (ending_with END) bytes.now front)) }
     ensures err { IfErr result (λ k. k ≡ Kind.Memory) }
 {
-    if let Some(front) = group_found::<LF>(ranges, bytes, gathered)? {
-        return Ok(Some((front, LF)));
-    }
-    let Some(front) = group_with_cr(ranges, bytes, gathered)? else {
-        return Ok(None);
-    };
-    Ok(Some((front, CR)))
+    Ok(group_found::<END>(ranges, bytes, gathered)?)
 }
 
 /// Returns how many lines and bytes the operator takes up that stands first in the bytes, likewise.
-pub fn operator_front(
+pub fn operator_front<const END: u8>(
     ranges: &Items<u32>,
     bytes: &[u8],
     gathered: &mut Gathered,
-) -> Result<Option<(Front, u8)>, Kind>
+) -> Result<Option<Front>, Kind>
     ensures found { IfOk result (λ found. IfSome found (λ front.
-        ((o : Operator) × OperatorAhead ranges.now bytes.now o front.0)
-        × EndsSo (ending_with front.1) bytes.now front.0)) }
+        ((o : Operator) × OperatorAhead ranges.now bytes.now o front)
+        × EndsSo (ending_with END) bytes.now front)) }
     ensures err { IfErr result (λ k. k ≡ Kind.Memory) }
 {
-    if let Some(found) = operator_found::<LF>(ranges, bytes, gathered)? {
-        return Ok(Some((found.front, LF)));
-    }
-    let Some(found) = operator_with_cr(ranges, bytes, gathered)? else {
+    let Some(found) = operator_found::<END>(ranges, bytes, gathered)? else {
         return Ok(None);
     };
-    Ok(Some((found.front, CR)))
+    Ok(Some(found.front))
 }
 
 /// Returns how many lines and bytes the rule takes up that stands first in the bytes, likewise.
-pub fn rule_front(
+pub fn rule_front<const END: u8>(
     ranges: &Items<u32>,
     bytes: &[u8],
     gathered: &mut Gathered,
-) -> Result<Option<(Front, u8)>, Kind>
+) -> Result<Option<Front>, Kind>
     ensures found { IfOk result (λ found. IfSome found (λ front.
-        ((r : Rule) × RuleAhead ranges.now bytes.now r front.0)
-        × EndsSo (ending_with front.1) bytes.now front.0)) }
+        ((r : Rule) × RuleAhead ranges.now bytes.now r front)
+        × EndsSo (ending_with END) bytes.now front)) }
     ensures err { IfErr result (λ k. k ≡ Kind.Memory) }
 {
-    if let Some(found) = rule_found::<LF>(ranges, bytes, gathered)? {
-        return Ok(Some((found.front, LF)));
-    }
-    let Some(found) = rule_with_cr(ranges, bytes, gathered)? else {
+    let Some(found) = rule_found::<END>(ranges, bytes, gathered)? else {
         return Ok(None);
     };
-    Ok(Some((found.front, CR)))
+    Ok(Some(found.front))
 }

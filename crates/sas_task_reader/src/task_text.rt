@@ -1,7 +1,7 @@
 // Stores the text of a task file, and nothing else of the task.
 ghost use Rattle.std.specs.Prelude.{◌≡◌, ◌++◌, ◌≤◌, [], length, take, OnOk, IfErr};
 ghost use Rattle.sas_lines.specs.Lines.{text, lines};
-ghost use Rattle.sas_task_line.specs.Ahead.{ending_with};
+ghost use Rattle.sas_task_line.specs.Ahead.{with_lf, with_cr_lf};
 ghost use Rattle.sas_task_line.specs.Sections.{EndsSo, without_returns};
 
 use crate::fronts::{NO_VARIABLE, group_front, operator_front, rule_front, variable_front};
@@ -9,7 +9,7 @@ use sas_core::Items;
 use sas_lines::push_line;
 use sas_reader::{Front, Kind};
 use sas_task_judge::{Keeper, VariableKept};
-use sas_task_line::{CR, Event, Gathered, Said};
+use sas_task_line::{CR, Event, Gathered, LF, Said};
 use std::alloc::{AllocError, Global};
 use std::marker::Model;
 
@@ -47,7 +47,6 @@ fn move_up(bytes: &mut [u8]) -> usize
 }
 
 /// Appends all bytes but CR.
-#[inline(never)]
 fn push_without_returns(out: &mut Vec<u8>, bytes: &[u8]) -> Result<(), AllocError>
     ensures { OnOk result (out.new.items ≡ out.old.items ++ without_returns bytes.now) }
 {
@@ -77,20 +76,29 @@ impl TaskText {
         text
     }
 
-    /// Takes the lines in front of the bytes, whose ends begin with this byte, LF or CR.
-    fn take(&mut self, bytes: &[u8], front: Front, end: u8) -> Result<(), Kind>
+    /// Takes the lines in front of the bytes, which end with LF.
+    #[inline(always)]
+    fn take(&mut self, bytes: &[u8], front: Front) -> Result<(), Kind>
         requires within { front.bytes ≤ length bytes.now }
-        requires ends { EndsSo (ending_with end) bytes.now front }
+        requires ends { EndsSo with_lf bytes.now front }
         ensures ok { OnOk result
             (self.new ≡ self.old ++ text (lines (take front.bytes bytes.now))) }
         ensures err { IfErr result (λ k. k ≡ Kind.Memory) }
     {
-        let section = &bytes[..front.bytes];
-        if end == CR {
-            push_without_returns(&mut self.text, section)?;
-        } else {
-            self.text.extend_from_slice(section)?;
-        }
+        self.text.extend_from_slice(&bytes[..front.bytes])?;
+        Ok(())
+    }
+
+    /// Takes the lines in front of the bytes, which end with CR LF.
+    #[inline(never)]
+    fn take_without_returns(&mut self, bytes: &[u8], front: Front) -> Result<(), Kind>
+        requires within { front.bytes ≤ length bytes.now }
+        requires ends { EndsSo with_cr_lf bytes.now front }
+        ensures ok { OnOk result
+            (self.new ≡ self.old ++ text (lines (take front.bytes bytes.now))) }
+        ensures err { IfErr result (λ k. k ≡ Kind.Memory) }
+    {
+        push_without_returns(&mut self.text, &bytes[..front.bytes])?;
         Ok(())
     }
 }
@@ -107,34 +115,50 @@ impl Keeper for TaskText {
     }
 
     fn keep_variable(&mut self, bytes: &[u8]) -> Result<VariableKept, Kind> {
-        let Some((kept, end)) = variable_front(bytes, &mut self.gathered)? else {
+        if let Some(kept) = variable_front::<LF>(bytes, &mut self.gathered)? {
+            self.take(bytes, kept.front)?;
+            return Ok(kept);
+        }
+        let Some(kept) = variable_front::<CR>(bytes, &mut self.gathered)? else {
             return Ok(NO_VARIABLE);
         };
-        self.take(bytes, kept.front, end)?;
+        self.take_without_returns(bytes, kept.front)?;
         Ok(kept)
     }
 
     fn keep_group(&mut self, ranges: &Items<u32>, bytes: &[u8]) -> Result<Front, Kind> {
-        let Some((front, end)) = group_front(ranges, bytes, &mut self.gathered)? else {
+        if let Some(front) = group_front::<LF>(ranges, bytes, &mut self.gathered)? {
+            self.take(bytes, front)?;
+            return Ok(front);
+        }
+        let Some(front) = group_front::<CR>(ranges, bytes, &mut self.gathered)? else {
             return Ok(Front::EMPTY);
         };
-        self.take(bytes, front, end)?;
+        self.take_without_returns(bytes, front)?;
         Ok(front)
     }
 
     fn keep_operator(&mut self, ranges: &Items<u32>, bytes: &[u8]) -> Result<Front, Kind> {
-        let Some((front, end)) = operator_front(ranges, bytes, &mut self.gathered)? else {
+        if let Some(front) = operator_front::<LF>(ranges, bytes, &mut self.gathered)? {
+            self.take(bytes, front)?;
+            return Ok(front);
+        }
+        let Some(front) = operator_front::<CR>(ranges, bytes, &mut self.gathered)? else {
             return Ok(Front::EMPTY);
         };
-        self.take(bytes, front, end)?;
+        self.take_without_returns(bytes, front)?;
         Ok(front)
     }
 
     fn keep_rule(&mut self, ranges: &Items<u32>, bytes: &[u8]) -> Result<Front, Kind> {
-        let Some((front, end)) = rule_front(ranges, bytes, &mut self.gathered)? else {
+        if let Some(front) = rule_front::<LF>(ranges, bytes, &mut self.gathered)? {
+            self.take(bytes, front)?;
+            return Ok(front);
+        }
+        let Some(front) = rule_front::<CR>(ranges, bytes, &mut self.gathered)? else {
             return Ok(Front::EMPTY);
         };
-        self.take(bytes, front, end)?;
+        self.take_without_returns(bytes, front)?;
         Ok(front)
     }
 }
