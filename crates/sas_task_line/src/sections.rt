@@ -15,9 +15,9 @@ use sas_lists::Lists;
 use sas_reader::Front;
 use std::alloc::{AllocError, Global};
 
-/// Where more facts are due, the piece most likely cuts them. They are left to the code that takes line by line, or
-/// those in front of the cut would be read twice.
-const MOST_FACTS: u32 = 64;
+/// Where more facts are due, a piece may well cut them. They are left to the code that takes line by line, or those in
+/// front of the cut would be read twice.
+const MOST_FACTS: u32 = 1024;
 
 /// What was read of a section, as far as it is a list. The memory serves the next section too.
 #[derive(Drop)]
