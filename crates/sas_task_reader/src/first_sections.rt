@@ -13,6 +13,16 @@ use sas_task_line::{
 };
 use std::alloc::AllocError;
 
+/// Returns whether a CR stands behind so many bytes as the word has. Where that is the first line, it is quicker to see so
+/// that its section doesn't end its lines with CR LF.
+#[inline(always)]
+pub fn has_cr_behind(bytes: &[u8], word: &[u8]) -> bool {
+    match bytes.get(word.len()) {
+        Some(byte) => *byte == CR,
+        None => false,
+    }
+}
+
 /// Returns the variable that stands first in the bytes, where its lines end with CR LF and it is found.
 #[inline(never)]
 pub fn variable_with_cr<'a>(
@@ -82,6 +92,9 @@ pub fn first_variable<'a>(
     if let Some(found) = variable_found::<LF>(bytes, gathered)? {
         return Ok(Some(found));
     }
+    if !has_cr_behind(bytes, b"begin_variable") {
+        return Ok(None);
+    }
     variable_with_cr(bytes, gathered)
 }
 
@@ -97,6 +110,9 @@ pub fn first_group(
 {
     if let Some(front) = group_found::<LF>(ranges, bytes, gathered)? {
         return Ok(Some(front));
+    }
+    if !has_cr_behind(bytes, b"begin_mutex_group") {
+        return Ok(None);
     }
     group_with_cr(ranges, bytes, gathered)
 }
@@ -115,6 +131,9 @@ pub fn first_operator<'a>(
     if let Some(found) = operator_found::<LF>(ranges, bytes, gathered)? {
         return Ok(Some(found));
     }
+    if !has_cr_behind(bytes, b"begin_operator") {
+        return Ok(None);
+    }
     operator_with_cr(ranges, bytes, gathered)
 }
 
@@ -130,6 +149,9 @@ pub fn first_rule(
 {
     if let Some(found) = rule_found::<LF>(ranges, bytes, gathered)? {
         return Ok(Some(found));
+    }
+    if !has_cr_behind(bytes, b"begin_rule") {
+        return Ok(None);
     }
     rule_with_cr(ranges, bytes, gathered)
 }

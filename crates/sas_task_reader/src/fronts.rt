@@ -8,10 +8,11 @@ ghost use Rattle.sas_task_judge.specs.Sections.{VariableWithRange};
 ghost use Rattle.sas_task_line.specs.Ahead.{ending_with};
 ghost use Rattle.sas_task_line.specs.Sections.{GroupAhead, OperatorAhead, RuleAhead, EndsSo};
 
+use crate::first_sections::has_cr_behind;
 use sas_core::Items;
 use sas_reader::{Front, Kind};
 use sas_task_judge::VariableKept;
-use sas_task_line::{Gathered, group_found, operator_found, rule_found, variable_found};
+use sas_task_line::{CR, Gathered, group_found, operator_found, rule_found, variable_found};
 
 /// No variable was kept.
 pub const NO_VARIABLE: VariableKept = VariableKept {
@@ -30,6 +31,9 @@ pub fn variable_front<const END: u8>(
         × EndsSo (ending_with END) bytes.now kept.front)) }
     ensures err { IfErr result (λ k. k ≡ Kind.Memory) }
 {
+    if END == CR && !has_cr_behind(bytes, b"begin_variable") {
+        return Ok(None);
+    }
     let Some(found) = variable_found::<END>(bytes, gathered)? else {
         return Ok(None);
     };
@@ -50,6 +54,9 @@ pub fn group_front<const END: u8>(
         × EndsSo (ending_with END) bytes.now front)) }
     ensures err { IfErr result (λ k. k ≡ Kind.Memory) }
 {
+    if END == CR && !has_cr_behind(bytes, b"begin_mutex_group") {
+        return Ok(None);
+    }
     Ok(group_found::<END>(ranges, bytes, gathered)?)
 }
 
@@ -64,6 +71,9 @@ pub fn operator_front<const END: u8>(
         × EndsSo (ending_with END) bytes.now front)) }
     ensures err { IfErr result (λ k. k ≡ Kind.Memory) }
 {
+    if END == CR && !has_cr_behind(bytes, b"begin_operator") {
+        return Ok(None);
+    }
     let Some(found) = operator_found::<END>(ranges, bytes, gathered)? else {
         return Ok(None);
     };
@@ -81,6 +91,9 @@ pub fn rule_front<const END: u8>(
         × EndsSo (ending_with END) bytes.now front)) }
     ensures err { IfErr result (λ k. k ≡ Kind.Memory) }
 {
+    if END == CR && !has_cr_behind(bytes, b"begin_rule") {
+        return Ok(None);
+    }
     let Some(found) = rule_found::<END>(ranges, bytes, gathered)? else {
         return Ok(None);
     };
