@@ -3,7 +3,7 @@ there, so a program that answers `out of memory` wherever something is large is 
 what another case has.
 
 A task is wide that has so many of everything: values of a variable, facts of a group, goal facts, prevail conditions, effects
-of an operator, conditions of an effect, rules, and conditions of a rule. The constants of the code that are lengths are 64
+of an operator, conditions of an effect, rules, and conditions of a rule. The constants of the code that are lengths are 1,024
 facts read at once, 65,536 bytes read and written at a time, and 8 digits read at once: some case has more of
 each, and where it is a border, one has exactly as many.
 
@@ -14,7 +14,7 @@ from families import line_of, verdicts
 from steps import verdict
 from texts import as_bytes, with_line
 
-WIDTHS = (64, 65, 130, 513)
+WIDTHS = (65, 130, 513, 1_024, 1_025)
 # how many bytes are read at a time, and how many times a wide task is cut elsewhere by that
 READ, CUTS = 65_536, 13
 MANY = 10_001
@@ -189,7 +189,7 @@ def ended(text):
 def cut_cases():
     """Wide tasks, of files in which reads of 65,536 bytes cut other lists each time. They could show an operator, a rule or a
     group that is read twice, or not at all, where a piece ends in it, or a line end that counts as part of a line."""
-    for width in WIDTHS[:3]:
+    for width in WIDTHS[:2]:
         task = wide_task(width)
         groups = groups_said(width)
         for shift in shifts(len(text_of(task))):
@@ -261,7 +261,7 @@ def late_changes(width, lines):
 def late_cases():
     """Wide tasks with a fault at the last item of a list. They could show a list of which only the front is judged, or a
     fault that is told of another line."""
-    for width in WIDTHS[:3]:
+    for width in WIDTHS[:2]:
         lines = text_of(wide_task(width)).splitlines()
         for place, told, word, behind in late_changes(width, lines):
             text = "".join(f"{line}\n" for line in [*lines[:place], told, *lines[place + 1 :]])
@@ -272,7 +272,7 @@ def late_cases():
 
 def late_layer_cases():
     """Wide tasks that aren't layered, by the last condition or the last effect. They could show one that isn't judged."""
-    for width in WIDTHS[:3]:
+    for width in WIDTHS[:2]:
         ordered, derived = wide_task(width), wide_task(width)
         facts, var, old, new = ordered["rules"][-1]
         ordered["rules"][-1] = ([*facts[:-1], (width + 1, 1)], var, old, new)
