@@ -206,10 +206,12 @@ impl<'a, 'b, T: Grounded> Firing<'a, 'b, T> {
         ensures yes { IsTrue result → ClashesAt self.now kept.now fact }
         ensures no { IsFalse result → ClashesAt self.now kept.now fact → ⊥ }
     {
-        if shares_apart(self.index, kept, fact, marks.known.apart, &marks.deciding) {
+        // Naming a field makes the invariant of the effect available.
+        let _ = &self.task;
+        if self.shares_beside(kept, fact, marks) {
             return true;
         }
-        self.shares_beside(kept, fact, marks)
+        shares_apart(self.index, kept, fact, marks.known.apart, &marks.deciding)
     }
 
     /// Returns whether a group of the family has the fact and a known one that isn't the one apart. Either the groups of the
