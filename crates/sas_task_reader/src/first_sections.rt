@@ -33,6 +33,9 @@ pub fn variable_with_cr<'a>(
         VariableAhead bytes.now (gathered_variable v.name.now v.layer gathered.new) v.front
         × EndsSo with_cr_lf bytes.now v.front)) }
 {
+    if !has_cr_behind(bytes, b"begin_variable") {
+        return Ok(None);
+    }
     variable_found::<CR>(bytes, gathered)
 }
 
@@ -47,6 +50,9 @@ pub fn group_with_cr(
         GroupAhead ranges.now bytes.now gathered.new.facts front
         × EndsSo with_cr_lf bytes.now front)) }
 {
+    if !has_cr_behind(bytes, b"begin_mutex_group") {
+        return Ok(None);
+    }
     group_found::<CR>(ranges, bytes, gathered)
 }
 
@@ -62,6 +68,9 @@ pub fn operator_with_cr<'a>(
         (gathered_operator o.name.now o.cost gathered.new) o.front
         × EndsSo with_cr_lf bytes.now o.front)) }
 {
+    if !has_cr_behind(bytes, b"begin_operator") {
+        return Ok(None);
+    }
     operator_found::<CR>(ranges, bytes, gathered)
 }
 
@@ -76,6 +85,9 @@ pub fn rule_with_cr(
         RuleAhead ranges.now bytes.now (gathered_rule r.head gathered.new) r.front
         × EndsSo with_cr_lf bytes.now r.front)) }
 {
+    if !has_cr_behind(bytes, b"begin_rule") {
+        return Ok(None);
+    }
     rule_found::<CR>(ranges, bytes, gathered)
 }
 
@@ -92,9 +104,6 @@ pub fn first_variable<'a>(
     if let Some(found) = variable_found::<LF>(bytes, gathered)? {
         return Ok(Some(found));
     }
-    if !has_cr_behind(bytes, b"begin_variable") {
-        return Ok(None);
-    }
     variable_with_cr(bytes, gathered)
 }
 
@@ -110,9 +119,6 @@ pub fn first_group(
 {
     if let Some(front) = group_found::<LF>(ranges, bytes, gathered)? {
         return Ok(Some(front));
-    }
-    if !has_cr_behind(bytes, b"begin_mutex_group") {
-        return Ok(None);
     }
     group_with_cr(ranges, bytes, gathered)
 }
@@ -131,9 +137,6 @@ pub fn first_operator<'a>(
     if let Some(found) = operator_found::<LF>(ranges, bytes, gathered)? {
         return Ok(Some(found));
     }
-    if !has_cr_behind(bytes, b"begin_operator") {
-        return Ok(None);
-    }
     operator_with_cr(ranges, bytes, gathered)
 }
 
@@ -149,9 +152,6 @@ pub fn first_rule(
 {
     if let Some(found) = rule_found::<LF>(ranges, bytes, gathered)? {
         return Ok(Some(found));
-    }
-    if !has_cr_behind(bytes, b"begin_rule") {
-        return Ok(None);
     }
     rule_with_cr(ranges, bytes, gathered)
 }
