@@ -5,7 +5,7 @@
 
 The inputs are made in FOLDER if they aren't there. For each request the instructions over the files with LF are printed, those
 over the files with CR LF, and the ratio, the second over the first. The answer has to be the same. The exit status is 1 if a
-ratio is above 1.5, or 2.4 for `print`, or an answer isn't right. It needs valgrind.
+ratio is above 1.3, or an answer isn't right. It needs valgrind.
 """
 import argparse
 import os
@@ -18,8 +18,7 @@ from cases import Case, files_of
 from count import answer_word, counted
 from make import case_input
 
-# `print` takes the CRs out byte by byte, in many short instructions
-MOST = {"check": 1.5, "show": 1.5, "print": 2.4, "plan": 1.5, "steps": 1.5}
+MOST = 1.3
 SIZES = [("gripper", 2), ("blocks", 2)]
 REQUESTS = ["check", "show", "print", "plan", "steps"]
 STEPS = 20000
@@ -49,10 +48,9 @@ def case_row(given, case, made, files, changed):
     counts = [counted([given.sas, case.request, *paths]) for paths in (files, changed)]
     words = [answer_word(count, expected_digest(case.request, made)) for count in counts]
     ratio = counts[1].instructions / counts[0].instructions
-    is_little = ratio <= MOST[case.request]
     cells = [case.name, *("%.1f" % (count.instructions / 1e6) for count in counts),
-             "%.2f" % ratio + ("" if is_little else " TOO MUCH"), *words]
-    return machine.row(cells), is_little and words == ["right"] * 2
+             "%.2f" % ratio + ("" if ratio <= MOST else " TOO MUCH"), *words]
+    return machine.row(cells), ratio <= MOST and words == ["right"] * 2
 
 
 def read_words():
