@@ -82,7 +82,7 @@ def size_of(crate):
 def prove_below(jobs, progress, log):
     """Proves the crates below the requests, and reports each as soon as it is proved. The check of the requests is stopped: what builds the
     program proves them anyway, by all processors. Returns whether all below are proved."""
-    crate, below = None, len(progress.names) - len(LAST)
+    crate, below = None, set(progress.names) - set(LAST)
     with begin(["rt", "all", "check", "--jobs", jobs], REQUESTS) as process:
         for line in process.stdout:
             log.write(line)
@@ -90,7 +90,11 @@ def prove_below(jobs, progress, log):
             crate = begins[1] if begins else crate
             if crate and line.startswith("logic="):
                 progress.tell(crate, line.startswith("logic=proved "))
-            if len(progress.done) == below:
+            # a crate that an earlier run proved has nothing but its line in the summary
+            kept = re.match(r"(\w+): ok$", line)
+            if kept:
+                progress.tell(kept[1], True)
+            if below <= progress.done:
                 process.terminate()
                 return not progress.failed
     return False
