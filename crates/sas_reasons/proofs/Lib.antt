@@ -1,0 +1,5 @@
+pub mod Lowest
+pub mod Runs
+pub mod Since
+pub mod Likeness
+pub mod MayMean
