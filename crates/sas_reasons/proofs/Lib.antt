@@ -3,3 +3,5 @@ pub mod Runs
 pub mod Since
 pub mod Likeness
 pub mod MayMean
+pub mod Rounds
+pub mod Derivation

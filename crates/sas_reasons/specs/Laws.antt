@@ -1,12 +1,18 @@
 -- What follows from the definitions.
-use Rattle.std.specs.Prelude.{◌≡◌, ◌⊎◌, ℕ, ◌<◌, ◌≤◌, List, [], ◌∷◌, ◌++◌, length, Option}
+use Rattle.std.specs.Prelude.{◌≡◌, ◌≢◌, ◌⊎◌, ◌↔◌, ℕ, ◌<◌, ◌≤◌, IsTrue, List, [], ◌∷◌, ◌++◌}
+use Rattle.std.specs.Prelude.{length, Option, All, slice_index}
 use Rattle.sas_core.specs.declared.parts.Parts.{Parts}
-use Rattle.sas_meaning.specs.Layers.{IsLayered}
+use Rattle.sas_core.specs.declared.parts.Fact.{Fact}
+use Rattle.sas_core.specs.Grounded.{rule_at}
+use Rattle.sas_meaning.specs.States.{AllHold}
+use Rattle.sas_meaning.specs.Layers.{IsBasic, IsOnLayer, default_of, IsLayered}
+use Rattle.sas_meaning.specs.Settled.{differs, IsSettled}
 use Rattle.sas_run.specs.Plans.{LeadsTo}
 use Rattle.sas_reasons.specs.Runs.{Run, last_state, GoesThrough}
 use Rattle.sas_reasons.specs.Since.{value_at, IsSince}
 use Rattle.sas_reasons.specs.Likeness.{folded, IsLike}
 use Rattle.sas_reasons.specs.MayMean.{HasOther, MayMean}
+use Rattle.sas_reasons.specs.Derivation.{IsRank, IsGivenBy, InDerivation, ComesBefore}
 
 -- ---- runs
 
@@ -65,3 +71,67 @@ abbrev pub OneMayMean : Type 0
 OneMayMean = (p : Parts) (run : Run) (step operator step' operator' : ℕ)
     → MayMean p run step operator → MayMean p run step' operator'
     → (step ≡ step') × (operator ≡ operator')
+
+-- ---- where a derived variable has its value from, in a settled state of a layered task
+
+-- a variable of a layer has a rank exactly if it differs from its default
+abbrev pub RankIfDiffers : Type 0
+RankIfDiffers = (p : Parts) (s : List ℕ) (layer var : ℕ) → IsLayered p → IsSettled p s
+    → IsOnLayer p layer var → ((rank : ℕ) × IsRank p layer s var rank) ↔ IsTrue (differs p s var)
+
+-- and only one
+abbrev pub OneRank : Type 0
+OneRank = (p : Parts) (s : List ℕ) (layer var a b : ℕ) → IsRank p layer s var a
+    → IsRank p layer s var b → a ≡ b
+
+-- then a rule gives it its value
+abbrev pub SomeGiver : Type 0
+SomeGiver = (p : Parts) (s : List ℕ) (layer var : ℕ) → IsLayered p → IsSettled p s
+    → IsOnLayer p layer var → IsTrue (differs p s var) → (rule : ℕ) × IsGivenBy p s var rule
+
+-- and only one
+abbrev pub OneGiver : Type 0
+OneGiver = (p : Parts) (s : List ℕ) (var a b : ℕ) → IsGivenBy p s var a → IsGivenBy p s var b
+    → a ≡ b
+
+-- its conditions hold in the state, and what it sets is the variable's value there
+abbrev pub GiverFires : Type 0
+GiverFires = (p : Parts) (s : List ℕ) (var rule : ℕ) → IsLayered p → IsSettled p s
+    → IsGivenBy p s var rule
+    → AllHold (slice_index s) (rule_at p rule).conditions × ((rule_at p rule).var ≡ var)
+    × ((rule_at p rule).new ≡ slice_index s var)
+
+-- a condition asks for the default of a variable on a lower layer
+pub record AsksLower (p : Parts) (var : ℕ) (condition : Fact) : Type 0 where
+  pub default : condition.value ≡ default_of p condition.var
+  pub here : ℕ
+  pub there : ℕ
+  pub on : IsOnLayer p here var
+  pub asked : IsOnLayer p there condition.var
+  pub lower : there < here
+
+-- a condition asks for another value than the default of a variable that comes before this one
+pub record AsksEarlier (p : Parts) (s : List ℕ) (var : ℕ) (condition : Fact) : Type 0 where
+  pub other : condition.value ≢ default_of p condition.var
+  pub earlier : ComesBefore p s condition.var var
+
+-- each of its conditions is on a basic variable, or asks so
+abbrev pub GiverLooksDown : Type 0
+GiverLooksDown = (p : Parts) (s : List ℕ) (var rule : ℕ) → IsLayered p → IsSettled p s
+    → IsGivenBy p s var rule
+    → All (λ (c : Fact). IsBasic p c.var ⊎ (AsksLower p var c ⊎ AsksEarlier p s var c))
+    (rule_at p rule).conditions
+
+-- in a derivation all other variables come before the variable
+abbrev pub ItselfIsLast : Type 0
+ItselfIsLast = (p : Parts) (s : List ℕ) (var other : ℕ) → IsLayered p → IsSettled p s
+    → InDerivation p s var other → (other ≡ var) ⊎ ComesBefore p s other var
+
+-- nothing comes before itself, nor before what comes before it
+abbrev pub NoCircle : Type 0
+NoCircle = (p : Parts) (s : List ℕ) (a b : ℕ) → ComesBefore p s a b → ComesBefore p s b a → ⊥
+
+-- all of them differ from their defaults, if the variable does
+abbrev pub AllDiffer : Type 0
+AllDiffer = (p : Parts) (s : List ℕ) (var other : ℕ) → IsLayered p → IsSettled p s
+    → IsTrue (differs p s var) → InDerivation p s var other → IsTrue (differs p s other)

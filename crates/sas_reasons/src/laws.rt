@@ -1,6 +1,8 @@
 // Laws of reasons.
 ghost use Rattle.sas_reasons.specs.Laws.{SomeRun, OneRun, SomeSince, OneSince, SameSince};
 ghost use Rattle.sas_reasons.specs.Laws.{SpaceFolds, FoldsOnce, SomeLike, OneLike, SomeMayMean, OneMayMean};
+ghost use Rattle.sas_reasons.specs.Laws.{RankIfDiffers, OneRank, SomeGiver, OneGiver, GiverFires, GiverLooksDown};
+ghost use Rattle.sas_reasons.specs.Laws.{ItselfIsLast, NoCircle, AllDiffer};
 
 /// Ensures the laws of runs. Steps that lead to a state are those of a run, which in a layered task is one. Each variable has
 /// one last change in a run, and from there on one value.
@@ -22,4 +24,23 @@ pub fn name_laws()
     ensures one_like { OneLike }
     ensures some_other { SomeMayMean }
     ensures one_other { OneMayMean }
+{}
+
+/// Ensures the laws of derivations, in a settled state of a layered task.
+/// - A derived variable has a rank exactly if it differs from its default, and only one.
+/// - Then one rule gives it its value: its conditions hold in the state, and it sets the value that the variable has.
+/// - Each condition of that rule is on a basic variable, or asks for the default of a variable on a lower layer, or for another
+///   value of a variable that comes before.
+/// - In a derivation each variable differs from its default, and all others come before the one that is derived. Nothing comes
+///   before itself.
+pub fn derivation_laws()
+    ensures rank { RankIfDiffers }
+    ensures one_rank { OneRank }
+    ensures some_rule { SomeGiver }
+    ensures one_rule { OneGiver }
+    ensures fires { GiverFires }
+    ensures looks_down { GiverLooksDown }
+    ensures last { ItselfIsLast }
+    ensures no_circle { NoCircle }
+    ensures differ { AllDiffer }
 {}
