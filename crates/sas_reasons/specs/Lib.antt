@@ -4,4 +4,8 @@ pub mod Since
 pub mod Likeness
 pub mod MayMean
 pub mod Derivation
+pub mod Lines
+pub mod Cause
+pub mod Conflicts
+pub mod WhyPlan
 pub mod Laws
