@@ -54,7 +54,7 @@ one_layer : (p : Parts) (var a b : ℕ) → IsOnLayer p a var → IsOnLayer p b 
 one_layer p var a b x y = let e : Some a ≡ Some b = sym x ∙ y in cc
 
 -- its layer and its rank are one
-stands_one : (p : Parts) (s : List ℕ) (var layer rank layer' rank' : ℕ) → Stands p s var layer rank → Stands p s var layer' rank'
+pub stands_one : (p : Parts) (s : List ℕ) (var layer rank layer' rank' : ℕ) → Stands p s var layer rank → Stands p s var layer' rank'
     → (layer ≡ layer') × (rank ≡ rank')
 stands_one p s var layer rank layer' rank' x y =
     let e = one_layer p var layer layer' x.on y.on in
@@ -72,7 +72,7 @@ fires_next_or_not p s var layer rounds rule = elim (cases_lt rule (length p.rule
 ]
 
 -- a variable with a rank isn't reached in no round, and a rule gives it its value
-giver_at : (p : Parts) (s : List ℕ) (var layer rank : ℕ) → Stands p s var layer rank → (rule : ℕ) × IsGivenBy p s var rule
+pub giver_at : (p : Parts) (s : List ℕ) (var layer rank : ℕ) → Stands p s var layer rank → (rule : ℕ) × IsGivenBy p s var rule
 giver_at p s var layer zero stands = absurd (false≢true stands.ranked.has)
 giver_at p s var layer (suc before) stands = from (reached_by p layer s before var stands.ranked.has)
   where
@@ -110,6 +110,10 @@ one_giver p s var a b x y =
     lowest_is_one (FiresNext p s var y.layer y.before) a b
     (subst (λ k. IsLowest (FiresNext p s var y.layer k) a) same (subst (λ l. IsLowest (FiresNext p s var l x.before) a) e.0 x.lowest))
     y.lowest
+
+-- it is a rule of that variable
+pub giver_on : (p : Parts) (s : List ℕ) (var rule : ℕ) → IsGivenBy p s var rule → (rule_at p rule).var ≡ var
+giver_on p s var rule given = ((fires_decides p given.layer s (reached p given.layer s given.before) var (rule_at p rule)).0 given.lowest.has.fires).on
 
 module _ (p : Parts) (s : List ℕ) (layered : IsLayered p) (settled : IsSettled p s) where
   -- with the members that differ from their default each variable has its value

@@ -5,3 +5,5 @@ pub mod Likeness
 pub mod MayMean
 pub mod Rounds
 pub mod Derivation
+pub mod Sorting
+pub mod Listing

@@ -12,7 +12,7 @@ use Rattle.sas_reasons.specs.Runs.{Run, last_state, GoesThrough}
 use Rattle.sas_reasons.specs.Since.{value_at, IsSince}
 use Rattle.sas_reasons.specs.Likeness.{folded, IsLike}
 use Rattle.sas_reasons.specs.MayMean.{HasOther, MayMean}
-use Rattle.sas_reasons.specs.Derivation.{IsRank, IsGivenBy, InDerivation, ComesBefore}
+use Rattle.sas_reasons.specs.Derivation.{IsRank, IsGivenBy, InDerivation, ComesBefore, IsDerivation}
 
 -- ---- runs
 
@@ -135,3 +135,14 @@ NoCircle = (p : Parts) (s : List ℕ) (a b : ℕ) → ComesBefore p s a b → Co
 abbrev pub AllDiffer : Type 0
 AllDiffer = (p : Parts) (s : List ℕ) (var other : ℕ) → IsLayered p → IsSettled p s
     → IsTrue (differs p s var) → InDerivation p s var other → IsTrue (differs p s other)
+
+-- so it has a derivation
+abbrev pub SomeDerivation : Type 0
+SomeDerivation = (p : Parts) (s : List ℕ) (layer var : ℕ) → IsLayered p → IsSettled p s
+    → IsOnLayer p layer var → IsTrue (differs p s var)
+    → (rules : List ℕ) × IsDerivation p s var rules
+
+-- and only one
+abbrev pub OneDerivation : Type 0
+OneDerivation = (p : Parts) (s : List ℕ) (var : ℕ) (a b : List ℕ) → IsDerivation p s var a
+    → IsDerivation p s var b → a ≡ b

@@ -2,7 +2,7 @@
 ghost use Rattle.sas_reasons.specs.Laws.{SomeRun, OneRun, SomeSince, OneSince, SameSince};
 ghost use Rattle.sas_reasons.specs.Laws.{SpaceFolds, FoldsOnce, SomeLike, OneLike, SomeMayMean, OneMayMean};
 ghost use Rattle.sas_reasons.specs.Laws.{RankIfDiffers, OneRank, SomeGiver, OneGiver, GiverFires, GiverLooksDown};
-ghost use Rattle.sas_reasons.specs.Laws.{ItselfIsLast, NoCircle, AllDiffer};
+ghost use Rattle.sas_reasons.specs.Laws.{ItselfIsLast, NoCircle, AllDiffer, SomeDerivation, OneDerivation};
 
 /// Ensures the laws of runs. Steps that lead to a state are those of a run, which in a layered task is one. Each variable has
 /// one last change in a run, and from there on one value.
@@ -33,6 +33,7 @@ pub fn name_laws()
 ///   value of a variable that comes before.
 /// - In a derivation each variable differs from its default, and all others come before the one that is derived. Nothing comes
 ///   before itself.
+/// - A derived variable that differs from its default has one derivation.
 pub fn derivation_laws()
     ensures rank { RankIfDiffers }
     ensures one_rank { OneRank }
@@ -43,4 +44,6 @@ pub fn derivation_laws()
     ensures last { ItselfIsLast }
     ensures no_circle { NoCircle }
     ensures differ { AllDiffer }
+    ensures some_derivation { SomeDerivation }
+    ensures one_derivation { OneDerivation }
 {}

@@ -1,6 +1,8 @@
 -- Each law is a lemma.
 use Rattle.sas_reasons.proofs.Derivation.{rank_if_differs, one_rank, some_giver, one_giver, giver_fires, giver_looks_down}
 use Rattle.sas_reasons.proofs.Derivation.{itself_is_last, no_circle, all_differ}
+use Rattle.sas_reasons.proofs.Listing.{some_derivation}
+use Rattle.sas_reasons.proofs.Sorting.{one_derivation}
 use Rattle.sas_reasons.proofs.laws.derivation_laws.Goals as goal
 
 pub returns-clause-rank : goal.returns-clause-rank
@@ -29,3 +31,9 @@ returns-clause-no_circle c = no_circle
 
 pub returns-clause-differ : goal.returns-clause-differ
 returns-clause-differ c = all_differ
+
+pub returns-clause-some_derivation : goal.returns-clause-some_derivation
+returns-clause-some_derivation c = some_derivation
+
+pub returns-clause-one_derivation : goal.returns-clause-one_derivation
+returns-clause-one_derivation c = one_derivation
