@@ -117,7 +117,7 @@ giver_on p s var rule given = ((fires_decides p given.layer s (reached p given.l
 
 module _ (p : Parts) (s : List ℕ) (layered : IsLayered p) (settled : IsSettled p s) where
   -- with the members that differ from their default each variable has its value
-  value_is : (layer var : ℕ) → value_with p layer s (differs p s) var ≡ get_or s var 0
+  pub value_is : (layer var : ℕ) → value_with p layer s (differs p s) var ≡ get_or s var 0
   value_is layer v = elim (layer_tells p layer v) [
     | inr w ↦ given_off p layer s (differs p s) v w.0
     | inl w ↦ given_on p layer s (differs p s) v w.0 ∙ elim (differs_tells p s v) [

@@ -7,3 +7,7 @@ pub mod Rounds
 pub mod Derivation
 pub mod Sorting
 pub mod Listing
+pub mod Conflicts
+pub mod Telling
+pub mod Causes
+pub mod WhyPlan

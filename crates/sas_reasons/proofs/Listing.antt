@@ -1,8 +1,8 @@
 -- A variable that differs from its default has a derivation: its rule, and those of the variables on which that one rests, which
 -- come before it.
-use Rattle.std.proofs.Common.{◌≡◌, ◌≢◌, ℕ, zero, suc, ◌+◌, ◌<◌, ◌⊎◌, Bool, true, false, List, [], ◌∷◌, ◌++◌, length, get_or, refl, sym, ◌∙◌, ap, subst, inl, inr, arith}
+use Rattle.std.proofs.Common.{◌≡◌, ◌≢◌, ℕ, zero, suc, ◌<◌, ◌⊎◌, List, [], ◌∷◌, ◌++◌, get_or, refl, sym, ◌∙◌, subst, inl, inr, arith}
 use Rattle.std.specs.Prelude.{is_some}
-use Rattle.std.specs.List.{All, Contains}
+use Rattle.std.specs.List.{Contains}
 use Rattle.std.proofs.lemmas.Bool.{cases_eq, cases_Bool, false≢true}
 use Rattle.std.proofs.lemmas.List.Elements.{Contains-append_left, Contains-append_right, Contains-append_cases, Contains-get_or}
 use Rattle.sas_core.specs.declared.parts.Fact.{Fact}
@@ -14,7 +14,7 @@ use Rattle.sas_meaning.specs.Settled.{IsSettled}
 use Rattle.sas_reasons.specs.Derivation.{Stands, IsGivenBy, RestsOn, InDerivation, Itself, Below, IsLess, ComesBefore, IsRuleOf, IsDerivation}
 use Rattle.sas_reasons.specs.Laws.{SomeDerivation}
 use Rattle.sas_reasons.proofs.Derivation.{stands_one, giver_at, giver_on, one_giver, rests_on_earlier, rank_if_differs}
-use Rattle.sas_reasons.proofs.Sorting.{contains_head, contains_tail, contains_cases, contains_none, Gives, Sorted, sorted}
+use Rattle.sas_reasons.proofs.Sorting.{contains_head, contains_tail, contains_cases, contains_none, Sorted, sorted}
 
 -- ---- what comes before what can be gone through
 
@@ -181,11 +181,14 @@ module _ (p : Parts) (s : List ℕ) where
     derived_in_order var list = from (sorted p s list.rules (λ k d lt. (list.each (get_or list.rules k d) (Contains-get_or list.rules k d lt)).1))
       where
         from : Sorted p s (Contains list.rules) → (rules : List ℕ) × IsDerivation p s var rules
-        from t = (t.rules, record {
-          each = λ k d lt. list.each (get_or t.rules k d) (t.each k d lt);
-          whole = λ rule h. t.whole rule (list.whole rule h);
-          ordered = t.pairs;
-        })
+        from t = (
+          t.rules,
+          record {
+            each = λ k d lt. list.each (get_or t.rules k d) (t.each k d lt);
+            whole = λ rule h. t.whole rule (list.whole rule h);
+            ordered = t.pairs;
+          },
+        )
 
 pub some_derivation : SomeDerivation
 some_derivation p s layer var layered settled on d =

@@ -70,20 +70,23 @@ missing_lines p s fact = if can_be_given p fact
 
 -- ---- the cause
 
+-- `asks VAR VALUE NAME`, `has VAR VALUE NAME`, since when, and what the rules do
+abbrev pub cause_lines : Parts → Run → Fact → ℕ → List (List ℕ) → List (List ℕ)
+cause_lines p run fact since givers =
+    line 4 (codes "asks" ∷ fact_words p fact)
+    ∷ line 4 (codes "has" ∷ fact_words p
+    (record { var = fact.var; value = slice_index (last_state run) fact.var }))
+    ∷ since_line run.steps since
+    ∷ givers
+    ++ (if is_derived p fact.var && not (fact.value == default_of p fact.var)
+    then missing_lines p (last_state run) fact
+    else [])
+
+-- the lines of the cause of a fact that fails in the last state of the run
 pub record IsCause (p : Parts) (run : Run) (fact : Fact) (lines : List (List ℕ)) : Type 0 where
   pub since : ℕ
   pub last_change : IsSince run fact.var since
   pub givers : List (List ℕ)
-  pub given : TellsGivers
-      (is_derived p fact.var && differs p (last_state run) fact.var)
+  pub given : TellsGivers (is_derived p fact.var && differs p (last_state run) fact.var)
       p (last_state run) fact.var givers
-  -- `asks VAR VALUE NAME`, `has VAR VALUE NAME`, since when, and the lines of rules
-  pub whole : lines ≡
-      line 4 (codes "asks" ∷ fact_words p fact)
-      ∷ line 4 (codes "has" ∷ fact_words p
-          (record { var = fact.var; value = slice_index (last_state run) fact.var }))
-      ∷ since_line run.steps since
-      ∷ givers
-      ++ (if is_derived p fact.var && not (fact.value == default_of p fact.var)
-          then missing_lines p (last_state run) fact
-          else [])
+  pub whole : lines ≡ cause_lines p run fact since givers

@@ -1,18 +1,28 @@
 -- What follows from the definitions.
 use Rattle.std.specs.Prelude.{◌≡◌, ◌≢◌, ◌⊎◌, ◌↔◌, ℕ, ◌<◌, ◌≤◌, IsTrue, List, [], ◌∷◌, ◌++◌}
-use Rattle.std.specs.Prelude.{length, Option, All, slice_index}
+use Rattle.std.specs.Prelude.{length, Option, Some, find, All, AllPairs, Contains, slice_index}
+use Rattle.sas_core.specs.declared.parts.Operator.{Operator}
 use Rattle.sas_core.specs.declared.parts.Parts.{Parts}
+use Rattle.sas_core.specs.PlanParts.{PlanParts}
+use Rattle.sas_core.specs.Variables.{IsDerived}
 use Rattle.sas_core.specs.declared.parts.Fact.{Fact}
 use Rattle.sas_core.specs.Grounded.{rule_at}
 use Rattle.sas_meaning.specs.States.{AllHold}
-use Rattle.sas_meaning.specs.Layers.{IsBasic, IsOnLayer, default_of, IsLayered}
+use Rattle.sas_meaning.specs.Layers.{IsBasic, IsOnLayer, default_of, CanFire, IsLayered}
 use Rattle.sas_meaning.specs.Settled.{differs, IsSettled}
+use Rattle.sas_meaning.specs.Steps.{Agree}
+use Rattle.sas_run.specs.declared.plan_check.PlanFault.{PlanFault}
 use Rattle.sas_run.specs.Plans.{LeadsTo}
+use Rattle.sas_run.specs.Verdicts.{IsFaultOf}
 use Rattle.sas_reasons.specs.Runs.{Run, last_state, GoesThrough}
 use Rattle.sas_reasons.specs.Since.{value_at, IsSince}
 use Rattle.sas_reasons.specs.Likeness.{folded, IsLike}
 use Rattle.sas_reasons.specs.MayMean.{HasOther, MayMean}
 use Rattle.sas_reasons.specs.Derivation.{IsRank, IsGivenBy, InDerivation, ComesBefore, IsDerivation}
+use Rattle.sas_reasons.specs.Lines.{is_rule_line, told_once}
+use Rattle.sas_reasons.specs.Cause.{fails, can_be_given}
+use Rattle.sas_reasons.specs.Conflicts.{IsConflict}
+use Rattle.sas_reasons.specs.WhyPlan.{IsWhy}
 
 -- ---- runs
 
@@ -146,3 +156,60 @@ SomeDerivation = (p : Parts) (s : List ℕ) (layer var : ℕ) → IsLayered p �
 abbrev pub OneDerivation : Type 0
 OneDerivation = (p : Parts) (s : List ℕ) (var : ℕ) (a b : List ℕ) → IsDerivation p s var a
     → IsDerivation p s var b → a ≡ b
+
+-- whose last rule is the one that gives the variable its value
+abbrev pub OwnRuleIsLast : Type 0
+OwnRuleIsLast = (p : Parts) (s : List ℕ) (var rule : ℕ) (rules : List ℕ) → IsLayered p
+    → IsSettled p s → IsDerivation p s var rules → IsGivenBy p s var rule
+    → (front : List ℕ) × (rules ≡ front ++ rule ∷ [])
+
+-- ---- causes
+
+-- a derived variable that hasn't a value which a rule can give it has its default
+abbrev pub DefaultIfNotGiven : Type 0
+DefaultIfNotGiven = (p : Parts) (s : List ℕ) (fact : Fact) → IsLayered p → IsSettled p s
+    → IsDerived p.variables fact.var → IsTrue (can_be_given p fact) → IsTrue (fails s fact)
+    → slice_index s fact.var ≡ default_of p fact.var
+
+-- and then each of its rules that can fire has a condition that fails
+abbrev pub EachRuleFails : Type 0
+EachRuleFails = (p : Parts) (s : List ℕ) (rule : ℕ) → IsLayered p → IsSettled p s
+    → rule < length p.rules → CanFire p (rule_at p rule)
+    → slice_index s (rule_at p rule).var ≡ default_of p (rule_at p rule).var
+    → (c : Fact) × (find (fails s) (rule_at p rule).conditions ≡ Some c)
+
+-- ---- conflicts
+
+-- where the effects of an operator that fire don't agree, two conflict
+abbrev pub SomeConflict : Type 0
+SomeConflict = (s : List ℕ) (o : Operator) → (Agree s o.effects → ⊥)
+    → (d e : ℕ) × IsConflict s o d e
+
+-- and only two are told
+abbrev pub OneConflict : Type 0
+OneConflict = (s : List ℕ) (o : Operator) (d e d' e' : ℕ) → IsConflict s o d e
+    → IsConflict s o d' e' → (d ≡ d') × (e ≡ e')
+
+-- ---- lines that are told once
+
+-- no line is lost, and none is made up
+abbrev pub NoneIsLost : Type 0
+NoneIsLost = (lines : List (List ℕ)) (line : List ℕ)
+    → Contains (told_once [] lines) line ↔ Contains lines line
+
+-- and no line of a rule stands twice
+abbrev pub RulesToldOnce : Type 0
+RulesToldOnce = (lines : List (List ℕ))
+    → AllPairs (λ a b. IsTrue (is_rule_line a) → a ≢ b) (told_once [] lines)
+
+-- ---- why a plan isn't valid
+
+-- the fault of a plan of a layered task is told
+abbrev pub SomeWhy : Type 0
+SomeWhy = (p : Parts) (plan : PlanParts) (fault : PlanFault) → IsLayered p
+    → IsFaultOf p plan fault → (lines : List (List ℕ)) × IsWhy p plan fault lines
+
+-- in one way
+abbrev pub OneWhy : Type 0
+OneWhy = (p : Parts) (plan : PlanParts) (fault : PlanFault) (a b : List (List ℕ)) → IsLayered p
+    → IsWhy p plan fault a → IsWhy p plan fault b → a ≡ b

@@ -93,7 +93,7 @@ cost_lines p run =
     line 2 (codes "metric" ∷ decimal (if p.metric then 1 else 0) ∷ [])
     ∷ line 2 (codes "steps" ∷ decimal (length run.steps) ∷ [])
     ∷ line 2 (codes "cost lines"
-        ∷ decimal (sum_by (λ operator. (operator_at p operator).cost) run.operators) ∷ [])
+    ∷ decimal (sum_by (λ operator. (operator_at p operator).cost) run.operators) ∷ [])
     ∷ []
 
 -- ---- behind each of them

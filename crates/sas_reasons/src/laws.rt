@@ -2,7 +2,9 @@
 ghost use Rattle.sas_reasons.specs.Laws.{SomeRun, OneRun, SomeSince, OneSince, SameSince};
 ghost use Rattle.sas_reasons.specs.Laws.{SpaceFolds, FoldsOnce, SomeLike, OneLike, SomeMayMean, OneMayMean};
 ghost use Rattle.sas_reasons.specs.Laws.{RankIfDiffers, OneRank, SomeGiver, OneGiver, GiverFires, GiverLooksDown};
-ghost use Rattle.sas_reasons.specs.Laws.{ItselfIsLast, NoCircle, AllDiffer, SomeDerivation, OneDerivation};
+ghost use Rattle.sas_reasons.specs.Laws.{ItselfIsLast, NoCircle, AllDiffer, SomeDerivation, OneDerivation, OwnRuleIsLast};
+ghost use Rattle.sas_reasons.specs.Laws.{DefaultIfNotGiven, EachRuleFails, SomeConflict, OneConflict, NoneIsLost};
+ghost use Rattle.sas_reasons.specs.Laws.{RulesToldOnce, SomeWhy, OneWhy};
 
 /// Ensures the laws of runs. Steps that lead to a state are those of a run, which in a layered task is one. Each variable has
 /// one last change in a run, and from there on one value.
@@ -33,7 +35,7 @@ pub fn name_laws()
 ///   value of a variable that comes before.
 /// - In a derivation each variable differs from its default, and all others come before the one that is derived. Nothing comes
 ///   before itself.
-/// - A derived variable that differs from its default has one derivation.
+/// - A derived variable that differs from its default has one derivation, whose last rule is the one that gives it its value.
 pub fn derivation_laws()
     ensures rank { RankIfDiffers }
     ensures one_rank { OneRank }
@@ -46,4 +48,25 @@ pub fn derivation_laws()
     ensures differ { AllDiffer }
     ensures some_derivation { SomeDerivation }
     ensures one_derivation { OneDerivation }
+    ensures own_last { OwnRuleIsLast }
+{}
+
+/// Ensures the laws of what is told.
+/// - A derived variable that hasn't a value which a rule can give it has its default, and then each of its rules that can fire
+///   has a condition that fails.
+/// - Where effects that fire don't agree, two conflict, and only two are told.
+/// - Of the lines that are told once none is lost, and none of a rule stands twice.
+pub fn cause_laws()
+    ensures default { DefaultIfNotGiven }
+    ensures each_fails { EachRuleFails }
+    ensures some_conflict { SomeConflict }
+    ensures one_conflict { OneConflict }
+    ensures none_lost { NoneIsLost }
+    ensures rules_once { RulesToldOnce }
+{}
+
+/// Ensures that each fault of a plan of a layered task is told, and in one way.
+pub fn why_laws()
+    ensures some { SomeWhy }
+    ensures one { OneWhy }
 {}

@@ -3,4 +3,4 @@
 
 mod laws;
 
-pub use laws::{derivation_laws, name_laws, run_laws};
+pub use laws::{cause_laws, derivation_laws, name_laws, run_laws, why_laws};

@@ -2,7 +2,7 @@
 use Rattle.sas_reasons.proofs.Derivation.{rank_if_differs, one_rank, some_giver, one_giver, giver_fires, giver_looks_down}
 use Rattle.sas_reasons.proofs.Derivation.{itself_is_last, no_circle, all_differ}
 use Rattle.sas_reasons.proofs.Listing.{some_derivation}
-use Rattle.sas_reasons.proofs.Sorting.{one_derivation}
+use Rattle.sas_reasons.proofs.Sorting.{one_derivation, own_rule_is_last}
 use Rattle.sas_reasons.proofs.laws.derivation_laws.Goals as goal
 
 pub returns-clause-rank : goal.returns-clause-rank
@@ -37,3 +37,6 @@ returns-clause-some_derivation c = some_derivation
 
 pub returns-clause-one_derivation : goal.returns-clause-one_derivation
 returns-clause-one_derivation c = one_derivation
+
+pub returns-clause-own_last : goal.returns-clause-own_last
+returns-clause-own_last c = own_rule_is_last
