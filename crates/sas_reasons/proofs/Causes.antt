@@ -1,5 +1,5 @@
 -- What rules have to do with a fact that fails, and that a fact has one cause.
-use Rattle.std.proofs.Common.{◌≡◌, ℕ, ◌<◌, Bool, true, false, List, [], ◌∷◌, length, get_or, slice_index, Some, refl, sym, ◌∙◌, ap, subst, inl, inr}
+use Rattle.std.proofs.Common.{◌≡◌, ℕ, ◌<◌, Bool, true, false, List, [], ◌∷◌, ◌++◌, length, get_or, slice_index, Some, refl, sym, ◌∙◌, ap, subst, inl, inr}
 use Rattle.std.specs.Prelude.{◌==◌, ◌&&◌, is_some, find}
 use Rattle.std.specs.List.{Contains}
 use Rattle.std.proofs.lemmas.Bool.{false≢true, and_parts, eqb-true, not-true, eqb-false}
@@ -19,7 +19,7 @@ use Rattle.sas_meaning.proofs.Rules.{new_value_is}
 use Rattle.sas_meaning.proofs.Unique.{differs_tells}
 use Rattle.sas_meaning.proofs.Forced.{differs_not}
 use Rattle.sas_reasons.specs.Runs.{Run, last_state}
-use Rattle.sas_reasons.specs.Cause.{fails, is_derived, TellsGivers, cause_lines, IsCause, gives_line}
+use Rattle.sas_reasons.specs.Cause.{fails, is_derived, can_give, is_given, TellsGivers, gives_line, asks_line, has_line, since_line, missing_lines, IsCause}
 use Rattle.sas_reasons.specs.Laws.{DefaultIfNotGiven, EachRuleFails}
 use Rattle.sas_reasons.proofs.Derivation.{value_is}
 use Rattle.sas_reasons.proofs.Listing.{some_derivation}
@@ -39,9 +39,6 @@ default_if_not_given p s fact layered settled derived given missed = elim (diffe
   | inr w ↦ absurd (missing (on_some_layer p fact.var derived) w.1)
 ]
   where
-    test : Rule → Bool
-    test = λ rule. (rule.var == fact.var) && (can_fire p rule && (rule.new == fact.value))
-
     at : (k : ℕ) (rule : Rule) → k < length p.rules → get_or p.rules k rule ≡ rule → rule.var ≡ fact.var → CanFire p rule → rule.new ≡ fact.value
         → new_value_of p fact.var ≡ fact.value
     at k rule lt is var can new =
@@ -50,12 +47,12 @@ default_if_not_given p s fact layered settled derived given missed = elim (diffe
 
     new_is : new_value_of p fact.var ≡ fact.value
     new_is =
-        let w = Any-from_list_any (λ (rule : Rule). (rule.var == fact.var) && (can_fire p rule && (rule.new == fact.value))) p.rules given in
-        let both = and_parts (w.1.var == fact.var) (can_fire p w.1 && (w.1.new == fact.value)) w.4 in
-        let rest = and_parts (can_fire p w.1) (w.1.new == fact.value) both.1 in
-        at w.0 w.1 w.2 w.3 (eqb-true w.1.var fact.var both.0)
-        ((Decides-not (w.1.new == default_of p w.1.var) (Decides-eqb w.1.new (default_of p w.1.var))).0 rest.0)
-        (eqb-true w.1.new fact.value rest.1)
+        let w = Any-from_list_any (λ (rule : Rule). can_give p fact.var rule && (rule.new == fact.value)) p.rules given in
+        let both = and_parts (can_give p fact.var w.1) (w.1.new == fact.value) w.4 in
+        let its = and_parts (w.1.var == fact.var) (can_fire p w.1) both.0 in
+        at w.0 w.1 w.2 w.3 (eqb-true w.1.var fact.var its.0)
+        ((Decides-not (w.1.new == default_of p w.1.var) (Decides-eqb w.1.new (default_of p w.1.var))).0 its.1)
+        (eqb-true w.1.new fact.value both.1)
 
     missing : (layer : ℕ) × IsOnLayer p layer fact.var → differs p s fact.var ≡ true → ⊥
     missing (layer, on) d = eqb-false (slice_index s fact.var) fact.value (not-true (slice_index s fact.var == fact.value) missed)
@@ -86,13 +83,18 @@ givers_one : (b : Bool) (p : Parts) (s : List ℕ) (var : ℕ) (x y : List (List
 givers_one false p s var x y f g = f ∙ sym g
 givers_one true p s var x y f g = f.2 ∙ (ap (λ (rules : List ℕ). Rattle.std.specs.Prelude.map (gives_line p) rules) (one_derivation p s var f.0 g.0 f.1 g.1) ∙ sym g.2)
 
+-- the lines of a cause
+abbrev lines_of : Parts → Run → Fact → ℕ → List (List ℕ) → List (List ℕ)
+lines_of p run fact since givers =
+    asks_line p fact ∷ has_line p (last_state run) fact.var ∷ since_line run.steps since ∷ givers ++ missing_lines p (last_state run) fact
+
 pub one_cause : (p : Parts) (run : Run) (fact : Fact) (a b : List (List ℕ)) → IsCause p run fact a → IsCause p run fact b → a ≡ b
 one_cause p run fact a b x y = x.whole
-    ∙ (ap (λ since. cause_lines p run fact since x.givers) (one_since run fact.var x.since y.since x.last_change y.last_change)
-    ∙ (ap (λ givers. cause_lines p run fact y.since givers)
-    (givers_one (is_derived p fact.var && differs p (last_state run) fact.var) p (last_state run) fact.var x.givers y.givers x.given y.given) ∙ sym y.whole))
+    ∙ (ap (λ since. lines_of p run fact since x.givers) (one_since run fact.var x.since y.since x.last_change y.last_change)
+    ∙ (ap (λ givers. lines_of p run fact y.since givers)
+    (givers_one (is_given p (last_state run) fact.var) p (last_state run) fact.var x.givers y.givers x.given y.given) ∙ sym y.whole))
 
-some_givers : (b : Bool) (p : Parts) (s : List ℕ) (var : ℕ) → IsLayered p → IsSettled p s → (b ≡ true → (is_derived p var && differs p s var) ≡ true)
+some_givers : (b : Bool) (p : Parts) (s : List ℕ) (var : ℕ) → IsLayered p → IsSettled p s → (b ≡ true → is_given p s var ≡ true)
     → (lines : List (List ℕ)) × TellsGivers b p s var lines
 some_givers false p s var layered settled is = ([], refl)
 some_givers true p s var layered settled is =
@@ -104,5 +106,5 @@ some_givers true p s var layered settled is =
 pub some_cause : (p : Parts) (run : Run) (fact : Fact) → IsLayered p → IsSettled p (last_state run) → 0 < length run.states → (lines : List (List ℕ)) × IsCause p run fact lines
 some_cause p run fact layered settled some =
     let since = some_since run fact.var some in
-    let givers = some_givers (is_derived p fact.var && differs p (last_state run) fact.var) p (last_state run) fact.var layered settled (λ e. e) in
-    (cause_lines p run fact since.0 givers.0, record { since = since.0; last_change = since.1; givers = givers.0; given = givers.1; whole = refl })
+    let givers = some_givers (is_given p (last_state run) fact.var) p (last_state run) fact.var layered settled (λ e. e) in
+    (lines_of p run fact since.0 givers.0, record { since = since.0; last_change = since.1; givers = givers.0; given = givers.1; whole = refl })

@@ -1,9 +1,7 @@
 -- The fault of a plan is told, in one way.
 use Rattle.std.proofs.Common.{◌≡◌, ℕ, ◌-◌, ◌<◌, List, [], ◌∷◌, ◌++◌, length, take, Option, refl, sym, ◌∙◌, ap, subst, inl, inr, arith}
-use Rattle.std.specs.Prelude.{filter, codes, decimal, bytes_eq}
 use Rattle.std.specs.Option.{option_map_or}
 use Rattle.std.proofs.Math.Seq.{take-append_seam}
-use Rattle.sas_core.specs.declared.parts.Operator.{Operator}
 use Rattle.sas_core.specs.declared.parts.Parts.{Parts}
 use Rattle.sas_core.specs.PlanParts.{PlanParts}
 use Rattle.sas_core.specs.Stepwise.{step_at}
@@ -15,10 +13,10 @@ use Rattle.sas_run.specs.declared.plan_check.PlanFault.{PlanFault}
 use Rattle.sas_run.specs.declared.plan_check.PlanFault.TheVariants.{Memory, NoOperator, NotApplicable, Conflict, GoalMissed, CostDiffers}
 use Rattle.sas_run.specs.Plans.{GoThrough, LeadsTo}
 use Rattle.sas_run.specs.Verdicts.{ComesTo, IsFaultOf}
-use Rattle.sas_reasons.specs.Lines.{line, told_once, TellsEach, places}
+use Rattle.sas_reasons.specs.Lines.{told_once, TellsEach, places}
 use Rattle.sas_reasons.specs.Runs.{Run, last_state, GoesThrough}
 use Rattle.sas_reasons.specs.Cause.{fails, IsCause}
-use Rattle.sas_reasons.specs.WhyPlan.{step_line, operator_line, TellsLike, TellsInapplicable, effect_line, TellsConflict, goal_fact_at, TellsGoalFact, cost_lines, TellsOther, steps_before, TellsFault, IsWhy}
+use Rattle.sas_reasons.specs.WhyPlan.{step_line, operator_line, like_line, TellsLike, failing, operators_of, TellsInapplicable, effect_line, TellsConflict, goal_fact_at, goal_line, TellsGoalFact, cost_lines, other_line, TellsOther, steps_before, TellsFault, IsWhy}
 use Rattle.sas_reasons.specs.Laws.{SomeWhy, OneWhy}
 use Rattle.sas_reasons.proofs.Runs.{some_run, one_run}
 use Rattle.sas_reasons.proofs.Likeness.{some_like, one_like}
@@ -49,25 +47,25 @@ module _ (p : Parts) (run : Run) where
   inapplicable_one : (operator : ℕ) (a b : List (List ℕ)) → TellsInapplicable p run operator a → TellsInapplicable p run operator b → a ≡ b
   inapplicable_one operator a b x y = x.2
       ∙ (ap (λ (causes : List (List ℕ)). operator_line operator ∷ causes)
-      (each_one (IsCause p run) (one_cause p run) (filter (fails (last_state run)) (preconditions (operator_at p operator))) x.0 y.0 x.1 y.1) ∙ sym y.2)
+      (each_one (IsCause p run) (one_cause p run) (failing (last_state run) (operator_at p operator)) x.0 y.0 x.1 y.1) ∙ sym y.2)
 
   goal_fact_one : (index : ℕ) (a b : List (List ℕ)) → TellsGoalFact p run index a → TellsGoalFact p run index b → a ≡ b
   goal_fact_one index a b x y = x.2
-      ∙ (ap (λ (cause : List (List ℕ)). line 2 (codes "goal fact" ∷ decimal index ∷ []) ∷ cause)
+      ∙ (ap (λ (cause : List (List ℕ)). goal_line index ∷ cause)
       (one_cause p run (goal_fact_at p index) x.0 y.0 x.1 y.1) ∙ sym y.2)
 
   other_one : (a b : List (List ℕ)) → TellsOther p run a → TellsOther p run b → a ≡ b
   other_one a b (inl x) (inl y) =
       let same = one_may_mean p run x.0 x.1 y.0 y.1 x.2 y.2 in
-      x.3 ∙ (ap (λ (step : ℕ). line 2 (codes "step" ∷ decimal step ∷ codes "may mean operator" ∷ decimal x.1 ∷ []) ∷ []) same.0
-      ∙ (ap (λ (operator : ℕ). line 2 (codes "step" ∷ decimal y.0 ∷ codes "may mean operator" ∷ decimal operator ∷ []) ∷ []) same.1 ∙ sym y.3))
+      x.3 ∙ (ap (λ (step : ℕ). other_line step x.1 ∷ []) same.0
+      ∙ (ap (λ (operator : ℕ). other_line y.0 operator ∷ []) same.1 ∙ sym y.3))
   other_one a b (inl x) (inr y) = absurd (let w = x.2 in y.0 w.before w.first.has)
   other_one a b (inr x) (inl y) = absurd (let w = y.2 in x.0 w.before w.first.has)
   other_one a b (inr x) (inr y) = x.1 ∙ sym y.1
 
 like_one : (p : Parts) (name : List ℕ) (a b : List (List ℕ)) → TellsLike p name a → TellsLike p name b → a ≡ b
 like_one p name a b x y = x.2
-    ∙ (ap (λ (like : Option ℕ). option_map_or (λ operator. line 2 (codes "like operator" ∷ decimal operator ∷ (operator_at p operator).name ∷ []) ∷ []) like [])
+    ∙ (ap (λ (like : Option ℕ). option_map_or (λ operator. like_line p operator ∷ []) like [])
     (one_like p name x.0 y.0 x.1 y.1) ∙ sym y.2)
 
 conflict_one : (p : Parts) (s : List ℕ) (operator : ℕ) (a b : List (List ℕ)) → TellsConflict p s operator a → TellsConflict p s operator b → a ≡ b
@@ -84,7 +82,7 @@ fault_told_one : (p : Parts) (plan : PlanParts) (run : Run) (fault : PlanFault) 
     → TellsFault p plan run fault a → TellsFault p plan run fault b → a ≡ b
 fault_told_one p plan run (NoOperator step) a b x y = behind_step plan step a b x.0 y.0 x.2 y.2 (like_one p (step_at plan (step - 1)) x.0 y.0 x.1 y.1)
 fault_told_one p plan run (NotApplicable step) a b x y = behind_step plan step a b x.0 y.0 x.2 y.2
-    (each_one (TellsInapplicable p run) (inapplicable_one p run) (places (λ (o : Operator). bytes_eq o.name (step_at plan (step - 1))) p.operators) x.0 y.0 x.1 y.1)
+    (each_one (TellsInapplicable p run) (inapplicable_one p run) (operators_of p (step_at plan (step - 1))) x.0 y.0 x.1 y.1)
 fault_told_one p plan run (Conflict step operator) a b x y = behind_step plan step a b x.0 y.0 x.2 y.2 (conflict_one p (last_state run) operator x.0 y.0 x.1 y.1)
 fault_told_one p plan run (GoalMissed index) a b x y = each_one (TellsGoalFact p run) (goal_fact_one p run) (places (fails (last_state run)) p.goal) a b x y
 fault_told_one p plan run (CostDiffers sum) a b x y = x ∙ sym y
@@ -115,7 +113,7 @@ goes_settled p s (n ∷ ns) (o ∷ os) last settled g = let step = g.2 in goes_s
 
 some_other : (p : Parts) (run : Run) → (lines : List (List ℕ)) × TellsOther p run lines
 some_other p run = elim (some_may_mean p run) [
-  | inl w ↦ (line 2 (codes "step" ∷ decimal w.0 ∷ codes "may mean operator" ∷ decimal w.1 ∷ []) ∷ [], inl (w.0, w.1, w.2, refl))
+  | inl w ↦ (other_line w.0 w.1 ∷ [], inl (w.0, w.1, w.2, refl))
   | inr none ↦ ([], inr (none, refl))
 ]
 
@@ -160,13 +158,13 @@ module _ (p : Parts) (plan : PlanParts) (layered : IsLayered p) where
 
   some_inapplicable : (run : Run) → IsSettled p (last_state run) → 0 < length run.states → (operator : ℕ) → (lines : List (List ℕ)) × TellsInapplicable p run operator lines
   some_inapplicable run settled some operator =
-      let causes = some_each (IsCause p run) (λ fact. some_cause p run fact layered settled some) (filter (fails (last_state run)) (preconditions (operator_at p operator))) in
+      let causes = some_each (IsCause p run) (λ fact. some_cause p run fact layered settled some) (failing (last_state run) (operator_at p operator)) in
       (operator_line operator ∷ causes.0, (causes.0, causes.1, refl))
 
   some_goal_fact : (run : Run) → IsSettled p (last_state run) → 0 < length run.states → (index : ℕ) → (lines : List (List ℕ)) × TellsGoalFact p run index lines
   some_goal_fact run settled some index =
       let cause = some_cause p run (goal_fact_at p index) layered settled some in
-      (line 2 (codes "goal fact" ∷ decimal index ∷ []) ∷ cause.0, (cause.0, cause.1, refl))
+      (goal_line index ∷ cause.0, (cause.0, cause.1, refl))
 
   why_told : (fault : PlanFault) → IsFaultOf p plan fault → (lines : List (List ℕ)) × IsWhy p plan fault lines
   why_told Memory f = absurd f
@@ -176,7 +174,7 @@ module _ (p : Parts) (plan : PlanParts) (layered : IsLayered p) where
       from_run (NoOperator step) l.run l.went l.through (_, (_, (like.0, like.1, refl), refl))
   why_told (NotApplicable step) f =
       let l = led_to_step step f.0 f.1 f.2 in
-      let w = some_each (TellsInapplicable p l.run) (some_inapplicable l.run l.settled l.some) (places (λ (o : Operator). bytes_eq o.name (step_at plan (step - 1))) p.operators) in
+      let w = some_each (TellsInapplicable p l.run) (some_inapplicable l.run l.settled l.some) (operators_of p (step_at plan (step - 1))) in
       from_run (NotApplicable step) l.run l.went l.through (step_line plan step ∷ w.0, (w.0, w.1, refl))
   why_told (Conflict step operator) f =
       let l = led_to_step step f.0 f.1 f.2 in

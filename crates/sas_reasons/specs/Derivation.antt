@@ -24,8 +24,8 @@ abbrev pub fires_with : Parts → ℕ → List ℕ → (ℕ → Bool) → ℕ �
 fires_with p layer s members var rule = (rule.var == var)
     && (can_fire p rule && all_hold (value_with p layer s members) rule.conditions)
 
--- whether the variable of the layer is reached in this many rounds: in none none is, and in one
--- more those that have a rule that fires with what was reached before
+-- whether a variable of the layer is reached in this many rounds: in no round none is, and in one
+-- more each that has a rule that fires with those reached before
 abbrev pub reached : Parts → ℕ → List ℕ → ℕ → ℕ → Bool
 reached p layer s zero var = false
 reached p layer s (suc rounds) var = is_on_layer p layer var
@@ -40,13 +40,13 @@ pub record Stands (p : Parts) (s : List ℕ) (var layer rank : ℕ) : Type 0 whe
   pub on : IsOnLayer p layer var
   pub ranked : IsRank p layer s var rank
 
--- the rule at this place is one of the variable that fires in the next round
+-- the rule at this place is one of the variable's that fires in the round behind these
 pub record FiresNext (p : Parts) (s : List ℕ) (var layer rounds rule : ℕ) : Type 0 where
   pub exists : rule < length p.rules
   pub fires : IsTrue (fires_with p layer s (reached p layer s rounds) var (rule_at p rule))
 
--- the rule that gives the variable its value: the lowest of its rules that fires in the round in
--- which it is reached
+-- the rule that gives the variable its value: the lowest of its rules that fires in the round that
+-- reaches it, and so with the variables of lower rank
 pub record IsGivenBy (p : Parts) (s : List ℕ) (var rule : ℕ) : Type 0 where
   pub layer : ℕ
   pub before : ℕ
@@ -68,11 +68,12 @@ pub data InDerivation (p : Parts) (s : List ℕ) (var : ℕ) : ℕ → Type 0 wh
   Below : {u w : ℕ} (rule : ℕ) → InDerivation p s var u → IsGivenBy p s u rule → RestsOn p rule w
       → InDerivation p s var w
 
--- the order of variables: by their layers, then by their ranks, then by their numbers
+-- the order: by layers, then by ranks, then by numbers
 abbrev pub IsLess : (layer rank var layer' rank' var' : ℕ) → Type 0
 IsLess layer rank var layer' rank' var' = (layer < layer')
     ⊎ ((layer ≡ layer') × ((rank < rank') ⊎ ((rank ≡ rank') × (var < var'))))
 
+-- one variable comes before another in this order
 pub record ComesBefore (p : Parts) (s : List ℕ) (var var' : ℕ) : Type 0 where
   pub layer : ℕ
   pub rank : ℕ

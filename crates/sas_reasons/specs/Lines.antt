@@ -3,7 +3,6 @@ use Rattle.std.specs.Prelude.{◌≡◌, ℕ, ◌+◌, ◌&&◌, Bool, if◌then
 use Rattle.std.specs.Prelude.{bytes_eq, codes, decimal}
 use Rattle.std.specs.List.{list_any}
 use Rattle.std.specs.Option.{unwrap_or}
-use Rattle.sas_core.specs.declared.parts.Fact.{Fact}
 use Rattle.sas_core.specs.declared.parts.Parts.{Parts}
 use Rattle.sas_core.specs.Variables.{value_name}
 use Rattle.sas_lines.specs.Spelling.{joined}
@@ -14,12 +13,9 @@ abbrev pub line : ℕ → List (List ℕ) → List ℕ
 line spaces words = replicate spaces 32 ++ joined words
 
 -- `VAR VALUE NAME`, where NAME is the value's name; a value that doesn't exist has none
-abbrev pub fact_words : Parts → Fact → List (List ℕ)
-fact_words p fact =
-    decimal fact.var
-    ∷ decimal fact.value
-    ∷ unwrap_or (value_name p.variables fact.var fact.value) []
-    ∷ []
+abbrev pub fact_words : Parts → ℕ → ℕ → List (List ℕ)
+fact_words p var value =
+    decimal var ∷ decimal value ∷ unwrap_or (value_name p.variables var value) [] ∷ []
 
 -- whether a line begins so
 abbrev pub begins : List ℕ → List ℕ → Bool

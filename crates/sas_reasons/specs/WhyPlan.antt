@@ -29,34 +29,43 @@ operator_line operator = line 2 (codes "operator" ∷ decimal operator ∷ [])
 
 -- ---- no operator of that name
 
--- `like operator I NAME`, where there is one that is like the name
+-- `like operator I NAME`
+abbrev pub like_line : Parts → ℕ → List ℕ
+like_line p operator =
+    line 2 (codes "like operator" ∷ decimal operator ∷ (operator_at p operator).name ∷ [])
+
+-- this line for the operator whose name is like this one, where there is one
 abbrev pub TellsLike : Parts → List ℕ → List (List ℕ) → Type 0
 TellsLike p name lines = (like : Option ℕ)
     × IsLike p name like
-    × (lines ≡ option_map_or (λ operator. line 2 (codes "like operator" ∷ decimal operator
-    ∷ (operator_at p operator).name ∷ []) ∷ []) like [])
+    × (lines ≡ option_map_or (λ operator. like_line p operator ∷ []) like [])
 
 -- ---- not applicable
+
+-- its preconditions that fail in a state
+abbrev pub failing : List ℕ → Operator → List Fact
+failing s o = filter (fails s) (preconditions o)
 
 -- `operator I`, and the cause of each of its preconditions that fails
 abbrev pub TellsInapplicable : Parts → Run → ℕ → List (List ℕ) → Type 0
 TellsInapplicable p run operator lines = (causes : List (List ℕ))
-    × TellsEach (IsCause p run)
-    (filter (fails (last_state run)) (preconditions (operator_at p operator))) causes
+    × TellsEach (IsCause p run) (failing (last_state run) (operator_at p operator)) causes
     × (lines ≡ operator_line operator ∷ causes)
+
+-- the operators of a name, ascending
+abbrev pub operators_of : Parts → List ℕ → List ℕ
+operators_of p name = places (λ (o : Operator). bytes_eq o.name name) p.operators
 
 -- so for each operator of the name
 abbrev pub TellsOperators : Parts → Run → List ℕ → List (List ℕ) → Type 0
-TellsOperators p run name lines =
-    TellsEach (TellsInapplicable p run)
-    (places (λ (o : Operator). bytes_eq o.name name) p.operators) lines
+TellsOperators p run name lines = TellsEach (TellsInapplicable p run) (operators_of p name) lines
 
 -- ---- conflicting effects
 
 -- `effect E sets VAR VALUE NAME`
 abbrev pub effect_line : Parts → Operator → ℕ → List ℕ
 effect_line p o effect = line 4 (codes "effect" ∷ decimal effect ∷ codes "sets"
-    ∷ fact_words p (record { var = (effect_at o effect).var; value = (effect_at o effect).new }))
+    ∷ fact_words p (effect_at o effect).var (effect_at o effect).new)
 
 -- `operator I`, and the two effects
 abbrev pub TellsConflict : Parts → List ℕ → ℕ → List (List ℕ) → Type 0
@@ -73,11 +82,15 @@ TellsConflict p s operator lines = (d e : ℕ)
 abbrev pub goal_fact_at : Parts → ℕ → Fact
 goal_fact_at p index = slice_index_or p.goal index (record { var = 0; value = 0 })
 
+-- `goal fact I`
+abbrev pub goal_line : ℕ → List ℕ
+goal_line index = line 2 (codes "goal fact" ∷ decimal index ∷ [])
+
 -- `goal fact I`, and its cause
 abbrev pub TellsGoalFact : Parts → Run → ℕ → List (List ℕ) → Type 0
 TellsGoalFact p run index lines = (cause : List (List ℕ))
     × IsCause p run (goal_fact_at p index) cause
-    × (lines ≡ line 2 (codes "goal fact" ∷ decimal index ∷ []) ∷ cause)
+    × (lines ≡ goal_line index ∷ cause)
 
 -- so for each goal fact that fails
 abbrev pub TellsGoal : Parts → Run → List (List ℕ) → Type 0
@@ -86,24 +99,29 @@ TellsGoal p run lines =
 
 -- ---- cost differs
 
--- `metric M`, `steps S`, `cost lines N`, where N is the sum of the operators' cost lines, whatever
--- the metric
+-- the sum of the operators' cost lines, whatever the metric
+abbrev pub cost_lines_sum : Parts → List ℕ → ℕ
+cost_lines_sum p operators = sum_by (λ operator. (operator_at p operator).cost) operators
+
+-- `metric M`, `steps S`, and `cost lines N` with that sum
 abbrev pub cost_lines : Parts → Run → List (List ℕ)
 cost_lines p run =
     line 2 (codes "metric" ∷ decimal (if p.metric then 1 else 0) ∷ [])
     ∷ line 2 (codes "steps" ∷ decimal (length run.steps) ∷ [])
-    ∷ line 2 (codes "cost lines"
-    ∷ decimal (sum_by (λ operator. (operator_at p operator).cost) run.operators) ∷ [])
+    ∷ line 2 (codes "cost lines" ∷ decimal (cost_lines_sum p run.operators) ∷ [])
     ∷ []
 
 -- ---- behind each of them
 
--- `step I may mean operator J`, where there is such a step
+-- `step I may mean operator J`
+abbrev pub other_line : ℕ → ℕ → List ℕ
+other_line step operator = line 2
+    (codes "step" ∷ decimal step ∷ codes "may mean operator" ∷ decimal operator ∷ [])
+
+-- this line, where there is such a step
 abbrev pub TellsOther : Parts → Run → List (List ℕ) → Type 0
 TellsOther p run lines =
-    ((step operator : ℕ) × MayMean p run step operator
-    × (lines ≡ line 2 (codes "step" ∷ decimal step ∷ codes "may mean operator"
-    ∷ decimal operator ∷ []) ∷ []))
+    ((step operator : ℕ) × MayMean p run step operator × (lines ≡ other_line step operator ∷ []))
     ⊎ (((k : ℕ) → HasOther p run k → ⊥) × (lines ≡ []))
 
 -- ---- why
