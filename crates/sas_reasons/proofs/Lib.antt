@@ -10,4 +10,5 @@ pub mod Listing
 pub mod Conflicts
 pub mod Telling
 pub mod Causes
+pub mod Places
 pub mod WhyPlan

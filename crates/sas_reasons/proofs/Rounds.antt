@@ -1,6 +1,6 @@
 -- The rounds in which the rules of a layer fire: what they reach grows, and is in the end what differs from its default.
 use Rattle.std.proofs.Common.{◌≡◌, ℕ, zero, suc, ◌+◌, ◌<◌, ◌≤◌, ◌⊎◌, Bool, true, false, cond, List, length, get_or, refl, sym, ◌∙◌, ap, subst, inl, inr, arith}
-use Rattle.std.specs.Prelude.{◌==◌, ◌&&◌}
+use Rattle.std.specs.Prelude.{◌==◌}
 use Rattle.std.specs.Bool.{Decides}
 use Rattle.std.specs.List.{list_any, HoldsAt}
 use Rattle.std.proofs.lemmas.Bool.{cases_eq, cases_Bool, false≢true, and_from, and_parts}
@@ -15,7 +15,7 @@ use Rattle.sas_meaning.specs.States.{Holds, AllHold}
 use Rattle.sas_meaning.specs.Layers.{IsOnLayer, default_of, CanFire, can_fire, IsLayered}
 use Rattle.sas_meaning.specs.Settled.{is_on_layer, new_value_of, value_with, IsClosed, differs, IsSettledAt}
 use Rattle.sas_meaning.proofs.Layers.{layer_tells, given_on, given_off, on_layer_within}
-use Rattle.sas_reasons.specs.Derivation.{all_hold, fires_with, reached}
+use Rattle.sas_reasons.specs.Derivation.{all_hold, can_give, fires_with, reached}
 
 -- ---- what the tests tell
 
@@ -32,13 +32,13 @@ pub fires_decides : (p : Parts) (layer : ℕ) (s : List ℕ) (members : ℕ → 
     → Decides (fires_with p layer s members var rule) (Fires p layer s members var rule)
 fires_decides p layer s members var rule =
     Decides-like (fires_with p layer s members var rule)
-    (λ w. record { on = w.0; can = w.1.0; hold = w.1.1 })
-    (λ f. (f.on, (f.can, f.hold)))
-    (Decides-and (rule.var == var) (can_fire p rule && all_hold (value_with p layer s members) rule.conditions)
+    (λ w. record { on = w.0.0; can = w.0.1; hold = w.1 })
+    (λ f. ((f.on, f.can), f.hold))
+    (Decides-and (can_give p var rule) (all_hold (value_with p layer s members) rule.conditions)
+    (Decides-and (rule.var == var) (can_fire p rule)
     (Decides-eqb rule.var var)
-    (Decides-and (can_fire p rule) (all_hold (value_with p layer s members) rule.conditions)
-    (Decides-not (rule.new == default_of p rule.var) (Decides-eqb rule.new (default_of p rule.var)))
-    (hold_decides (value_with p layer s members) rule.conditions)))
+    (Decides-not (rule.new == default_of p rule.var) (Decides-eqb rule.new (default_of p rule.var))))
+    (hold_decides (value_with p layer s members) rule.conditions))
 
 -- ---- how many numbers pass a test
 

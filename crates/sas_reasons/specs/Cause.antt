@@ -10,12 +10,12 @@ use Rattle.sas_core.specs.declared.parts.Rule.{Rule}
 use Rattle.sas_core.specs.declared.parts.Parts.{Parts}
 use Rattle.sas_core.specs.Variables.{layer_of}
 use Rattle.sas_core.specs.Grounded.{rule_at}
-use Rattle.sas_meaning.specs.Layers.{default_of, can_fire}
+use Rattle.sas_meaning.specs.Layers.{default_of}
 use Rattle.sas_meaning.specs.Settled.{differs}
 use Rattle.sas_reasons.specs.Lines.{line, fact_words, places}
 use Rattle.sas_reasons.specs.Runs.{Run, last_state}
 use Rattle.sas_reasons.specs.Since.{IsSince}
-use Rattle.sas_reasons.specs.Derivation.{IsDerivation}
+use Rattle.sas_reasons.specs.Derivation.{can_give, IsDerivation}
 
 -- whether the fact fails
 abbrev pub fails : List ℕ → Fact → Bool
@@ -70,11 +70,7 @@ abbrev pub failing_lines : Parts → List ℕ → ℕ → List (List ℕ)
 failing_lines p s rule = option_map_or (λ c. rule_asks_line p rule c ∷ [])
     (find (fails s) (rule_at p rule).conditions) []
 
--- whether a rule is one of the variable that can fire
-abbrev pub can_give : Parts → ℕ → Rule → Bool
-can_give p var rule = (rule.var == var) && can_fire p rule
-
--- whether such a rule gives the variable the value that is asked for
+-- whether a rule of the variable that can fire gives the variable the value that is asked for
 abbrev pub can_be_given : Parts → Fact → Bool
 can_be_given p fact =
     list_any (λ (rule : Rule). can_give p fact.var rule && (rule.new == fact.value)) p.rules

@@ -19,10 +19,14 @@ use Rattle.sas_reasons.specs.Lowest.{IsLowest}
 abbrev pub all_hold : (ℕ → ℕ) → List Fact → Bool
 all_hold value facts = list_all (λ (f : Fact). value f.var == f.value) facts
 
--- whether a rule of the variable can fire and its conditions hold with these members of the layer
+-- whether a rule is one of the variable that can fire
+abbrev pub can_give : Parts → ℕ → Rule → Bool
+can_give p var rule = (rule.var == var) && can_fire p rule
+
+-- whether such a rule's conditions hold with these members of the layer
 abbrev pub fires_with : Parts → ℕ → List ℕ → (ℕ → Bool) → ℕ → Rule → Bool
-fires_with p layer s members var rule = (rule.var == var)
-    && (can_fire p rule && all_hold (value_with p layer s members) rule.conditions)
+fires_with p layer s members var rule =
+    can_give p var rule && all_hold (value_with p layer s members) rule.conditions
 
 -- whether a variable of the layer is reached in this many rounds: in no round none is, and in one
 -- more each that has a rule that fires with those reached before

@@ -12,17 +12,17 @@ use Rattle.sas_meaning.specs.Layers.{IsBasic, IsOnLayer, default_of, CanFire, Is
 use Rattle.sas_meaning.specs.Settled.{differs, IsSettled}
 use Rattle.sas_meaning.specs.Steps.{Agree}
 use Rattle.sas_run.specs.declared.plan_check.PlanFault.{PlanFault}
-use Rattle.sas_run.specs.Plans.{LeadsTo}
-use Rattle.sas_run.specs.Verdicts.{IsFaultOf}
+use Rattle.sas_run.specs.Plans.{IsApplicable, IsNamed, LeadsTo}
+use Rattle.sas_run.specs.Verdicts.{IsFirstMissed, IsFaultOf}
 use Rattle.sas_reasons.specs.Runs.{Run, last_state, GoesThrough}
 use Rattle.sas_reasons.specs.Since.{value_at, IsSince}
 use Rattle.sas_reasons.specs.Likeness.{folded, IsLike}
 use Rattle.sas_reasons.specs.MayMean.{HasOther, MayMean}
 use Rattle.sas_reasons.specs.Derivation.{IsRank, IsGivenBy, InDerivation, ComesBefore, IsDerivation}
-use Rattle.sas_reasons.specs.Lines.{is_rule_line, told_once}
+use Rattle.sas_reasons.specs.Lines.{is_rule_line, told_once, places}
 use Rattle.sas_reasons.specs.Cause.{fails, can_be_given}
 use Rattle.sas_reasons.specs.Conflicts.{IsConflict}
-use Rattle.sas_reasons.specs.WhyPlan.{IsWhy}
+use Rattle.sas_reasons.specs.WhyPlan.{failing, operators_of, IsWhy}
 
 -- ---- runs
 
@@ -177,6 +177,20 @@ EachRuleFails = (p : Parts) (s : List ℕ) (rule : ℕ) → IsLayered p → IsSe
     → rule < length p.rules → CanFire p (rule_at p rule)
     → slice_index s (rule_at p rule).var ≡ default_of p (rule_at p rule).var
     → (c : Fact) × (find (fails s) (rule_at p rule).conditions ≡ Some c)
+
+-- an operator of which no precondition fails is applicable
+abbrev pub SomePreconditionFails : Type 0
+SomePreconditionFails = (s : List ℕ) (o : Operator) → failing s o ≡ [] → IsApplicable s o
+
+-- the operators of a name are those that have exactly this name
+abbrev pub OperatorsHaveName : Type 0
+OperatorsHaveName = (p : Parts) (name : List ℕ) (operator : ℕ)
+    → Contains (operators_of p name) operator ↔ IsNamed p name operator
+
+-- the first goal fact that fails is told first
+abbrev pub FirstGoalFact : Type 0
+FirstGoalFact = (p : Parts) (s : List ℕ) (index : ℕ) → IsFirstMissed (slice_index s) p.goal index
+    → (behind : List ℕ) × (places (fails s) p.goal ≡ index ∷ behind)
 
 -- ---- conflicts
 

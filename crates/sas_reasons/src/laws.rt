@@ -3,8 +3,8 @@ ghost use Rattle.sas_reasons.specs.Laws.{SomeRun, OneRun, SomeSince, OneSince, S
 ghost use Rattle.sas_reasons.specs.Laws.{SpaceFolds, FoldsOnce, SomeLike, OneLike, SomeMayMean, OneMayMean};
 ghost use Rattle.sas_reasons.specs.Laws.{RankIfDiffers, OneRank, SomeGiver, OneGiver, GiverFires, GiverLooksDown};
 ghost use Rattle.sas_reasons.specs.Laws.{ItselfIsLast, NoCircle, AllDiffer, SomeDerivation, OneDerivation, OwnRuleIsLast};
-ghost use Rattle.sas_reasons.specs.Laws.{DefaultIfNotGiven, EachRuleFails, SomeConflict, OneConflict, NoneIsLost};
-ghost use Rattle.sas_reasons.specs.Laws.{RulesToldOnce, SomeWhy, OneWhy};
+ghost use Rattle.sas_reasons.specs.Laws.{DefaultIfNotGiven, EachRuleFails, SomePreconditionFails, OperatorsHaveName};
+ghost use Rattle.sas_reasons.specs.Laws.{FirstGoalFact, SomeConflict, OneConflict, NoneIsLost, RulesToldOnce, SomeWhy, OneWhy};
 
 /// Ensures the laws of runs. Steps that lead to a state are those of a run, which in a layered task is one. Each variable has
 /// one last change in a run, and from there on one value.
@@ -54,11 +54,16 @@ pub fn derivation_laws()
 /// Ensures the laws of what is told.
 /// - A derived variable that hasn't a value which a rule can give it has its default, and then each of its rules that can fire
 ///   has a condition that fails.
+/// - An operator that isn't applicable has a precondition that fails. The operators of a name have exactly this name. The first
+///   goal fact that is told is the first that fails.
 /// - Where effects that fire don't agree, two conflict, and only two are told.
 /// - Of the lines that are told once none is lost, and none of a rule stands twice.
 pub fn cause_laws()
     ensures default { DefaultIfNotGiven }
     ensures each_fails { EachRuleFails }
+    ensures some_fails { SomePreconditionFails }
+    ensures named { OperatorsHaveName }
+    ensures first_goal { FirstGoalFact }
     ensures some_conflict { SomeConflict }
     ensures one_conflict { OneConflict }
     ensures none_lost { NoneIsLost }
