@@ -1,4 +1,4 @@
--- What follows from the definitions.
+-- What follows from the definitions: each reason is one, there is one, and none goes in a circle.
 use Rattle.std.specs.Prelude.{◌≡◌, ◌≢◌, ◌⊎◌, ◌↔◌, ℕ, ◌<◌, ◌≤◌, IsTrue, List, [], ◌∷◌, ◌++◌}
 use Rattle.std.specs.Prelude.{length, Option, Some, find, All, AllPairs, Contains, slice_index}
 use Rattle.sas_core.specs.declared.parts.Operator.{Operator}
@@ -146,7 +146,7 @@ abbrev pub AllDiffer : Type 0
 AllDiffer = (p : Parts) (s : List ℕ) (var other : ℕ) → IsLayered p → IsSettled p s
     → IsTrue (differs p s var) → InDerivation p s var other → IsTrue (differs p s other)
 
--- so it has a derivation
+-- a variable of a layer that differs from its default has a derivation
 abbrev pub SomeDerivation : Type 0
 SomeDerivation = (p : Parts) (s : List ℕ) (layer var : ℕ) → IsLayered p → IsSettled p s
     → IsOnLayer p layer var → IsTrue (differs p s var)
