@@ -1,0 +1,89 @@
+-- Effects that fire agree, or two of them conflict, and which two is one choice.
+use Rattle.std.proofs.Common.{◌≡◌, ℕ, ◌<◌, ◌⊎◌, List, [], length, get_or, None, slice_index, sym, ap, subst, inl, inr, arith}
+use Rattle.std.proofs.lemmas.Bool.{cases_eq, cases_lt, cases_order}
+use Rattle.std.proofs.lemmas.List.{get_or_default}
+use Rattle.sas_core.specs.declared.parts.Effect.{Effect}
+use Rattle.sas_core.specs.declared.parts.Operator.{Operator}
+use Rattle.sas_core.specs.Grounded.{effect_at}
+use Rattle.sas_meaning.specs.Steps.{Fires, Agree}
+use Rattle.sas_meaning.proofs.Facts.{hold_or_not}
+use Rattle.sas_reasons.specs.Lowest.{IsLowest}
+use Rattle.sas_reasons.specs.Conflicts.{Contradicts, IsContradicted, IsConflict}
+use Rattle.sas_reasons.specs.Laws.{SomeConflict, OneConflict}
+use Rattle.sas_reasons.proofs.Lowest.{lowest_is_one, lowest_below}
+
+module _ (s : List ℕ) (o : Operator) where
+  contradicts_or_not : (e d : ℕ) → Contradicts s o d e ⊎ (Contradicts s o d e → ⊥)
+  contradicts_or_not e d = elim (cases_lt d e) [
+    | inr ge ↦ inr (λ c. let lt = c.before in omega arith)
+    | inl before ↦ elim (cases_lt e (length o.effects)) [
+      | inr ge ↦ inr (λ c. let lt = c.exists in omega arith)
+      | inl exists ↦ elim (hold_or_not (slice_index s) (effect_at o d).conditions) [
+        | inr n ↦ inr (λ c. n c.fires)
+        | inl fires ↦ elim (hold_or_not (slice_index s) (effect_at o e).conditions) [
+          | inr n ↦ inr (λ c. n c.fires')
+          | inl fires' ↦ elim (cases_eq (effect_at o d).var (effect_at o e).var) [
+            | inr n ↦ inr (λ c. n c.var)
+            | inl var ↦ elim (cases_eq (effect_at o d).new (effect_at o e).new) [
+              | inl same ↦ inr (λ c. c.other same)
+              | inr other ↦ inl (record { before = before; exists = exists; fires = fires; fires' = fires'; var = var; other = other })
+            ]
+          ]
+        ]
+      ]
+    ]
+  ]
+
+  contradicted_or_not : (e : ℕ) → IsContradicted s o e ⊎ (IsContradicted s o e → ⊥)
+  contradicted_or_not e = elim (lowest_below (λ d. Contradicts s o d e) (contradicts_or_not e) e) [
+    | inl w ↦ inl (w.0, w.2.has)
+    | inr none ↦ inr (λ w. none w.0 w.1.before w.1)
+  ]
+
+  -- where no effect is contradicted they agree
+  module _ (none : (e : ℕ) → IsContradicted s o e → ⊥) where
+    later_agrees : (d e : ℕ) → d < e → e < length o.effects → Fires s (effect_at o d) → Fires s (effect_at o e)
+        → (effect_at o d).var ≡ (effect_at o e).var → (effect_at o d).new ≡ (effect_at o e).new
+    later_agrees d e before exists fires fires' var = elim (cases_eq (effect_at o d).new (effect_at o e).new) [
+      | inl same ↦ same
+      | inr other ↦ absurd (none e (d, record { before = before; exists = exists; fires = fires; fires' = fires'; var = var; other = other }))
+    ]
+
+    agrees_at : (d e : ℕ) → d < length o.effects → e < length o.effects → Fires s (effect_at o d) → Fires s (effect_at o e)
+        → (effect_at o d).var ≡ (effect_at o e).var → (effect_at o d).new ≡ (effect_at o e).new
+    agrees_at d e lt lt' fires fires' var = elim (cases_order d e) [
+      | inl same ↦ ap (λ k. (effect_at o k).new) same
+      | inr w ↦ elim w [
+        | inl before ↦ later_agrees d e before lt' fires fires' var
+        | inr behind ↦ sym (later_agrees e d behind lt fires' fires (sym var))
+      ]
+    ]
+
+    no_effect : Effect
+    no_effect = record { conditions = []; var = 0; old = None; new = 0 }
+
+    agrees : Agree s o.effects
+    unfolding no_effect
+    agrees i x lt j y lt' =
+        let e : effect_at o i ≡ get_or o.effects i x = get_or_default o.effects i no_effect x lt in
+        let f : effect_at o j ≡ get_or o.effects j y = get_or_default o.effects j no_effect y lt' in
+        subst (λ a. Fires s a → Fires s (get_or o.effects j y) → a.var ≡ (get_or o.effects j y).var → a.new ≡ (get_or o.effects j y).new) e
+        (subst (λ b. Fires s (effect_at o i) → Fires s b → (effect_at o i).var ≡ b.var → (effect_at o i).new ≡ b.new) f (agrees_at i j lt lt'))
+
+pub some_conflict : SomeConflict
+some_conflict s o clash = elim (lowest_below (IsContradicted s o) (contradicted_or_not s o) (length o.effects)) [
+  | inr none ↦ absurd (clash (agrees s o (λ e w. none e w.1.exists w)))
+  | inl w ↦ from w.0 w.2 (lowest_below (λ d. Contradicts s o d w.0) (contradicts_or_not s o w.0) w.0)
+]
+  where
+    from : (e : ℕ) → IsLowest (IsContradicted s o) e
+        → ((d : ℕ) × (d < e) × IsLowest (λ d. Contradicts s o d e) d) ⊎ ((d : ℕ) → d < e → Contradicts s o d e → ⊥)
+        → (d e : ℕ) × IsConflict s o d e
+    from e first (inl w) = (w.0, e, record { first = first; lowest = w.2 })
+    from e first (inr none) = absurd (let h = first.has in none h.0 h.1.before h.1)
+
+pub one_conflict : OneConflict
+one_conflict s o d e d' e' x y = (lowest_is_one (λ k. Contradicts s o k e') d d' (subst (λ f. IsLowest (λ k. Contradicts s o k f) d) same x.lowest) y.lowest, same)
+  where
+    same : e ≡ e'
+    same = lowest_is_one (IsContradicted s o) e e' x.first y.first

@@ -1,0 +1,281 @@
+-- What gives the derived variables their values, and in what order.
+use Rattle.std.proofs.Common.{◌≡◌, ◌≢◌, ℕ, zero, suc, ◌+◌, ◌<◌, ◌≤◌, ◌⊎◌, true, false, cond, List, length, get_or, None, Some, refl, sym, ◌∙◌, ap, subst, inl, inr, arith}
+use Rattle.std.specs.Prelude.{is_some}
+use Rattle.std.specs.List.{All}
+use Rattle.std.proofs.lemmas.Bool.{cases_eq, cases_lt, cases_Bool, false≢true}
+use Rattle.std.proofs.lemmas.List.Elements.{All-contains}
+use Rattle.sas_core.specs.declared.parts.Fact.{Fact}
+use Rattle.sas_core.specs.declared.parts.Parts.{Parts}
+use Rattle.sas_core.specs.Grounded.{rule_at}
+use Rattle.sas_core.specs.Variables.{layer_of}
+use Rattle.sas_meaning.specs.States.{AllHold}
+use Rattle.sas_meaning.specs.Layers.{IsBasic, IsOnLayer, default_of, LooksDown, IsLayered}
+use Rattle.sas_meaning.specs.Settled.{new_value_of, value_with, differs, IsSettled}
+use Rattle.sas_meaning.proofs.Layers.{layer_tells, layer_cases, given_on, given_off}
+use Rattle.sas_meaning.proofs.Rules.{new_value_is}
+use Rattle.sas_meaning.proofs.Unique.{differs_tells}
+use Rattle.sas_meaning.proofs.Forced.{differs_true}
+use Rattle.sas_reasons.specs.Lowest.{IsLowest}
+use Rattle.sas_reasons.specs.Derivation.{fires_with, reached, IsRank, Stands, FiresNext, IsGivenBy, RestsOn, Itself, Below, IsLess, ComesBefore}
+use Rattle.sas_reasons.specs.Laws.{RankIfDiffers, OneRank, SomeGiver, OneGiver, GiverFires, AsksLower, AsksEarlier, GiverLooksDown, ItselfIsLast, NoCircle, AllDiffer}
+use Rattle.sas_reasons.proofs.Lowest.{lowest_is_one, lowest_below, lowest_from}
+use Rattle.sas_reasons.proofs.Rounds.{Fires, fires_decides, ReachedBy, reached_by, more_hold, reached_differs, differs_reached}
+
+-- ---- ranks
+
+reached_or_not : (p : Parts) (layer : ℕ) (s : List ℕ) (var rounds : ℕ) → (reached p layer s rounds var ≡ true) ⊎ (reached p layer s rounds var ≡ true → ⊥)
+reached_or_not p layer s var rounds = elim (cases_Bool (reached p layer s rounds var)) [
+  | inl y ↦ inl y
+  | inr n ↦ inr (λ y. false≢true (sym n ∙ y))
+]
+
+-- a variable that is reached has a rank, no greater than the rounds that reach it
+rank_within : (p : Parts) (layer : ℕ) (s : List ℕ) (var rounds : ℕ) → reached p layer s rounds var ≡ true
+    → (rank : ℕ) × (rank ≤ rounds) × IsRank p layer s var rank
+rank_within p layer s var rounds is = elim (lowest_below (λ k. reached p layer s k var ≡ true) (reached_or_not p layer s var) (suc rounds)) [
+  | inl w ↦ (w.0, (let lt : w.0 < suc rounds = w.1 in omega arith), w.2)
+  | inr none ↦ absurd (none rounds (omega arith) is)
+]
+
+pub rank_if_differs : RankIfDiffers
+rank_if_differs p s layer var layered settled on = (
+  (λ w. reached_differs p layer s layered (settled layer) w.0 var w.1.has),
+  (λ d.
+      let w = differs_reached p layer s layered (settled layer) var on d in
+      let r = rank_within p layer s var w.0 w.1 in
+      (r.0, r.2)),
+)
+
+pub one_rank : OneRank
+one_rank p s layer var a b x y = lowest_is_one (λ k. reached p layer s k var ≡ true) a b x y
+
+-- a variable is on one layer
+one_layer : (p : Parts) (var a b : ℕ) → IsOnLayer p a var → IsOnLayer p b var → a ≡ b
+one_layer p var a b x y = let e : Some a ≡ Some b = sym x ∙ y in cc
+
+-- its layer and its rank are one
+pub stands_one : (p : Parts) (s : List ℕ) (var layer rank layer' rank' : ℕ) → Stands p s var layer rank → Stands p s var layer' rank'
+    → (layer ≡ layer') × (rank ≡ rank')
+stands_one p s var layer rank layer' rank' x y =
+    let e = one_layer p var layer layer' x.on y.on in
+    (e, one_rank p s layer' var rank rank' (subst (λ l. IsRank p l s var rank) e x.ranked) y.ranked)
+
+-- ---- the rule that gives a variable its value
+
+fires_next_or_not : (p : Parts) (s : List ℕ) (var layer rounds rule : ℕ) → FiresNext p s var layer rounds rule ⊎ (FiresNext p s var layer rounds rule → ⊥)
+fires_next_or_not p s var layer rounds rule = elim (cases_lt rule (length p.rules)) [
+  | inr ge ↦ inr (λ f. let lt = f.exists in omega arith)
+  | inl lt ↦ elim (cases_Bool (fires_with p layer s (reached p layer s rounds) var (rule_at p rule))) [
+    | inl y ↦ inl (record { exists = lt; fires = y })
+    | inr n ↦ inr (λ f. false≢true (sym n ∙ f.fires))
+  ]
+]
+
+-- a variable with a rank isn't reached in no round, and a rule gives it its value
+pub giver_at : (p : Parts) (s : List ℕ) (var layer rank : ℕ) → Stands p s var layer rank → (rule : ℕ) × IsGivenBy p s var rule
+giver_at p s var layer zero stands = absurd (false≢true stands.ranked.has)
+giver_at p s var layer (suc before) stands = from (reached_by p layer s before var stands.ranked.has)
+  where
+    next : ReachedBy p layer s (reached p layer s before) var → (rule : ℕ) × FiresNext p s var layer before rule
+    next by = (
+      by.rule,
+      record {
+        exists = by.exists;
+        fires = (fires_decides p layer s (reached p layer s before) var (rule_at p by.rule)).1 by.fires;
+      },
+    )
+
+    from : ReachedBy p layer s (reached p layer s before) var → (rule : ℕ) × IsGivenBy p s var rule
+    from by =
+        let n = next by in
+        let w = lowest_from (FiresNext p s var layer before) (fires_next_or_not p s var layer before) n.0 n.1 in (
+          w.0,
+          record {
+            layer = layer;
+            before = before;
+            stands = subst (λ k. Stands p s var layer k) (let e : suc before ≡ before + 1 = omega arith in e) stands;
+            lowest = w.1;
+          },
+        )
+
+pub some_giver : SomeGiver
+some_giver p s layer var layered settled on d =
+    let r = (rank_if_differs p s layer var layered settled on).1 d in
+    giver_at p s var layer r.0 (record { on = on; ranked = r.1 })
+
+pub one_giver : OneGiver
+one_giver p s var a b x y =
+    let e = stands_one p s var x.layer (x.before + 1) y.layer (y.before + 1) x.stands y.stands in
+    let same : x.before ≡ y.before = omega (arith, e.1) in
+    lowest_is_one (FiresNext p s var y.layer y.before) a b
+    (subst (λ k. IsLowest (FiresNext p s var y.layer k) a) same (subst (λ l. IsLowest (FiresNext p s var l x.before) a) e.0 x.lowest))
+    y.lowest
+
+-- it is a rule of that variable
+pub giver_on : (p : Parts) (s : List ℕ) (var rule : ℕ) → IsGivenBy p s var rule → (rule_at p rule).var ≡ var
+giver_on p s var rule given = ((fires_decides p given.layer s (reached p given.layer s given.before) var (rule_at p rule)).0 given.lowest.has.fires).on
+
+module _ (p : Parts) (s : List ℕ) (layered : IsLayered p) (settled : IsSettled p s) where
+  -- with the members that differ from their default each variable has its value
+  pub value_is : (layer var : ℕ) → value_with p layer s (differs p s) var ≡ get_or s var 0
+  value_is layer v = elim (layer_tells p layer v) [
+    | inr w ↦ given_off p layer s (differs p s) v w.0
+    | inl w ↦ given_on p layer s (differs p s) v w.0 ∙ elim (differs_tells p s v) [
+      | inl q ↦ ap (λ b. cond b (new_value_of p v) (default_of p v)) q.1 ∙ sym q.0
+      | inr q ↦ ap (λ b. cond b (new_value_of p v) (default_of p v)) q.1 ∙ sym ((settled layer).new v w.0 q.1)
+    ]
+  ]
+
+  module _ (var rule : ℕ) (given : IsGivenBy p s var rule) where
+    fires : Fires p given.layer s (reached p given.layer s given.before) var (rule_at p rule)
+    fires = (fires_decides p given.layer s (reached p given.layer s given.before) var (rule_at p rule)).0 given.lowest.has.fires
+
+    on_its_layer : IsOnLayer p given.layer (rule_at p rule).var
+    on_its_layer = subst (IsOnLayer p given.layer) (sym fires.on) given.stands.on
+
+    pub var_differs : differs p s var ≡ true
+    var_differs = reached_differs p given.layer s layered (settled given.layer) (given.before + 1) var given.stands.ranked.has
+
+    conditions_hold : AllHold (λ v. get_or s v 0) (rule_at p rule).conditions
+    conditions_hold j d lt = sym (value_is given.layer (get_or (rule_at p rule).conditions j d).var)
+        ∙ more_hold p given.layer s layered (reached p given.layer s given.before) (differs p s)
+        (λ v on r. reached_differs p given.layer s layered (settled given.layer) given.before v r)
+        rule given.lowest.has.exists on_its_layer fires.can fires.hold j d lt
+
+    pub given_value : (rule_at p rule).new ≡ get_or s var 0
+    given_value = sym (new_value_is p rule _ layered given.lowest.has.exists fires.can)
+        ∙ (ap (new_value_of p) fires.on ∙ sym ((settled given.layer).new var given.stands.on var_differs))
+
+    -- a condition that asks for another value than the default of a derived variable asks for one that comes before
+    asks_earlier : (c : Fact) (layer : ℕ) → LooksDown p (rule_at p rule).var c → IsOnLayer p layer c.var
+        → value_with p given.layer s (reached p given.layer s given.before) c.var ≡ c.value → get_or s c.var 0 ≡ c.value
+        → c.value ≢ default_of p c.var → ComesBefore p s c.var var
+    asks_earlier c layer down on hold holds other = elim (cases_eq layer given.layer) [
+      | inr ne ↦ (let le = (down given.layer layer on_its_layer on).0 in
+          let r = (rank_if_differs p s layer c.var layered settled on).1 (differs_true p s c.var (λ e. other (sym holds ∙ e))) in
+          record {
+            layer = layer;
+            rank = r.0;
+            stands = record { on = on; ranked = r.1 };
+            layer' = given.layer;
+            rank' = given.before + 1;
+            stands' = given.stands;
+            less = inl (omega arith);
+          })
+      | inl e ↦ same e (cases_Bool (reached p given.layer s given.before c.var))
+    ]
+      where
+        same : layer ≡ given.layer
+            → (reached p given.layer s given.before c.var ≡ true) ⊎ (reached p given.layer s given.before c.var ≡ false) → ComesBefore p s c.var var
+        same e (inl y) =
+            let r = rank_within p given.layer s c.var given.before y in
+            record {
+              layer = given.layer;
+              rank = r.0;
+              stands = record { on = subst (λ l. IsOnLayer p l c.var) e on; ranked = r.2 };
+              layer' = given.layer;
+              rank' = given.before + 1;
+              stands' = given.stands;
+              less = inr (refl, inl (let le : r.0 ≤ given.before = r.1 in omega arith));
+            }
+        same e (inr n) = absurd (other (sym hold
+            ∙ (given_on p given.layer s (reached p given.layer s given.before) c.var (subst (λ l. IsOnLayer p l c.var) e on)
+            ∙ ap (λ b. cond b (new_value_of p c.var) (default_of p c.var)) n)))
+
+    looks : (c : Fact) → LooksDown p (rule_at p rule).var c
+        → value_with p given.layer s (reached p given.layer s given.before) c.var ≡ c.value → get_or s c.var 0 ≡ c.value
+        → IsBasic p c.var ⊎ (AsksLower p var c ⊎ AsksEarlier p s var c)
+    looks c down hold holds = elim (layer_cases p c.var) [
+      | inl b ↦ inl b
+      | inr w ↦ elim (cases_eq c.value (default_of p c.var)) [
+        | inl e ↦ inr (inl (record {
+          default = e;
+          here = given.layer;
+          there = w.0;
+          on = given.stands.on;
+          asked = w.1;
+          lower = (down given.layer w.0 on_its_layer w.1).1 e;
+        }))
+        | inr other ↦ inr (inr (record { other = other; earlier = asks_earlier c w.0 down w.1 hold holds other }))
+      ]
+    ]
+
+    pub looks_down : All (λ (c : Fact). IsBasic p c.var ⊎ (AsksLower p var c ⊎ AsksEarlier p s var c)) (rule_at p rule).conditions
+    looks_down j d lt = looks (get_or (rule_at p rule).conditions j d)
+        ((layered.rules rule _ given.lowest.has.exists fires.can).order j d lt) (fires.hold j d lt) (conditions_hold j d lt)
+
+    -- that on which the rule rests comes before the variable, and differs from its default
+    pub rests_on_earlier : (other : ℕ) → RestsOn p rule other → ComesBefore p s other var
+    rests_on_earlier other rests =
+        at (All-contains (λ (c : Fact). IsBasic p c.var ⊎ (AsksLower p var c ⊎ AsksEarlier p s var c)) (rule_at p rule).conditions rests.condition looks_down rests.among)
+      where
+        at : IsBasic p rests.condition.var ⊎ (AsksLower p var rests.condition ⊎ AsksEarlier p s var rests.condition) → ComesBefore p s other var
+        at (inl basic) = absurd (false≢true (sym (ap is_some (subst (λ v. layer_of p.variables v ≡ None) rests.on basic)) ∙ rests.derived))
+        at (inr (inl lower)) = absurd (rests.other (subst (λ v. rests.condition.value ≡ default_of p v) rests.on lower.default))
+        at (inr (inr earlier)) = subst (λ v. ComesBefore p s v var) rests.on earlier.earlier
+
+pub giver_fires : GiverFires
+giver_fires p s var rule layered settled given =
+    (conditions_hold p s layered settled var rule given, (fires p s layered settled var rule given).on, given_value p s layered settled var rule given)
+
+pub giver_looks_down : GiverLooksDown
+giver_looks_down p s var rule layered settled given = looks_down p s layered settled var rule given
+
+-- ---- the order
+
+less_less : (a k x b l y c m z : ℕ) → IsLess a k x b l y → IsLess b l y c m z → IsLess a k x c m z
+less_less a k x b l y c m z (inl p) (inl q) = inl (omega arith)
+less_less a k x b l y c m z (inl p) (inr q) = inl (let e : b ≡ c = q.0 in omega arith)
+less_less a k x b l y c m z (inr p) (inl q) = inl (let e : a ≡ b = p.0 in omega arith)
+less_less a k x b l y c m z (inr p) (inr q) = inr (
+  p.0 ∙ q.0,
+  elim p.1 [
+    | inl lt ↦ elim q.1 [ inl lt' ↦ inl (omega arith) | inr w ↦ inl (let e : l ≡ m = w.0 in omega arith) ]
+    | inr w ↦ elim q.1 [
+      | inl lt' ↦ inl (let e : k ≡ l = w.0 in omega arith)
+      | inr v ↦ inr (w.0 ∙ v.0, (let lt : x < y = w.1 in let lt' : y < z = v.1 in omega arith))
+    ]
+  ],
+)
+
+never_less : (a k x : ℕ) → IsLess a k x a k x → ⊥
+never_less a k x (inl lt) = omega arith
+never_less a k x (inr w) = elim w.1 [ inl lt ↦ omega arith | inr v ↦ (let lt : x < x = v.1 in omega arith) ]
+
+module _ (p : Parts) (s : List ℕ) where
+  pub comes_before_that : (u v w : ℕ) → ComesBefore p s u v → ComesBefore p s v w → ComesBefore p s u w
+  comes_before_that u v w x y = record {
+    layer = x.layer;
+    rank = x.rank;
+    stands = x.stands;
+    layer' = y.layer';
+    rank' = y.rank';
+    stands' = y.stands';
+    less = less_less x.layer x.rank u y.layer y.rank v y.layer' y.rank' w
+        (let e = stands_one p s v x.layer' x.rank' y.layer y.rank x.stands' y.stands in
+        subst (λ r. IsLess x.layer x.rank u y.layer r v) e.1 (subst (λ l. IsLess x.layer x.rank u l x.rank' v) e.0 x.less))
+        y.less;
+  }
+
+  pub never_before : (v : ℕ) → ComesBefore p s v v → ⊥
+  never_before v x =
+      let e = stands_one p s v x.layer' x.rank' x.layer x.rank x.stands' x.stands in
+      never_less x.layer x.rank v (subst (λ r. IsLess x.layer x.rank v x.layer r v) e.1 (subst (λ l. IsLess x.layer x.rank v l x.rank' v) e.0 x.less))
+
+pub no_circle : NoCircle
+no_circle p s a b x y = never_before p s a (comes_before_that p s a b a x y)
+
+-- ---- derivations
+
+pub itself_is_last : ItselfIsLast
+itself_is_last p s var other layered settled Itself = inl refl
+itself_is_last p s var other layered settled (Below {u} {w} rule inside given rests) = elim (itself_is_last p s var u layered settled inside) [
+  | inl e ↦ inr (subst (λ v. ComesBefore p s w v) e (rests_on_earlier p s layered settled u rule given w rests))
+  | inr before ↦ inr (comes_before_that p s w u var (rests_on_earlier p s layered settled u rule given w rests) before)
+]
+
+pub all_differ : AllDiffer
+all_differ p s var other layered settled d Itself = d
+all_differ p s var other layered settled d (Below {u} {w} rule inside given rests) =
+    let before = rests_on_earlier p s layered settled u rule given w rests in
+    reached_differs p before.layer s layered (settled before.layer) before.rank w before.stands.ranked.has

@@ -1,0 +1,14 @@
+pub mod Lowest
+pub mod Runs
+pub mod Since
+pub mod Likeness
+pub mod MayMean
+pub mod Rounds
+pub mod Derivation
+pub mod Sorting
+pub mod Listing
+pub mod Conflicts
+pub mod Telling
+pub mod Causes
+pub mod Places
+pub mod WhyPlan

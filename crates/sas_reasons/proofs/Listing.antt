@@ -1,0 +1,196 @@
+-- A variable that differs from its default has a derivation: its rule, and those of the variables on which that one rests, which
+-- come before it.
+use Rattle.std.proofs.Common.{◌≡◌, ◌≢◌, ℕ, zero, suc, ◌<◌, ◌⊎◌, List, [], ◌∷◌, ◌++◌, get_or, refl, sym, ◌∙◌, subst, inl, inr, arith}
+use Rattle.std.specs.Prelude.{is_some}
+use Rattle.std.specs.List.{Contains}
+use Rattle.std.proofs.lemmas.Bool.{cases_eq, cases_Bool, false≢true}
+use Rattle.std.proofs.lemmas.List.Elements.{Contains-append_left, Contains-append_right, Contains-append_cases, Contains-get_or}
+use Rattle.sas_core.specs.declared.parts.Fact.{Fact}
+use Rattle.sas_core.specs.declared.parts.Parts.{Parts}
+use Rattle.sas_core.specs.Grounded.{rule_at}
+use Rattle.sas_core.specs.Variables.{layer_of, IsDerived}
+use Rattle.sas_meaning.specs.Layers.{default_of, IsLayered}
+use Rattle.sas_meaning.specs.Settled.{IsSettled}
+use Rattle.sas_reasons.specs.Derivation.{Stands, IsGivenBy, RestsOn, InDerivation, Itself, Below, IsLess, ComesBefore, IsRuleOf, IsDerivation}
+use Rattle.sas_reasons.specs.Laws.{SomeDerivation}
+use Rattle.sas_reasons.proofs.Derivation.{stands_one, giver_at, giver_on, one_giver, rests_on_earlier, rank_if_differs}
+use Rattle.sas_reasons.proofs.Sorting.{contains_head, contains_tail, contains_cases, contains_none, Sorted, sorted}
+
+-- ---- what comes before what can be gone through
+
+module _ (p : Parts) (s : List ℕ) (Good : ℕ → Type 0)
+    (step : (var layer rank : ℕ) → Stands p s var layer rank → ((other : ℕ) → ComesBefore p s other var → Good other) → Good var) where
+  -- the variables of this layer and this rank, where those of lower ranks and of lower layers are good
+  numbers : (layer rank : ℕ)
+      → ((other layer' rank' : ℕ) → (layer' < layer) ⊎ ((layer' ≡ layer) × (rank' < rank)) → Stands p s other layer' rank' → Good other)
+      → (k var : ℕ) → var < k → Stands p s var layer rank → Good var
+  numbers layer rank below zero var lt stands = absurd (omega arith)
+  numbers layer rank below (suc k) var lt stands = step var layer rank stands (λ other before.
+      let e = stands_one p s var before.layer' before.rank' layer rank before.stands' stands in
+      at other before.layer before.rank before.stands
+      (subst (λ r. IsLess before.layer before.rank other layer r var) e.1
+      (subst (λ l. IsLess before.layer before.rank other l before.rank' var) e.0 before.less))
+      (λ lt' stands'. numbers layer rank below k other (omega arith) stands'))
+    where
+      at : (other layer' rank' : ℕ) → Stands p s other layer' rank' → IsLess layer' rank' other layer rank var
+          → (other < var → Stands p s other layer rank → Good other) → Good other
+      at other layer' rank' stands' (inl lt') rest = below other layer' rank' (inl lt') stands'
+      at other layer' rank' stands' (inr w) rest = elim w.1 [
+        | inl lt' ↦ below other layer' rank' (inr (w.0, lt')) stands'
+        | inr v ↦ rest v.1 (subst (λ r. Stands p s other layer r) v.0 (subst (λ l. Stands p s other l rank') w.0 stands'))
+      ]
+
+  -- the variables of this layer, where those of lower layers are good
+  ranks : (layer : ℕ) → ((other layer' rank' : ℕ) → layer' < layer → Stands p s other layer' rank' → Good other)
+      → (m var rank : ℕ) → rank < m → Stands p s var layer rank → Good var
+  ranks layer below zero var rank lt stands = absurd (omega arith)
+  ranks layer below (suc m) var rank lt stands = numbers layer rank (λ other layer' rank' less stands'. elim less [
+    | inl lt' ↦ below other layer' rank' lt' stands'
+    | inr w ↦ ranks layer below m other rank' (let lt' : rank' < rank = w.1 in omega arith) (subst (λ l. Stands p s other l rank') w.0 stands')
+  ]) (suc var) var (omega arith) stands
+
+  layers : (n var layer rank : ℕ) → layer < n → Stands p s var layer rank → Good var
+  layers zero var layer rank lt stands = absurd (omega arith)
+  layers (suc n) var layer rank lt stands = ranks layer (λ other layer' rank' lt' stands'. layers n other layer' rank' (omega arith) stands') (suc rank) var rank (omega arith) stands
+
+  -- so all that stand somewhere are good
+  pub all_good : (var layer rank : ℕ) → Stands p s var layer rank → Good var
+  all_good var layer rank stands = layers (suc layer) var layer rank (omega arith) stands
+
+-- ---- the rules of a derivation, in any order
+
+-- all rules with a property
+pub record Listing (Has : ℕ → Type 0) : Type 0 where
+  pub rules : List ℕ
+  pub each : (rule : ℕ) → Contains rules rule → Has rule
+  pub whole : (rule : ℕ) → Has rule → Contains rules rule
+
+-- a condition asks for another value of a derived variable than its default
+record Asks (p : Parts) (c : Fact) : Type 0 where
+  derived : IsDerived p.variables c.var
+  other : c.value ≢ default_of p c.var
+
+asks_or_not : (p : Parts) (c : Fact) → Asks p c ⊎ (Asks p c → ⊥)
+asks_or_not p c = elim (cases_Bool (is_some (layer_of p.variables c.var))) [
+  | inr n ↦ inr (λ a. false≢true (sym n ∙ a.derived))
+  | inl y ↦ elim (cases_eq c.value (default_of p c.var)) [
+    | inl e ↦ inr (λ a. a.other e)
+    | inr ne ↦ inl (record { derived = y; other = ne })
+  ]
+]
+
+module _ (p : Parts) (s : List ℕ) where
+  -- a variable in a derivation is the first one, or in that of a variable on which the first one's rule rests
+  inverted : (var rule : ℕ) → IsGivenBy p s var rule → (u : ℕ) → InDerivation p s var u
+      → (u ≡ var) ⊎ ((w : ℕ) × RestsOn p rule w × InDerivation p s w u)
+  inverted var rule given u Itself = inl refl
+  inverted var rule given u (Below {u = v} {w = u'} rule' inside given' rests') = elim (inverted var rule given v inside) [
+    | inl e ↦ inr (u', subst (λ r. RestsOn p r u') (one_giver p s var rule' rule (subst (λ x. IsGivenBy p s x rule') e given') given) rests', Itself)
+    | inr w ↦ inr (w.0, w.1, Below rule' w.2 given' rests')
+  ]
+
+  -- and what is in that is in the derivation
+  extended : (var rule w : ℕ) → IsGivenBy p s var rule → RestsOn p rule w → (u : ℕ) → InDerivation p s w u → InDerivation p s var u
+  extended var rule w given rests u Itself = Below rule Itself given rests
+  extended var rule w given rests u (Below {u = v} {w = u'} rule' inside given' rests') = Below rule' (extended var rule w given rests v inside) given' rests'
+
+  -- the rules of the derivations of the variables for which these conditions ask
+  abbrev RuleOfOne : List Fact → ℕ → Type 0
+  RuleOfOne cs rule = (c : Fact) × Contains cs c × Asks p c × IsRuleOf p s c.var rule
+
+  gathered : (cs : List Fact) → ((c : Fact) → Contains cs c → Asks p c → Listing (IsRuleOf p s c.var)) → Listing (RuleOfOne cs)
+  gathered [] lists = record {
+    rules = [];
+    each = λ rule h. absurd (contains_none rule h);
+    whole = λ rule h. absurd (contains_none h.0 h.1);
+  }
+  gathered (c ∷ cs) lists = more (asks_or_not p c) (gathered cs (λ d h a. lists d (contains_tail c cs d h) a))
+    where
+      later : (rule : ℕ) → RuleOfOne cs rule → RuleOfOne (c ∷ cs) rule
+      later rule w = (w.0, contains_tail c cs w.0 w.1, w.2, w.3)
+
+      more : Asks p c ⊎ (Asks p c → ⊥) → Listing (RuleOfOne cs) → Listing (RuleOfOne (c ∷ cs))
+      more (inr none) rest = record {
+        rules = rest.rules;
+        each = λ rule h. later rule (rest.each rule h);
+        whole = λ rule h. elim (contains_cases c cs h.0 h.1) [
+          | inl e ↦ absurd (none (subst (λ d. Asks p d) (sym e) h.2))
+          | inr behind ↦ rest.whole rule (h.0, behind, h.2, h.3)
+        ];
+      }
+      more (inl asks) rest =
+          let its = lists c (contains_head c cs) asks in
+          record {
+            rules = its.rules ++ rest.rules;
+            each = λ rule h. elim (Contains-append_cases its.rules rest.rules rule h) [
+              | inl here ↦ (c, contains_head c cs, asks, its.each rule here)
+              | inr there ↦ later rule (rest.each rule there)
+            ];
+            whole = λ rule h. elim (contains_cases c cs h.0 h.1) [
+              | inl e ↦ Contains-append_left its.rules rest.rules rule (its.whole rule (subst (λ (d : Fact). IsRuleOf p s d.var rule) (sym e) h.3))
+              | inr behind ↦ Contains-append_right its.rules rest.rules rule (rest.whole rule (h.0, behind, h.2, h.3))
+            ];
+          }
+
+  module _ (layered : IsLayered p) (settled : IsSettled p s) where
+    -- the rules of a derivation are that of the variable and those of the derivations of the variables on which it rests
+    listed : (var rule : ℕ) → IsGivenBy p s var rule → ((other : ℕ) → ComesBefore p s other var → Listing (IsRuleOf p s other))
+        → Listing (IsRuleOf p s var)
+    listed var rule given lists = from (gathered (rule_at p rule).conditions (λ c among asks. lists c.var (rests_on_earlier p s layered settled var rule given c.var
+        (record { condition = c; among = among; on = refl; derived = asks.derived; other = asks.other }))))
+      where
+        on : (rule_at p rule).var ≡ var
+        on = giver_on p s var rule given
+
+        itself : IsRuleOf p s var rule
+        itself = (subst (InDerivation p s var) (sym on) Itself, subst (λ v. IsGivenBy p s v rule) (sym on) given)
+
+        from : Listing (RuleOfOne (rule_at p rule).conditions) → Listing (IsRuleOf p s var)
+        from rest = record {
+          rules = rule ∷ rest.rules;
+          each = λ k h. elim (contains_cases rule rest.rules k h) [
+            | inl e ↦ subst (IsRuleOf p s var) e itself
+            | inr behind ↦ (let w = rest.each k behind in
+                let rests : RestsOn p rule w.0.var = record { condition = w.0; among = w.1; on = refl; derived = w.2.derived; other = w.2.other } in
+                (extended var rule w.0.var given rests (rule_at p k).var w.3.0, w.3.1))
+          ];
+          whole = λ k h. elim (inverted var rule given (rule_at p k).var h.0) [
+            | inl e ↦ (let same : rule ≡ k = one_giver p s var rule k given (subst (λ v. IsGivenBy p s v k) e h.1) in
+                subst (λ x. Contains (rule ∷ rest.rules) x) same (contains_head rule rest.rules))
+            | inr w ↦ contains_tail rule rest.rules k (rest.whole k (of w.0 k w.1 w.2 h.1))
+          ];
+        }
+          where
+            of : (w k : ℕ) → RestsOn p rule w → InDerivation p s w (rule_at p k).var → IsGivenBy p s (rule_at p k).var k → RuleOfOne (rule_at p rule).conditions k
+            of w k rests inside its = (
+              rests.condition,
+              rests.among,
+              record {
+                derived = subst (IsDerived p.variables) (sym rests.on) rests.derived;
+                other = subst (λ v. rests.condition.value ≢ default_of p v) (sym rests.on) rests.other;
+              },
+              (subst (λ v. InDerivation p s v (rule_at p k).var) (sym rests.on) inside, its),
+            )
+
+    pub listing : (var layer rank : ℕ) → Stands p s var layer rank → Listing (IsRuleOf p s var)
+    listing = all_good p s (λ var. Listing (IsRuleOf p s var)) (λ var layer rank stands lists.
+        let g = giver_at p s var layer rank stands in
+        listed var g.0 g.1 lists)
+
+    derived_in_order : (var : ℕ) → Listing (IsRuleOf p s var) → (rules : List ℕ) × IsDerivation p s var rules
+    derived_in_order var list = from (sorted p s list.rules (λ k d lt. (list.each (get_or list.rules k d) (Contains-get_or list.rules k d lt)).1))
+      where
+        from : Sorted p s (Contains list.rules) → (rules : List ℕ) × IsDerivation p s var rules
+        from t = (
+          t.rules,
+          record {
+            each = λ k d lt. list.each (get_or t.rules k d) (t.each k d lt);
+            whole = λ rule h. t.whole rule (list.whole rule h);
+            ordered = t.pairs;
+          },
+        )
+
+pub some_derivation : SomeDerivation
+some_derivation p s layer var layered settled on d =
+    let r = (rank_if_differs p s layer var layered settled on).1 d in
+    derived_in_order p s layered settled var (listing p s layered settled var layer r.0 (record { on = on; ranked = r.1 }))

@@ -1,0 +1,48 @@
+-- The lowest number with a property is one, and is found where the property can be told.
+use Rattle.std.proofs.Common.{◌≡◌, ℕ, zero, suc, ◌<◌, ◌⊎◌, Option, Some, None, refl, ap, subst, inl, inr, arith}
+use Rattle.std.proofs.lemmas.Bool.{cases_eq, cases_lt}
+use Rattle.sas_reasons.specs.Lowest.{IsLowest, IsLowestIfAny}
+
+pub lowest_is_one : (Has : ℕ → Type 0) (a b : ℕ) → IsLowest Has a → IsLowest Has b → a ≡ b
+lowest_is_one Has a b x y = elim (cases_lt a b) [
+  | inl lt ↦ absurd (y.first a lt x.has)
+  | inr ge ↦ elim (cases_lt b a) [
+    | inl lt ↦ absurd (x.first b lt y.has)
+    | inr le ↦ omega arith
+  ]
+]
+
+pub lowest_if_any_is_one : (Has : ℕ → Type 0) (a b : Option ℕ) → IsLowestIfAny Has a → IsLowestIfAny Has b → a ≡ b
+lowest_if_any_is_one Has None None x y = refl
+lowest_if_any_is_one Has None (Some b) x y = absurd (x b y.has)
+lowest_if_any_is_one Has (Some a) None x y = absurd (y a x.has)
+lowest_if_any_is_one Has (Some a) (Some b) x y = ap Some (lowest_is_one Has a b x y)
+
+module _ (Has : ℕ → Type 0) (tell : (n : ℕ) → Has n ⊎ (Has n → ⊥)) where
+  -- of the numbers below a bound one is the lowest, or none has the property
+  pub lowest_below : (bound : ℕ) → ((n : ℕ) × (n < bound) × IsLowest Has n) ⊎ ((n : ℕ) → n < bound → Has n → ⊥)
+  lowest_below zero = inr (λ n lt. absurd (omega arith))
+  lowest_below (suc bound) = elim (lowest_below bound) [
+    | inl w ↦ inl (w.0, (let lt : w.0 < bound = w.1 in omega arith), w.2)
+    | inr none ↦ elim (tell bound) [
+      | inl has ↦ inl (bound, omega arith, record { has = has; first = none })
+      | inr not_here ↦ inr (λ n lt h. elim (cases_eq n bound) [
+        | inl e ↦ not_here (subst Has e h)
+        | inr ne ↦ none n (omega arith) h
+      ])
+    ]
+  ]
+
+  -- where all numbers with the property are below a bound
+  pub lowest_if_any : (bound : ℕ) → ((n : ℕ) → Has n → n < bound) → (o : Option ℕ) × IsLowestIfAny Has o
+  lowest_if_any bound within = elim (lowest_below bound) [
+    | inl w ↦ (Some w.0, w.2)
+    | inr none ↦ (None, λ n has. none n (within n has) has)
+  ]
+
+  -- where some number has it
+  pub lowest_from : (n : ℕ) → Has n → (k : ℕ) × IsLowest Has k
+  lowest_from n has = elim (lowest_below (suc n)) [
+    | inl w ↦ (w.0, w.2)
+    | inr none ↦ absurd (none n (omega arith) has)
+  ]

@@ -1,0 +1,198 @@
+-- The rounds in which the rules of a layer fire: what they reach grows, and is in the end what differs from its default.
+use Rattle.std.proofs.Common.{◌≡◌, ℕ, zero, suc, ◌+◌, ◌<◌, ◌≤◌, ◌⊎◌, Bool, true, false, cond, List, length, get_or, refl, sym, ◌∙◌, ap, subst, inl, inr, arith}
+use Rattle.std.specs.Prelude.{◌==◌}
+use Rattle.std.specs.Bool.{Decides}
+use Rattle.std.specs.List.{list_any, HoldsAt}
+use Rattle.std.proofs.lemmas.Bool.{cases_eq, cases_Bool, false≢true, and_from, and_parts}
+use Rattle.std.proofs.lemmas.Bool.Decides.{Decides-eqb, Decides-not, Decides-and, Decides-like, Decides-by_and, Decides-by_or}
+use Rattle.std.proofs.lemmas.List.{get_or_default}
+use Rattle.std.proofs.lemmas.List.Folds.{list_any_at}
+use Rattle.sas_core.specs.declared.parts.Fact.{Fact}
+use Rattle.sas_core.specs.declared.parts.Rule.{Rule}
+use Rattle.sas_core.specs.declared.parts.Parts.{Parts}
+use Rattle.sas_core.specs.Grounded.{rule_at}
+use Rattle.sas_meaning.specs.States.{Holds, AllHold}
+use Rattle.sas_meaning.specs.Layers.{IsOnLayer, default_of, CanFire, can_fire, IsLayered}
+use Rattle.sas_meaning.specs.Settled.{is_on_layer, new_value_of, value_with, IsClosed, differs, IsSettledAt}
+use Rattle.sas_meaning.proofs.Layers.{layer_tells, given_on, given_off, on_layer_within}
+use Rattle.sas_reasons.specs.Derivation.{all_hold, can_give, fires_with, reached}
+
+-- ---- what the tests tell
+
+pub hold_decides : (value : ℕ → ℕ) (facts : List Fact) → Decides (all_hold value facts) (AllHold value facts)
+hold_decides value facts = Decides-by_and (λ (f : Fact). value f.var == f.value) (Holds value) (all_hold value) (λ f. Decides-eqb (value f.var) f.value) refl (λ _ _. refl) facts
+
+-- a rule of the variable can fire, and its conditions hold with the members
+pub record Fires (p : Parts) (layer : ℕ) (s : List ℕ) (members : ℕ → Bool) (var : ℕ) (rule : Rule) : Type 0 where
+  pub on : rule.var ≡ var
+  pub can : CanFire p rule
+  pub hold : AllHold (value_with p layer s members) rule.conditions
+
+pub fires_decides : (p : Parts) (layer : ℕ) (s : List ℕ) (members : ℕ → Bool) (var : ℕ) (rule : Rule)
+    → Decides (fires_with p layer s members var rule) (Fires p layer s members var rule)
+fires_decides p layer s members var rule =
+    Decides-like (fires_with p layer s members var rule)
+    (λ w. record { on = w.0.0; can = w.0.1; hold = w.1 })
+    (λ f. ((f.on, f.can), f.hold))
+    (Decides-and (can_give p var rule) (all_hold (value_with p layer s members) rule.conditions)
+    (Decides-and (rule.var == var) (can_fire p rule)
+    (Decides-eqb rule.var var)
+    (Decides-not (rule.new == default_of p rule.var) (Decides-eqb rule.new (default_of p rule.var))))
+    (hold_decides (value_with p layer s members) rule.conditions))
+
+-- ---- how many numbers pass a test
+
+count : (ℕ → Bool) → ℕ → ℕ
+count f zero = 0
+count f (suc n) = cond (f n) 1 0 + count f n
+
+count_within : (f : ℕ → Bool) (n : ℕ) → count f n ≤ n
+unfolding count
+count_within f zero = omega arith
+count_within f (suc n) = elim (cases_Bool (f n)) [
+  | inl y ↦ rw y (let ih = count_within f n in omega arith)
+  | inr y ↦ rw y (let ih = count_within f n in omega arith)
+]
+
+-- of two tests one passes more, or they pass the same numbers
+same_or_more : (f g : ℕ → Bool) → ((v : ℕ) → f v ≡ true → g v ≡ true) → (n : ℕ)
+    → (((v : ℕ) → v < n → g v ≡ true → f v ≡ true) × (count f n ≤ count g n)) ⊎ (count f n < count g n)
+unfolding count
+same_or_more f g grows zero = inl ((λ v lt. absurd (omega arith)), omega arith)
+same_or_more f g grows (suc n) = elim (cases_Bool (f n)) [
+  | inl y ↦ elim (same_or_more f g grows n) [
+    | inl w ↦ inl ((λ v lt h. here v lt h y w.0), rw (y, grows n y) (let le = w.1 in omega arith))
+    | inr more ↦ inr (rw (y, grows n y) (omega arith))
+  ]
+  | inr not_f ↦ elim (cases_Bool (g n)) [
+    | inl y ↦ inr (rw (not_f, y) (elim (same_or_more f g grows n) [ inl w ↦ (let le = w.1 in omega arith) | inr more ↦ omega arith ]))
+    | inr neither ↦ elim (same_or_more f g grows n) [
+      | inl w ↦ inl ((λ v lt h. there v lt h neither w.0), rw (not_f, neither) (let le = w.1 in omega arith))
+      | inr more ↦ inr (rw (not_f, neither) (omega arith))
+    ]
+  ]
+]
+  where
+    here : (v : ℕ) → v < suc n → g v ≡ true → f n ≡ true → ((u : ℕ) → u < n → g u ≡ true → f u ≡ true) → f v ≡ true
+    here v lt h y below = elim (cases_eq v n) [
+      | inl e ↦ ap f e ∙ y
+      | inr ne ↦ below v (omega arith) h
+    ]
+
+    there : (v : ℕ) → v < suc n → g v ≡ true → g n ≡ false → ((u : ℕ) → u < n → g u ≡ true → f u ≡ true) → f v ≡ true
+    there v lt h not_g below = elim (cases_eq v n) [
+      | inl e ↦ absurd (false≢true (sym not_g ∙ (ap g (sym e) ∙ h)))
+      | inr ne ↦ below v (omega arith) h
+    ]
+
+-- ---- the rounds of a layer
+
+module _ (p : Parts) (layer : ℕ) (s : List ℕ) where
+  -- a rule by which the variable is reached from members
+  pub record ReachedBy (members : ℕ → Bool) (var : ℕ) : Type 0 where
+    pub on : IsOnLayer p layer var
+    pub rule : ℕ
+    pub exists : rule < length p.rules
+    pub fires : Fires p layer s members var (rule_at p rule)
+
+  pub reached_by : (rounds var : ℕ) → reached p layer s (suc rounds) var ≡ true → ReachedBy (reached p layer s rounds) var
+  reached_by rounds var is =
+      let both = and_parts (is_on_layer p layer var) (list_any (fires_with p layer s (reached p layer s rounds) var) p.rules) is in
+      from both.0 ((Decides-by_or (fires_with p layer s (reached p layer s rounds) var) (Fires p layer s (reached p layer s rounds) var)
+      (list_any (fires_with p layer s (reached p layer s rounds) var))
+      (fires_decides p layer s (reached p layer s rounds) var) refl (λ _ _. refl) p.rules).0 both.1)
+    where
+      from : is_on_layer p layer var ≡ true
+          → (k : ℕ) × (k < length p.rules) × HoldsAt (Fires p layer s (reached p layer s rounds) var) p.rules k → ReachedBy (reached p layer s rounds) var
+      from on w = record {
+        on = elim (layer_tells p layer var) [ inl t ↦ t.0 | inr t ↦ absurd (false≢true (sym t.1 ∙ on)) ];
+        rule = w.0;
+        exists = w.1;
+        fires = w.2 _;
+      }
+
+  pub reach : (rounds var : ℕ) → ReachedBy (reached p layer s rounds) var → reached p layer s (suc rounds) var ≡ true
+  reach rounds var by = and_from (is_on_layer p layer var) (list_any (fires_with p layer s (reached p layer s rounds) var) p.rules)
+      (elim (layer_tells p layer var) [ inl t ↦ t.1 | inr t ↦ absurd (t.0 by.on) ])
+      (list_any_at (fires_with p layer s (reached p layer s rounds) var) p.rules by.rule _ by.exists
+      ((fires_decides p layer s (reached p layer s rounds) var (rule_at p by.rule)).1 by.fires))
+
+  module _ (layered : IsLayered p) where
+    -- with more members the conditions of a rule of the layer hold still
+    pub more_hold : (a b : ℕ → Bool) → ((v : ℕ) → IsOnLayer p layer v → a v ≡ true → b v ≡ true) → (rule : ℕ) → rule < length p.rules
+        → IsOnLayer p layer (rule_at p rule).var → CanFire p (rule_at p rule)
+        → AllHold (value_with p layer s a) (rule_at p rule).conditions → AllHold (value_with p layer s b) (rule_at p rule).conditions
+    more_hold a b more rule exists on can hold j d lt = at (get_or (rule_at p rule).conditions j d) (hold j d lt) ((layered.rules rule _ exists can).order j d lt)
+      where
+        at : (c : Fact) → value_with p layer s a c.var ≡ c.value
+            → ((here there : ℕ) → IsOnLayer p here (rule_at p rule).var → IsOnLayer p there c.var → (there ≤ here) × (c.value ≡ default_of p c.var → there < here))
+            → value_with p layer s b c.var ≡ c.value
+        at c h down = elim (layer_tells p layer c.var) [
+          | inr w ↦ given_off p layer s b c.var w.0 ∙ (sym (given_off p layer s a c.var w.0) ∙ h)
+          | inl w ↦ elim (cases_Bool (a c.var)) [
+            | inl y ↦ given_on p layer s b c.var w.0 ∙ (ap (λ t. cond t (new_value_of p c.var) (default_of p c.var)) (more c.var w.0 y ∙ sym y)
+                ∙ (sym (given_on p layer s a c.var w.0) ∙ h))
+            | inr not_f ↦
+                (let asks : c.value ≡ default_of p c.var =
+                sym h ∙ (given_on p layer s a c.var w.0 ∙ ap (λ t. cond t (new_value_of p c.var) (default_of p c.var)) not_f) in
+                let lt : layer < layer = (down layer layer on w.0).1 asks in
+                absurd (omega arith))
+          ]
+        ]
+
+    -- what fires with some members fires with more
+    pub more_fire : (a b : ℕ → Bool) → ((v : ℕ) → IsOnLayer p layer v → a v ≡ true → b v ≡ true) → (var : ℕ) → ReachedBy a var → ReachedBy b var
+    more_fire a b more var by = record {
+      on = by.on;
+      rule = by.rule;
+      exists = by.exists;
+      fires = record {
+        on = by.fires.on;
+        can = by.fires.can;
+        hold = more_hold a b more by.rule by.exists (subst (IsOnLayer p layer) (sym by.fires.on) by.on) by.fires.can by.fires.hold;
+      };
+    }
+
+    -- what is reached stays reached
+    pub reached_more : (rounds var : ℕ) → reached p layer s rounds var ≡ true → reached p layer s (suc rounds) var ≡ true
+    reached_more zero var is = absurd (false≢true is)
+    reached_more (suc rounds) var is = reach (suc rounds) var
+        (more_fire (reached p layer s rounds) (reached p layer s (suc rounds)) (λ v on r. reached_more rounds v r) var (reached_by rounds var is))
+
+    -- where a round reaches no more, what was reached is closed
+    closed_when_same : (rounds : ℕ) → ((v : ℕ) → v < length p.variables → reached p layer s (suc rounds) v ≡ true → reached p layer s rounds v ≡ true)
+        → IsClosed p layer s (reached p layer s rounds)
+    closed_when_same rounds same k d lt on can hold =
+        let is : rule_at p k ≡ get_or p.rules k d = get_or_default p.rules k _ d lt in
+        same (get_or p.rules k d).var (on_layer_within p layer (get_or p.rules k d).var on) (reach rounds (get_or p.rules k d).var (record {
+          on = on;
+          rule = k;
+          exists = lt;
+          fires = subst (λ r. Fires p layer s (reached p layer s rounds) (get_or p.rules k d).var r) (sym is) (record { on = refl; can = can; hold = hold });
+        }))
+
+    -- some round reaches no more
+    closed_in : (fuel rounds : ℕ) → length p.variables < count (reached p layer s rounds) (length p.variables) + fuel
+        → (m : ℕ) × IsClosed p layer s (reached p layer s m)
+    closed_in zero rounds enough = absurd (let w = count_within (reached p layer s rounds) (length p.variables) in omega arith)
+    closed_in (suc fuel) rounds enough = elim (same_or_more (reached p layer s rounds) (reached p layer s (suc rounds)) (reached_more rounds) (length p.variables)) [
+      | inl w ↦ (rounds, closed_when_same rounds w.0)
+      | inr more ↦ closed_in fuel (suc rounds) (omega arith)
+    ]
+
+    module _ (settled : IsSettledAt p layer s) where
+      -- what is reached differs from its default
+      pub reached_differs : (rounds var : ℕ) → reached p layer s rounds var ≡ true → differs p s var ≡ true
+      reached_differs zero var is = absurd (false≢true is)
+      reached_differs (suc rounds) var is =
+          from (more_fire (reached p layer s rounds) (differs p s) (λ v on r. reached_differs rounds v r) var (reached_by rounds var is))
+        where
+          from : ReachedBy (differs p s) var → differs p s var ≡ true
+          from by = ap (differs p s) (sym by.fires.on)
+              ∙ settled.closed by.rule _ by.exists (subst (IsOnLayer p layer) (sym by.fires.on) by.on) by.fires.can by.fires.hold
+
+      -- and what differs is reached
+      pub differs_reached : (var : ℕ) → IsOnLayer p layer var → differs p s var ≡ true → (rounds : ℕ) × (reached p layer s rounds var ≡ true)
+      differs_reached var on d =
+          let w = closed_in (suc (length p.variables)) 0 (omega arith) in
+          (w.0, settled.least (reached p layer s w.0) w.1 var on d)

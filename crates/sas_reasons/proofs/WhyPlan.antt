@@ -1,0 +1,192 @@
+-- The fault of a plan is told, in one way.
+use Rattle.std.proofs.Common.{◌≡◌, ℕ, ◌-◌, ◌<◌, List, [], ◌∷◌, ◌++◌, length, take, Option, refl, sym, ◌∙◌, ap, subst, inl, inr, arith}
+use Rattle.std.specs.Option.{option_map_or}
+use Rattle.std.proofs.Math.Seq.{take-append_seam}
+use Rattle.sas_core.specs.declared.parts.Parts.{Parts}
+use Rattle.sas_core.specs.PlanParts.{PlanParts}
+use Rattle.sas_core.specs.Stepwise.{step_at}
+use Rattle.sas_core.specs.Grounded.{operator_at}
+use Rattle.sas_meaning.specs.Layers.{IsLayered}
+use Rattle.sas_meaning.specs.Settled.{IsSettled}
+use Rattle.sas_meaning.specs.Steps.{preconditions}
+use Rattle.sas_run.specs.declared.plan_check.PlanFault.{PlanFault}
+use Rattle.sas_run.specs.declared.plan_check.PlanFault.TheVariants.{Memory, NoOperator, NotApplicable, Conflict, GoalMissed, CostDiffers}
+use Rattle.sas_run.specs.Plans.{GoThrough, LeadsTo}
+use Rattle.sas_run.specs.Verdicts.{ComesTo, IsFaultOf}
+use Rattle.sas_reasons.specs.Lines.{told_once, TellsEach, places}
+use Rattle.sas_reasons.specs.Runs.{Run, last_state, GoesThrough}
+use Rattle.sas_reasons.specs.Cause.{fails, IsCause}
+use Rattle.sas_reasons.specs.WhyPlan.{step_line, operator_line, like_line, TellsLike, failing, operators_of, TellsInapplicable, effect_line, TellsConflict, goal_fact_at, goal_line, TellsGoalFact, cost_lines, other_line, TellsOther, steps_before, TellsFault, IsWhy}
+use Rattle.sas_reasons.specs.Laws.{SomeWhy, OneWhy}
+use Rattle.sas_reasons.proofs.Runs.{some_run, one_run}
+use Rattle.sas_reasons.proofs.Likeness.{some_like, one_like}
+use Rattle.sas_reasons.proofs.MayMean.{some_may_mean, one_may_mean}
+use Rattle.sas_reasons.proofs.Causes.{some_cause, one_cause}
+use Rattle.sas_reasons.proofs.Conflicts.{some_conflict, one_conflict}
+
+-- ---- the lines of each item
+
+each_one : {A : Type 0} (Tells : A → List (List ℕ) → Type 0) → ((item : A) (a b : List (List ℕ)) → Tells item a → Tells item b → a ≡ b)
+    → (items : List A) (a b : List (List ℕ)) → TellsEach Tells items a → TellsEach Tells items b → a ≡ b
+each_one Tells one [] a b x y = x ∙ sym y
+each_one Tells one (item ∷ items) a b x y = x.4
+    ∙ (ap (λ (its : List (List ℕ)). its ++ x.1) (one item x.0 y.0 x.2 y.2)
+    ∙ (ap (λ (others : List (List ℕ)). y.0 ++ others) (each_one Tells one items x.1 y.1 x.3 y.3) ∙ sym y.4))
+
+some_each : {A : Type 0} (Tells : A → List (List ℕ) → Type 0) → ((item : A) → (lines : List (List ℕ)) × Tells item lines)
+    → (items : List A) → (lines : List (List ℕ)) × TellsEach Tells items lines
+some_each Tells some [] = ([], refl)
+some_each Tells some (item ∷ items) =
+    let its = some item in
+    let others = some_each Tells some items in
+    (its.0 ++ others.0, (its.0, others.0, its.1, others.1, refl))
+
+-- ---- one way
+
+module _ (p : Parts) (run : Run) where
+  inapplicable_one : (operator : ℕ) (a b : List (List ℕ)) → TellsInapplicable p run operator a → TellsInapplicable p run operator b → a ≡ b
+  inapplicable_one operator a b x y = x.2
+      ∙ (ap (λ (causes : List (List ℕ)). operator_line operator ∷ causes)
+      (each_one (IsCause p run) (one_cause p run) (failing (last_state run) (operator_at p operator)) x.0 y.0 x.1 y.1) ∙ sym y.2)
+
+  goal_fact_one : (index : ℕ) (a b : List (List ℕ)) → TellsGoalFact p run index a → TellsGoalFact p run index b → a ≡ b
+  goal_fact_one index a b x y = x.2
+      ∙ (ap (λ (cause : List (List ℕ)). goal_line index ∷ cause)
+      (one_cause p run (goal_fact_at p index) x.0 y.0 x.1 y.1) ∙ sym y.2)
+
+  other_one : (a b : List (List ℕ)) → TellsOther p run a → TellsOther p run b → a ≡ b
+  other_one a b (inl x) (inl y) =
+      let same = one_may_mean p run x.0 x.1 y.0 y.1 x.2 y.2 in
+      x.3 ∙ (ap (λ (step : ℕ). other_line step x.1 ∷ []) same.0
+      ∙ (ap (λ (operator : ℕ). other_line y.0 operator ∷ []) same.1 ∙ sym y.3))
+  other_one a b (inl x) (inr y) = absurd (let w = x.2 in y.0 w.before w.first.has)
+  other_one a b (inr x) (inl y) = absurd (let w = y.2 in x.0 w.before w.first.has)
+  other_one a b (inr x) (inr y) = x.1 ∙ sym y.1
+
+like_one : (p : Parts) (name : List ℕ) (a b : List (List ℕ)) → TellsLike p name a → TellsLike p name b → a ≡ b
+like_one p name a b x y = x.2
+    ∙ (ap (λ (like : Option ℕ). option_map_or (λ operator. like_line p operator ∷ []) like [])
+    (one_like p name x.0 y.0 x.1 y.1) ∙ sym y.2)
+
+conflict_one : (p : Parts) (s : List ℕ) (operator : ℕ) (a b : List (List ℕ)) → TellsConflict p s operator a → TellsConflict p s operator b → a ≡ b
+conflict_one p s operator a b x y =
+    let same = one_conflict s (operator_at p operator) x.0 x.1 y.0 y.1 x.2 y.2 in
+    x.3 ∙ (ap (λ d. operator_line operator ∷ effect_line p (operator_at p operator) d ∷ effect_line p (operator_at p operator) x.1 ∷ []) same.0
+    ∙ (ap (λ e. operator_line operator ∷ effect_line p (operator_at p operator) y.0 ∷ effect_line p (operator_at p operator) e ∷ []) same.1 ∙ sym y.3))
+
+-- the same lines behind the line of a step
+behind_step : (plan : PlanParts) (step : ℕ) (a b x y : List (List ℕ)) → a ≡ step_line plan step ∷ x → b ≡ step_line plan step ∷ y → x ≡ y → a ≡ b
+behind_step plan step a b x y f g same = f ∙ (ap (λ lines. step_line plan step ∷ lines) same ∙ sym g)
+
+fault_told_one : (p : Parts) (plan : PlanParts) (run : Run) (fault : PlanFault) (a b : List (List ℕ))
+    → TellsFault p plan run fault a → TellsFault p plan run fault b → a ≡ b
+fault_told_one p plan run (NoOperator step) a b x y = behind_step plan step a b x.0 y.0 x.2 y.2 (like_one p (step_at plan (step - 1)) x.0 y.0 x.1 y.1)
+fault_told_one p plan run (NotApplicable step) a b x y = behind_step plan step a b x.0 y.0 x.2 y.2
+    (each_one (TellsInapplicable p run) (inapplicable_one p run) (operators_of p (step_at plan (step - 1))) x.0 y.0 x.1 y.1)
+fault_told_one p plan run (Conflict step operator) a b x y = behind_step plan step a b x.0 y.0 x.2 y.2 (conflict_one p (last_state run) operator x.0 y.0 x.1 y.1)
+fault_told_one p plan run (GoalMissed index) a b x y = each_one (TellsGoalFact p run) (goal_fact_one p run) (places (fails (last_state run)) p.goal) a b x y
+fault_told_one p plan run (CostDiffers sum) a b x y = x ∙ sym y
+fault_told_one p plan run Memory a b x y = absurd x
+
+pub one_why : OneWhy
+one_why p plan fault a b layered x y = x.whole
+    ∙ (ap (λ (reasons : List (List ℕ)). told_once [] (reasons ++ x.others)) (fault_told_one p plan y.run fault x.reasons y.reasons told y.told)
+    ∙ (ap (λ (others : List (List ℕ)). told_once [] (y.reasons ++ others)) (other_one p y.run x.others y.others may y.may) ∙ sym y.whole))
+  where
+    same : x.run ≡ y.run
+    same = one_run p x.run y.run layered x.through y.through (x.went ∙ sym y.went)
+
+    told : TellsFault p plan y.run fault x.reasons
+    told = subst (λ run. TellsFault p plan run fault x.reasons) same x.told
+
+    may : TellsOther p y.run x.others
+    may = subst (λ run. TellsOther p run x.others) same x.may
+
+-- ---- some way
+
+-- steps lead to settled states
+goes_settled : (p : Parts) (s : List ℕ) (names : List (List ℕ)) (operators last : List ℕ) → IsSettled p s → GoThrough p s names operators last → IsSettled p last
+goes_settled p s [] [] last settled g = subst (IsSettled p) (sym g) settled
+goes_settled p s [] (o ∷ os) last settled g = absurd g
+goes_settled p s (n ∷ ns) [] last settled g = absurd g
+goes_settled p s (n ∷ ns) (o ∷ os) last settled g = let step = g.2 in goes_settled p g.0 ns os last step.settled g.3
+
+some_other : (p : Parts) (run : Run) → (lines : List (List ℕ)) × TellsOther p run lines
+some_other p run = elim (some_may_mean p run) [
+  | inl w ↦ (other_line w.0 w.1 ∷ [], inl (w.0, w.1, w.2, refl))
+  | inr none ↦ ([], inr (none, refl))
+]
+
+module _ (p : Parts) (plan : PlanParts) (layered : IsLayered p) where
+  -- what is told of a run that leads to the fault
+  from_run : (fault : PlanFault) (run : Run) → run.steps ≡ steps_before plan fault → GoesThrough p run
+      → ((lines : List (List ℕ)) × TellsFault p plan run fault lines) → (lines : List (List ℕ)) × IsWhy p plan fault lines
+  from_run fault run went through told =
+      let other = some_other p run in (
+        told_once [] (told.0 ++ other.0),
+        record { run = run; went = went; through = through; reasons = told.0; told = told.1; others = other.0; may = other.1; whole = refl },
+      )
+
+  -- a run of these steps, and that its last state is settled
+  record Led (steps : List (List ℕ)) (last : List ℕ) : Type 0 where
+    run : Run
+    went : run.steps ≡ steps
+    through : GoesThrough p run
+    ends : last_state run ≡ last
+    settled : IsSettled p (last_state run)
+    some : 0 < length run.states
+
+  led : (steps : List (List ℕ)) (operators last : List ℕ) → LeadsTo p steps operators last → Led steps last
+  led steps operators last leads =
+      let w = some_run p steps operators last leads in
+      record {
+        run = w.0;
+        went = w.2;
+        through = w.1;
+        ends = w.4;
+        settled = subst (IsSettled p) (sym w.4) (goes_settled p leads.initial steps operators last leads.starts.settled leads.goes);
+        some = (let e = w.1.states in omega arith);
+      }
+
+  -- the steps before the one to which the plan comes
+  led_to_step : (step : ℕ) (s name : List ℕ) → ComesTo p plan.steps step s name → Led (take (step - 1) plan.steps) s
+  led_to_step step s name comes = subst (λ steps. Led steps s) (sym is) (led comes.before comes.operators s comes.leads)
+    where
+      is : take (step - 1) plan.steps ≡ comes.before
+      is = ap (λ n. take n plan.steps) (let place = comes.place in let e : step - 1 ≡ length comes.before = omega arith in e)
+          ∙ (ap (λ (steps : List (List ℕ)). take (length comes.before) steps) comes.whole ∙ take-append_seam comes.before (name ∷ comes.behind))
+
+  some_inapplicable : (run : Run) → IsSettled p (last_state run) → 0 < length run.states → (operator : ℕ) → (lines : List (List ℕ)) × TellsInapplicable p run operator lines
+  some_inapplicable run settled some operator =
+      let causes = some_each (IsCause p run) (λ fact. some_cause p run fact layered settled some) (failing (last_state run) (operator_at p operator)) in
+      (operator_line operator ∷ causes.0, (causes.0, causes.1, refl))
+
+  some_goal_fact : (run : Run) → IsSettled p (last_state run) → 0 < length run.states → (index : ℕ) → (lines : List (List ℕ)) × TellsGoalFact p run index lines
+  some_goal_fact run settled some index =
+      let cause = some_cause p run (goal_fact_at p index) layered settled some in
+      (goal_line index ∷ cause.0, (cause.0, cause.1, refl))
+
+  why_told : (fault : PlanFault) → IsFaultOf p plan fault → (lines : List (List ℕ)) × IsWhy p plan fault lines
+  why_told Memory f = absurd f
+  why_told (NoOperator step) f =
+      let l = led_to_step step f.0 f.1 f.2 in
+      let like = some_like p (step_at plan (step - 1)) in
+      from_run (NoOperator step) l.run l.went l.through (_, (_, (like.0, like.1, refl), refl))
+  why_told (NotApplicable step) f =
+      let l = led_to_step step f.0 f.1 f.2 in
+      let w = some_each (TellsInapplicable p l.run) (some_inapplicable l.run l.settled l.some) (operators_of p (step_at plan (step - 1))) in
+      from_run (NotApplicable step) l.run l.went l.through (step_line plan step ∷ w.0, (w.0, w.1, refl))
+  why_told (Conflict step operator) f =
+      let l = led_to_step step f.0 f.1 f.2 in
+      let w = some_conflict (last_state l.run) (operator_at p operator) (λ agree. f.4 (subst (λ s. Rattle.sas_meaning.specs.Steps.Agree s (operator_at p operator).effects) l.ends agree)) in
+      from_run (Conflict step operator) l.run l.went l.through (_, (_, (w.0, w.1, w.2, refl), refl))
+  why_told (GoalMissed index) f =
+      let l = led plan.steps f.0 f.1 f.2 in
+      from_run (GoalMissed index) l.run l.went l.through
+      (some_each (TellsGoalFact p l.run) (some_goal_fact l.run l.settled l.some) (places (fails (last_state l.run)) p.goal))
+  why_told (CostDiffers sum) f =
+      let l = led plan.steps f.0 f.1 f.2 in
+      from_run (CostDiffers sum) l.run l.went l.through (cost_lines p l.run, refl)
+
+pub some_why : SomeWhy
+some_why p plan fault layered f = why_told p plan layered fault f

@@ -1,0 +1,22 @@
+-- Each law is a lemma.
+use Rattle.sas_reasons.proofs.Likeness.{space_folds, folds_once, some_like, one_like}
+use Rattle.sas_reasons.proofs.MayMean.{some_may_mean, one_may_mean}
+use Rattle.sas_reasons.proofs.laws.name_laws.Goals as goal
+
+pub returns-clause-space : goal.returns-clause-space
+returns-clause-space c = space_folds
+
+pub returns-clause-once : goal.returns-clause-once
+returns-clause-once c = folds_once
+
+pub returns-clause-some_like : goal.returns-clause-some_like
+returns-clause-some_like c = some_like
+
+pub returns-clause-one_like : goal.returns-clause-one_like
+returns-clause-one_like c = one_like
+
+pub returns-clause-some_other : goal.returns-clause-some_other
+returns-clause-some_other c = some_may_mean
+
+pub returns-clause-one_other : goal.returns-clause-one_other
+returns-clause-one_other c = one_may_mean

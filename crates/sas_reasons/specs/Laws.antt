@@ -1,0 +1,229 @@
+-- What follows from the definitions: each reason is one, there is one, and none goes in a circle.
+use Rattle.std.specs.Prelude.{◌≡◌, ◌≢◌, ◌⊎◌, ◌↔◌, ℕ, ◌<◌, ◌≤◌, IsTrue, List, [], ◌∷◌, ◌++◌}
+use Rattle.std.specs.Prelude.{length, Option, Some, find, All, AllPairs, Contains, slice_index}
+use Rattle.sas_core.specs.declared.parts.Operator.{Operator}
+use Rattle.sas_core.specs.declared.parts.Parts.{Parts}
+use Rattle.sas_core.specs.PlanParts.{PlanParts}
+use Rattle.sas_core.specs.Variables.{IsDerived}
+use Rattle.sas_core.specs.declared.parts.Fact.{Fact}
+use Rattle.sas_core.specs.Grounded.{rule_at}
+use Rattle.sas_meaning.specs.States.{AllHold}
+use Rattle.sas_meaning.specs.Layers.{IsBasic, IsOnLayer, default_of, CanFire, IsLayered}
+use Rattle.sas_meaning.specs.Settled.{differs, IsSettled}
+use Rattle.sas_meaning.specs.Steps.{Agree}
+use Rattle.sas_run.specs.declared.plan_check.PlanFault.{PlanFault}
+use Rattle.sas_run.specs.Plans.{IsApplicable, IsNamed, LeadsTo}
+use Rattle.sas_run.specs.Verdicts.{IsFirstMissed, IsFaultOf}
+use Rattle.sas_reasons.specs.Runs.{Run, last_state, GoesThrough}
+use Rattle.sas_reasons.specs.Since.{value_at, IsSince}
+use Rattle.sas_reasons.specs.Likeness.{folded, IsLike}
+use Rattle.sas_reasons.specs.MayMean.{HasOther, MayMean}
+use Rattle.sas_reasons.specs.Derivation.{IsRank, IsGivenBy, InDerivation, ComesBefore, IsDerivation}
+use Rattle.sas_reasons.specs.Lines.{is_rule_line, told_once, places}
+use Rattle.sas_reasons.specs.Cause.{fails, can_be_given}
+use Rattle.sas_reasons.specs.Conflicts.{IsConflict}
+use Rattle.sas_reasons.specs.WhyPlan.{failing, operators_of, IsWhy}
+
+-- ---- runs
+
+-- steps that lead to a state are those of a run, with the same operators and the same last state
+abbrev pub SomeRun : Type 0
+SomeRun = (p : Parts) (steps : List (List ℕ)) (operators last : List ℕ)
+    → LeadsTo p steps operators last
+    → (run : Run) × GoesThrough p run × (run.steps ≡ steps) × (run.operators ≡ operators)
+    × (last_state run ≡ last)
+
+-- and in a layered task of one run only
+abbrev pub OneRun : Type 0
+OneRun = (p : Parts) (a b : Run) → IsLayered p → GoesThrough p a → GoesThrough p b
+    → a.steps ≡ b.steps → a ≡ b
+
+-- ---- since when a variable has its value
+
+-- in a run with a state there is a last change of each variable
+abbrev pub SomeSince : Type 0
+SomeSince = (run : Run) (var : ℕ) → 0 < length run.states → (since : ℕ) × IsSince run var since
+
+-- and only one
+abbrev pub OneSince : Type 0
+OneSince = (run : Run) (var a b : ℕ) → IsSince run var a → IsSince run var b → a ≡ b
+
+-- from then on the value is the same
+abbrev pub SameSince : Type 0
+SameSince = (run : Run) (var since : ℕ) → IsSince run var since → (later : ℕ) → since ≤ later
+    → later < length run.states → value_at run later var ≡ value_at run since var
+
+-- ---- names that are nearly the same
+
+-- a space at the end of a name counts for nothing, and a folded name stays as it is
+abbrev pub SpaceFolds : Type 0
+SpaceFolds = (name : List ℕ) → folded (name ++ 32 ∷ []) ≡ folded name
+
+abbrev pub FoldsOnce : Type 0
+FoldsOnce = (name : List ℕ) → folded (folded name) ≡ folded name
+
+-- there is a lowest operator whose name is like a name, or none
+abbrev pub SomeLike : Type 0
+SomeLike = (p : Parts) (name : List ℕ) → (like : Option ℕ) × IsLike p name like
+
+abbrev pub OneLike : Type 0
+OneLike = (p : Parts) (name : List ℕ) (a b : Option ℕ) → IsLike p name a → IsLike p name b → a ≡ b
+
+-- ---- which other operator a step may mean
+
+-- some step of a run may mean another operator, or none may
+abbrev pub SomeMayMean : Type 0
+SomeMayMean = (p : Parts) (run : Run) → ((step operator : ℕ) × MayMean p run step operator)
+    ⊎ ((k : ℕ) → HasOther p run k → ⊥)
+
+-- the first is one, and so is the operator
+abbrev pub OneMayMean : Type 0
+OneMayMean = (p : Parts) (run : Run) (step operator step' operator' : ℕ)
+    → MayMean p run step operator → MayMean p run step' operator'
+    → (step ≡ step') × (operator ≡ operator')
+
+-- ---- where a derived variable has its value from, in a settled state of a layered task
+
+-- a variable of a layer has a rank exactly if it differs from its default
+abbrev pub RankIfDiffers : Type 0
+RankIfDiffers = (p : Parts) (s : List ℕ) (layer var : ℕ) → IsLayered p → IsSettled p s
+    → IsOnLayer p layer var → ((rank : ℕ) × IsRank p layer s var rank) ↔ IsTrue (differs p s var)
+
+-- and only one
+abbrev pub OneRank : Type 0
+OneRank = (p : Parts) (s : List ℕ) (layer var a b : ℕ) → IsRank p layer s var a
+    → IsRank p layer s var b → a ≡ b
+
+-- then a rule gives it its value
+abbrev pub SomeGiver : Type 0
+SomeGiver = (p : Parts) (s : List ℕ) (layer var : ℕ) → IsLayered p → IsSettled p s
+    → IsOnLayer p layer var → IsTrue (differs p s var) → (rule : ℕ) × IsGivenBy p s var rule
+
+-- and only one
+abbrev pub OneGiver : Type 0
+OneGiver = (p : Parts) (s : List ℕ) (var a b : ℕ) → IsGivenBy p s var a → IsGivenBy p s var b
+    → a ≡ b
+
+-- its conditions hold in the state, and what it sets is the variable's value there
+abbrev pub GiverFires : Type 0
+GiverFires = (p : Parts) (s : List ℕ) (var rule : ℕ) → IsLayered p → IsSettled p s
+    → IsGivenBy p s var rule
+    → AllHold (slice_index s) (rule_at p rule).conditions × ((rule_at p rule).var ≡ var)
+    × ((rule_at p rule).new ≡ slice_index s var)
+
+-- a condition asks for the default of a variable on a lower layer
+pub record AsksLower (p : Parts) (var : ℕ) (condition : Fact) : Type 0 where
+  pub default : condition.value ≡ default_of p condition.var
+  pub here : ℕ
+  pub there : ℕ
+  pub on : IsOnLayer p here var
+  pub asked : IsOnLayer p there condition.var
+  pub lower : there < here
+
+-- a condition asks for another value than the default of a variable that comes before this one
+pub record AsksEarlier (p : Parts) (s : List ℕ) (var : ℕ) (condition : Fact) : Type 0 where
+  pub other : condition.value ≢ default_of p condition.var
+  pub earlier : ComesBefore p s condition.var var
+
+-- each of its conditions is on a basic variable, or asks so
+abbrev pub GiverLooksDown : Type 0
+GiverLooksDown = (p : Parts) (s : List ℕ) (var rule : ℕ) → IsLayered p → IsSettled p s
+    → IsGivenBy p s var rule
+    → All (λ (c : Fact). IsBasic p c.var ⊎ (AsksLower p var c ⊎ AsksEarlier p s var c))
+    (rule_at p rule).conditions
+
+-- in a derivation all other variables come before the variable
+abbrev pub ItselfIsLast : Type 0
+ItselfIsLast = (p : Parts) (s : List ℕ) (var other : ℕ) → IsLayered p → IsSettled p s
+    → InDerivation p s var other → (other ≡ var) ⊎ ComesBefore p s other var
+
+-- nothing comes before itself, nor before what comes before it
+abbrev pub NoCircle : Type 0
+NoCircle = (p : Parts) (s : List ℕ) (a b : ℕ) → ComesBefore p s a b → ComesBefore p s b a → ⊥
+
+-- all of them differ from their defaults, if the variable does
+abbrev pub AllDiffer : Type 0
+AllDiffer = (p : Parts) (s : List ℕ) (var other : ℕ) → IsLayered p → IsSettled p s
+    → IsTrue (differs p s var) → InDerivation p s var other → IsTrue (differs p s other)
+
+-- a variable of a layer that differs from its default has a derivation
+abbrev pub SomeDerivation : Type 0
+SomeDerivation = (p : Parts) (s : List ℕ) (layer var : ℕ) → IsLayered p → IsSettled p s
+    → IsOnLayer p layer var → IsTrue (differs p s var)
+    → (rules : List ℕ) × IsDerivation p s var rules
+
+-- and only one
+abbrev pub OneDerivation : Type 0
+OneDerivation = (p : Parts) (s : List ℕ) (var : ℕ) (a b : List ℕ) → IsDerivation p s var a
+    → IsDerivation p s var b → a ≡ b
+
+-- whose last rule is the one that gives the variable its value
+abbrev pub OwnRuleIsLast : Type 0
+OwnRuleIsLast = (p : Parts) (s : List ℕ) (var rule : ℕ) (rules : List ℕ) → IsLayered p
+    → IsSettled p s → IsDerivation p s var rules → IsGivenBy p s var rule
+    → (front : List ℕ) × (rules ≡ front ++ rule ∷ [])
+
+-- ---- causes
+
+-- a derived variable that hasn't a value which a rule can give it has its default
+abbrev pub DefaultIfNotGiven : Type 0
+DefaultIfNotGiven = (p : Parts) (s : List ℕ) (fact : Fact) → IsLayered p → IsSettled p s
+    → IsDerived p.variables fact.var → IsTrue (can_be_given p fact) → IsTrue (fails s fact)
+    → slice_index s fact.var ≡ default_of p fact.var
+
+-- and then each of its rules that can fire has a condition that fails
+abbrev pub EachRuleFails : Type 0
+EachRuleFails = (p : Parts) (s : List ℕ) (rule : ℕ) → IsLayered p → IsSettled p s
+    → rule < length p.rules → CanFire p (rule_at p rule)
+    → slice_index s (rule_at p rule).var ≡ default_of p (rule_at p rule).var
+    → (c : Fact) × (find (fails s) (rule_at p rule).conditions ≡ Some c)
+
+-- an operator of which no precondition fails is applicable
+abbrev pub SomePreconditionFails : Type 0
+SomePreconditionFails = (s : List ℕ) (o : Operator) → failing s o ≡ [] → IsApplicable s o
+
+-- the operators of a name are those that have exactly this name
+abbrev pub OperatorsHaveName : Type 0
+OperatorsHaveName = (p : Parts) (name : List ℕ) (operator : ℕ)
+    → Contains (operators_of p name) operator ↔ IsNamed p name operator
+
+-- the first goal fact that fails is told first
+abbrev pub FirstGoalFact : Type 0
+FirstGoalFact = (p : Parts) (s : List ℕ) (index : ℕ) → IsFirstMissed (slice_index s) p.goal index
+    → (behind : List ℕ) × (places (fails s) p.goal ≡ index ∷ behind)
+
+-- ---- conflicts
+
+-- where the effects of an operator that fire don't agree, two conflict
+abbrev pub SomeConflict : Type 0
+SomeConflict = (s : List ℕ) (o : Operator) → (Agree s o.effects → ⊥)
+    → (d e : ℕ) × IsConflict s o d e
+
+-- and only two are told
+abbrev pub OneConflict : Type 0
+OneConflict = (s : List ℕ) (o : Operator) (d e d' e' : ℕ) → IsConflict s o d e
+    → IsConflict s o d' e' → (d ≡ d') × (e ≡ e')
+
+-- ---- lines that are told once
+
+-- no line is lost, and none is made up
+abbrev pub NoneIsLost : Type 0
+NoneIsLost = (lines : List (List ℕ)) (line : List ℕ)
+    → Contains (told_once [] lines) line ↔ Contains lines line
+
+-- and no line of a rule stands twice
+abbrev pub RulesToldOnce : Type 0
+RulesToldOnce = (lines : List (List ℕ))
+    → AllPairs (λ a b. IsTrue (is_rule_line a) → a ≢ b) (told_once [] lines)
+
+-- ---- why a plan isn't valid
+
+-- the fault of a plan of a layered task is told
+abbrev pub SomeWhy : Type 0
+SomeWhy = (p : Parts) (plan : PlanParts) (fault : PlanFault) → IsLayered p
+    → IsFaultOf p plan fault → (lines : List (List ℕ)) × IsWhy p plan fault lines
+
+-- in one way
+abbrev pub OneWhy : Type 0
+OneWhy = (p : Parts) (plan : PlanParts) (fault : PlanFault) (a b : List (List ℕ)) → IsLayered p
+    → IsWhy p plan fault a → IsWhy p plan fault b → a ≡ b

@@ -1,0 +1,11 @@
+pub mod Lowest
+pub mod Runs
+pub mod Since
+pub mod Likeness
+pub mod MayMean
+pub mod Derivation
+pub mod Lines
+pub mod Cause
+pub mod Conflicts
+pub mod WhyPlan
+pub mod Laws

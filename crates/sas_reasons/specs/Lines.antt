@@ -1,0 +1,53 @@
+-- The lines that tell reasons.
+use Rattle.std.specs.Prelude.{◌≡◌, ℕ, ◌+◌, ◌&&◌, Bool, if◌then◌else◌, List, [], ◌∷◌, ◌++◌, length, take, replicate}
+use Rattle.std.specs.Prelude.{bytes_eq, codes, decimal}
+use Rattle.std.specs.List.{list_any}
+use Rattle.std.specs.Option.{unwrap_or}
+use Rattle.sas_core.specs.declared.parts.Parts.{Parts}
+use Rattle.sas_core.specs.Variables.{value_name}
+use Rattle.sas_lines.specs.Spelling.{joined}
+
+-- a line: this many spaces, then words with one space between each two. A number is a word; a name
+-- stands last, since it may hold spaces
+abbrev pub line : ℕ → List (List ℕ) → List ℕ
+line spaces words = replicate spaces 32 ++ joined words
+
+-- `VAR VALUE NAME`, where NAME is the value's name; a value that doesn't exist has none
+abbrev pub fact_words : Parts → ℕ → ℕ → List (List ℕ)
+fact_words p var value =
+    decimal var ∷ decimal value ∷ unwrap_or (value_name p.variables var value) [] ∷ []
+
+-- whether a line begins so
+abbrev pub begins : List ℕ → List ℕ → Bool
+begins front bytes = bytes_eq (take (length front) bytes) front
+
+-- Whether a line tells of a rule. Such a line is told once: it is left out where it stands further
+-- up already.
+abbrev pub is_rule_line : List ℕ → Bool
+is_rule_line bytes = begins (codes "    rule ") bytes
+
+-- the lines behind those that came, but for each line of a rule that came already
+abbrev pub told_once : List (List ℕ) → List (List ℕ) → List (List ℕ)
+told_once came [] = []
+told_once came (next ∷ lines) = if is_rule_line next && list_any (bytes_eq next) came
+    then told_once came lines
+    else next ∷ told_once (next ∷ came) lines
+
+-- the lines of each item, one behind the other
+abbrev pub TellsEach : {A : Type 0} → (A → List (List ℕ) → Type 0) → List A → List (List ℕ)
+    → Type 0
+TellsEach Tells [] lines = lines ≡ []
+TellsEach Tells (item ∷ items) lines = (its others : List (List ℕ))
+    × Tells item its
+    × TellsEach Tells items others
+    × (lines ≡ its ++ others)
+
+-- the places of the items that pass a test, ascending; the first item has this place
+abbrev pub places_from : {A : Type 0} → ℕ → (A → Bool) → List A → List ℕ
+places_from place passes [] = []
+places_from place passes (item ∷ items) = if passes item
+    then place ∷ places_from (place + 1) passes items
+    else places_from (place + 1) passes items
+
+abbrev pub places : {A : Type 0} → (A → Bool) → List A → List ℕ
+places passes items = places_from 0 passes items

@@ -1,0 +1,6 @@
+//! Why a plan isn't valid: what is told behind a verdict that says no.
+#![tactic(auto)]
+
+mod laws;
+
+pub use laws::{cause_laws, derivation_laws, name_laws, run_laws, why_laws};
