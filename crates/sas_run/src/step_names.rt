@@ -20,7 +20,7 @@ impl<'p> StepNames<'p> {
     pub fn new<P: Stepwise>(alloc: Global, plan: &'p P) -> Result<StepNames<'p>, AllocError>
         ensures { IfOk result (λ names. AreStepNames (P.says plan.now).steps names) }
     {
-        let mut numbers = IndexMap::new(alloc);
+        let mut numbers = IndexMap::with_capacity(alloc, plan.steps())?;
         let mut of_steps = Vec::with_capacity(alloc, plan.steps())?;
         for _step in 0..plan.steps() {
             let number = next_number(plan, &mut numbers, of_steps.as_slice())?;
