@@ -11,15 +11,14 @@ from large import over_input, task_with
 
 # how often a group lists facts, and how many operators there are beside it
 LISTED = 120_000
-# how many effects an operator has that set a fact of one group; few, as the cube is taken
-CONDITIONAL = 400
-# how many groups share a fact, with an operator each; few, as the square is taken
-SHARING = 16_000
-# how many of them fall one after another: the cube takes minutes
-FALLING = 6400
-# how many groups fall beside one that stays, and how many operators rest on that one: to look at the groups of a fact each time
-# takes minutes
-FALLEN, RESTING = 8000, 1000
+# how many effects an operator has that set a fact of one group: the cube takes minutes; the square may have to be taken
+CONDITIONAL = 2400
+# how many groups share a fact, with an operator each
+SHARING = 120_000
+# how many of them fall one after another
+FALLING = 120_000
+# how many groups fall beside one that stays, and how many operators rest on that one
+FALLEN, RESTING = 80_000, 40_000
 
 
 def broken(operator):
