@@ -101,6 +101,7 @@ impl<'a, 'b, T: Grounded> Firing<'a, 'b, T> {
     }
 
     /// Returns which of the known facts where this effect fires the group has.
+    #[inline(always)]
     fn noted(&self, group: u32, marks: &Marks) -> Noted
         requires wide { IsWide self.now.task marks.now.known }
         requires group { group < length self.now.task.groups }

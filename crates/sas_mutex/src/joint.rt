@@ -44,7 +44,7 @@ pub fn check_groups<T: Grounded>(
     let index = Index::new(alloc, layered)?;
     let mut verdicts = first_verdicts(alloc, layered)?;
     let mut family = candidates(alloc, verdicts.as_slice())?;
-    let mut marks = Marks::new(alloc, layered)?;
+    let mut marks = Marks::new(alloc, layered, &index)?;
     let mut watches = Watches::new(alloc, layered.groups(), layered.operators())?;
     let indexed = IndexedTask {
         task: layered,

@@ -86,6 +86,8 @@ pub struct Notes {
     /// What it takes to go through the facts again, and through the groups of each but the one apart. It is a hint, of which no
     /// contract speaks.
     pub spread: usize,
+    /// Whether some fact of the task may stand apart: in most tasks none has so many groups. It is a hint, too.
+    pub some_wide: bool,
 }
 
 /// What is noted while effects are looked at.
@@ -101,12 +103,17 @@ pub struct Marks {
 
 impl Marks {
     /// Returns marks in which nothing is noted.
-    pub fn new<T: Grounded>(alloc: Global, task: &Layered<T>) -> Result<Marks, AllocError>
+    pub fn new<T: Grounded>(
+        alloc: Global,
+        task: &Layered<T>,
+        index: &Index,
+    ) -> Result<Marks, AllocError>
         ensures { IfOk result (λ marks. IsClean task.now marks) }
     {
+        let some_wide = has_wide(index);
         Ok(Marks {
-            known: Notes::new(alloc, task)?,
-            others: Notes::new(alloc, task)?,
+            known: Notes::new(alloc, task, some_wide)?,
+            others: Notes::new(alloc, task, some_wide)?,
             deciding: Deciding::new(),
         })
     }
@@ -114,7 +121,11 @@ impl Marks {
 
 impl Notes {
     /// Returns notes of no facts.
-    fn new<T: Grounded>(alloc: Global, task: &Layered<T>) -> Result<Notes, AllocError>
+    fn new<T: Grounded>(
+        alloc: Global,
+        task: &Layered<T>,
+        some_wide: bool,
+    ) -> Result<Notes, AllocError>
         ensures { IfOk result (λ notes. AreBlank task.now notes) }
     {
         Ok(Notes {
@@ -122,10 +133,12 @@ impl Notes {
             groups: Items::from_vec(vec![in alloc; Noted::Nothing; task.groups() as usize]?),
             apart: None,
             spread: 0,
+            some_wide,
         })
     }
 
     /// Returns which facts of the group are noted, by its note and by the fact apart.
+    #[inline(always)]
     pub fn noted(&self, index: &Index, group: u32) -> Noted
         requires index { IsReadable index.now }
         requires group { group < length self.now.groups }
@@ -161,6 +174,16 @@ impl Notes {
     }
 }
 
+/// Returns whether many groups have some fact.
+fn has_wide(index: &Index) -> bool {
+    for key in 0..index.groups.len() {
+        if index.groups.get(key).len() > FEW_GROUPS {
+            return true;
+        }
+    }
+    false
+}
+
 /// Notes the known facts, and returns whether they clash. If they do, not all of them are noted. A fact that many groups have
 /// stands apart.
 pub fn note_known<T: Grounded>(
@@ -186,7 +209,7 @@ pub fn note_known<T: Grounded>(
 {
     // By its contract the task is well ranged.
     let _ = task.task();
-    let widest = widest_known(task, index, premises);
+    let widest = widest_known(task, index, premises, marks.known.some_wide);
     // To find the preconditions, each effect is looked at.
     marks.known.spread = task.effects(premises.operator) as usize;
     set_apart(widest, &mut marks.known);
@@ -198,16 +221,21 @@ pub fn note_known<T: Grounded>(
     false
 }
 
-/// Returns, of the known facts that many groups have, one that most have.
+/// Returns, of the known facts that many groups have, one that most have. If it is told that there is no such fact, none is
+/// looked for.
 fn widest_known<T: Grounded>(
     task: &Layered<T>,
     index: &Index,
     premises: &Premises<'_>,
+    some_wide: bool,
 ) -> Option<Fact>
     requires index { IsReadable index.now }
     requires operator { premises.now.operator < length task.now.operators }
     ensures { IfSome result (Contains (known_on task.now premises.now)) }
 {
+    if !some_wide {
+        return None;
+    }
     let mut widest = None;
     for fact in Known::new(task, premises) {
         widest = wider(index, fact, widest);
@@ -243,6 +271,7 @@ fn set_apart(apart: Option<Fact>, notes: &mut Notes)
 }
 
 /// Notes the fact, and returns whether it contradicts none that is noted. If it does, it may be noted in part.
+#[inline(always)]
 fn note(index: &Index, kept: &[bool], fact: Fact, notes: &mut Notes, deciding: &Deciding) -> bool
     requires index { IsReadable index.now }
     requires value { fact.var < length notes.old.values }
@@ -252,15 +281,18 @@ fn note(index: &Index, kept: &[bool], fact: Fact, notes: &mut Notes, deciding: &
     ensures no { IsFalse result → IsContradicted index.now kept.now fact notes.old }
     ensures changes { ChangesAt (groups_of index.now fact) fact notes.old notes.new }
 {
-    notes.spread = notes.spread_with(index, fact);
     match notes.values.as_slice()[fact.var as usize] {
-        Some(value) => value == fact.value,
+        Some(value) => {
+            notes.spread = notes.spread_with(index, fact);
+            value == fact.value
+        }
         None => {
             if shares_apart(index, kept, fact, notes.apart, deciding) {
                 return false;
             }
             notes.values.set(fact.var as usize, Some(fact.value));
             let groups = index.groups_of(fact);
+            notes.spread = notes.spread.saturating_add(groups.len()).saturating_add(1);
             note_in_groups(groups, kept, fact, &mut notes.groups, deciding)
         }
     }
@@ -444,7 +476,7 @@ fn note_facts<T: Grounded>(
     ensures no { IsFalse result → Clash (IsKept indexed.now kept.now) facts.now → ⊥ }
     ensures from { AreFrom indexed.now facts.now notes.new }
 {
-    let widest = widest_of(indexed.index, facts);
+    let widest = widest_of(indexed.index, facts, notes.some_wide);
     set_apart(widest, notes);
     for fact in facts {
         if !note(indexed.index, kept, *fact, notes, deciding) {
@@ -454,11 +486,14 @@ fn note_facts<T: Grounded>(
     false
 }
 
-/// Returns, of those of the facts that many groups have, one that most have.
-fn widest_of(index: &Index, facts: &[Fact]) -> Option<Fact>
+/// Returns, of those of the facts that many groups have, one that most have, likewise.
+fn widest_of(index: &Index, facts: &[Fact], some_wide: bool) -> Option<Fact>
     requires { IsReadable index.now }
     ensures { IfSome result (Contains facts.now) }
 {
+    if !some_wide {
+        return None;
+    }
     let mut widest = None;
     for fact in facts {
         widest = wider(index, *fact, widest);
