@@ -102,8 +102,8 @@ impl<'a, E: Settle<T> + Drop, T: Grounded> Runner<'a, E, T> {
 }
 
 /// Checks whether the plan of the task is valid, as `Runner::check_plan` does, with an evaluator that is ready for the task.
-/// It looks up the operators' names among those of the plan's steps, and not the other way round. So it is for one plan that
-/// has fewer steps than the task has operators. All memory is asked for before the first step.
+/// It looks up the operators' names among those of the plan's steps, and not the other way round. So it is for one plan, of
+/// fewer steps than the task has operators. All memory is asked for before the first step.
 pub fn check_once<E: Settle<T> + Drop, T: Grounded, P: Stepwise>(
     alloc: Global,
     layered: &Layered<T>,
