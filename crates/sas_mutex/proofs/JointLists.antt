@@ -1,11 +1,15 @@
 -- A task has exactly one list of joint verdicts on its groups; that there is one is said doubly negated. The groups that it calls
 -- exclusive are invariants.
-use Rattle.std.proofs.Common.{◌≡◌, ℕ, zero, suc, ◌<◌, ◌≤◌, List, [], ◌∷◌, ◌++◌, length, refl, sym, ◌∙◌, subst, inl, inr, arith}
+use Rattle.std.proofs.Common.{◌≡◌, ◌≢◌, ℕ, zero, suc, ◌<◌, ◌≤◌, List, [], ◌∷◌, ◌++◌, length, refl, sym, ◌∙◌, subst, inl, inr, arith}
 use Rattle.std.proofs.lemmas.Bool.{cases_eq}
 use Rattle.std.proofs.lemmas.List.{ext_get_or, length_push, get_or_push, get_or_append_left}
 use Rattle.sas_core.specs.declared.parts.Parts.{Parts}
 use Rattle.sas_groups.specs.declared.verdict.Verdict.{Verdict}
-use Rattle.sas_groups.specs.declared.verdict.Verdict.TheVariants.{Exclusive}
+use Rattle.sas_groups.specs.declared.verdict.Verdict.TheVariants.{Derived, Initial, Broken, Exclusive}
+use Rattle.sas_groups.specs.Checks.{IsFirstVerdict}
+use Rattle.sas_core.specs.Grounded.{group_at}
+use Rattle.std.specs.List.{All}
+use Rattle.sas_mutex.specs.Judging.{AreFirstVerdicts}
 use Rattle.sas_groups.specs.Verdicts.{IsJointVerdict}
 use Rattle.sas_groups.proofs.Invariance.{exclusive_jointly_is_invariant}
 use Rattle.sas_groups.proofs.JointVerdicts.{joint_verdict_is_one, some_joint_verdict}
@@ -49,3 +53,18 @@ some_list p none = some_below p (length p.groups) (omega arith) (λ verdicts bel
 pub listed_invariants : (p : Parts) (verdicts : List Verdict) → AreJointVerdicts p verdicts → AreInvariants p verdicts
 listed_invariants p verdicts are place exists is =
     exclusive_jointly_is_invariant p place (subst (IsJointVerdict p place) is (are.are place exists))
+
+-- where no group may be exclusive, the verdicts before operators are checked are the joint ones
+pub decided_at_first : (p : Parts) (verdicts : List Verdict) → AreFirstVerdicts p verdicts
+    → All (λ (verdict : Verdict). verdict ≢ Exclusive) verdicts → AreJointVerdicts p verdicts
+decided_at_first p verdicts first none = record {
+  one_each = first.one_each;
+  are = λ place exists. decided place (verdict_at verdicts place) (first.are place exists)
+      (none place Exclusive (subst (λ n. place < n) (sym first.one_each) exists));
+}
+  where
+    decided : (place : ℕ) (verdict : Verdict) → IsFirstVerdict p (group_at p place) verdict → verdict ≢ Exclusive → IsJointVerdict p place verdict
+    decided place Derived said not = said
+    decided place Initial said not = said
+    decided place (Broken operator) said not = absurd said
+    decided place Exclusive said not = absurd (not refl)

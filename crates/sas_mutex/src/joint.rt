@@ -2,6 +2,7 @@
 ghost use Rattle.std.specs.Prelude.{◌≡◌, ◌≢◌, ℕ, ◌+◌, ◌<◌, ◌≤◌, ◌↔◌, [], length, All, IfOk, None, IsTrue, IsFalse, vec_capacity};
 ghost use Rattle.sas_groups.specs.Clashes.{sets};
 ghost use Rattle.sas_groups.specs.Families.{IsGreatest};
+ghost use Rattle.sas_groups.specs.declared.verdict.Verdict.{Verdict};
 ghost use Rattle.sas_groups.specs.declared.verdict.Verdict.TheVariants.{Exclusive};
 ghost use Rattle.sas_mutex.specs.Effects.{family_of};
 ghost use Rattle.sas_mutex.specs.Falling.{AreCandidates, IsReady};
@@ -40,9 +41,12 @@ pub fn check_groups<T: Grounded>(
 {
     // By the contract of this call the task is well ranged.
     let _ = layered.task();
-    // Most memory at a time is needed where the index is made, so the index comes first.
-    let index = Index::new(alloc, layered)?;
     let mut verdicts = first_verdicts(alloc, layered)?;
+    // Where no group may be exclusive, all is said before an operator is looked at.
+    if !some_exclusive(verdicts.as_slice()) {
+        return Ok(verdicts.into_vec());
+    }
+    let index = Index::new(alloc, layered)?;
     let mut family = candidates(alloc, verdicts.as_slice())?;
     let mut marks = Marks::new(alloc, layered, &index)?;
     let mut watches = Watches::new(alloc, layered.groups(), layered.operators())?;
@@ -121,6 +125,18 @@ fn candidates(alloc: Global, verdicts: &[Verdict]) -> Result<Family, AllocError>
         basis: Items::from_vec(vec![in alloc; false; verdicts.len()]?),
         supports: Items::from_vec(Vec::with_capacity(alloc, MOST_GROUPS)?),
     })
+}
+
+/// Returns whether one of the verdicts is that nothing speaks against the group.
+fn some_exclusive(verdicts: &[Verdict]) -> bool
+    ensures { IsFalse result → All (λ (verdict : Verdict). verdict ≢ Exclusive) verdicts.now }
+{
+    for verdict in verdicts {
+        if is_exclusive(*verdict) {
+            return true;
+        }
+    }
+    false
 }
 
 /// Whether nothing speaks against the group.

@@ -1,0 +1,8 @@
+-- None of the verdicts so far is so.
+use Rattle.std.proofs.Common.{◌≢◌, ℕ, ◌<◌, get_or}
+use Rattle.sas_groups.specs.declared.verdict.Verdict.{Verdict}
+use Rattle.sas_groups.specs.declared.verdict.Verdict.TheVariants.{Exclusive}
+use Rattle.sas_mutex.proofs.joint.some_exclusive.Given as goal
+
+abbrev pub invariant-loop-verdict : goal.invariant-loop-verdict
+invariant-loop-verdict l = (k : ℕ) (d : Verdict) → k < l.verdict-index → get_or l.verdicts k d ≢ Exclusive
