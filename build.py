@@ -17,9 +17,9 @@ import time
 TOP = os.path.dirname(os.path.abspath(__file__))
 CRATES = f"{TOP}/crates"
 PROGRAM = "sas"
-# the crate on which the program and its words stand, and these three, which are proved one behind the other in the end
-REQUESTS = "sas_requests"
-LAST = [REQUESTS, "sas_tool", PROGRAM]
+# the crate on which the program's words stand, and those that are proved one behind the other in the end
+PLANS = "sas_plans"
+LAST = ["sas_requests", PLANS, "sas_tool", PROGRAM]
 PROCESSORS = str(os.cpu_count())
 BEGAN = time.monotonic()
 
@@ -80,10 +80,10 @@ def size_of(crate):
 
 
 def prove_below(jobs, progress, log):
-    """Proves the crates below the requests, and reports each as soon as it is proved. The check of the requests is stopped: what builds the
-    program proves them anyway, by all processors. Returns whether all below are proved."""
+    """Proves the crates below the last ones, and reports each as soon as it is proved. The check of the last ones is stopped: what builds
+    the program proves them anyway, by all processors. Returns whether all below are proved."""
     crate, below = None, set(progress.names) - set(LAST)
-    with begin(["rt", "all", "check", "--jobs", jobs], REQUESTS) as process:
+    with begin(["rt", "all", "check", "--jobs", jobs], PLANS) as process:
         for line in process.stdout:
             log.write(line)
             begins = re.match(r"== (\w+)$", line)

@@ -6,6 +6,7 @@ A task here is
     ranges     how many values each variable has
     layers     its layer, None for a basic variable
     defaults   its value in the state section
+    names      the names of its values; left out: made of numbers
     rules      (CONDITIONS, VARIABLE, OLD, NEW): facts (VARIABLE, VALUE), and what changes; -1 represents no old value
 
 What a state settles to is computed from the meaning of a task. The basic values stay. Layer after layer, from the
@@ -126,12 +127,18 @@ def effect_line(facts, var, old, new):
     return " ".join(map(str, [len(facts), *(number for fact in facts for number in fact), var, old, new]))
 
 
+def value_name(task, var, value):
+    """Returns the name of a value."""
+    return task["names"][var][value] if "names" in task else f"Atom v{var}({value})"
+
+
 def text_of(task):
-    """Returns the file of a task. Where the task has none of them: metric 0, no group, no goal and no operator."""
+    """Returns the file of a task. Where the task has none of them: metric 0, no group, no goal and no operator, and names that
+    are made of numbers."""
     operators = task.get("operators", [])
     lines = [*section("version", [3]), *section("metric", [task.get("metric", 0)]), len(task["ranges"])]
     for var, (size, layer) in enumerate(zip(task["ranges"], task["layers"])):
-        values = [f"Atom v{var}({value})" for value in range(size)]
+        values = [value_name(task, var, value) for value in range(size)]
         lines += section("variable", [f"var{var}", -1 if layer is None else layer, size, *values])
     groups = task.get("groups", [])
     lines.append(len(groups))
@@ -146,6 +153,66 @@ def text_of(task):
     for facts, var, old, new in task["rules"]:
         lines += section("rule", [*facts_lines(facts), f"{var} {old} {new}"])
     return "".join(f"{line}\n" for line in lines)
+
+
+def facts_from(lines):
+    """Returns the facts that come next in a file."""
+    return [tuple(map(int, next(lines).split(" "))) for _ in range(int(next(lines)))]
+
+
+def effect_from(lines):
+    """Returns the effect that comes next in a file."""
+    count, *numbers = map(int, next(lines).split(" "))
+    facts = list(zip(numbers[: 2 * count : 2], numbers[1 : 2 * count : 2]))
+    return facts, *numbers[2 * count :]
+
+
+def sections_from(lines, count, read):
+    """Returns what is read in each of so many sections that come next in a file."""
+    def section_from():
+        next(lines)
+        held = read()
+        next(lines)
+        return held
+
+    return [section_from() for _ in range(count)]
+
+
+def task_of(text):
+    """Returns the task of which this is the file: where it has none of them, empty lists."""
+    lines = iter(text.replace("\r\n", "\n").split("\n"))
+
+    def number():
+        return int(next(lines))
+
+    def variable():
+        next(lines)
+        layer = number()
+        return None if layer < 0 else layer, [next(lines) for _ in range(number())]
+
+    def operator():
+        return next(lines), facts_from(lines), [effect_from(lines) for _ in range(number())], number()
+
+    def rule():
+        facts = facts_from(lines)
+        return facts, *map(int, next(lines).split(" "))
+
+    _, metric = sections_from(lines, 2, number)
+    variables = sections_from(lines, number(), variable)
+    groups = sections_from(lines, number(), lambda: facts_from(lines))
+    defaults = sections_from(lines, 1, lambda: [number() for _ in variables])[0]
+    goal = sections_from(lines, 1, lambda: facts_from(lines))[0]
+    return {
+        "metric": metric,
+        "ranges": [len(names) for _, names in variables],
+        "layers": [layer for layer, _ in variables],
+        "names": [names for _, names in variables],
+        "groups": groups,
+        "defaults": defaults,
+        "goal": goal,
+        "operators": sections_from(lines, number(), operator),
+        "rules": sections_from(lines, number(), rule),
+    }
 
 
 def settled(task, state):

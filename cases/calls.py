@@ -11,6 +11,7 @@ calls.json: for each program what its calls print, in groups of the same call.
     call         its name, and for some calls a word that names its kind
     about        what is shown
     refused      left out, or how many allocations come before the call, of which memory.py refuses each in turn
+    inputs       how many inputs the call reads at most, for memory.py; left out: two
     rows         [INPUT, ANSWER]: the bytes that the call is about, and what the program prints
 
 The calls over the files of tasks.json, lines.json, plans.json, verdicts.json and groups.json are made here, and those over
@@ -31,6 +32,7 @@ from large import plan_text, wide_groups, wide_plans, wide_task
 from steps import initial, state_line, verdict
 from texts import as_bytes, changed_lines, early_end, table
 from walks import walked_calls, walked_plans
+from why import written_plans
 
 SECONDS = 60
 # longer files are left to run.py: what tries each front of a file takes a time that grows as its square
@@ -42,6 +44,10 @@ LAYERED = "layered\nkept\n"
 EVALUATORS = ("rounds", "worklist")
 TASK_WAYS, TASK_REQUESTS = ("task", "task-text", "outline", "flat-task"), ("print", "show", "check", "mutex")
 PLAN_WAYS, PLAN_REQUESTS = ("plan", "plan-text", "flat-plan"), ("steps",)
+# the requests over a plan and its task; the second one tells reasons, the third one traces the plan
+PLAN_OF_TASK = ("plan", "plan-why", "trace")
+# what a trace tells first of the task of minimal.sas
+INITIAL = "initial 0 0 Atom dummy(val1)\n"
 
 
 def case(program, call, given, answer, about=""):
@@ -84,7 +90,9 @@ def task_cases():
                 yield case(FILES, f"read-fronts {way}", given, RIGHT, about)
         if len(held) < 600:
             yield from device_cases("task", TASK_WAYS, TASK_REQUESTS, name, held)
-            yield case(REQUESTS, "run-broken-fronts plan", held, RIGHT, name)
+            for request in PLAN_OF_TASK:
+                yield case(REQUESTS, f"run-broken-fronts {request}", held, RIGHT, name)
+            yield case(REQUESTS, "judge-broken-fronts", ["none:?|", held], RIGHT, name)
 
 
 def device_cases(reader, ways, requests, name, held):
@@ -137,7 +145,9 @@ def told_plan_cases():
         (EMPTY + "#", [MINIMAL, "##!"], "Ok(Yes)\nplan valid: 0 steps, cost 0\n\n"),
         ("!", [MINIMAL, "#x#~"], "Ok(No)\ntask refused: line 25: trailing\n\n"),
     ):
-        yield case(REQUESTS, "run-told plan", [plan, "|", task], answer, f"{plan!r}")
+        for request in PLAN_OF_TASK:
+            said = answer.replace("Ok(Yes)\n", f"Ok(Yes)\n{INITIAL}") if request == "trace" else answer
+            yield case(REQUESTS, f"run-told {request}", [plan, "|", task], said, f"{plan!r}")
 
 
 def wide_cases():
@@ -149,6 +159,7 @@ def wide_cases():
         yield from wide_file_cases("task", text, about)
         yield from wide_file_cases("plan", plan_text(plans[0][0], 0), about)
         yield from longest_cases(text, plan_text(plans[0][0], 0), about)
+        yield from judged_cases(text, plans, about)
         yield case(CORE, "new-task", ["|", text], f"kept\nwhole\n{text}\n", about)
         yield case(CORE, "same-parts", ["|", text], "equal\nequal tasks\n", about)
         yield case(VERDICTS, "layered", text, LAYERED, about)
@@ -178,7 +189,23 @@ def longest_cases(task, plan, about):
             yield case(FILES, f"longest {way}", file, "read\nright\n", about)
         for request in requests:
             yield case(REQUESTS, f"run-longest {request}", file, "answered\nright\n", about)
-    yield case(REQUESTS, "run-longest plan", [plan, "|", task], "answered\nright\n", about)
+    for request in PLAN_OF_TASK:
+        yield case(REQUESTS, f"run-longest {request}", [plan, "|", task], "answered\nright\n", about)
+    yield case(REQUESTS, "judge-longest", [listed([plan, plan]), "|", task], "answered\nright\n", about)
+
+
+def listed(plans):
+    """Returns the list of these plans, which `judge` is given, with their numbers as labels."""
+    return "&".join(f"{number}:{plan}" for number, plan in enumerate(plans))
+
+
+def judged_cases(task, plans, about):
+    """Yields the plans of a wide task in one list, of which the first one alone is valid. They could show want of memory that no
+    one was refused, and a plan for which those before it count."""
+    said = "".join(f"{number}: {verdict}\n" for number, (_, _, verdict) in enumerate(plans))
+    summary = f"{len(plans)} plans, 1 valid, best cost {plans[0][1]}: 0\n"
+    files = listed(plan_text(names, cost) for names, cost, _ in plans)
+    yield case(REQUESTS, "judge", [files, "|", task], f"no\n{said}{summary}\n", about)
 
 
 def line_cases():
@@ -224,6 +251,16 @@ def verdict_cases():
         answer = f"{state_line(made['initial'])}\n{made['call']}"
         for way in EVALUATORS:
             yield case(VERDICTS, f"plan {way}", [made["plan"], "|", made["task"]], answer, made["name"])
+
+
+def why_cases():
+    """Yields the plans of why.json, with reasons, and into writers that stop. They could show a text that isn't that of the
+    program, and bytes that go out twice or not at all where a piece of it ends."""
+    for name, task, plan, lines in written_plans():
+        said = "yes" if lines[0].startswith("plan valid") else "no"
+        answer = "".join(f"{line}\n" for line in (said, *lines, ""))
+        yield case(REQUESTS, "run plan-why", [plan, "|", task], answer, name)
+        yield case(REQUESTS, "run-narrow plan-why", [plan, "|", task], RIGHT, name)
 
 
 def step_cases():
@@ -276,7 +313,7 @@ def layer_cases():
 
 def cases():
     """Returns all calls."""
-    files = (*task_cases(), *line_cases(), *plan_cases(), *verdict_cases())
+    files = (*task_cases(), *line_cases(), *plan_cases(), *verdict_cases(), *why_cases())
     devices = (*told_cases(), *told_plan_cases(), *wide_cases())
     random = (*settled_cases(), *layer_cases(), *step_cases(), *following_cases(), *group_cases())
     return [*written_cases(), *files, *devices, *random]

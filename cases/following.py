@@ -11,10 +11,12 @@ A task is as in walks.py. Its operators are
 A run is its steps: of each the operator, and the state behind it. Where it has an `ask` that fact holds. So a wrong value shows
 at that step, or soon behind it: by an operator that isn't applicable, or by the cost.
 """
+import functools
 import random
 
 from axioms import other_value, settled, text_of
-from steps import changed, cost_of, holds, initial, meant, state_line
+from reasons import Run
+from steps import changed, cost_of, initial, meant, state_line
 from walks import plan_text
 
 SEED = 31
@@ -209,17 +211,18 @@ def wrong_fact(chance, task, derived, state):
 
 
 def said_of_run(chance, task, derived, run):
-    """Yields plans, each with the goal, its steps, its cost and what is said of it: the run itself, whose goal is the last state;
-    one that asks on its way for a fact that doesn't hold; and one whose goal has a fact that doesn't hold in the end."""
+    """Yields plans, each with the goal, its steps, how much of the run they are before one fails, its cost and what is said of it:
+    the run itself, whose goal is the last state; one that asks on its way for a fact that doesn't hold; and one whose goal has a
+    fact that doesn't hold in the end."""
     names, cost, last = names_of(task, run), cost_of_run(task, run), run[-1][1]
     goal = list(enumerate(last))
-    yield goal, names, cost, f"plan valid: {len(run)} steps, cost {cost}"
+    yield goal, names, run, cost, f"plan valid: {len(run)} steps, cost {cost}"
     place = chance.randrange(1, len(run))
     var, value = wrong_fact(chance, task, derived, run[place - 1][1])
     spoiled = [*names[:place], f"ask {var} {value}", *names[place:]]
-    yield goal, spoiled, cost, f"plan invalid: step {place + 1}: not applicable"
+    yield goal, spoiled, run[:place], cost, f"plan invalid: step {place + 1}: not applicable"
     var, value = wrong_fact(chance, task, derived, last)
-    yield [*goal[:var], (var, value), *goal[var + 1 :]], names, cost, f"plan invalid: goal fact {var} not reached"
+    yield [*goal[:var], (var, value), *goal[var + 1 :]], names, run, cost, f"plan invalid: goal fact {var} not reached"
 
 
 def is_lively(derived, run):
@@ -249,19 +252,29 @@ def storm_runs(chance, steps):
         yield task, derived, run_over(task, storm_names(chance, derived), steps)
 
 
+@functools.lru_cache(None)
 def long_runs():
-    """Yields long plans, as texts, each with what the program prints of it. They could show a definition by which a state that is
-    followed is called settled while rules hold one another up, or before all layers are looked at again."""
+    """Returns the long plans, which several scripts ask for: those of a run stand behind one another."""
+    return tuple(long_plans())
+
+
+def long_plans():
+    """Yields long plans, as texts, each with what the program prints of it, and with the run of its steps. They could show a
+    definition by which a state that is followed is called settled while rules hold one another up, or before all layers are
+    looked at again."""
     chance = random.Random(SEED)
     made = (*made_runs(chance, TASKS, STEPS), *storm_runs(chance, STORM_STEPS))
     for number, (task, derived, run) in enumerate(made):
-        for goal, names, cost, said in said_of_run(chance, task, derived, run):
+        for goal, names, through, cost, said in said_of_run(chance, task, derived, run):
+            task = {**task, "goal": goal}
+            states = [initial(task), *(state for _, state in through)]
             yield {
                 "name": f"long run {number}, {said}",
-                "task": text_of({**task, "goal": goal}),
+                "task": text_of(task),
                 "plan": plan_text(names, cost),
                 "output": f"{said}\n",
                 "status": 1 if "invalid" in said else 0,
+                "run": Run(task, names, [operator for operator, _ in through], states),
             }
 
 

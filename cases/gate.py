@@ -2,9 +2,9 @@
 """Runs every check of the repository: the gate of the toolchain, then the cases over what it built.
 
 `rt ci` proves and builds everything from nothing and tries each edit that must fail. Then docs/READING.md is held against the
-definitions, each allocation is refused in turn, the calls of the libraries are made, and the program is run. The last line is
-'N passed, M failed' of all together, and the exit status is 0 exactly if M is 0. A command that doesn't end as its own last line says
-counts as one failure.
+definitions, the commands that documents show are run, each allocation is refused in turn, the calls of the libraries are made, and
+the program is run. The last line is 'N passed, M failed' of all together, and the exit status is 0 exactly if M is 0. A command that
+doesn't end as its own last line says counts as one failure.
 """
 import os
 import re
@@ -17,6 +17,7 @@ TOP = os.path.dirname(os.path.dirname(os.path.abspath(__file__)))
 PROGRAMS = [f"crates/{name}/out/{name}" for name in ("test_core", "test_files", "test_verdicts", "test_requests")]
 CASES = [
     ["cases/reading.py"],
+    ["cases/shown.py", "sas"],
     ["cases/memory.py", "sas", *PROGRAMS],
     ["cases/calls.py", *PROGRAMS],
     ["cases/run.py", "sas"],

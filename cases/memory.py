@@ -11,7 +11,9 @@ nothing and has the answer of the call. A reader that wants memory returns that 
 
 SAS is the program itself, with requests over a task of the examples and over one that has several of everything. Each
 allocation of it is refused in turn, until a run meets no refusal. With one refused it prints `sas: out of memory` on standard
-error, writes nothing on standard output and ends with status 3; or it does without and answers as ever.
+error, writes nothing on standard output and ends with status 3; or it does without and answers as ever. So it is with `--why`,
+for each kind of answer about a plan, with `trace` and with `plans`: there the answer is what reasons.py, traces.py and many.py
+compute.
 
 The library that refuses is made of refuse.c, with $CC or cc. Each call that fails has a line, and the last line is
 'N passed, M failed'. The exit status is 0 where none failed.
@@ -28,7 +30,10 @@ from concurrent.futures import ThreadPoolExecutor
 import report
 from axioms import text_of
 from large import plan_text, wide_plans, wide_task
+from many import lines_of, status_of
+from reasons import reasons
 from texts import CASES, TOP, as_bytes, table
+from traces import traced
 
 # no run of these makes more allocations
 MOST = 1000
@@ -36,6 +41,9 @@ WANTING = re.compile(rb"(taken\n)*(wanting\n)+")
 OUT_OF_MEMORY = (3, b"", b"sas: out of memory\n")
 # how many of everything a task has that is refused memory for
 SEVERAL = 65
+# how often all of its switches are turned, each time in some 7 kB of a trace
+OFTEN = 20
+UNLAYERED, MINIMAL = "cases/tasks/unlayered.sas", "cases/tasks/minimal.sas"
 
 
 def refusing(folder):
@@ -92,6 +100,7 @@ def refused_calls(programs):
                     "given": b"%s 1\n%s" % (group["call"].encode(), as_bytes(given)),
                     "answer": as_bytes(answer),
                     "first": 1 + group["refused"],
+                    "inputs": group.get("inputs", 2),
                 }
 
 
@@ -101,14 +110,106 @@ def refused_requests(sas, folder):
     names, cost, _ = wide_plans(SEVERAL)[0]
     files = {"several.sas": text_of(wide_task(SEVERAL)), "several.plan": plan_text(names, cost)}
     for name, text in files.items():
-        with open(os.path.join(folder, name), "w", encoding="utf-8") as file:
-            file.write(text)
+        written(folder, name, text)
     for front, exclusive in (("examples/fuses", True), (os.path.join(folder, "several"), False)):
         task, plan = f"{front}.sas", f"{front}.plan"
         requests = [[request, task] for request in ("show", "check", "print", "mutex")]
         for words in (*requests, ["plan", task, plan], ["steps", plan]):
             status = 1 if words[0] == "mutex" and not exclusive else 0
-            yield {"command": [sas, *words], "name": " ".join(words), "given": b"", "first": 1, "status": status}
+            yield asked(sas, words, status)
+            yield asked(sas, [*words, "--why"], status)
+
+
+def asked(sas, words, status, output=None, error=b""):
+    """Returns a request to the program, its answer, where None is some text that is due, and standard error."""
+    name, command = " ".join(words), [sas, *words]
+    return {"command": command, "name": name, "given": b"", "first": 1, "status": status, "output": output, "error": error}
+
+
+def written(folder, name, text):
+    """Writes a file into a folder, and returns its path."""
+    path = os.path.join(folder, name)
+    with open(path, "w", encoding="utf-8") as file:
+        file.write(text)
+    return path
+
+
+def both_written(folder, name, task, names, cost):
+    """Writes the files of a task and of a plan, and returns their paths."""
+    return [written(folder, f"{name}.sas", text_of(task)), written(folder, f"{name}.plan", plan_text(names, cost))]
+
+
+def told(lines):
+    """Returns the bytes of these lines."""
+    return "".join(f"{line}\n" for line in lines).encode()
+
+
+def refusals(plan):
+    """Yields words for a task that isn't layered, and for a file that is no task, with this plan, and what is said of
+    them."""
+    yield [UNLAYERED, plan], "task refused: rule 0: layer order"
+    yield ["examples/fuses.plan", plan], "task refused: line 1: keyword"
+
+
+def failing_plans():
+    """Yields plans of a task that has several of everything: those of large.py, of which one is valid, and some that fail in
+    other ways. Of the goals, one fails on derived variables that rules give, and one on those that rules don't give, so often
+    that its reasons don't go out in one piece."""
+    task, plans = wide_task(SEVERAL), wide_plans(SEVERAL)
+    for names, cost, _ in plans:
+        yield task, names, cost
+    reached = plans[0][0]
+    missed = reached[:-1]
+    dark = [(var, 1) for var, layer in enumerate(task["layers"]) if layer is not None]
+    yield {**task, "goal": dark}, reached, 0
+    yield {**task, "goal": [(0, 1), *task["goal"], *dark] * 8}, missed, 0
+    yield task, [*missed, "Back "], 0
+    yield {**task, "operators": [*task["operators"], *task["operators"]]}, [*reached, "turn"], 0
+
+
+def long_plan():
+    """Returns a plan of that task whose trace doesn't go out in one piece."""
+    names, cost, _ = wide_plans(SEVERAL)[0]
+    return wide_task(SEVERAL), [*names, *["back", "turn"] * OFTEN], cost + 2 * OFTEN
+
+
+def refused_reasons(sas, folder):
+    """Yields each kind of answer to `plan --why`. It could show reasons that stop where memory is refused, or of which a part
+    is written before that."""
+    for number, (task, names, cost) in enumerate(failing_plans()):
+        files = both_written(folder, f"why.{number}", task, names, cost)
+        fault, behind = reasons(task, names, cost)
+        yield asked(sas, ["plan", "--why", *files], 0 if fault.startswith("plan valid") else 1, told([fault, *behind]))
+    for words, said in (*refusals(files[1]), ([MINIMAL, MINIMAL], "plan refused: line 1: keyword")):
+        yield asked(sas, ["plan", "--why", *words], 1, told([said]))
+
+
+def refused_traces(sas, folder):
+    """Yields each kind of answer to `trace`. It could show a part of a trace that is written before memory is refused, or one
+    that ends there."""
+    for number, (task, names, cost) in enumerate((*failing_plans(), long_plan())):
+        files = both_written(folder, f"trace.{number}", task, names, cost)
+        lines = traced(task, names, cost)
+        yield asked(sas, ["trace", *files], 0 if lines[-1].startswith("plan valid") else 1, told(lines))
+    for words, said in (*refusals(files[1]), ([MINIMAL, MINIMAL], "plan refused: line 1: keyword")):
+        yield asked(sas, ["trace", *words], 1, told([said]))
+
+
+def refused_plans(sas, folder):
+    """Yields plans of a task that has several of everything: each alone, all of them in either order, one twice, and one in
+    front of a plan that can't be opened or read. It could show a plan that is left out, or told as refused, where memory is;
+    one for which the plans before it count; and a label that is cut off."""
+    task = wide_task(SEVERAL)
+    path = written(folder, "many.sas", text_of(task))
+    texts = [*(plan_text(names, cost) for names, cost, _ in wide_plans(SEVERAL)), "", "(next 0)\n"]
+    plans = [(written(folder, f"many.{number}", text), text) for number, text in enumerate(texts)]
+    for some in (*([plan] for plan in plans), plans, plans[::-1], plans[:1] * 2):
+        lines = lines_of(task, some)
+        yield asked(sas, ["plans", path, *(label for label, _ in some)], status_of(lines), told(lines))
+    for label, said in (("none", "cannot open the plan"), (".", "read failed")):
+        yield asked(sas, ["plans", path, plans[0][0], label], 3, b"", told([f"sas: {said}: {label}"]))
+    for words, said in refusals("none"):
+        yield asked(sas, ["plans", *words], 1, told([said]))
 
 
 def letter(end, was_refused, answer):
@@ -124,15 +225,16 @@ def letter(end, was_refused, answer):
 def wrong_with_call(library, call):
     """Returns what is wrong with a call."""
     came = "".join(letter(*run, call["answer"]) for run in runs(library, call["command"], call["given"], call["first"]))
-    # The first one shows that none of the call was left alone. Each of two inputs is read without memory for large pieces,
-    # which is asked for before all other.
-    return [] if re.fullmatch("b+(A?w+){1,2}A*a", came) else [came]
+    # The first one shows that none of the call was left alone. Each input is read without memory for large pieces, which is
+    # asked for before all other, and, if its lines end with CR LF, without memory for a copy with LF alone.
+    return [] if re.fullmatch("b+(A{0,2}w+){1,%d}A*a" % call["inputs"], came) else [came]
 
 
 def wrong_with_request(library, call):
     """Returns what is wrong with a request to the program itself."""
     *refused, (last, was_refused) = runs(library, call["command"], call["given"], call["first"])
-    answered = not was_refused and last[0] == call["status"] and last[1] and not last[2]
+    due = last[1] if call["output"] is None else call["output"]
+    answered = not was_refused and last == (call["status"], due, call["error"]) and (last[1] or call["output"] is not None)
     wrong = [f"allocation {number}: {end}" for number, (end, _) in enumerate(refused, 1) if end not in (OUT_OF_MEMORY, last)]
     return wrong if answered and OUT_OF_MEMORY in [end for end, _ in refused] else [*wrong, f"nothing refused: {last}"]
 
@@ -141,7 +243,8 @@ def main(sas, *paths):
     programs = {os.path.basename(path): os.path.abspath(path) for path in paths}
     calls = list(refused_calls(programs))
     with tempfile.TemporaryDirectory() as folder, ThreadPoolExecutor(os.cpu_count()) as pool:
-        requests = list(refused_requests(os.path.abspath(sas), folder))
+        kinds = (refused_requests, refused_reasons, refused_traces, refused_plans)
+        requests = [request for kind in kinds for request in kind(os.path.abspath(sas), folder)]
         library = itertools.repeat(refusing(folder))
         wrong = [*pool.map(wrong_with_call, library, calls), *pool.map(wrong_with_request, library, requests)]
     report.end(calls + requests, wrong)

@@ -21,7 +21,8 @@ plans.json: plan files. Each is given to `steps` twice, as a file and as standar
 standard error. One with `cut_off` ends early wherever it is cut off.
 
 verdicts.json: plans of tasks. Each is given to `plan` as two files, with the task as standard input, and with the plan as
-standard input; those that walks.py and following.py make at random as two files.
+standard input; those that walks.py and following.py make at random as two files. why.py gives them to `plan --why`, and traces.py
+to `trace`; both have plans of their own, and so has many.py, for `plans`.
 
     task, plan   the files, as texts
     output       standard output, exactly
@@ -29,7 +30,7 @@ standard input; those that walks.py and following.py make at random as two files
     initial      the initial state, and
     call         what the call `check_plan` answers; both for calls.py, and left out where a file is refused or too long
 
-large.py, idle.py and crowded.py make large tasks and plans, as cases of program.json.
+large.py, idle.py, crowded.py, lengthy.py and plenty.py make large tasks and plans, as cases of program.json.
 
 groups.json: tasks. Each is given to `mutex` as a file and as standard input, and there with CR LF at the end of each line
 too; those that families.py makes at random, and its larger ones, as standard input.
@@ -42,7 +43,7 @@ too; those that families.py makes at random, and its larger ones, as standard in
 program.json: words and devices, by these names.
 
     words        the words behind the program's name, each character a byte; FOLDER in one represents an empty folder
-    files        files by their names: the program runs in a folder that has these alone
+    files        files by their names, each character a byte: the program runs in a folder that has these alone
     input        standard input, empty where it is left out
     streamed     pairs [TEXT, TIMES] that come before it, and aren't held in memory as a whole; left out: nothing
     input_ends   false: standard input stays open until the program has ended
@@ -50,11 +51,13 @@ program.json: words and devices, by these names.
     stack        how many bytes its stack may have, with no environment, which would take some of them; left out: as many as
                  there are
     file         how many bytes the file may have that standard output is; left out: it is a pipe
+    open         how many files it may have open at a time, with its streams; left out: as many as the system lets it
     closed       which of "input", "output" and "error" aren't open when the program starts; left out: none
     output_to    where standard output goes: "full device", "closed pipe"; left out: to be compared with `output`
+    told         pairs [TEXT, TIMES] that come before `output`, and aren't held in memory as a whole; left out: nothing
     output       standard output, exactly
     status       the exit status
-    error        standard error, exactly; null: some text; left out: nothing
+    error        standard error, exactly; null: some text about the words, no line of the program's own; left out: nothing
 
 texts.py defines what a text is. A case without `files` runs at the top of the repository. Each case that fails has a line,
 and the last line is 'N passed, M failed'. The exit status is 0 where none failed.
@@ -72,12 +75,22 @@ from families import grouped_tasks, idle_effects, long_chains
 from following import long_runs
 from idle import idle_cases, nets_cases
 from large import large_cases
+from lengthy import lengthy_cases
+from many import plans_cases
+from plenty import plenty_cases
 from texts import TOP, as_bytes, changed_lines, early_end, table
+from traces import trace_cases
 from walks import walked_plans
+from why import why_cases
 
 SECONDS = 60
-# what a case may limit, in bytes: how many of them a unit of it is, and what the shell sets it by
-LIMITS = (("memory", 1024, "ulimit -v {}"), ("stack", 1024, "ulimit -s {}"), ("file", 512, "trap '' XFSZ; ulimit -f {}"))
+# what a case may limit, in bytes or files: how many of them a unit of it is, and what the shell sets it by
+LIMITS = (
+    ("memory", 1024, "ulimit -v {}"),
+    ("stack", 1024, "ulimit -s {}"),
+    ("file", 512, "trap '' XFSZ; ulimit -f {}"),
+    ("open", 1, "ulimit -n {}"),
+)
 CLOSING = {"input": "exec <&-", "output": "exec >&-", "error": "exec 2>&-"}
 
 
@@ -101,9 +114,9 @@ def lines_of(lines):
     return "".join(f"{line}\n" for line in lines).encode("latin-1")
 
 
-def task_cases():
-    """Yields each task file: as it stands, with other ends of lines, and cut off. They could show a wrong definition of task
-    files, and want of memory that no one was refused."""
+def whole_cases():
+    """Yields each task file, as it stands and with other ends of lines. They could show a wrong definition of task files, and want
+    of memory that no one was refused."""
     for task in table("tasks.json"):
         name, held = task["file"], as_bytes({"file": task["file"]})
         returns = held.replace(b"\n", b"\r\n")
@@ -115,6 +128,12 @@ def task_cases():
             yield over_task(f"{name}, shown, with {ends}", "show", given, shown, 0)
             yield over_task(f"{name}, checked, with {ends}", "check", given, f"{task['check']}\n", layered)
             yield over_task(f"{name}, its groups, with {ends}", "mutex", given, groups, exclusive)
+
+
+def cut_cases():
+    """Yields each task file with CR LF on one line, and cut off. They could show the same."""
+    for task in table("tasks.json"):
+        name, held = task["file"], as_bytes({"file": task["file"]})
         lines = held.splitlines(keepends=True)
         for number, line in enumerate(lines):
             given = b"".join([*lines[:number], line[:-1] + b"\r\n", *lines[number + 1 :]])
@@ -176,15 +195,25 @@ def verdict_cases():
 
 
 def group_cases():
-    """Yields the groups of each task, from a file, and from standard input with either end of lines. They could show a
-    definition of kept groups by which too few are shown, or an answer that comes too late."""
+    """Yields the groups of each task of groups.json, from a file, and from standard input with either end of lines. They could
+    show a definition of kept groups by which too few are shown."""
     for made in table("groups.json"):
         name, held, answer = made["name"], as_bytes(made["task"]), {"output": made["output"], "status": made["status"]}
         yield {"name": f"{name}, mutex of a file", "words": ["mutex", "t.sas"], "files": {"t.sas": held}, **answer}
         for ends, given in (("LF", held), ("CR LF", held.replace(b"\n", b"\r\n"))):
             yield over_task(f"{name}, mutex with {ends}", "mutex", given, **answer)
+
+
+def family_cases():
+    """Yields the groups of tasks that are made. They could show the same, or an answer that comes too late."""
     for made in (*grouped_tasks(), *long_chains(), *idle_effects()):
         yield over_task(made["name"], "mutex", made["task"], made["output"], made["status"])
+
+
+def with_why(case):
+    """Returns a case with `--why` that has no reasons: no other answer is due. It could show one."""
+    request, *words = case["words"]
+    return {**case, "name": f"{case['name']}, with --why", "words": [request, "--why", *words]}
 
 
 def closed_pipe():
@@ -244,6 +273,33 @@ def stream(process, parts):
     timer.cancel()
 
 
+def unlike(stream, parts):
+    """Reads these texts, each so many times, and returns what follows; where one of them isn't there, what is there instead, and
+    where that is."""
+    read = 0
+    for text, times in parts:
+        piece = as_bytes(text)
+        for _ in range(times):
+            held = stream.read(len(piece))
+            if held != piece:
+                return b"behind %d bytes: %s" % (read, held[:200])
+            read += len(piece)
+    return stream.read()
+
+
+def compared(process, parts):
+    """Does the same with standard output, and returns standard error too. A program that doesn't come to its end is ended."""
+    timer = threading.Timer(SECONDS, process.kill)
+    timer.start()
+    process.stdin.close()
+    written = unlike(process.stdout, parts)
+    process.stdout.close()
+    said = process.stderr.read()
+    process.wait()
+    timer.cancel()
+    return written, said
+
+
 def answer_of(program, case, folder, place):
     """Runs the program on a case. Returns its exit status, standard output and standard error."""
     given = as_bytes(case.get("input", ""))
@@ -258,7 +314,10 @@ def answer_of(program, case, folder, place):
             given = b""
         if "streamed" in case:
             stream(process, case["streamed"])
-        written, said = process.communicate(given, SECONDS)
+        if "told" in case:
+            written, said = compared(process, case["told"])
+        else:
+            written, said = process.communicate(given, SECONDS)
         if "file" in case:
             written = os.pread(output, 2 * case["file"], 0)
     finally:
@@ -277,8 +336,8 @@ def differences(case, answer):
         yield f"status {status}, not {case['status']}"
     if written is not None and written != as_bytes(case["output"]):
         yield f"output {written[:200]!r}, not {as_bytes(case['output'])[:200]!r}"
-    if error is None and not said:
-        yield "nothing on standard error"
+    if error is None and (not said or said.startswith(b"sas: ")):
+        yield f"standard error {said[:200]!r}, which isn't about the words"
     if error is not None and said != as_bytes(error):
         yield f"standard error {said[:200]!r}, not {error!r}"
 
@@ -289,7 +348,7 @@ def answer_among(program, case, folder):
         return answer_of(program, case, folder, TOP)
     with tempfile.TemporaryDirectory() as place:
         for name, text in case["files"].items():
-            with open(os.path.join(place, name), "wb") as file:
+            with open(os.path.join(os.fsencode(place), as_bytes(name)), "wb") as file:
                 file.write(as_bytes(text))
         return answer_of(program, case, folder, place)
 
@@ -307,9 +366,12 @@ def main():
         sys.exit(__doc__)
     program = os.path.abspath(sys.argv[1])
     with tempfile.TemporaryDirectory() as plans, tempfile.TemporaryDirectory() as folder:
-        files = (*task_cases(), *line_cases(), *plan_cases(plans), *verdict_cases(), *group_cases())
+        files = [*whole_cases(), *line_cases(), *plan_cases(plans), *group_cases()]
+        plans = [*verdict_cases(), *why_cases(), *trace_cases(), *plans_cases()]
+        made = [*cut_cases(), *plans, *family_cases(), *table("program.json")]
         # those that take longest first
-        cases = [*nets_cases(), *idle_cases(), *crowded_cases(), *large_cases(), *files, *table("program.json")]
+        large = [*nets_cases(), *idle_cases(), *lengthy_cases(), *plenty_cases(), *crowded_cases(), *large_cases()]
+        cases = [*large, *files, *map(with_why, files), *made]
         with ThreadPoolExecutor(os.cpu_count()) as pool:
             wrong = list(pool.map(lambda case: faults(program, case, folder), cases))
     report.end(cases, wrong)

@@ -121,6 +121,12 @@ def plan_text(names, cost):
     return "".join(f"({name})\n" for name in names) + f"; cost = {cost} (unit cost)\n"
 
 
+def plan_of(text):
+    """Returns the names of the steps and the cost of the plan of which this is the file."""
+    *steps, cost = text.replace("\r\n", "\n").removesuffix("\n").split("\n")
+    return [step[1:-1] for step in steps], int(cost.split(" ")[3])
+
+
 def walked_plans():
     """Yields plans of tasks, as texts, each with the initial state, what the program prints of it, and what `check_plan`
     answers. They could show a wrong definition of valid plans, in a case that no one thought of."""

@@ -7,4 +7,4 @@ mod plans;
 
 pub use groups::groups_answer;
 pub use layers::{layers_answer, refuse_layers};
-pub use plans::verdict_answer;
+pub use plans::{accept_plan, answer_by, refuse_plan, verdict_answer};

@@ -2,7 +2,7 @@
 ghost use Rattle.std.specs.Prelude.{◌≡◌, ◌≢◌, option_map, Some, IfOk, IfErr};
 ghost use Rattle.sas_run.specs.Plans.{IsValid};
 ghost use Rattle.sas_run.specs.Verdicts.{IsFaultOf};
-ghost use Rattle.sas_answers.specs.Answers.{VerdictAnswer, invalid_answer};
+ghost use Rattle.sas_answers.specs.Answers.{VerdictAnswer, valid_answer, invalid_answer};
 ghost use Rattle.sas_output.specs.Ending.{output_told};
 ghost use Rattle.sas_answers.specs.PlanWords.{valid_line, fault_words, step_words};
 ghost use Rattle.sas_answers.specs.PlanWords.{goal_words, sum_words, invalid_line};
@@ -25,12 +25,34 @@ pub fn verdict_answer(
     ensures { IfOk result (λ a. VerdictAnswer layered.now plan.now (output_told a)) }
 {
     match check_plan(alloc, layered, plan) {
-        Ok(_) => Ok(Told {
-            text: valid_text(alloc, plan.steps(), plan.cost())?,
-            status: Status::Yes,
-        }),
+        Ok(_) => accept_plan(alloc, plan),
         Err(fault) => refuse_plan(alloc, plan.cost(), fault),
     }
+}
+
+/// Returns the answer about whether the plan is valid, as `verdict_answer` does, by a runner that serves many plans of the task.
+pub fn answer_by(
+    alloc: Global,
+    runner: &mut Runner<'_, Worklist, FlatTask>,
+    plan: &FlatPlan,
+) -> Result<Told, AllocError>
+    ensures answer { IfOk result (λ a. VerdictAnswer runner.old plan.now (output_told a)) }
+    ensures same { runner.new ≡ runner.old }
+{
+    match runner.check_plan(alloc, plan) {
+        Ok(_) => accept_plan(alloc, plan),
+        Err(fault) => refuse_plan(alloc, plan.cost(), fault),
+    }
+}
+
+/// Returns the answer about a plan that is valid.
+pub fn accept_plan(alloc: Global, plan: &FlatPlan) -> Result<Told, AllocError>
+    ensures { IfOk result (λ a. output_told a ≡ valid_answer plan.now) }
+{
+    Ok(Told {
+        text: valid_text(alloc, plan.steps(), plan.cost())?,
+        status: Status::Yes,
+    })
 }
 
 /// Checks whether the plan is valid, with an evaluator that counts open conditions. For a plan of half as many steps as there are
@@ -57,8 +79,8 @@ fn check_plan(
     verdict
 }
 
-/// Returns the answer about a plan with this cost and this fault.
-fn refuse_plan(alloc: Global, cost: u64, fault: PlanFault) -> Result<Told, AllocError>
+/// Returns the answer about a plan with this cost and this fault. For `Memory` it returns an `Err`.
+pub fn refuse_plan(alloc: Global, cost: u64, fault: PlanFault) -> Result<Told, AllocError>
     ensures { IfOk result (λ a. invalid_answer cost fault ≡ Some (output_told a)) }
 {
     Ok(Told {

@@ -1,5 +1,5 @@
 -- One variable after another falls on a layer, and what rests on it.
-use Rattle.std.proofs.Common.{◌≡◌, ◌≢◌, ◌⊎◌, ◌↔◌, ℕ, ◌+◌, ◌<◌, ◌≤◌, true, false, List, [], ◌∷◌, ◌++◌, length, get_or, set, None, refl, sym, ◌∙◌, ap, subst, inl, inr, arith}
+use Rattle.std.proofs.Common.{◌≡◌, ◌≢◌, ◌⊎◌, ℕ, ◌+◌, ◌<◌, ◌≤◌, true, List, [], ◌∷◌, length, get_or, set, sym, ◌∙◌, ap, subst, inl, inr, arith}
 use Rattle.std.specs.List.{All, Contains}
 use Rattle.std.proofs.lemmas.Bool.{cases_eq}
 use Rattle.std.proofs.lemmas.List.{get_or-set_same, get_or-set_other}
@@ -18,7 +18,7 @@ use Rattle.std.specs.BinaryHeap.{heap_items}
 use Rattle.sas_axioms.specs.Agenda.{entry_for, IsNoted, IsAwaited, AreBehind, Takes, IsMadeReady, AreMadeReady}
 use Rattle.sas_axioms.specs.Following.{SameFrom, AreNoted, SameWork, Moves, IsOnTrack, IsFalling, IsRising}
 use Rattle.sas_axioms.specs.Sources.{IsHolding, HaveSources, SourcesHold}
-use Rattle.sas_axioms.specs.LayerRules.{IsRuleOn, AreRulesOf}
+use Rattle.sas_axioms.specs.LayerRules.{IsRuleOn}
 use Rattle.sas_axioms.proofs.OneLayer.{one_layer}
 use Rattle.sas_axioms.proofs.Sources.{sources_fall}
 use Rattle.sas_axioms.proofs.Tracking.{awaited_on, track_taken, track_ready, track_moved}

@@ -1,10 +1,10 @@
 -- The basic variables that changed are counted anew, one after another.
-use Rattle.std.proofs.Common.{◌≡◌, ◌≢◌, ◌⊎◌, ◌↔◌, ℕ, zero, suc, ◌+◌, ◌<◌, ◌≤◌, List, [], ◌∷◌, length, get_or, set, refl, sym, ◌∙◌, ap, subst, inl, inr, arith}
-use Rattle.std.specs.List.{All, AllPairs, Contains}
+use Rattle.std.proofs.Common.{◌≡◌, ◌≢◌, ℕ, zero, suc, ◌<◌, List, [], ◌∷◌, length, get_or, set, refl, sym, ◌∙◌, ap, subst, inl, inr, arith}
+use Rattle.std.specs.List.{All, AllPairs}
 use Rattle.std.specs.BinaryHeap.{heap_items}
 use Rattle.std.proofs.lemmas.Bool.{cases_eq}
 use Rattle.std.proofs.lemmas.List.{get_or-set_same, get_or-set_other}
-use Rattle.std.proofs.lemmas.List.Elements.{All-nil, All-cons, All-head, All-tail, All-weaker, All-contains}
+use Rattle.std.proofs.lemmas.List.Elements.{All-nil, All-cons, All-head, All-tail, All-contains}
 use Rattle.std.specs.declared.cmp.Reverse.{Reverse}
 use Rattle.sas_core.specs.declared.parts.Fact.{Fact}
 use Rattle.sas_core.specs.declared.parts.Parts.{Parts}
@@ -13,13 +13,12 @@ use Rattle.sas_core.specs.Variables.{IsState}
 use Rattle.sas_meaning.specs.Following.{HaveGone}
 use Rattle.sas_meaning.specs.Layers.{IsBasic, IsOnLayer, IsLayered}
 use Rattle.sas_meaning.specs.Settled.{IsSettledAt, Settles}
-use Rattle.sas_meaning.specs.States.{Holds, AllHold}
+use Rattle.sas_meaning.specs.States.{Holds}
 use Rattle.sas_axioms.specs.declared.firing.Work.{Work}
 use Rattle.sas_axioms.specs.declared.layer_rules.LayerRule.{LayerRule}
-use Rattle.sas_axioms.specs.Agenda.{IsEmpty, IsNoted}
-use Rattle.sas_axioms.specs.Conditions.{AreCounted}
+use Rattle.sas_axioms.specs.Agenda.{IsEmpty}
 use Rattle.sas_axioms.specs.Sources.{IsHolding, SourcesHold, AreGiven}
-use Rattle.sas_axioms.specs.Following.{AreNoted, SameFrom, SameWork, Moves, IsFollowed, IsOnTrack, CountedSoFar, IsBetween}
+use Rattle.sas_axioms.specs.Following.{Moves, IsFollowed, CountedSoFar, IsBetween}
 use Rattle.sas_axioms.specs.LayerRules.{IsRuleOn}
 use Rattle.sas_axioms.proofs.Counters.{open_same}
 use Rattle.sas_axioms.proofs.FallingSteps.{noted_moved}

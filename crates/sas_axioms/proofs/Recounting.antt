@@ -1,6 +1,6 @@
 -- A variable's value changes: what is counted anew, and what is noted.
-use Rattle.std.proofs.Common.{◌≡◌, ◌≢◌, ◌⊎◌, ◌↔◌, ℕ, zero, suc, ◌+◌, ◌<◌, ◌≤◌, ◌==◌, ◌&&◌, List, [], ◌∷◌, length, get_or, set, refl, sym, ◌∙◌, ap, subst, inl, inr, arith}
-use Rattle.std.specs.List.{All, Contains}
+use Rattle.std.proofs.Common.{◌≡◌, ℕ, zero, suc, ◌+◌, ◌<◌, ◌≤◌, List, [], ◌∷◌, length, get_or, set, refl, sym, subst, inl, inr, arith}
+use Rattle.std.specs.List.{Contains}
 use Rattle.std.specs.BinaryHeap.{heap_items}
 use Rattle.std.proofs.lemmas.Bool.{eq-eqb}
 use Rattle.std.proofs.lemmas.Bool.Decides.{eqb_tells}
@@ -10,11 +10,9 @@ use Rattle.sas_core.specs.Grounded.{rule_at}
 use Rattle.sas_core.specs.WellRanged.{WellRanged}
 use Rattle.sas_axioms.specs.declared.firing.Work.{Work}
 use Rattle.sas_axioms.specs.declared.waiting.Waiting.{Waiting}
-use Rattle.sas_axioms.specs.Agenda.{IsNoted}
 use Rattle.sas_axioms.specs.Conditions.{IsFullIndex, AreCounted}
 use Rattle.sas_axioms.specs.Following.{AsksAbout, SameWork, Recounts, Moves}
 use Rattle.sas_axioms.specs.LayerRules.{IsRuleOn}
-use Rattle.sas_axioms.specs.Sources.{IsHolding}
 use Rattle.sas_axioms.specs.Waiting.{asking, occurrences, released, waiting_at}
 use Rattle.sas_axioms.proofs.AllConditions.{recounted}
 use Rattle.sas_axioms.proofs.Tracking.{holding_when_zero, zero_when_holding}

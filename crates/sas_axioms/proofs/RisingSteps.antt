@@ -1,6 +1,5 @@
 -- The rules of a layer that hold set their variables, one after another.
-use Rattle.std.proofs.Common.{◌≡◌, ◌≢◌, ◌⊎◌, ◌↔◌, ℕ, ◌+◌, ◌<◌, ◌≤◌, true, List, [], ◌∷◌, length, get_or, set, refl, sym, ◌∙◌, ap, subst, inl, inr, arith}
-use Rattle.std.specs.List.{All, Contains}
+use Rattle.std.proofs.Common.{◌≡◌, ◌≢◌, ◌⊎◌, ◌↔◌, ℕ, ◌+◌, ◌<◌, ◌≤◌, true, List, [], length, get_or, set, sym, ◌∙◌, ap, subst, inl, inr, arith}
 use Rattle.std.specs.BinaryHeap.{heap_items}
 use Rattle.std.proofs.lemmas.Bool.{cases_eq, cases_lt}
 use Rattle.std.proofs.lemmas.List.{get_or-set_same, get_or-set_other, length-set}
@@ -9,7 +8,7 @@ use Rattle.std.specs.declared.cmp.Reverse.{Reverse}
 use Rattle.sas_core.specs.declared.parts.Parts.{Parts}
 use Rattle.sas_core.specs.Grounded.{rule_at}
 use Rattle.sas_core.specs.WellRanged.{WellRanged}
-use Rattle.sas_meaning.specs.Layers.{IsOnLayer, IsLayered, default_of}
+use Rattle.sas_meaning.specs.Layers.{IsOnLayer, IsLayered}
 use Rattle.sas_meaning.specs.Settled.{differs, IsSettledAt, IsSettled}
 use Rattle.sas_meaning.specs.Forced.{SameOff}
 use Rattle.sas_meaning.proofs.Forced.{Fired, fired_there, differs_true, differs_not}
@@ -23,7 +22,6 @@ use Rattle.sas_axioms.specs.LayerRules.{IsRuleOn}
 use Rattle.sas_axioms.specs.Sources.{IsHolding, HaveSources, SourcesHold, AreGiven}
 use Rattle.sas_axioms.proofs.Counters.{was_default}
 use Rattle.sas_axioms.proofs.FallingSteps.{noted_taken, noted_moved, same_moved, still_awaited}
-use Rattle.sas_axioms.proofs.OneLayer.{one_layer}
 use Rattle.sas_axioms.proofs.Sources.{no_rule, forced_when_given, sources_same, given_off, given_when_fired, differs_where_holding, settled_when_given}
 use Rattle.sas_axioms.proofs.Tracking.{awaited_on, track_taken, track_moved, track_set}
 

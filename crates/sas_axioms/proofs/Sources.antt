@@ -1,6 +1,5 @@
 -- What sources give is forced, and a rule that fires is a source.
-use Rattle.std.proofs.Common.{◌≡◌, ◌≢◌, ◌↔◌, ℕ, zero, suc, ◌+◌, ◌<◌, ◌==◌, Bool, true, false, cond, List, [], ◌∷◌, length, get_or, set, None, refl, sym, ◌∙◌, ap, subst, inl, inr, arith}
-use Rattle.std.specs.List.{All}
+use Rattle.std.proofs.Common.{◌≡◌, ◌≢◌, ℕ, zero, suc, ◌+◌, ◌<◌, ◌==◌, Bool, true, cond, List, [], ◌∷◌, length, get_or, set, None, refl, sym, ◌∙◌, ap, subst, inl, inr, arith}
 use Rattle.std.proofs.lemmas.Bool.{cases_eq, eq-eqb}
 use Rattle.std.proofs.lemmas.Bool.Decides.{eqb_tells}
 use Rattle.std.proofs.lemmas.List.{get_or_default, get_or-set_same, get_or-set_other}
@@ -17,8 +16,7 @@ use Rattle.sas_meaning.proofs.Rules.{new_value_is}
 use Rattle.sas_meaning.proofs.Settling.{settled_when_fired}
 use Rattle.sas_meaning.proofs.Unique.{differs_tells}
 use Rattle.sas_axioms.specs.LayerRules.{IsRuleOn}
-use Rattle.sas_axioms.specs.Sources.{IsHolding, IsSourceOf, HaveSources, SourcesHold, AreGiven}
-use Rattle.sas_axioms.proofs.OneLayer.{one_layer}
+use Rattle.sas_axioms.specs.Sources.{IsHolding, IsSourceOf, HaveSources, AreGiven}
 
 abbrev pub no_rule : Rule
 no_rule = record { conditions = []; var = 0; old = None; new = 0 }

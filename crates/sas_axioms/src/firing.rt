@@ -6,6 +6,7 @@ ghost use Rattle.sas_meaning.specs.States.{AllHold};
 ghost use Rattle.sas_meaning.specs.Forced.{AtDefault};
 ghost use Rattle.sas_meaning.specs.Following.{HaveGone};
 ghost use Rattle.sas_meaning.specs.Settled.{SameBasic};
+ghost use Rattle.sas_meaning.specs.Touched.{StillTells};
 ghost use Rattle.sas_axioms.specs.declared.waiting.Waiting.{Waiting};
 ghost use Rattle.sas_axioms.specs.ByLayers.{SettlesLayer};
 ghost use Rattle.sas_axioms.specs.LayerRules.{IsRuleOn, AreRulesOn};
@@ -25,7 +26,7 @@ use crate::resting::Resting;
 use crate::waiting::{Waiting, index_of_own_layers};
 use sas_core::{Fact, Grounded, Items};
 use sas_lists::Lists;
-use sas_meaning::{Layered, State};
+use sas_meaning::{Layered, State, Touched};
 use std::alloc::{AllocError, Global};
 
 /// The work on a layer.
@@ -108,12 +109,14 @@ impl Firing {
         empty_stack(task, &self.index, &mut self.work, state);
     }
 
-    /// Settles the state, which was settled but that these facts have gone. It gives up where that takes too much.
+    /// Settles the state, which was settled but that these facts have gone. It gives up where that takes too much. What it sets is
+    /// noted.
     pub fn follow<T: Grounded>(
         &mut self,
         task: &Layered<T>,
         gone: &[Fact],
         state: &mut State,
+        touched: &mut Touched,
     ) -> Result<(), TooMuch>
         requires prepared { IsPrepared task.now self.old }
         requires state { IsState task.now.variables state.old }
@@ -122,10 +125,11 @@ impl Firing {
         ensures prepared { IsPrepared task.now self.new }
         ensures state { IsState task.now.variables state.new }
         ensures basic { SameBasic task.now state.old state.new }
+        ensures told { StillTells task.now state.old touched.old state.new touched.new }
         ensures followed { OnOk result (IsFollowed task.now state.new self.new.work) }
     {
         self.work.agenda.begin();
-        let followed = self.follow_on(task, gone, state);
+        let followed = self.follow_on(task, gone, state, touched);
         self.work.agenda.end(followed);
         followed
     }
@@ -136,6 +140,7 @@ impl Firing {
         task: &Layered<T>,
         gone: &[Fact],
         state: &mut State,
+        touched: &mut Touched,
     ) -> Result<(), TooMuch>
         requires prepared { IsPrepared task.now self.old }
         requires state { IsState task.now.variables state.old }
@@ -145,11 +150,12 @@ impl Firing {
         ensures prepared { IsPrepared task.now self.new }
         ensures state { IsState task.now.variables state.new }
         ensures basic { SameBasic task.now state.old state.new }
+        ensures told { StillTells task.now state.old touched.old state.new touched.new }
         ensures followed { OnOk result (IsFollowed task.now state.new self.new.work) }
     {
         let index = &self.resting.counted.index;
         count_gone(task, index, gone, &mut self.work, state)?;
-        settle_noted(task, index, &self.rules_of, &mut self.work, state)
+        settle_noted(task, index, &self.rules_of, &mut self.work, state, touched)
     }
 }
 

@@ -8,10 +8,11 @@
 ghost use Rattle.std.specs.Prelude.{◌≡◌, ◌≢◌, ◌+◌, ◌<◌, ◌≤◌, ◌^◌, ℕ, List, length, All, OnOk, IsTrue, IsFalse, slice_index, slice_set};
 ghost use Rattle.sas_core.specs.declared.parts.Parts.{Parts};
 ghost use Rattle.sas_core.specs.Grounded.{rule_at};
-ghost use Rattle.sas_core.specs.Variables.{IsState};
+ghost use Rattle.sas_core.specs.Variables.{IsDerived, IsState};
 ghost use Rattle.sas_meaning.specs.Following.{HaveGone};
 ghost use Rattle.sas_meaning.specs.Forced.{SameOff};
 ghost use Rattle.sas_meaning.specs.Settled.{SameBasic, differs};
+ghost use Rattle.sas_meaning.specs.Touched.{Notes, StillTells};
 ghost use Rattle.sas_axioms.specs.declared.waiting.Waiting.{Waiting};
 ghost use Rattle.sas_axioms.specs.Agenda.{IsEmpty, IsNoted, IsOrdered, AreMadeReady, work_left};
 ghost use Rattle.sas_axioms.specs.Conditions.{AreCounted, IsFullIndex};
@@ -27,7 +28,7 @@ use crate::layer_rules::{LayerRule, firing_layer};
 use crate::waiting::Waiting;
 use sas_core::{Fact, Grounded};
 use sas_lists::Lists;
-use sas_meaning::{Layered, State};
+use sas_meaning::{Layered, State, Touched};
 
 /// What a variable's value was, and what it is.
 #[derive(Clone, Copy, Debug)]
@@ -74,12 +75,14 @@ pub fn settle_noted<T: Grounded>(
     rules_of: &Lists<u32>,
     work: &mut Work,
     state: &mut State,
+    touched: &mut Touched,
 ) -> Result<(), TooMuch>
     requires index { IsFullIndex task.now index.now }
     requires rules { AreRulesOf task.now rules_of.now }
     requires between { (s : List ℕ) × IsBetween task.now s 0 state.old work.old }
     ensures state { IsState task.now.variables state.new }
     ensures basic { SameBasic task.now state.old state.new }
+    ensures told { StillTells task.now state.old touched.old state.new touched.new }
     ensures stack { work.new.stack ≡ work.old.stack }
     ensures one_each { length work.new.counters ≡ length work.old.counters }
     ensures sources { length work.new.sources ≡ length work.old.sources }
@@ -89,8 +92,8 @@ pub fn settle_noted<T: Grounded>(
     let _ = task.task();
     while let Some(layer) = work.agenda.lowest() {
         work.layer = layer;
-        fall(task, index, rules_of, work, state)?;
-        rise(task, index, work, state)?;
+        fall(task, index, rules_of, work, state, touched)?;
+        rise(task, index, work, state, touched)?;
     }
     Ok(())
 }
@@ -102,6 +105,7 @@ fn fall<T: Grounded>(
     rules_of: &Lists<u32>,
     work: &mut Work,
     state: &mut State,
+    touched: &mut Touched,
 ) -> Result<(), TooMuch>
     requires index { IsFullIndex task.now index.now }
     requires rules { AreRulesOf task.now rules_of.now }
@@ -110,6 +114,7 @@ fn fall<T: Grounded>(
     ensures same { SameWork work.old work.new }
     ensures state { IsState task.now.variables state.new }
     ensures off { SameOff task.now work.old.layer state.old state.new }
+    ensures told { StillTells task.now state.old touched.old state.new touched.new }
     ensures rising { OnOk result ((s : List ℕ) → IsFalling task.now s state.old work.old
         → IsRising task.now s state.new work.new) }
     ensures left { OnOk result (work_left work.new.agenda < work_left work.old.agenda) }
@@ -120,7 +125,7 @@ fn fall<T: Grounded>(
         if has_lost(task, rule, work, state) {
             let var = task.rule_change(rule).var;
             let value = task.initial_value(var);
-            set_to(task, index, Fact { var, value }, work, state)?;
+            set_to(task, index, Fact { var, value }, work, state, touched)?;
             make_ready(rules_of.get(var as usize), &mut work.agenda)?;
         } else {
             work.agenda.make_ready(rule)?;
@@ -169,12 +174,14 @@ fn rise<T: Grounded>(
     index: &Lists<Waiting>,
     work: &mut Work,
     state: &mut State,
+    touched: &mut Touched,
 ) -> Result<(), TooMuch>
     requires index { IsFullIndex task.now index.now }
     requires rising { (s : List ℕ) × IsRising task.now s state.old work.old }
     ensures stands { KeepsRoom work.old work.new }
     ensures state { IsState task.now.variables state.new }
     ensures off { SameOff task.now work.old.layer state.old state.new }
+    ensures told { StillTells task.now state.old touched.old state.new touched.new }
     ensures risen { OnOk result ((s : List ℕ) → IsRising task.now s state.old work.old
         → HasRisen task.now s state.new work.new) }
     ensures sources { SameSourcesOff task.now work.old.layer work.old.sources work.new.sources }
@@ -189,7 +196,7 @@ fn rise<T: Grounded>(
                 var: change.var,
                 value: change.new,
             };
-            set_to(task, index, fact, work, state)?;
+            set_to(task, index, fact, work, state, touched)?;
             work.sources.set(change.var as usize, rule);
         }
     }
@@ -213,20 +220,22 @@ fn has_to_set<T: Grounded>(task: &Layered<T>, rule: u32, work: &Work, state: &St
     work.counters.as_slice()[rule as usize] == 0 && state.value(change.var) != change.new
 }
 
-/// Sets the variable to another value, and counts the rules anew that ask about it.
+/// Sets the variable to another value, notes that it may have changed, and counts the rules anew that ask about it.
 fn set_to<T: Grounded>(
     task: &Layered<T>,
     index: &Lists<Waiting>,
     fact: Fact,
     work: &mut Work,
     state: &mut State,
+    touched: &mut Touched,
 ) -> Result<(), TooMuch>
     requires index { IsFullIndex task.now index.now }
     requires counts { AreCounted task.now state.old work.old.counters }
     requires ordered { IsOrdered work.old.agenda }
-    requires exists { fact.var < length task.now.variables }
+    requires derived { IsDerived task.now.variables fact.var }
     requires other { slice_index state.old fact.var ≢ fact.value }
     ensures state { state.new ≡ slice_set state.old fact.var fact.value }
+    ensures noted { Notes fact.var touched.old touched.new }
     ensures same { SameWork work.old work.new }
     ensures moves { OnOk result (Moves task.now fact.var state.old work.old state.new work.new) }
 {
@@ -235,6 +244,7 @@ fn set_to<T: Grounded>(
         value: fact.value,
     };
     state.set(fact);
+    touched.note(fact.var);
     recount(task, index, fact.var, moved, work)
 }
 

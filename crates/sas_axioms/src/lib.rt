@@ -15,5 +15,5 @@ mod waiting;
 mod worklist;
 
 pub use rounds::Rounds;
-pub use sas_meaning::{LayerFault, Layered, Settle, State, StateFault, meaning_laws};
+pub use sas_meaning::{LayerFault, Layered, Settle, State, StateFault, Touched, meaning_laws};
 pub use worklist::Worklist;

@@ -9,7 +9,7 @@ use crate::by_layers::{ByLayers, settle_by_layers};
 use crate::firing::Firing;
 use crate::layer_rules::{LayerRule, LayerSpan, ranked_rules, spans_of};
 use sas_core::{Fact, Grounded};
-use sas_meaning::{Layered, Settle, State};
+use sas_meaning::{Layered, Settle, State, Touched};
 use std::alloc::{AllocError, Global};
 
 /// An evaluator that settles states of one layered task. From one state to the next it keeps the counts with which its layers
@@ -65,14 +65,22 @@ impl<T: Grounded> Settle<T> for Worklist {
         settle_by_layers(self, layered, state);
     }
 
-    fn settle_on(&mut self, layered: &Layered<T>, gone: &[Fact], state: &mut State) {
+    fn settle_on(
+        &mut self,
+        layered: &Layered<T>,
+        gone: &[Fact],
+        state: &mut State,
+        touched: &mut Touched,
+    ) {
         // By its contract the task is well ranged and layered.
         let _ = layered.task();
+        touched.clear();
         if self.rules.is_empty() {
             // No rule can fire, so the state is settled as it stands.
             return;
         }
-        if self.firing.follow(layered, gone, state).is_err() {
+        if self.firing.follow(layered, gone, state, touched).is_err() {
+            touched.note_any();
             settle_by_layers(self, layered, state);
         }
     }

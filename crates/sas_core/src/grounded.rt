@@ -92,6 +92,11 @@ pub trait Grounded {
         requires { operator < length (says self.now).operators }
         ensures { result ≡ cost_of (says self.now) operator };
 
+    /// Returns the number on the operator's cost line, whatever the metric.
+    fn cost_line(&self, operator: u32) -> u32
+        requires { operator < length (says self.now).operators }
+        ensures { result ≡ (operator_at (says self.now) operator).cost };
+
     /// Returns the operator's prevail conditions.
     fn prevail(&self, operator: u32) -> &[Fact]
         requires { operator < length (says self.now).operators }
@@ -172,6 +177,10 @@ impl Grounded for Task {
 
     fn cost(&self, operator: u32) -> u32 {
         Task::cost(self, operator)
+    }
+
+    fn cost_line(&self, operator: u32) -> u32 {
+        operator_of(self, operator).cost
     }
 
     fn prevail(&self, operator: u32) -> &[Fact] {

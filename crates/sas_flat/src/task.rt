@@ -1,5 +1,6 @@
 // Flat tasks.
-ghost use Rattle.std.specs.Prelude.{◌≡◌};
+ghost use Rattle.std.specs.Prelude.{◌≡◌, option_map};
+ghost use Rattle.sas_core.specs.Variables as spec;
 ghost use Rattle.sas_core.specs.WellRanged.{WellRanged};
 ghost use Rattle.sas_flat.specs.FlatTasks.{parts_in};
 
@@ -32,6 +33,22 @@ impl FlatTask {
         ensures { result ≡ parts_in columns }
     {
         FlatTask { columns }
+    }
+
+    /// Returns the task's metric: whether the numbers on cost lines are costs.
+    pub fn metric(&self) -> bool
+        ensures { result ≡ self.now.metric }
+    {
+        self.columns.metric
+    }
+
+    /// Returns the name of the fact's value, if the fact exists.
+    pub fn value_name(&self, fact: Fact) -> Option<&[u8]>
+        ensures { option_map (λ name. name.now) result
+            ≡ spec.value_name self.now.variables fact.var fact.value }
+    {
+        let variables = &self.columns.variables;
+        variables.value_name(fact.var as usize, fact.value as usize)
     }
 }
 
@@ -85,6 +102,10 @@ impl Grounded for FlatTask {
         } else {
             1
         }
+    }
+
+    fn cost_line(&self, operator: u32) -> u32 {
+        self.columns.operators.cost(operator as usize)
     }
 
     fn prevail(&self, operator: u32) -> &[Fact] {

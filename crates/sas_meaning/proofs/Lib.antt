@@ -3,6 +3,7 @@ pub mod Layers
 pub mod Rules
 pub mod Forced
 pub mod Settling
+pub mod Telling
 pub mod Unique
 pub mod Exists
 pub mod NumberedChecks

@@ -146,6 +146,10 @@ impl<T: Grounded> Grounded for Layered<T> {
         self.task.cost(operator)
     }
 
+    fn cost_line(&self, operator: u32) -> u32 {
+        self.task.cost_line(operator)
+    }
+
     fn prevail(&self, operator: u32) -> &[Fact] {
         self.task.prevail(operator)
     }

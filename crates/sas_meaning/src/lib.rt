@@ -7,9 +7,11 @@ mod layered;
 mod preconditions;
 mod settle;
 mod state;
+mod touched;
 
 pub use laws::meaning_laws;
 pub use layered::{LayerFault, Layered};
 pub use preconditions::Preconditions;
 pub use settle::Settle;
 pub use state::{State, StateFault};
+pub use touched::Touched;

@@ -1,2 +1,3 @@
 pub mod Ending
 pub mod Pieces
+pub mod Words

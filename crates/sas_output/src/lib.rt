@@ -4,7 +4,9 @@
 mod ending;
 mod pieces;
 mod told;
+mod words;
 
 pub use ending::{Status, ToolFault};
 pub use pieces::Pieces;
 pub use told::Told;
+pub use words::{Indent, Word, Words};

@@ -1,5 +1,5 @@
 // A text that is written in pieces.
-ghost use Rattle.std.specs.Prelude.{◌≡◌, ◌≤◌, ◌+◌, ◌↔◌, [], ◌++◌, length, false};
+ghost use Rattle.std.specs.Prelude.{◌≡◌, ◌<◌, ◌≤◌, ◌+◌, ◌↔◌, [], ◌∷◌, ◌++◌, length, false};
 ghost use Rattle.std.specs.Prelude.{IfOk, IfErr, IsErr, IsTrue, OnOk, flat_map};
 ghost use Rattle.std.specs.Io.KnownBytes.{Appends};
 ghost use Rattle.sas_output.specs.Pieces.{Breaks, CountsOn, PutsOrBreaks};
@@ -99,6 +99,23 @@ impl Pieces {
         ensures held { self.new.held ≡ self.old.held ++ bytes.now }
         ensures written { self.new.written ≡ self.old.written }
     {
+        self.piece.extend_from_slice(bytes).unwrap();
+    }
+
+    /// Returns whether there is room for a space and the bytes behind what is held.
+    pub(crate) fn has_room_behind_space(&self, bytes: &[u8]) -> bool
+        ensures { IsTrue result → length self.now.held + length bytes.now < 65536 }
+    {
+        bytes.len() < PIECE - self.piece.len()
+    }
+
+    /// Holds a space and the bytes, for which there is room.
+    pub(crate) fn hold_behind_space(&mut self, bytes: &[u8])
+        requires { length self.old.held + length bytes.now < 65536 }
+        ensures held { self.new.held ≡ self.old.held ++ 32 ∷ bytes.now }
+        ensures written { self.new.written ≡ self.old.written }
+    {
+        self.piece.push(b' ').unwrap();
         self.piece.extend_from_slice(bytes).unwrap();
     }
 

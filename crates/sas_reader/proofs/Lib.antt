@@ -11,3 +11,6 @@ pub mod Advancing
 pub mod Conversion
 pub mod Reading
 pub mod Known
+mod Copying
+mod WithLfAlone
+mod FeedingPlain

@@ -7,3 +7,4 @@ pub mod Machine
 pub mod Reader
 pub mod Reading
 pub mod Devices
+pub mod Returns

@@ -4,6 +4,7 @@
 mod devices;
 mod fault;
 mod reader;
+mod returns;
 
 pub use devices::{read_all, read_all_large};
 pub use fault::{Fault, Kind};

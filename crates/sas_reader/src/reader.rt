@@ -6,8 +6,10 @@ ghost use Rattle.sas_reader.specs.Limit.{most_bytes};
 ghost use Rattle.sas_reader.specs.Machine.{AcceptsAhead};
 
 use crate::fault::{Fault, Kind};
+use crate::returns::copy_with_lf_alone;
 use sas_lines::{Lines, first_line};
 use std::alloc::Global;
+use std::mem;
 
 /// The most bytes that are read of an input, a task or a plan: 4 GiB.
 pub const LIMIT: u64 = 4_294_967_296;
@@ -61,15 +63,37 @@ pub trait Machine: Drop {
     }
 }
 
+/// Returns whether the first line of the bytes ends with CR LF.
+fn begins_with_return(bytes: &[u8]) -> bool {
+    match first_line(bytes) {
+        Some(first) => first.line.len() + 1 < first.taken,
+        None => false,
+    }
+}
+
+/// Returns the bytes without one CR at their end, if there is one.
+fn without_last_return(bytes: &[u8]) -> &[u8]
+    ensures { (n : ℕ) × (result.now ≡ take n bytes.now) }
+{
+    match bytes {
+        [front @ .., b'\r'] => front,
+        _ => bytes,
+    }
+}
+
 /// A text that comes in pieces: where its lines have led, the line that has begun, and the first fault.
 #[derive(Drop)]
 pub struct Reader<M> {
+    pub alloc: Global,
     pub machine: M,
     pub pending: Lines,
     pub lines: u64,
-    pub taken: u64,
+    /// It stands between those that each line changes: side by side LLVM changes both in one vector, which takes longer.
     pub limit: u64,
+    pub taken: u64,
     pub fault: Option<Fault>,
+    /// Memory for a piece without its CRs.
+    pub plain: Vec<u8>,
     ghost within: { taken ≤ limit },
     ghost small: { limit ≤ most_bytes },
     ghost few: { lines ≤ taken },
@@ -87,12 +111,14 @@ impl<M: Machine> Reader<M> {
         ensures fault { result.fault ≡ None }
     {
         Reader {
+            alloc,
             machine,
             pending: Lines::new(alloc),
             lines: 0,
             taken: 0,
             limit,
             fault: None,
+            plain: Vec::new(alloc),
         }
     }
 
@@ -204,6 +230,71 @@ impl<M: Machine> Reader<M> {
         Ok(ahead + self.take_line(&piece[ahead..])?)
     }
 
+    /// Takes all of the bytes.
+    #[inline(always)]
+    fn run(&mut self, bytes: &[u8]) -> Result<usize, Kind>
+        ensures advances { Advances M.led_by M.ended M.rejects self.old bytes.now self.new result }
+        ensures all { IfOk result (λ n. n ≡ length bytes.now) }
+    {
+        let mut at = 0;
+        while at < bytes.len() {
+            at += self.advance(&bytes[at..])?;
+        }
+        Ok(at)
+    }
+
+    /// Takes the bytes up to and with the first LF, or all of them, where a line has begun. Returns how many it took.
+    fn end_line(&mut self, piece: &[u8]) -> Result<usize, Kind>
+        ensures { Advances M.led_by M.ended M.rejects self.old piece.now self.new result }
+    {
+        if piece.is_empty() || self.pending.pending().is_empty() {
+            return Ok(0);
+        }
+        self.take_line(piece)
+    }
+
+    /// Takes the piece with LF alone, where it begins with a line that ends with CR LF, and each CR in it ends a line. A
+    /// CR at its end is left, as LF may come next. Returns how many bytes of the piece it took: none of any other piece.
+    fn run_copy(&mut self, piece: &[u8], plain: &mut Vec<u8>) -> Result<usize, Kind>
+        ensures { Advances M.led_by M.ended M.rejects self.old piece.now self.new result }
+    {
+        if !self.pending.pending().is_empty()
+            || self.within_limit(piece).len() < piece.len()
+            || !begins_with_return(piece)
+        {
+            return Ok(0);
+        }
+        let bytes = without_last_return(piece);
+        let Some(kept) = copy_with_lf_alone(bytes, plain) else {
+            return Ok(0);
+        };
+        self.run(&plain[..kept])?;
+        self.taken += (bytes.len() - kept) as u64;
+        Ok(bytes.len())
+    }
+
+    /// The same, with the memory of the reader for the copy. It isn't inlined, so that the way through lines with LF
+    /// stays short.
+    #[inline(never)]
+    fn run_with_lf_alone(&mut self, piece: &[u8]) -> Result<usize, Kind>
+        ensures { Advances M.led_by M.ended M.rejects self.old piece.now self.new result }
+    {
+        let mut plain = mem::replace(&mut self.plain, Vec::new(self.alloc));
+        let taken = self.run_copy(piece, &mut plain);
+        self.plain = plain;
+        taken
+    }
+
+    /// Takes all of the piece.
+    fn take_piece(&mut self, piece: &[u8]) -> Result<usize, Kind>
+        ensures advances { Advances M.led_by M.ended M.rejects self.old piece.now self.new result }
+        ensures all { IfOk result (λ n. n ≡ length piece.now) }
+    {
+        let begun = self.end_line(piece)?;
+        let at = begun + self.run_with_lf_alone(&piece[begun..])?;
+        Ok(at + self.run(&piece[at..])?)
+    }
+
     /// Takes the next piece. Once there is a fault, this call and each later one return the first fault.
     pub fn feed(&mut self, piece: &[u8]) -> Result<(), Fault>
         ensures { TakesPiece M.led_by M.ended M.rejects self.old piece.now self.new result }
@@ -211,21 +302,17 @@ impl<M: Machine> Reader<M> {
         if let Some(fault) = self.fault {
             return Err(fault);
         }
-        let mut at = 0;
-        while at < piece.len() {
-            match self.advance(&piece[at..]) {
-                Ok(taken) => at += taken,
-                Err(kind) => {
-                    let fault = Fault {
-                        line: self.lines + 1,
-                        kind,
-                    };
-                    self.fault = Some(fault);
-                    return Err(fault);
-                }
+        match self.take_piece(piece) {
+            Ok(_) => Ok(()),
+            Err(kind) => {
+                let fault = Fault {
+                    line: self.lines + 1,
+                    kind,
+                };
+                self.fault = Some(fault);
+                Err(fault)
             }
         }
-        Ok(())
     }
 
     /// Returns the fault if nothing more comes, or `None` if the text is whole.

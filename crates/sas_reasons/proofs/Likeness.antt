@@ -14,7 +14,7 @@ space_is_blank : (bytes : List ℕ) → is_blank (bytes ++ 32 ∷ []) ≡ is_bla
 space_is_blank [] = refl
 space_is_blank (b ∷ bs) = ap (λ x. (b == 32) && x) (space_is_blank bs)
 
-space_is_trimmed : (name : List ℕ) → trimmed (name ++ 32 ∷ []) ≡ trimmed name
+pub space_is_trimmed : (name : List ℕ) → trimmed (name ++ 32 ∷ []) ≡ trimmed name
 space_is_trimmed [] = refl
 space_is_trimmed (b ∷ bs) =
     ap (λ x. cond ((b == 32) && x) [] (b ∷ trimmed (bs ++ 32 ∷ []))) (space_is_blank bs)

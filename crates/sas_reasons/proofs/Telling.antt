@@ -11,23 +11,23 @@ use Rattle.sas_reasons.specs.Laws.{NoneIsLost, RulesToldOnce}
 use Rattle.sas_reasons.proofs.Sorting.{contains_head, contains_tail, contains_cases, contains_none}
 
 -- the test tells whether a line came
-came_when : (next : List ℕ) (came : List (List ℕ)) → list_any (bytes_eq next) came ≡ true → Contains came next
+pub came_when : (next : List ℕ) (came : List (List ℕ)) → list_any (bytes_eq next) came ≡ true → Contains came next
 came_when next came is =
     let w = Any-from_list_any (bytes_eq next) came is in
     let same : next ≡ w.1 = (bytes_eq-Decides next w.1).0 w.4 in
     subst (Contains came) (sym same) (w.0, w.2, w.3)
 
-when_came : (next : List ℕ) (came : List (List ℕ)) → Contains came next → list_any (bytes_eq next) came ≡ true
+pub when_came : (next : List ℕ) (came : List (List ℕ)) → Contains came next → list_any (bytes_eq next) came ≡ true
 when_came next came h = list_any_at (bytes_eq next) came h.0 next h.1 ((bytes_eq-Decides next (get_or came h.0 next)).1 (sym h.2))
 
 -- whether a line is left out
-abbrev left_out : List (List ℕ) → List ℕ → Bool
+abbrev pub left_out : List (List ℕ) → List ℕ → Bool
 left_out came next = is_rule_line next && list_any (bytes_eq next) came
 
-told_then : (came : List (List ℕ)) (next : List ℕ) (lines : List (List ℕ)) → left_out came next ≡ true → told_once came (next ∷ lines) ≡ told_once came lines
+pub told_then : (came : List (List ℕ)) (next : List ℕ) (lines : List (List ℕ)) → left_out came next ≡ true → told_once came (next ∷ lines) ≡ told_once came lines
 told_then came next lines is = ap (λ b. if b then told_once came lines else next ∷ told_once (next ∷ came) lines) is
 
-told_else : (came : List (List ℕ)) (next : List ℕ) (lines : List (List ℕ)) → left_out came next ≡ false → told_once came (next ∷ lines) ≡ next ∷ told_once (next ∷ came) lines
+pub told_else : (came : List (List ℕ)) (next : List ℕ) (lines : List (List ℕ)) → left_out came next ≡ false → told_once came (next ∷ lines) ≡ next ∷ told_once (next ∷ came) lines
 told_else came next lines is = ap (λ b. if b then told_once came lines else next ∷ told_once (next ∷ came) lines) is
 
 -- a line is told, or came before

@@ -1,16 +1,10 @@
 -- The lines that tell reasons.
-use Rattle.std.specs.Prelude.{◌≡◌, ℕ, ◌+◌, ◌&&◌, Bool, if◌then◌else◌, List, [], ◌∷◌, ◌++◌, length, take, replicate}
+use Rattle.std.specs.Prelude.{◌≡◌, ℕ, ◌+◌, ◌&&◌, Bool, if◌then◌else◌, List, [], ◌∷◌, ◌++◌, length, take}
 use Rattle.std.specs.Prelude.{bytes_eq, codes, decimal}
 use Rattle.std.specs.List.{list_any}
 use Rattle.std.specs.Option.{unwrap_or}
 use Rattle.sas_core.specs.declared.parts.Parts.{Parts}
 use Rattle.sas_core.specs.Variables.{value_name}
-use Rattle.sas_lines.specs.Spelling.{joined}
-
--- a line: this many spaces, then words with one space between each two. A number is a word; a name
--- stands last, since it may hold spaces
-abbrev pub line : ℕ → List (List ℕ) → List ℕ
-line spaces words = replicate spaces 32 ++ joined words
 
 -- `VAR VALUE NAME`, where NAME is the value's name; a value that doesn't exist has none
 abbrev pub fact_words : Parts → ℕ → ℕ → List (List ℕ)

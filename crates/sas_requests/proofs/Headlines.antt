@@ -22,11 +22,12 @@ use Rattle.sas_task_format.specs.TaskFormat.{task_format}
 use Rattle.sas_task_format.proofs.TaskLaws.{task_laws_hold}
 use Rattle.sas_output.specs.declared.ending.Status.{Status}
 use Rattle.sas_output.specs.declared.ending.Status.TheVariants.{Yes, No}
+use Rattle.sas_run.specs.Plans.{IsValid}
 use Rattle.sas_requests.specs.Headline.{Solves, Headline}
 use Rattle.sas_answers.specs.LayerWords.{layer_words, layers_line}
 use Rattle.sas_answers.specs.Answers.{valid_answer, VerdictAnswer}
 use Rattle.sas_output.specs.Ending.{Output}
-use Rattle.sas_requests.specs.Output.{word_of, refusal, refusal_line, IsAnswerOrRefusal, LayersOut, JudgedOut, PlanOut}
+use Rattle.sas_requests.specs.Output.{word_of, refusal, refusal_line, IsAnswerOrRefusal, LayersOut, JudgedOut, PlanOutBy}
 use Rattle.sas_answers.specs.PlanWords.{valid_line, fault_words, invalid_line}
 use Rattle.sas_requests.proofs.Outputs.{refused_kind}
 use Rattle.sas_answers.proofs.VerdictAnswers.{one_verdict_answer}
@@ -34,9 +35,9 @@ use Rattle.sas_answers.proofs.VerdictAnswers.{one_verdict_answer}
 -- ---- what any output about a plan says
 
 -- the answer is no, and not by the line of a valid plan
-record IsOther (o : Output) : Type 0 where
-  status : o.status ≡ No
-  text : (steps cost : ℕ) → o.text ≡ valid_line steps cost → ⊥
+pub record IsOther (o : Output) : Type 0 where
+  pub status : o.status ≡ No
+  pub text : (steps cost : ℕ) → o.text ≡ valid_line steps cost → ⊥
 
 -- the answer is yes, by the line of a valid plan
 record IsSolved (b c : List ℕ) (o : Output) : Type 0 where
@@ -66,38 +67,23 @@ plan_refusal_apart line steps cost w e = not_same 114 118 (omega arith) (sym (ap
 invalid_line_apart : (steps cost : ℕ) (w : List ℕ) → invalid_line w ≡ valid_line steps cost → ⊥
 invalid_line_apart steps cost w e = not_same 105 118 (omega arith) (sym (ap (λ (t : List ℕ). get_or t 5 0) e))
 
-module _ (b c : List ℕ) (o : Output) where
-  verdict_told : (p : Parts) (plan : PlanParts) → Reads task_format b p → IsLayered p → Reads plan_format c plan → VerdictAnswer p plan o → IsSolved b c o ⊎ IsOther o
-  verdict_told p plan is_task layered is_plan (inl x) = inl (record {
-    status = ap (λ (y : Output). y.status) x.1;
-    solves = record {
-      task = p;
-      plan = plan;
-      operators = x.0.0;
-      is_task = is_task;
-      layered = layered;
-      is_plan = is_plan;
-      valid = x.0.1;
-      printed = ap (λ (y : Output). y.text) x.1;
-    };
-  })
-  verdict_told p plan is_task layered is_plan (inr x) = inr (other_words (fault_words plan.cost x.0) invalid_line o (λ w steps cost. invalid_line_apart steps cost w) x.2)
+-- what an answer about a plan says of whether it is valid: it is that of a valid plan, or another
+-- one; and of a valid plan it is that
+pub record TellsValid (Verdict : Parts → PlanParts → Output → Type 0) : Type 0 where
+  pub told : (p : Parts) (plan : PlanParts) (o : Output) → Verdict p plan o
+      → (((operators : List ℕ) × IsValid p plan operators) × (o ≡ valid_answer plan)) ⊎ IsOther o
+  pub valid : (p : Parts) (plan : PlanParts) (o : Output) (operators : List ℕ) → IsLayered p
+      → IsValid p plan operators → Verdict p plan o → o ≡ valid_answer plan
 
-  plan_told : (p : Parts) (r : Result PlanParts Fault) → Reads task_format b p → IsLayered p → ReadsAs plan_format most_bytes c r → IsAnswerOrRefusal (codes "plan") (VerdictAnswer p) r (Some o) → IsSolved b c o ⊎ IsOther o
-  plan_told p (Ok plan) is_task layered reads answer =
-      let same : answer.0 ≡ o = (let e : Some o ≡ Some answer.0 = answer.2 in cc) in
-      verdict_told p plan is_task layered reads.0 (subst (λ (x : Output). VerdictAnswer p plan x) same answer.1)
-  plan_told p (Err fault) is_task layered reads is =
-      inr (other_words (word_of fault.kind) (refusal_line (codes "plan") fault.line) o (λ w steps cost. plan_refusal_apart fault.line steps cost w) (sym is))
-
-  layers_told : (p : Parts) (first : Option LayerFault) → Reads task_format b p → (first ≡ None → IsLayered p) → LayersOut p first c (Some o) → IsSolved b c o ⊎ IsOther o
-  layers_told p (Some fault) is_task layered is = inr (other_words (layer_words fault) layers_line o (λ w steps cost. layers_line_apart steps cost w) (sym is))
-  layers_told p None is_task layered out = plan_told p out.0 is_task (layered refl) out.1 out.2
-
-  judged_told : (r : Result Parts Fault) → ReadsAs task_format most_bytes b r → JudgedOut r c (Some o) → IsSolved b c o ⊎ IsOther o
-  judged_told (Err fault) reads is =
-      inr (other_words (word_of fault.kind) (refusal_line (codes "task") fault.line) o (λ w steps cost. task_refusal_apart fault.line steps cost w) (sym is))
-  judged_told (Ok p) reads out = layers_told p (first_fault (layer_checks p)) reads.0 (checks_are_rules p).0 out
+-- so do answers without reasons
+pub tells_valid : TellsValid VerdictAnswer
+tells_valid = record {
+  told = λ p plan o verdict. elim verdict [
+    | inl x ↦ inl x
+    | inr x ↦ inr (other_words (fault_words plan.cost x.0) invalid_line o (λ w steps cost. invalid_line_apart steps cost w) x.2)
+  ];
+  valid = λ p plan o operators layered valid verdict. one_verdict_answer p layered plan o (valid_answer plan) verdict (inl ((operators, valid), refl));
+}
 
 -- ---- what the output is where a plan solves a task
 
@@ -111,32 +97,6 @@ text_read F laws bytes v (Err f) is short (inr early) = absurd (early.none v is)
 pub not_long : (name : List ℕ) (f : Fault) (o : Output) → Some o ≡ refusal name f → f.kind ≢ TooLong
 not_long name f o is = refused_kind f.kind TooLong _ o refl (sym is)
 
-module _ (b c line : List ℕ) (o : Output) (s : Solves b c line) where
-  plan_answered : (r : Result PlanParts Fault) → r ≡ Ok s.plan → IsAnswerOrRefusal (codes "plan") (VerdictAnswer s.task) r (Some o) → o ≡ valid_answer s.plan
-  plan_answered r e out =
-      let (answer, verdict, is) = subst (λ (x : Result PlanParts Fault). IsAnswerOrRefusal (codes "plan") (VerdictAnswer s.task) x (Some o)) e out in
-      let same : o ≡ answer = cc in
-      same ∙ one_verdict_answer s.task s.layered s.plan answer (valid_answer s.plan) verdict (inl ((s.operators, s.valid), refl))
-
-  layered_answered : LayersOut s.task None c (Some o) → o ≡ valid_answer s.plan
-  layered_answered out =
-      plan_answered out.0
-      (text_read plan_format plan_laws_hold c s.plan out.0 s.is_plan
-      (λ f e. not_long (codes "plan") f o (subst (λ (x : Result PlanParts Fault). IsAnswerOrRefusal (codes "plan") (VerdictAnswer s.task) x (Some o)) e out.2)) out.1)
-      out.2
-
-  solved_answered : PlanOut b c (Some o) → o ≡ valid_answer s.plan
-  solved_answered out =
-      let read = text_read task_format task_laws_hold b s.task out.0 s.is_task (λ f e. not_long (codes "task") f o (subst (λ (x : Result Parts Fault). JudgedOut x c (Some o)) e out.2)) out.1 in
-      let judged = subst (λ (x : Result Parts Fault). JudgedOut x c (Some o)) read out.2 in
-      layered_answered (subst (λ (first : Option LayerFault). LayersOut s.task first c (Some o)) ((checks_are_rules s.task).1 s.layered) judged)
-
-  solved_status : PlanOut b c (Some o) → o.status ≡ Yes
-  solved_status out = ap (λ (x : Output). x.status) (solved_answered out)
-
-  solved_text : PlanOut b c (Some o) → o.text ≡ line
-  solved_text out = ap (λ (x : Output). x.text) (solved_answered out) ∙ sym s.printed
-
 -- ---- both
 
 -- where a device tells its bytes, one text went out
@@ -145,23 +105,85 @@ sent_same None new before x y e f g = absurd (none-some before e)
 sent_same (Some xs) None before x y e f g = absurd f
 sent_same (Some xs) (Some ys) before x y e f g = append_cancel_left xs x y (sym f ∙ g)
 
-module _ (b c : List ℕ) (o : Output) (out : PlanOut b c (Some o)) where
-  line_solves : (steps cost : ℕ) → o.text ≡ valid_line steps cost → IsSolved b c o ⊎ IsOther o → Solves b c (valid_line steps cost)
-  line_solves steps cost e (inl solved) = subst (λ (x : List ℕ). Solves b c x) e solved.solves
-  line_solves steps cost e (inr other) = absurd (other.text steps cost e)
+module _ (Verdict : Parts → PlanParts → Output → Type 0) (tells : TellsValid Verdict) where
+  module _ (b c : List ℕ) (o : Output) where
+    verdict_told : (p : Parts) (plan : PlanParts) → Reads task_format b p → IsLayered p → Reads plan_format c plan → Verdict p plan o → IsSolved b c o ⊎ IsOther o
+    verdict_told p plan is_task layered is_plan verdict = elim (tells.told p plan o verdict) [
+      | inl x ↦ inl (record {
+        status = ap (λ (y : Output). y.status) x.1;
+        solves = record {
+          task = p;
+          plan = plan;
+          operators = x.0.0;
+          is_task = is_task;
+          layered = layered;
+          is_plan = is_plan;
+          valid = x.0.1;
+          printed = ap (λ (y : Output). y.text) x.1;
+        };
+      })
+      | inr other ↦ inr other
+    ]
 
-  yes_solves : o.status ≡ Yes → IsSolved b c o ⊎ IsOther o → (steps cost : ℕ) × Solves b c (valid_line steps cost)
-  yes_solves e (inl solved) =
-      (length solved.solves.plan.steps, solved.solves.plan.cost, subst (λ (x : List ℕ). Solves b c x) solved.solves.printed solved.solves)
-  yes_solves e (inr other) = let apart : Yes ≡ No = sym e ∙ other.status in absurd cc
+    plan_told : (p : Parts) (r : Result PlanParts Fault) → Reads task_format b p → IsLayered p → ReadsAs plan_format most_bytes c r → IsAnswerOrRefusal (codes "plan") (Verdict p) r (Some o) → IsSolved b c o ⊎ IsOther o
+    plan_told p (Ok plan) is_task layered reads answer =
+        let same : answer.0 ≡ o = (let e : Some o ≡ Some answer.0 = answer.2 in cc) in
+        verdict_told p plan is_task layered reads.0 (subst (λ (x : Output). Verdict p plan x) same answer.1)
+    plan_told p (Err fault) is_task layered reads is =
+        inr (other_words (word_of fault.kind) (refusal_line (codes "plan") fault.line) o (λ w steps cost. plan_refusal_apart fault.line steps cost w) (sym is))
 
-  pub headline_of : (old new : Option (List ℕ)) (before : List ℕ) (status : Status) → old ≡ Some before → status ≡ o.status → Appends old new o.text → Headline b c (Appends old new) status
-  headline_of old new before status known is sent =
-      let told = judged_told b c o out.0 out.1 out.2 in
-      record {
-        line = λ steps cost. (
-          λ line. line_solves steps cost (sent_same old new before o.text (valid_line steps cost) known sent line) told,
-          λ solves. subst (Appends old new) (solved_text b c (valid_line steps cost) o solves out) sent,
-        );
-        yes = (λ e. yes_solves (sym is ∙ e) told, λ s. is ∙ solved_status b c (valid_line s.0 s.1) o s.2 out);
-      }
+    layers_told : (p : Parts) (first : Option LayerFault) → Reads task_format b p → (first ≡ None → IsLayered p) → LayersOut Verdict p first c (Some o) → IsSolved b c o ⊎ IsOther o
+    layers_told p (Some fault) is_task layered is = inr (other_words (layer_words fault) layers_line o (λ w steps cost. layers_line_apart steps cost w) (sym is))
+    layers_told p None is_task layered out = plan_told p out.0 is_task (layered refl) out.1 out.2
+
+    judged_told : (r : Result Parts Fault) → ReadsAs task_format most_bytes b r → JudgedOut Verdict r c (Some o) → IsSolved b c o ⊎ IsOther o
+    judged_told (Err fault) reads is =
+        inr (other_words (word_of fault.kind) (refusal_line (codes "task") fault.line) o (λ w steps cost. task_refusal_apart fault.line steps cost w) (sym is))
+    judged_told (Ok p) reads out = layers_told p (first_fault (layer_checks p)) reads.0 (checks_are_rules p).0 out
+
+  module _ (b c line : List ℕ) (o : Output) (s : Solves b c line) where
+    plan_answered : (r : Result PlanParts Fault) → r ≡ Ok s.plan → IsAnswerOrRefusal (codes "plan") (Verdict s.task) r (Some o) → o ≡ valid_answer s.plan
+    plan_answered r e out =
+        let (answer, verdict, is) = subst (λ (x : Result PlanParts Fault). IsAnswerOrRefusal (codes "plan") (Verdict s.task) x (Some o)) e out in
+        let same : o ≡ answer = cc in
+        same ∙ tells.valid s.task s.plan answer s.operators s.layered s.valid verdict
+
+    layered_answered : LayersOut Verdict s.task None c (Some o) → o ≡ valid_answer s.plan
+    layered_answered out =
+        plan_answered out.0
+        (text_read plan_format plan_laws_hold c s.plan out.0 s.is_plan
+        (λ f e. not_long (codes "plan") f o (subst (λ (x : Result PlanParts Fault). IsAnswerOrRefusal (codes "plan") (Verdict s.task) x (Some o)) e out.2)) out.1)
+        out.2
+
+    solved_answered : PlanOutBy Verdict b c (Some o) → o ≡ valid_answer s.plan
+    solved_answered out =
+        let read = text_read task_format task_laws_hold b s.task out.0 s.is_task (λ f e. not_long (codes "task") f o (subst (λ (x : Result Parts Fault). JudgedOut Verdict x c (Some o)) e out.2)) out.1 in
+        let judged = subst (λ (x : Result Parts Fault). JudgedOut Verdict x c (Some o)) read out.2 in
+        layered_answered (subst (λ (first : Option LayerFault). LayersOut Verdict s.task first c (Some o)) ((checks_are_rules s.task).1 s.layered) judged)
+
+    solved_status : PlanOutBy Verdict b c (Some o) → o.status ≡ Yes
+    solved_status out = ap (λ (x : Output). x.status) (solved_answered out)
+
+    solved_text : PlanOutBy Verdict b c (Some o) → o.text ≡ line
+    solved_text out = ap (λ (x : Output). x.text) (solved_answered out) ∙ sym s.printed
+
+  module _ (b c : List ℕ) (o : Output) (out : PlanOutBy Verdict b c (Some o)) where
+    line_solves : (steps cost : ℕ) → o.text ≡ valid_line steps cost → IsSolved b c o ⊎ IsOther o → Solves b c (valid_line steps cost)
+    line_solves steps cost e (inl solved) = subst (λ (x : List ℕ). Solves b c x) e solved.solves
+    line_solves steps cost e (inr other) = absurd (other.text steps cost e)
+
+    yes_solves : o.status ≡ Yes → IsSolved b c o ⊎ IsOther o → (steps cost : ℕ) × Solves b c (valid_line steps cost)
+    yes_solves e (inl solved) =
+        (length solved.solves.plan.steps, solved.solves.plan.cost, subst (λ (x : List ℕ). Solves b c x) solved.solves.printed solved.solves)
+    yes_solves e (inr other) = let apart : Yes ≡ No = sym e ∙ other.status in absurd cc
+
+    pub headline_of : (old new : Option (List ℕ)) (before : List ℕ) (status : Status) → old ≡ Some before → status ≡ o.status → Appends old new o.text → Headline b c (Appends old new) status
+    headline_of old new before status known is sent =
+        let told = judged_told b c o out.0 out.1 out.2 in
+        record {
+          line = λ steps cost. (
+            λ line. line_solves steps cost (sent_same old new before o.text (valid_line steps cost) known sent line) told,
+            λ solves. subst (Appends old new) (solved_text b c (valid_line steps cost) o solves out) sent,
+          );
+          yes = (λ e. yes_solves (sym is ∙ e) told, λ s. is ∙ solved_status b c (valid_line s.0 s.1) o s.2 out);
+        }

@@ -1,7 +1,19 @@
-mod Outputs
-mod PlanAnswers
-mod Headlines
+pub mod Outputs
+pub mod PlanAnswers
+pub mod Headlines
 mod InvariantGroups
-mod Endings
-mod Lengths
+pub mod Endings
+pub mod Lengths
 mod SummaryLengths
+pub mod Sizes
+pub mod LineLengths
+mod ToldLengths
+mod CauseLengths
+mod WhyLengths
+pub mod WhyFits
+pub mod WhyAnswers
+mod WhyLaws
+mod PlainNames
+mod ReasonLines
+pub mod ToldLines
+mod SameAnswers

@@ -33,11 +33,11 @@ pub refused_kind : (k : Kind) (other : Kind) (said : List ℕ → Output) (o : O
 refused_kind k other said o none e same =
     none-some o (subst (λ (word : Option (List ℕ)). option_map said word ≡ Some o) (ap word_of same ∙ none) e)
 
-too_long_else : (k : Kind) (other : Kind) → k ≡ TooLong → (TooLong ≡ other → ⊥) → k ≢ other
+pub too_long_else : (k : Kind) (other : Kind) → k ≡ TooLong → (TooLong ≡ other → ⊥) → k ≢ other
 too_long_else k other e apart same = apart (sym e ∙ same)
 
 -- the fault of bytes that a device gave
-reading_of_refusal : {V I S : Type 0} (F : Format V I S) (bytes : List ℕ) (At_end : Type 0) (f : Fault) → Refuses F bytes At_end f → f.kind ≢ Read → ReadsAs F most_bytes bytes (Err f)
+pub reading_of_refusal : {V I S : Type 0} (F : Format V I S) (bytes : List ℕ) (At_end : Type 0) (f : Fault) → Refuses F bytes At_end f → f.kind ≢ Read → ReadsAs F most_bytes bytes (Err f)
 reading_of_refusal F bytes At_end f (unread_at live line kind) other = absurd (other kind)
 reading_of_refusal F bytes At_end f (ended_at at_end early) other = inr early
 reading_of_refusal F bytes At_end f (faulty_at fault other_kind) other = inl fault
@@ -48,7 +48,7 @@ takes_nothing None = tt
 takes_nothing (Some bytes) = refl
 
 -- the fault is that of the input, unless memory was refused or a read failed
-abbrev IsFaultOf : {V I S : Type 0} → Format V I S → List ℕ → Fault → Type 0
+abbrev pub IsFaultOf : {V I S : Type 0} → Format V I S → List ℕ → Fault → Type 0
 IsFaultOf F input f = f.kind ≢ Memory → f.kind ≢ Read → ReadsAs F most_bytes input (Err f)
 
 -- every kind of a wrong line has a word
@@ -74,10 +74,10 @@ task_worded effect_slot line k why none = numbers_worded effect_slot line k why 
 task_worded head_slot line k why none = numbers_worded head_slot line k why none
 
 module _ {V I S : Type 0} (F : Format V I S) (name : List ℕ) (IsAnswer : V → Output → Type 0) (bytes : List ℕ) where
-  file_refused : (f : Fault) (o : Output) → refusal name f ≡ Some o → IsFaultOf F bytes f → FileOut F name IsAnswer bytes (Some o)
+  pub file_refused : (f : Fault) (o : Output) → refusal name f ≡ Some o → IsFaultOf F bytes f → FileOut F name IsAnswer bytes (Some o)
   file_refused f o e fault = (Err f, fault (refused_kind f.kind Memory _ o refl e) (refused_kind f.kind Read _ o refl e), sym e)
 
-  file_too_long : (f : Fault) → f.kind ≡ TooLong → IsFaultOf F bytes f → FileOut F name IsAnswer bytes None
+  pub file_too_long : (f : Fault) → f.kind ≡ TooLong → IsFaultOf F bytes f → FileOut F name IsAnswer bytes None
   file_too_long f e fault = (Err f, fault (too_long_else f.kind Memory e (λ h. absurd cc)) (too_long_else f.kind Read e (λ h. absurd cc)), rw e refl)
 
   -- the refusal, or why the run ends

@@ -90,20 +90,18 @@ fact_text_short first variables var value n h = said (value_name variables var v
     said : (found : Option (List ℕ)) → ((bytes : List ℕ) → found ≡ Some bytes → length bytes ≤ size (flat_map variable_lines variables)) → length (text (option_map_or (λ (bytes : List ℕ). fact_line first var value bytes ∷ []) found [])) ≤ length first + length (decimal var) + length (decimal value) + n + 4
     said None short = omega arith
     said (Some bytes) short =
-        let l = fact_line first var value bytes in
-        let words = first ++ codes " " ++ decimal var ++ codes " " ++ decimal value in
+        let of_value = decimal value ++ 32 ∷ bytes in
+        let of_var = decimal var ++ 32 ∷ of_value in
+        let l = first ++ 32 ∷ of_var in
         omega (
           arith,
           h,
           short bytes refl,
           length-append (l ++ 10 ∷ []) [],
           length-append l (10 ∷ []),
-          length-append (words ++ codes " ") bytes,
-          length-append words (codes " "),
-          length-append (first ++ codes " " ++ decimal var ++ codes " ") (decimal value),
-          length-append (first ++ codes " " ++ decimal var) (codes " "),
-          length-append (first ++ codes " ") (decimal var),
-          length-append first (codes " "),
+          length-append first (32 ∷ of_var),
+          length-append (decimal var) (32 ∷ of_value),
+          length-append (decimal value) (32 ∷ bytes),
         )
 
 fact_line_size : (f : Fact) → size (line fact f) ≡ length (decimal f.var) + length (decimal f.value) + 2
@@ -151,8 +149,7 @@ number_then first n most rest short fits h = record {
     short,
     length-append (number_line first n ++ 10 ∷ []) (text rest),
     length-append (number_line first n) (10 ∷ []),
-    length-append (first ++ codes " ") (decimal n),
-    length-append first (codes " "),
+    length-append first (32 ∷ decimal n),
     length-decimal-le 10 n (omega arith) (omega (arith, fits)) (omega (arith, fits)),
   );
 }

@@ -3,6 +3,7 @@ use Rattle.std.specs.Prelude.{◌≡◌, ◌⊎◌, ℕ, ◌<◌, Bool, true, fa
 use Rattle.std.specs.Prelude.{codes, decimal, Option, Some, None, option_map, Result, Ok, Err}
 use Rattle.sas_core.specs.declared.parts.Parts.{Parts}
 use Rattle.sas_core.specs.FirstFault.{first_fault}
+use Rattle.sas_core.specs.PlanParts.{PlanParts}
 use Rattle.sas_meaning.specs.declared.layered.LayerFault.{LayerFault}
 use Rattle.sas_meaning.specs.Layers.{IsLayered}
 use Rattle.sas_meaning.specs.LayerChecks.{layer_checks}
@@ -85,25 +86,31 @@ CheckOut = FileOut task_format (codes "task") CheckAnswer
 abbrev pub MutexOut : List ℕ → Option Output → Type 0
 MutexOut = FileOut task_format (codes "task") MutexAnswer
 
--- the output about the plan's bytes for a layered task
-abbrev pub VerdictOut : Parts → List ℕ → Option Output → Type 0
-VerdictOut p = FileOut plan_format (codes "plan") (VerdictAnswer p)
+-- `Verdict` is asked which outputs are answers about a plan of a layered task.
+module _ (Verdict : Parts → PlanParts → Output → Type 0) where
+  -- the output about the plan's bytes for a layered task
+  abbrev pub VerdictOut : Parts → List ℕ → Option Output → Type 0
+  VerdictOut p = FileOut plan_format (codes "plan") (Verdict p)
 
--- the output about the plan's bytes for a task, by the first fault of its layers if they have one:
--- the task is refused for it, and only the plan of a layered task is judged
-abbrev pub LayersOut : Parts → Option LayerFault → List ℕ → Option Output → Type 0
-LayersOut p (Some fault) c output = output ≡ layers_refusal fault
-LayersOut p None c output = VerdictOut p c output
+  -- the output about the plan's bytes for a task, by the first fault of its layers if they have one:
+  -- the task is refused for it, and only the plan of a layered task is judged
+  abbrev pub LayersOut : Parts → Option LayerFault → List ℕ → Option Output → Type 0
+  LayersOut p (Some fault) c output = output ≡ layers_refusal fault
+  LayersOut p None c output = VerdictOut p c output
 
--- the output about the plan's bytes for what the task's bytes are read as
-abbrev pub JudgedOut : Result Parts Fault → List ℕ → Option Output → Type 0
-JudgedOut (Err fault) c output = output ≡ refusal (codes "task") fault
-JudgedOut (Ok p) c output = LayersOut p (first_fault (layer_checks p)) c output
+  -- the output about the plan's bytes for what the task's bytes are read as
+  abbrev pub JudgedOut : Result Parts Fault → List ℕ → Option Output → Type 0
+  JudgedOut (Err fault) c output = output ≡ refusal (codes "task") fault
+  JudgedOut (Ok p) c output = LayersOut p (first_fault (layer_checks p)) c output
+
+  -- the output about the bytes b of the task and c of the plan
+  abbrev pub PlanOutBy : List ℕ → List ℕ → Option Output → Type 0
+  PlanOutBy b c output =
+      (read : Result Parts Fault) × ReadsAs task_format most_bytes b read × JudgedOut read c output
 
 -- the output of `plan` about the bytes b of the task and c of the plan
 abbrev pub PlanOut : List ℕ → List ℕ → Option Output → Type 0
-PlanOut b c output =
-    (read : Result Parts Fault) × ReadsAs task_format most_bytes b read × JudgedOut read c output
+PlanOut = PlanOutBy VerdictAnswer
 
 -- the output for the bytes b of the task and c of the plan, or none if the file that decides it is
 -- too long

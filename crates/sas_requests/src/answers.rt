@@ -5,18 +5,20 @@ ghost use Rattle.std.specs.Io.KnownBytes.{Appends, Consumes};
 ghost use Rattle.sas_requests.specs.Answering.{Answers, AnswersFile, output_of};
 ghost use Rattle.sas_output.specs.Ending.{Ends, IsDecided, IsWrite};
 ghost use Rattle.sas_requests.specs.Output.{Out, ShowOut, PrintOut, StepsOut, CheckOut, MutexOut, AreInputs};
-ghost use Rattle.sas_requests.specs.Output.{IsLayeredText, reads_plan, reads_task, refusal, refusal_line, word_of};
+ghost use Rattle.sas_requests.specs.Output.{IsLayeredText, reads_plan, reads_task, refusal};
 
 use crate::plans::plan_answer;
+use crate::refusals::refuse_file;
 use crate::{Request, Status, ToolFault};
 use sas_answers::{groups_answer, layers_answer};
-use sas_lines::{Watched, push_line, push_number};
+use sas_explain::Explained;
+use sas_lines::Watched;
 use sas_output::Told;
 use sas_plan_file::read_plan_text;
 use sas_reader::{Fault, Kind};
 use sas_summary::Summary;
 use sas_task_reader::{read_flat_task, read_outline, read_task_text};
-use std::alloc::{AllocError, Global};
+use std::alloc::Global;
 use std::io::{Read, Write};
 
 /// What is to be written, and its status.
@@ -26,6 +28,8 @@ pub enum Answer {
     Text(Told),
     /// The summary of a task, which is made only as it goes out. Its status is `Yes`.
     Summary(Summary),
+    /// Why a plan isn't valid, which is put together only as it goes out. Its status is `No`.
+    Explained(Explained),
 }
 
 /// Returns the answer to the request about the inputs.
@@ -79,6 +83,7 @@ pub fn write_answer<W: Write>(
     match answer {
         Answer::Text(told) => told.write(out),
         Answer::Summary(summary) => summary.write(alloc, out),
+        Answer::Explained(explained) => explained.write(alloc, out),
     }
 }
 
@@ -145,49 +150,12 @@ fn mutex<R: Read>(alloc: Global, reader: &mut Watched<R>) -> Result<Answer, Tool
     Ok(Answer::Text(groups_answer(alloc, task)?))
 }
 
-/// Returns the word for what is wrong with a file, or why the run ends at this kind.
-fn word(kind: Kind) -> Result<&'static str, ToolFault>
-    ensures ok { IfOk result (λ w. word_of kind ≡ Some w.now) }
-    ensures memory { IsErrOf result ToolFault.Memory ↔ (kind ≡ Kind.Memory) }
-    ensures long { IsErrOf result ToolFault.TooLong ↔ (kind ≡ Kind.TooLong) }
-    ensures read { IsErrOf result ToolFault.Read ↔ (kind ≡ Kind.Read) }
-    ensures writes { IfErr result (λ e. IsWrite e → ⊥) }
-{
-    match kind {
-        Kind::Keyword => Ok("keyword"),
-        Kind::Name => Ok("name"),
-        Kind::Shape => Ok("shape"),
-        Kind::Value => Ok("value"),
-        Kind::End => Ok("end"),
-        Kind::Trailing => Ok("trailing"),
-        Kind::TooLong => Err(ToolFault::TooLong),
-        Kind::Read => Err(ToolFault::Read),
-        Kind::Memory => Err(ToolFault::Memory),
-    }
-}
-
-/// Returns the refusal of a file for its fault, or why the run ends at it.
+/// Returns the answer that refuses a file for its fault, or why the run ends at it.
 pub fn refuse(alloc: Global, name: &str, fault: Fault) -> Result<Answer, ToolFault>
     ensures ok { IfOk result (λ a. refusal name.now fault ≡ Some (output_of a)) }
     ensures long { IsErrOf result ToolFault.TooLong ↔ (fault.kind ≡ Kind.TooLong) }
     ensures read { IsErrOf result ToolFault.Read ↔ (fault.kind ≡ Kind.Read) }
     ensures writes { IfErr result (λ e. IsWrite e → ⊥) }
 {
-    let word = word(fault.kind)?;
-    Ok(Answer::Text(Told {
-        text: refusal_text(alloc, name, fault.line, word)?,
-        status: Status::No,
-    }))
-}
-
-/// Returns the line that refuses the file of this name.
-fn refusal_text(alloc: Global, name: &str, line: u64, word: &str) -> Result<Vec<u8>, AllocError>
-    ensures { IfOk result (λ t. t.items ≡ refusal_line name.now line word.now) }
-{
-    let mut text = Vec::from_slice(alloc, name.as_bytes())?;
-    text.extend_from_slice(b" refused: line ")?;
-    push_number(&mut text, u128::from(line))?;
-    text.extend_from_slice(b": ")?;
-    push_line(&mut text, word.as_bytes())?;
-    Ok(text)
+    Ok(Answer::Text(refuse_file(alloc, name, fault)?))
 }

@@ -1,5 +1,6 @@
 // Laws of the outputs.
 ghost use Rattle.sas_requests.specs.Output.{OneOutput, SomeOutput, NoneIsLong};
+ghost use Rattle.sas_requests.specs.Why.{SameAnswer, OneWhyOutput, SomeWhyOutput, NoneWhyIsLong};
 
 /// What holds of outputs: a request has one output over the same inputs, and it can't have nothing; it has none only
 /// where an input passes the limit.
@@ -7,4 +8,15 @@ pub fn run_laws()
     ensures one { OneOutput }
     ensures some { SomeOutput }
     ensures long { NoneIsLong }
+{}
+
+/// What holds of outputs with reasons: each is the same answer as the output without them. The status is the same; where it is
+/// yes, so is the text; where it is no, the text without reasons is left when the lines that begin with two spaces are taken
+/// away. A request has one output with reasons over the same inputs, and it can't have nothing; it has none only where an input
+/// passes the limit.
+pub fn explain_laws()
+    ensures same { SameAnswer }
+    ensures one { OneWhyOutput }
+    ensures some { SomeWhyOutput }
+    ensures long { NoneWhyIsLong }
 {}

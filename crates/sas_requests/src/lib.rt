@@ -4,20 +4,25 @@
 mod answers;
 mod laws;
 mod plans;
+mod refusals;
+mod why;
 
 ghost use Rattle.std.specs.Prelude.{◌≡◌, ◌⊎◌, ◌↔◌, ◌||◌, false, List, ℕ, Some};
 ghost use Rattle.std.specs.Prelude.{IfErr, IfOk, IsErrAnd, IsErrOf, IsFalse, IsTrue};
 ghost use Rattle.std.specs.Io.KnownBytes.{Appends, Consumes};
 ghost use Rattle.sas_requests.specs.Output.{Out, AreInputs, IsLayeredText, reads_plan, reads_task};
 ghost use Rattle.sas_requests.specs.Headline.{Headline, Invariants};
+ghost use Rattle.sas_requests.specs.Why.{OutWhy};
 ghost use Rattle.sas_output.specs.Ending.{Ends, IsDecided, IsWrite};
 
 use answers::{answer_to, write_answer};
-pub use laws::run_laws;
+pub use laws::{explain_laws, run_laws};
+pub use refusals::refuse_file;
 use sas_lines::Watched;
 pub use sas_output::{Status, ToolFault};
 use std::alloc::Global;
 use std::io::{Read, Write};
+use why::explanation_to;
 
 /// What is asked.
 #[derive(Clone, Copy, Debug, PartialEq, Eq)]
@@ -88,5 +93,55 @@ pub fn run<T: Read, P: Read, W: Write>(
     ensures writes { IsErrAnd result IsWrite ↔ IsTrue out.new.failed }
 {
     let answer = answer_to(alloc, request, task, plan)?;
+    write_answer(alloc, &answer, out)
+}
+
+/// Answers the request about the inputs as `run` does, and tells the reasons for a no: behind the line that says why a plan
+/// isn't valid stand lines that begin with two spaces. The status is that of `run`, where it is `Yes` so is the text, and where
+/// it is `No` the text of `run` is left when these lines are taken away (`explain_laws`). Reasons are told of plans; all else is
+/// answered as by `run`. All memory is asked for before the first byte is written. Not to be called with a device that has failed.
+pub fn explain<T: Read, P: Read, W: Write>(
+    alloc: Global,
+    request: Request,
+    task: &mut Watched<T>,
+    plan: &mut Watched<P>,
+    out: &mut Watched<W>,
+) -> Result<Status, ToolFault>
+    requires task { task.old.failed ≡ false }
+    requires plan { plan.old.failed ≡ false }
+    requires out { out.old.failed ≡ false }
+    // Of inputs whose bytes are known, the output went out, or its first bytes, or there is none.
+    ensures output { (b c : List ℕ)
+        → AreInputs request (T.remaining task.old.device) (P.remaining plan.old.device) b c
+        → Ends (OutWhy request b c)
+        (Appends (W.contents out.old.device) (W.contents out.new.device)) result }
+    // And of any inputs, the output for the bytes that were read of them.
+    ensures taken { IsDecided result → (b c : List ℕ)
+        × Consumes (T.remaining task.old.device) (T.remaining task.new.device) b
+        × Consumes (P.remaining plan.old.device) (P.remaining plan.new.device) c
+        × Ends (OutWhy request b c)
+        (Appends (W.contents out.old.device) (W.contents out.new.device)) result }
+    // Before the answer is known nothing is written.
+    ensures nothing { IfErr result (λ e. IsWrite e ⊎ (out.new ≡ out.old)) }
+    // `plan valid` is printed exactly if the plan solves the task at the printed cost.
+    ensures headline { IfOk result (λ status. request ≡ Request.Plan → (b c before : List ℕ)
+        → T.remaining task.old.device ≡ Some b → P.remaining plan.old.device ≡ Some c
+        → W.contents out.old.device ≡ Some before
+        → Headline b c (Appends (W.contents out.old.device) (W.contents out.new.device)) status) }
+    // `group K exclusive` is printed only where group K is an invariant of the task.
+    ensures invariants { IfOk result (λ status. request ≡ Request.Mutex → (b before : List ℕ)
+        → T.remaining task.old.device ≡ Some b → W.contents out.old.device ≡ Some before
+        → Invariants b (Appends (W.contents out.old.device) (W.contents out.new.device))) }
+    // A device that the request doesn't read stays as it was.
+    ensures task_spared { IsFalse (reads_task request) → task.new ≡ task.old }
+    ensures plan_spared { IsFalse (reads_plan request) → plan.new ≡ plan.old }
+    // So does the plan where the task isn't a text of a layered one.
+    ensures plan_waits { request ≡ Request.Plan → (b : List ℕ)
+        → T.remaining task.old.device ≡ Some b
+        → (IsLayeredText b → ⊥) → plan.new ≡ plan.old }
+    ensures reads { IsErrOf result ToolFault.Read ↔ IsTrue (task.new.failed || plan.new.failed) }
+    ensures writes { IsErrAnd result IsWrite ↔ IsTrue out.new.failed }
+{
+    let answer = explanation_to(alloc, request, task, plan)?;
     write_answer(alloc, &answer, out)
 }

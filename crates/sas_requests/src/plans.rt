@@ -1,6 +1,6 @@
 // Whether a plan solves a task. Both are read, the plan only where it is asked for.
 ghost use Rattle.std.specs.Prelude.{◌≡◌, Some, IfOk, IfErr, false};
-ghost use Rattle.sas_answers.specs.Answers.{layers_refusal};
+ghost use Rattle.sas_answers.specs.Answers.{VerdictAnswer, layers_refusal};
 ghost use Rattle.sas_requests.specs.Answering.{AnswersFile, AnswersFiles, output_of};
 ghost use Rattle.sas_requests.specs.Output.{PlanOut, VerdictOut};
 
@@ -44,7 +44,7 @@ pub fn plan_answer<T: Read, P: Read>(
 }
 
 /// Returns the refusal of a task for a fault of its layers, in a run that can end otherwise.
-fn refuse_task(alloc: Global, fault: LayerFault) -> Result<Answer, ToolFault>
+pub fn refuse_task(alloc: Global, fault: LayerFault) -> Result<Answer, ToolFault>
     ensures ok { IfOk result (λ a. layers_refusal fault ≡ Some (output_of a)) }
     ensures err { IfErr result (λ e. e ≡ ToolFault.Memory) }
 {
@@ -58,7 +58,7 @@ fn judge<P: Read>(
     plan: &mut Watched<P>,
 ) -> Result<Answer, ToolFault>
     requires { plan.old.failed ≡ false }
-    ensures { AnswersFile P.remaining (VerdictOut layered.now) plan.old plan.new result }
+    ensures { AnswersFile P.remaining (VerdictOut VerdictAnswer layered.now) plan.old plan.new result }
 {
     let read = match read_flat_plan(alloc, plan) {
         Ok(read) => read,

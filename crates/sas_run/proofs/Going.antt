@@ -1,17 +1,18 @@
 -- One more step goes through.
-use Rattle.std.proofs.Common.{◌≡◌, ℕ, Err, ◌+◌, ◌<◌, List, [], ◌∷◌, ◌++◌, length, take, drop, get_or, sym, subst, ap, refl, ◌∙◌, arith}
+use Rattle.std.proofs.Common.{◌≡◌, ℕ, Result, Ok, Err, ◌+◌, ◌<◌, List, [], ◌∷◌, ◌++◌, length, take, drop, get_or, sym, subst, ap, refl, ◌∙◌, arith}
 use Rattle.std.proofs.lemmas.List.{take-append-drop, drop_more}
 use Rattle.std.proofs.lemmas.Grind.{common_steps}
 use Rattle.sas_core.specs.declared.parts.Parts.{Parts}
 use Rattle.sas_core.specs.Grounded.{operator_at}
-use Rattle.sas_meaning.specs.Steps.{Step}
-use Rattle.sas_run.specs.Plans.{IsChosen, GoThrough}
+use Rattle.std.specs.Prelude.{OnOk, IfErr}
+use Rattle.sas_meaning.specs.Steps.{Step, Agree}
+use Rattle.sas_run.specs.Plans.{IsChosen, GoThrough, LeadsTo, IsValid}
 use Rattle.sas_core.specs.PlanParts.{PlanParts}
 use Rattle.sas_meaning.specs.Reachable.{IsInitial}
 use Rattle.sas_run.specs.declared.plan_check.PlanFault.{PlanFault}
 use Rattle.sas_run.specs.declared.plan_check.PlanFault.TheVariants.{Memory, NoOperator, NotApplicable, Conflict, GoalMissed, CostDiffers}
 use Rattle.sas_run.specs.Verdicts.{ComesTo, IsFaultOf}
-use Rattle.sas_run.specs.Running.{GoesOn, StopsAt, GoesThrough}
+use Rattle.sas_run.specs.Running.{GoesOn, StopsAt, GoesThrough, IsJudged}
 
 pub goes_one_more : (p : Parts) (s : List ℕ) (names : List (List ℕ)) (operators mid : List ℕ) (name : List ℕ) (operator : ℕ) (next : List ℕ)
     → GoThrough p s names operators mid → GoesOn p mid name operator next → GoThrough p s (names ++ name ∷ []) (operators ++ operator ∷ []) next
@@ -48,3 +49,28 @@ stop_is_fault p plan initial operators last fault starts (before, behind, name, 
     of (GoalMissed index) s = absurd s
     of (CostDiffers sum) s = absurd s
     of Memory s = absurd s
+
+-- a step whose effects conflict stops
+pub conflict_stops : (p : Parts) (s name : List ℕ) (operator step : ℕ) (fault : PlanFault) → IsChosen p s name operator
+    → fault ≡ Conflict step operator → (Agree s (operator_at p operator).effects → ⊥) → StopsAt p s name step fault
+conflict_stops p s name operator step fault chosen is none = subst (StopsAt p s name step) (sym is) (refl, chosen, none)
+
+-- what is judged of a plan whose steps all go through is whether it is valid, or its fault
+pub judged_is_valid : (p : Parts) (plan : PlanParts) (operators last : List ℕ) (result : Result (Unit {0}) PlanFault) → LeadsTo p plan.steps operators last
+    → IsJudged p operators last plan.cost result → OnOk result (IsValid p plan operators)
+judged_is_valid p plan operators last (Ok _) leads is = record { last = last; leads = leads; goal = is.0; cost = is.1 }
+judged_is_valid p plan operators last (Err fault) leads is = tt
+
+pub judged_is_fault : (p : Parts) (plan : PlanParts) (operators last : List ℕ) (fault : PlanFault) → LeadsTo p plan.steps operators last
+    → IsJudged p operators last plan.cost (Err fault) → IsFaultOf p plan fault
+judged_is_fault p plan operators last (GoalMissed index) leads is = (operators, last, leads, is)
+judged_is_fault p plan operators last (CostDiffers sum) leads is = (operators, last, leads, is.0, is.1, is.2)
+judged_is_fault p plan operators last (NoOperator step) leads is = absurd is
+judged_is_fault p plan operators last (NotApplicable step) leads is = absurd is
+judged_is_fault p plan operators last (Conflict step operator) leads is = absurd is
+judged_is_fault p plan operators last Memory leads is = absurd is
+
+pub judged_as_fault : (p : Parts) (plan : PlanParts) (operators last : List ℕ) (result : Result (Unit {0}) PlanFault) → LeadsTo p plan.steps operators last
+    → IsJudged p operators last plan.cost result → IfErr result (IsFaultOf p plan)
+judged_as_fault p plan operators last (Ok _) leads is = tt
+judged_as_fault p plan operators last (Err fault) leads is = judged_is_fault p plan operators last fault leads is

@@ -15,3 +15,4 @@ pub mod PlanStates
 pub mod StepNumbers
 pub mod ChainsFrom
 pub mod FoundSteps
+pub mod UnderWay

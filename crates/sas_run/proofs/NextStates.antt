@@ -13,7 +13,7 @@ use Rattle.sas_core.specs.WellRanged.{EffectFits, OperatorFits, WellRanged}
 use Rattle.sas_core.proofs.Places.{holds_at}
 use Rattle.sas_meaning.specs.Layers.{IsBasic, IsLayered}
 use Rattle.sas_meaning.specs.Settled.{Settles}
-use Rattle.sas_meaning.specs.Steps.{Fires, Agree, preconditions, Step}
+use Rattle.sas_meaning.specs.Steps.{Fires, Agree, Step}
 use Rattle.sas_meaning.proofs.Facts.{hold_or_not, Untouched}
 use Rattle.sas_meaning.proofs.Forced.{state_set, fact_within}
 use Rattle.sas_meaning.proofs.Exists.{settled_exists}

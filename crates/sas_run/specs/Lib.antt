@@ -10,3 +10,4 @@ pub mod Chains
 pub mod Running
 pub mod Given
 pub mod Walking
+pub mod Courses

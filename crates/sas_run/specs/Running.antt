@@ -15,7 +15,7 @@ use Rattle.sas_run.specs.declared.runner.Choice.{Choice}
 use Rattle.sas_run.specs.declared.runner.Choice.TheVariants.{Unknown, Blocked, Found}
 use Rattle.sas_run.specs.declared.steps.StepFault.{StepFault}
 use Rattle.sas_run.specs.declared.steps.StepFault.TheVariants as step_fault
-use Rattle.sas_run.specs.Plans.{IsApplicable, IsNamed, NoneApplicable, IsChosen, GoThrough}
+use Rattle.sas_run.specs.Plans.{IsApplicable, IsNamed, NoneApplicable, IsChosen, GoThrough, cost_of_all}
 use Rattle.sas_run.specs.Verdicts.{IsFirstMissed}
 
 -- which operator a name means in a state: no operator has the name, none that has it is applicable,
@@ -35,6 +35,18 @@ IsFirstChosen p s first (Some operator) = (first ≤ operator)
     × IsApplicable s (operator_at p operator)
     × ((lower : ℕ) → first ≤ lower → lower < operator → IsNamed p (operator_at p first).name lower
     → IsApplicable s (operator_at p lower) → ⊥)
+
+-- an operator above this one has its name, too, and is applicable in the state
+pub record IsLater (p : Parts) (s : List ℕ) (operator later : ℕ) : Type 0 where
+  pub above : operator < later
+  pub of_name : IsNamed p (operator_at p operator).name later
+  pub applicable : IsApplicable s (operator_at p later)
+
+-- the lowest of these, if there is one
+abbrev pub IsLaterIfAny : Parts → List ℕ → ℕ → Option ℕ → Type 0
+IsLaterIfAny p s operator None = (later : ℕ) → IsLater p s operator later → ⊥
+IsLaterIfAny p s operator (Some later) = IsLater p s operator later
+    × ((lower : ℕ) → lower < later → IsLater p s operator lower → ⊥)
 
 -- two effects set one variable to different values
 pub record Contradicts (e f : Effect) : Type 0 where
@@ -108,6 +120,27 @@ StopsAt p s name step (plan_fault.Conflict at operator) = (at ≡ step)
 StopsAt p s name step (plan_fault.GoalMissed index) = ⊥
 StopsAt p s name step (plan_fault.CostDiffers sum) = ⊥
 StopsAt p s name step plan_fault.Memory = ⊥
+
+-- the step of this number is made by its applicable operator, or its effects conflict
+abbrev pub Makes : Parts → List ℕ → ℕ → ℕ → List ℕ → Result (Unit {0}) PlanFault → Type 0
+Makes p s operator step s' (Ok _) = Step p s (operator_at p operator) s'
+Makes p s operator step s' (Err fault) = (fault ≡ plan_fault.Conflict step operator)
+    × (Agree s (operator_at p operator).effects → ⊥)
+    × (s' ≡ s)
+
+-- in this state, to which all steps led, the goal holds and the operators cost this; or what fails
+abbrev pub IsJudged : Parts → List ℕ → List ℕ → ℕ → Result (Unit {0}) PlanFault → Type 0
+IsJudged p operators s cost (Ok _) = AllHold (slice_index s) p.goal
+    × (cost_of_all p operators ≡ cost)
+IsJudged p operators s cost (Err (plan_fault.GoalMissed index)) =
+    IsFirstMissed (slice_index s) p.goal index
+IsJudged p operators s cost (Err (plan_fault.CostDiffers sum)) = AllHold (slice_index s) p.goal
+    × (sum ≡ cost_of_all p operators)
+    × (sum ≢ cost)
+IsJudged p operators s cost (Err (plan_fault.NoOperator step)) = ⊥
+IsJudged p operators s cost (Err (plan_fault.NotApplicable step)) = ⊥
+IsJudged p operators s cost (Err (plan_fault.Conflict step operator)) = ⊥
+IsJudged p operators s cost (Err plan_fault.Memory) = ⊥
 
 -- all steps go through from the state s, or those before one that stops
 abbrev pub GoesThrough : Parts → List ℕ → List (List ℕ) → List ℕ → List ℕ

@@ -1,7 +1,15 @@
--- What makes steps is ready for a task.
-use Rattle.std.specs.Prelude.{ℕ, ◌<◌, ◌≤◌, length, vec_capacity}
+-- What makes steps is ready for a task, and what it tells of a step.
+use Rattle.std.specs.Prelude.{◌≡◌, ◌≢◌, ◌⊎◌, ℕ, ◌<◌, ◌≤◌, List, length, All, Contains, slice_index, vec_capacity, count_by, is_some}
+use Rattle.std.specs.List.{AllPairs}
+use Rattle.sas_core.specs.declared.parts.Fact.{Fact}
 use Rattle.sas_core.specs.declared.parts.Parts.{Parts}
+use Rattle.sas_core.specs.declared.parts.Variable.{Variable}
 use Rattle.sas_core.specs.Grounded.{operator_at}
+use Rattle.sas_core.specs.Variables.{IsDerived}
+use Rattle.sas_meaning.specs.declared.touched.Touched.{Touched}
+use Rattle.sas_meaning.specs.Layers.{IsBasic}
+use Rattle.sas_meaning.specs.States.{AllHold}
+use Rattle.sas_meaning.specs.Touched.{MayHaveChanged}
 use Rattle.sas_run.specs.declared.walker.Walker.{Walker}
 use Rattle.sas_run.specs.Given.{IsClean}
 
@@ -13,3 +21,29 @@ pub record IsPrepared {E : Type 0} (Ready : E → Parts → Type 0) (p : Parts) 
   pub clean : IsClean p w.given
   pub room : (operator : ℕ) → operator < length p.operators
       → length (operator_at p operator).effects ≤ vec_capacity w.gone
+
+-- how many derived variables the task has
+abbrev pub derived_count : Parts → ℕ
+derived_count p = count_by (λ (v : Variable). is_some v.layer) p.variables
+
+-- one of the facts is on the variable
+abbrev pub HasFactOn : List Fact → ℕ → Type 0
+HasFactOn facts var = (fact : Fact) × Contains facts fact × (fact.var ≡ var)
+
+-- What is told of a step from s to s'. The facts that are gone held in s. They are on basic
+-- variables, no two on the same one, and the variables on the list are derived. Each variable whose
+-- value differs is of a fact that is gone, or it is derived and may have changed.
+pub record TellsStep (p : Parts) (s s' : List ℕ) (gone : List Fact) (touched : Touched)
+    : Type 0 where
+  pub basic : All (λ (f : Fact). IsBasic p f.var) gone
+  pub exist : All (λ (f : Fact). f.var < length p.variables) gone
+  pub held : AllHold (slice_index s) gone
+  pub once : AllPairs (λ (f g : Fact). f.var ≢ g.var) gone
+  pub derived : All (IsDerived p.variables) touched.vars.items
+  pub each : (var : ℕ) → (slice_index s' var ≡ slice_index s var)
+      ⊎ (HasFactOn gone var ⊎ (IsDerived p.variables var × MayHaveChanged touched var))
+
+-- what is told is what was told before
+pub record TellsAsBefore {E : Type 0} (old new : Walker E) : Type 0 where
+  pub gone : new.gone.items ≡ old.gone.items
+  pub touched : new.touched ≡ old.touched

@@ -2,6 +2,7 @@
 #![tactic(auto)]
 
 mod chains;
+mod course;
 mod holding;
 mod laws;
 mod name_key;
@@ -9,10 +10,14 @@ mod names;
 mod plan_check;
 mod runner;
 mod step_names;
+mod step_operators;
 mod steps;
+mod walk;
 mod walker;
 
+pub use course::Course;
 pub use laws::verdict_laws;
 pub use plan_check::{PlanFault, Valid, check_once};
 pub use runner::{Choice, Runner};
 pub use steps::StepFault;
+pub use walk::Walk;

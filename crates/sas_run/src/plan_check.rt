@@ -1,22 +1,21 @@
 // Whether a plan is valid.
-ghost use Rattle.std.specs.Prelude.{◌≡◌, ◌≢◌, ◌<◌, ◌≤◌, ◌++◌, ◌∷◌, [], length};
-ghost use Rattle.std.specs.Prelude.{All, IfOk, IfErr, OnOk, slice_index_or, vec_capacity};
+ghost use Rattle.std.specs.Prelude.{◌≡◌, ◌≢◌, ◌<◌, ◌≤◌, [], length};
+ghost use Rattle.std.specs.Prelude.{IfOk, IfErr, OnOk, slice_index_or, vec_capacity};
 ghost use Rattle.sas_core.specs.Grounded.{operator_at};
 ghost use Rattle.sas_core.specs.Variables.{IsState};
 ghost use Rattle.sas_meaning.specs.Reachable.{IsInitial};
-ghost use Rattle.sas_run.specs.Plans.{IsValid, GoThrough, cost_of_all};
+ghost use Rattle.sas_run.specs.Plans.{IsValid};
 ghost use Rattle.sas_run.specs.Chains.{IsChain, HaveChains};
 ghost use Rattle.sas_run.specs.Names.{AreFirsts, HaveFirsts, IsFirst, IsNextNamed};
 ghost use Rattle.sas_run.specs.Verdicts.{IsFaultOf};
 ghost use Rattle.sas_run.specs.Running.{GoesOn, StopsAt, GoesThrough};
 ghost use Rattle.sas_run.specs.Walking.{IsPrepared};
 
-use crate::chains::Chains;
-use crate::holding::first_missed;
 use crate::names::NamedTask;
-use crate::runner::{Runner, first_applicable};
-use crate::step_names::StepNames;
-use crate::walker::{Walker, go_on_from, initial_of, walker_for};
+use crate::runner::Runner;
+use crate::step_operators::StepOperators;
+use crate::walk::{NextStep, Walk, choose, judge_last, make};
+use crate::walker::{Walker, walker_for};
 use sas_core::{Grounded, Stepwise};
 use sas_meaning::{Layered, Settle, State};
 use std::alloc::{AllocError, Global};
@@ -55,13 +54,6 @@ impl From<AllocError> for PlanFault {
     }
 }
 
-/// The next step of a plan: the lowest operator of its name, and its number, counted from 1.
-#[derive(Clone, Copy, Debug)]
-struct NextStep {
-    first: u32,
-    number: usize,
-}
-
 /// What the names of a plan's steps mean.
 #[derive(Clone, Copy)]
 struct Found<'f> {
@@ -69,13 +61,6 @@ struct Found<'f> {
     firsts: &'f [u32],
     /// For each operator of the name of one of these, the next one of its name.
     nexts: &'f [Option<u32>],
-}
-
-/// How far a plan has come: the state, and the operators of the steps so far.
-#[derive(Drop)]
-struct Walk {
-    state: State,
-    operators: Vec<u32>,
 }
 
 impl<'a, E: Settle<T> + Drop, T: Grounded> Runner<'a, E, T> {
@@ -119,12 +104,10 @@ pub fn check_once<E: Settle<T> + Drop, T: Grounded, P: Stepwise>(
     let Ok(mut walker) = walker_for(alloc, layered, evaluator) else {
         return Err(PlanFault::Memory);
     };
-    let names = StepNames::new(alloc, plan)?;
-    let chains = Chains::new(alloc, layered, &names)?;
-    let firsts = chains.firsts(alloc, names.of_steps())?;
+    let operators = StepOperators::new(alloc, layered, plan)?;
     let found = Found {
-        firsts: firsts.as_slice(),
-        nexts: chains.next(),
+        firsts: operators.firsts(),
+        nexts: operators.nexts(),
     };
     check_found(alloc, layered, &mut walker, plan, found)
 }
@@ -146,9 +129,7 @@ fn check_found<E: Settle<T> + Drop, T: Grounded, P: Stepwise>(
     ensures fault { IfErr result (λ f. f ≢ PlanFault.Memory
         → IsFaultOf layered.now (P.says plan.now) f) }
 {
-    let operators = Vec::with_capacity(alloc, plan.steps())?;
-    let state = initial_of(alloc, layered, walker)?;
-    let mut walk = Walk { state, operators };
+    let mut walk = Walk::new(alloc, layered, walker, plan.steps())?;
     judge(layered, walker, plan, found, &mut walk)?;
     Ok(Valid {
         operators: walk.operators,
@@ -177,15 +158,7 @@ fn judge<E: Settle<T> + Drop, T: Grounded, P: Stepwise>(
     ensures fault { IfErr result (IsFaultOf layered.now (P.says plan.now)) }
 {
     go_through(layered, walker, plan, found, walk)?;
-    if let Some(index) = first_missed(&walk.state, layered.task().goal()) {
-        let index = index as u32;
-        return Err(PlanFault::GoalMissed { index });
-    }
-    let sum = cost_of(layered, walk.operators.as_slice());
-    if sum != u128::from(plan.cost()) {
-        return Err(PlanFault::CostDiffers { sum });
-    }
-    Ok(())
+    judge_last(layered, walk, plan.cost())
 }
 
 /// Returns, for each step up to the first one whose name no operator has, the lowest operator of its name. A name that
@@ -283,24 +256,7 @@ fn go_on<E: Settle<T> + Drop, T: Grounded>(
     ensures err { IfErr result (λ fault. StopsAt layered.now state.old
         (operator_at layered.now next.first).name next.number fault) }
 {
-    let step = next.number;
-    let Some(operator) = first_applicable(layered, nexts, state, next.first) else {
-        return Err(PlanFault::NotApplicable { step });
-    };
-    match go_on_from(layered, walker, operator, state) {
-        Ok(()) => Ok(operator),
-        Err(_) => Err(PlanFault::Conflict { step, operator }),
-    }
-}
-
-/// Returns the sum of the operators' costs.
-fn cost_of<T: Grounded>(task: &Layered<T>, operators: &[u32]) -> u128
-    requires exist { All (λ operator. operator < length task.now.operators) operators.now }
-    ensures { result ≡ cost_of_all task.now operators.now }
-{
-    let mut sum = 0u128;
-    for operator in operators {
-        sum += u128::from(task.cost(*operator));
-    }
-    sum
+    let operator = choose(layered, nexts, state, next)?;
+    make(layered, walker, operator, next.number, state)?;
+    Ok(operator)
 }

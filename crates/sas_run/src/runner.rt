@@ -7,7 +7,7 @@ ghost use Rattle.sas_meaning.specs.Reachable.{IsInitial};
 ghost use Rattle.sas_run.specs.Chains.{IsChain};
 ghost use Rattle.sas_run.specs.Names.{IsNextNamed};
 ghost use Rattle.sas_run.specs.Plans.{IsApplicable, IsNamed};
-ghost use Rattle.sas_run.specs.Running.{IsChoice, IsFirstChosen, IsGoalAnswer, Steps};
+ghost use Rattle.sas_run.specs.Running.{IsChoice, IsFirstChosen, IsLaterIfAny, IsGoalAnswer, Steps};
 
 use crate::holding::first_missed;
 use crate::names::Names;
@@ -188,6 +188,25 @@ pub fn first_applicable<T: Grounded>(
         next = next_in(nexts, operator);
     }
     None
+}
+
+/// Returns the lowest operator above this one that has its name and is applicable, if there is one. `nexts` has for each of
+/// them the next one.
+pub fn later_applicable<T: Grounded>(
+    task: &Layered<T>,
+    nexts: &[Option<u32>],
+    state: &State,
+    operator: u32,
+) -> Option<u32>
+    requires chain { IsChain task.now operator nexts.now }
+    requires operator { operator < length task.now.operators }
+    requires state { IsState task.now.variables state.now }
+    ensures { IsLaterIfAny task.now state.now operator result }
+{
+    match next_in(nexts, operator) {
+        Some(next) => first_applicable(task, nexts, state, next),
+        None => None,
+    }
 }
 
 /// Returns what the list has for the operator.

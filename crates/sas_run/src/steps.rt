@@ -1,5 +1,5 @@
 // One step: from a state by an operator to the next state, before it is settled.
-ghost use Rattle.std.specs.Prelude.{◌≡◌, ℕ, ◌<◌, ◌≤◌, [], length, IsTrue, IsFalse, IfSome, IfNone, OnOk};
+ghost use Rattle.std.specs.Prelude.{◌≡◌, ℕ, ◌<◌, ◌≤◌, [], length, IsTrue, IsFalse, IfSome, IfNone, OnOk, OnErr};
 ghost use Rattle.std.specs.Prelude.{slice_index, slice_set, vec_capacity};
 ghost use Rattle.sas_core.specs.Grounded.{operator_at};
 ghost use Rattle.sas_core.specs.Variables.{IsState};
@@ -43,8 +43,8 @@ pub fn missed_precondition<T: Grounded>(
 }
 
 /// Applies the effects that fire to the state, where the preconditions hold. If two of these effects conflict, leaves the
-/// state as it was, and returns the fault. `given` is used meanwhile, and holds no value in the end. `gone` then holds the
-/// facts that the effects took away.
+/// state and `gone` as they were, and returns the fault. `given` is used meanwhile, and holds no value in the end. `gone` then
+/// holds the facts that the effects took away.
 pub fn apply<T: Grounded>(
     task: &Layered<T>,
     operator: u32,
@@ -59,6 +59,7 @@ pub fn apply<T: Grounded>(
     requires room { length (operator_at task.now operator).effects ≤ vec_capacity gone.old }
     ensures applies { Applies task.now state.old operator state.new result }
     ensures gone { OnOk result (HaveGone task.now gone.new.items state.old state.new) }
+    ensures same { OnErr result (gone.new ≡ gone.old) }
     ensures clean { IsClean task.now given.new }
     ensures room { vec_capacity gone.old ≤ vec_capacity gone.new }
 {

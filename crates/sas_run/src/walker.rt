@@ -1,16 +1,16 @@
 // What makes the steps of a task, one after another.
-ghost use Rattle.std.specs.Prelude.{◌≡◌, ◌<◌, ◌≤◌, ℕ, length, IfOk, IfErr};
+ghost use Rattle.std.specs.Prelude.{◌≡◌, ◌<◌, ◌≤◌, ℕ, length, IfOk, IfErr, OnOk, OnErr, vec_capacity};
 ghost use Rattle.sas_core.specs.Grounded.{operator_at};
 ghost use Rattle.sas_core.specs.Variables.{IsState};
 ghost use Rattle.sas_meaning.specs.Reachable.{IsInitial};
 ghost use Rattle.sas_run.specs.Given.{IsClean};
 ghost use Rattle.sas_run.specs.Plans.{IsApplicable};
 ghost use Rattle.sas_run.specs.Running.{Steps};
-ghost use Rattle.sas_run.specs.Walking.{IsPrepared};
+ghost use Rattle.sas_run.specs.Walking.{IsPrepared, TellsStep, TellsAsBefore, derived_count};
 
 use crate::steps::{StepFault, apply};
 use sas_core::{Fact, Grounded, Items};
-use sas_meaning::{Layered, Settle, State};
+use sas_meaning::{Layered, Settle, State, Touched};
 use std::alloc::{AllocError, Global};
 
 /// An evaluator, and the memory that a step uses.
@@ -21,10 +21,12 @@ pub struct Walker<E> {
     pub given: Items<Option<u32>>,
     /// The facts that the effects of the last step took away.
     pub gone: Vec<Fact>,
+    /// The derived variables that may have changed in the last step, if it went on from the one before.
+    pub touched: Touched,
 }
 
-/// Returns a walker with this evaluator. All memory that steps need is reserved here. If it is refused, the evaluator is
-/// returned unchanged.
+/// Returns a walker with this evaluator, which doesn't list the derived variables that may have changed. All memory that steps
+/// need is reserved here. If it is refused, the evaluator is returned unchanged.
 pub fn walker_for<E: Settle<T> + Drop, T: Grounded>(
     alloc: Global,
     layered: &Layered<T>,
@@ -32,6 +34,39 @@ pub fn walker_for<E: Settle<T> + Drop, T: Grounded>(
 ) -> Result<Walker<E>, (E, AllocError)>
     requires { E.ready evaluator layered.now }
     ensures prepared { IfOk result (λ w. IsPrepared E.ready layered.now w) }
+    ensures handed_back { IfErr result (λ e. e.0 ≡ evaluator) }
+{
+    walker_with(alloc, layered, evaluator, Touched::none(alloc))
+}
+
+/// Returns a walker with this evaluator, which lists the derived variables that may have changed. There is room for as many as
+/// the task has. All memory that steps need is reserved here. If it is refused, the evaluator is returned unchanged.
+pub fn walker_telling<E: Settle<T> + Drop, T: Grounded>(
+    alloc: Global,
+    layered: &Layered<T>,
+    evaluator: E,
+) -> Result<Walker<E>, (E, AllocError)>
+    requires { E.ready evaluator layered.now }
+    ensures prepared { IfOk result (λ w. IsPrepared E.ready layered.now w) }
+    ensures room { IfOk result (λ w. vec_capacity w.touched.vars ≡ derived_count layered.now) }
+    ensures handed_back { IfErr result (λ e. e.0 ≡ evaluator) }
+{
+    match Touched::with_room(alloc, count_derived(layered)) {
+        Ok(touched) => walker_with(alloc, layered, evaluator, touched),
+        Err(error) => Err((evaluator, error)),
+    }
+}
+
+/// Returns a walker with this evaluator, which notes on this list which derived variables may have changed.
+fn walker_with<E: Settle<T> + Drop, T: Grounded>(
+    alloc: Global,
+    layered: &Layered<T>,
+    evaluator: E,
+    touched: Touched,
+) -> Result<Walker<E>, (E, AllocError)>
+    requires { E.ready evaluator layered.now }
+    ensures prepared { IfOk result (λ w. IsPrepared E.ready layered.now w) }
+    ensures touched { IfOk result (λ w. w.touched ≡ touched) }
     ensures handed_back { IfErr result (λ e. e.0 ≡ evaluator) }
 {
     let gone = match Vec::with_capacity(alloc, most_effects(layered)) {
@@ -43,6 +78,7 @@ pub fn walker_for<E: Settle<T> + Drop, T: Grounded>(
             evaluator,
             given,
             gone,
+            touched,
         }),
         Err(error) => Err((evaluator, error)),
     }
@@ -62,6 +98,36 @@ pub fn initial_of<E: Settle<T> + Drop, T: Grounded>(
     let mut state = State::of_section(alloc, layered.task())?;
     walker.evaluator.settle(layered, &mut state);
     Ok(state)
+}
+
+/// Sets the state to the initial one again. It takes no memory.
+pub fn go_back<E: Settle<T> + Drop, T: Grounded>(
+    layered: &Layered<T>,
+    walker: &mut Walker<E>,
+    state: &mut State,
+)
+    requires prepared { IsPrepared E.ready layered.now walker.old }
+    requires state { IsState layered.now.variables state.old }
+    ensures prepared { IsPrepared E.ready layered.now walker.new }
+    ensures initial { IsInitial layered.now state.new }
+    ensures follows { E.follows walker.new.evaluator layered.now state.new }
+{
+    set_section(layered, state);
+    walker.evaluator.settle(layered, state);
+}
+
+/// Gives each variable its value in the state section.
+fn set_section<T: Grounded>(task: &Layered<T>, state: &mut State)
+    requires { IsState task.now.variables state.old }
+    ensures section { state.new ≡ task.now.init }
+    ensures fits { IsState task.now.variables state.new }
+{
+    // By its contract the task is well ranged and layered.
+    let _ = task.task();
+    for var in 0..task.variables() {
+        let value = task.initial_value(var);
+        state.set(Fact { var, value });
+    }
 }
 
 /// Makes the step of the operator, which is applicable, from any state. If there is none, leaves the state as it was, and
@@ -93,7 +159,8 @@ pub fn step_on<E: Settle<T> + Drop, T: Grounded>(
 }
 
 /// Makes the step as `step_on` does, from the state that the evaluator settled last. What the step doesn't change is not
-/// settled anew, as far as the evaluator goes on from there.
+/// settled anew, as far as the evaluator goes on from there. The walker then tells what the step changed. If there is no step,
+/// it tells what it told before.
 pub fn go_on_from<E: Settle<T> + Drop, T: Grounded>(
     layered: &Layered<T>,
     walker: &mut Walker<E>,
@@ -108,6 +175,9 @@ pub fn go_on_from<E: Settle<T> + Drop, T: Grounded>(
     ensures prepared { IsPrepared E.ready layered.now walker.new }
     ensures steps { Steps layered.now state.old operator state.new result }
     ensures follows { E.follows walker.new.evaluator layered.now state.new }
+    ensures told { OnOk result (TellsStep layered.now state.old state.new
+        walker.new.gone.items walker.new.touched) }
+    ensures same { OnErr result (TellsAsBefore walker.old walker.new) }
 {
     // By its contract the task is well ranged and layered.
     let _ = layered.task();
@@ -118,9 +188,7 @@ pub fn go_on_from<E: Settle<T> + Drop, T: Grounded>(
         &mut walker.gone,
         state,
     )?;
-    walker
-        .evaluator
-        .settle_on(layered, walker.gone.as_slice(), state);
+    walker.evaluator.settle_on(layered, walker.gone.as_slice(), state, &mut walker.touched);
     Ok(())
 }
 
@@ -144,4 +212,17 @@ fn most_effects<T: Grounded>(task: &Layered<T>) -> usize
         most = most.max(task.effects(operator) as usize);
     }
     most
+}
+
+/// Returns how many derived variables the task has.
+fn count_derived<T: Grounded>(task: &Layered<T>) -> usize
+    ensures { result ≡ derived_count task.now }
+{
+    let mut count = 0;
+    for var in 0..task.variables() {
+        if task.layer(var).is_some() {
+            count += 1;
+        }
+    }
+    count
 }

@@ -7,11 +7,12 @@ use Rattle.std.specs.List.{enumerate_from}
 use Rattle.sas_core.specs.declared.parts.Fact.{Fact}
 use Rattle.sas_core.specs.declared.parts.Variable.{Variable}
 use Rattle.sas_core.specs.Variables.{value_name}
+use Rattle.sas_output.specs.Words.{line}
 use Rattle.sas_flat.specs.declared.outline.Outline.{Outline}
 
 -- `WORD N`
 abbrev pub number_line : List ℕ → ℕ → List ℕ
-number_line word n = word ++ codes " " ++ decimal n
+number_line word n = line 0 (word ∷ decimal n ∷ [])
 
 -- `metric M`, where M is 1 where cost lines count, else 0
 abbrev pub metric_line : Bool → List ℕ
@@ -35,8 +36,7 @@ number_lines o =
 
 -- `WORD VAR VALUE NAME`, where NAME is the value's name
 abbrev pub fact_line : List ℕ → ℕ → ℕ → List ℕ → List ℕ
-fact_line word var value name =
-    word ++ codes " " ++ decimal var ++ codes " " ++ decimal value ++ codes " " ++ name
+fact_line word var value name = line 0 (word ∷ decimal var ∷ decimal value ∷ name ∷ [])
 
 -- the line of a fact, which there is for each fact that exists
 abbrev pub fact_lines : List ℕ → List Variable → ℕ → ℕ → List (List ℕ)

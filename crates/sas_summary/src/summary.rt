@@ -8,10 +8,9 @@ ghost use Rattle.sas_output.specs.Pieces.{PutsOrBreaks};
 ghost use Rattle.sas_summary.specs.Summary as spec;
 ghost use Rattle.sas_summary.specs.Summary.{summary_lines};
 
-use itoa::Buffer;
 use sas_flat::{Outline, Variables};
 use sas_lines::{Short, Watched, push_number};
-use sas_output::{Pieces, Status, ToolFault};
+use sas_output::{Indent, Pieces, Status, ToolFault, Word, Words};
 use std::alloc::{AllocError, Global};
 use std::io::Write;
 use std::marker::Model;
@@ -217,19 +216,13 @@ fn push_fact_line<W: Write>(
         (spec.fact_line word.now valued.var valued.value name.now ++ 10 ∷ []) result }
     ensures note { IsErr result ↔ IsTrue out.new.failed }
 {
-    let mut var_buffer = Buffer::new();
-    let mut value_buffer = Buffer::new();
-    let var_digits = var_buffer.format(valued.var).as_bytes();
-    let value_digits = value_buffer.format(valued.value).as_bytes();
-    let parts: [&[u8]; 8] = [
-        word,
-        b" ",
-        var_digits,
-        b" ",
-        value_digits,
-        b" ",
-        name,
-        b"\n",
-    ];
-    pieces.push_all(out, &parts)
+    let var = Word::Number(valued.var as u64);
+    let value = Word::Number(valued.value as u64);
+    let rest = [var, value, Word::Text(name)];
+    let line = Words {
+        indent: Indent::None,
+        first: word,
+        rest: &rest,
+    };
+    pieces.push_line(out, line)
 }

@@ -1,4 +1,4 @@
--- Reading the first line of some bytes up to its end.
+-- Reading the first line of some bytes up to its LF.
 use Rattle.std.proofs.Common.{◌≡◌, ℕ, ◌+◌, ◌*◌, ◌-◌, ◌<◌, ◌≤◌, List, [], ◌∷◌, ◌++◌, length, take, drop, refl, sym, ap, subst, ◌∙◌, append_assoc, length-append, arith, Option, None, get_or, true, false, Bool, not, ◌&&◌, ◌==◌, IsTrue}
 use Rattle.std.specs.Fmt.{decimal}
 use Rattle.std.specs.List.{list_all}
@@ -16,18 +16,17 @@ use Rattle.sas_task_format.specs.TaskFormat.{TaskLine, word, name, number, signe
 use Rattle.sas_task_format.proofs.TaskPlain.{Sayable, plain-line}
 use Rattle.sas_core.specs.declared.grounded.Change.{Change}
 use Rattle.sas_task_line.proofs.Digits.{digit_is, digit_more, digits_more}
-use Rattle.sas_lines.specs.Spelling.{signed_decimal}
-use Rattle.sas_task_line.specs.Ahead.{Ending, with_lf, SpellsAhead, LineAhead, NumberAhead, SignedAhead, ChangeAhead, end_bytes}
+use Rattle.sas_task_line.specs.Ahead.{SpellsAhead, LineAhead, NumberAhead, SignedAhead, ChangeAhead}
 use Rattle.sas_flat.specs.Effects.{plain_effect}
 
--- ---- a line and its end
+-- ---- a line and its LF
 
--- a line that is said before its end
-pub says_line : (e : Ending) (i : TaskLine) (bytes rest : List ℕ) → TaskLineFits i → Sayable i → bytes ≡ task_line_bytes i ++ (end_bytes e ++ rest) → LineAhead e i bytes rest
-says_line e i bytes rest fits says before = record { fits = fits; plain = plain-line i says; before = before }
+-- a line that is said before LF
+pub says_line : (i : TaskLine) (bytes rest : List ℕ) → TaskLineFits i → Sayable i → bytes ≡ task_line_bytes i ++ 10 ∷ rest → LineAhead i bytes rest
+says_line i bytes rest fits says e = record { fits = fits; plain = plain-line i says; before = e }
 
 -- what a line takes with its LF
-pub line_is_ahead : (i : TaskLine) (bytes rest : List ℕ) (taken : ℕ) → LineAhead with_lf i bytes rest → length (task_line_bytes i) + 1 ≡ taken → SpellsAhead i bytes taken
+pub line_is_ahead : (i : TaskLine) (bytes rest : List ℕ) (taken : ℕ) → LineAhead i bytes rest → length (task_line_bytes i) + 1 ≡ taken → SpellsAhead i bytes taken
 line_is_ahead i bytes rest taken h n =
     let line = task_line_bytes i in
     record {
@@ -37,7 +36,7 @@ line_is_ahead i bytes rest taken h n =
     }
 
 -- the same where the rest tells how many bytes were taken
-pub spells_ahead : (i : TaskLine) (bytes rest : List ℕ) (taken : ℕ) → LineAhead with_lf i bytes rest → taken ≡ length bytes - length rest → SpellsAhead i bytes taken
+pub spells_ahead : (i : TaskLine) (bytes rest : List ℕ) (taken : ℕ) → LineAhead i bytes rest → taken ≡ length bytes - length rest → SpellsAhead i bytes taken
 spells_ahead i bytes rest taken h n = line_is_ahead i bytes rest taken h (omega (arith, n, ap length h.before, length-append (task_line_bytes i) (10 ∷ rest)))
 
 -- ---- bytes in front
@@ -102,24 +101,23 @@ module _ (n : ℕ) (left : List ℕ) where
 then : (a b bytes more rest : List ℕ) (byte : ℕ) → bytes ≡ a ++ byte ∷ more → more ≡ b ++ rest → bytes ≡ (a ++ byte ∷ b) ++ rest
 then a b bytes more rest byte e f = e ∙ ap (λ (x : List ℕ). a ++ byte ∷ x) f ∙ sym (append_assoc a (byte ∷ b) rest)
 
-module _ (e : Ending) where
-  pub number_is_ahead : (first : ℕ) (bytes more rest : List ℕ) (n : ℕ) → NumberAhead bytes n first more → first ∷ more ≡ end_bytes e ++ rest → LineAhead e (number n) bytes rest
-  number_is_ahead first bytes more rest n h ends = says_line e (number n) bytes rest h.0 h.0 (h.1 ∙ ap (λ (x : List ℕ). decimal n ++ x) ends)
+pub number_is_ahead : (bytes rest : List ℕ) (n : ℕ) → NumberAhead bytes n 10 rest → LineAhead (number n) bytes rest
+number_is_ahead bytes rest n h = says_line (number n) bytes rest h.0 h.0 h.1
 
-  pub signed_is_ahead : (first : ℕ) (bytes more rest : List ℕ) (n : Option ℕ) → SignedAhead bytes n first more → first ∷ more ≡ end_bytes e ++ rest → LineAhead e (signed n) bytes rest
-  signed_is_ahead first bytes more rest n h ends = says_line e (signed n) bytes rest h.0 h.0 (h.1 ∙ ap (λ (x : List ℕ). signed_decimal n ++ x) ends)
+pub signed_is_ahead : (bytes rest : List ℕ) (n : Option ℕ) → SignedAhead bytes n 10 rest → LineAhead (signed n) bytes rest
+signed_is_ahead bytes rest n h = says_line (signed n) bytes rest h.0 h.0 h.1
 
-  pub fact_is_ahead : (bytes more rest : List ℕ) (f : Fact) → NumberAhead bytes f.var 32 more → LineAhead e (number f.value) more rest → LineAhead e (fact f) bytes rest
-  fact_is_ahead bytes more rest f h g = says_line e (fact f) bytes rest (h.0, g.fits) (h.0, g.fits) (then _ _ bytes more (end_bytes e ++ rest) 32 h.1 g.before)
+pub fact_is_ahead : (bytes more rest : List ℕ) (f : Fact) → NumberAhead bytes f.var 32 more → NumberAhead more f.value 10 rest → LineAhead (fact f) bytes rest
+fact_is_ahead bytes more rest f h g = says_line (fact f) bytes rest (h.0, g.0) (h.0, g.0) (then _ _ bytes more (10 ∷ rest) 32 h.1 g.1)
 
-  pub head_is_ahead : (bytes rest : List ℕ) (c : Change) → ChangeAhead e bytes c rest → LineAhead e (head c.var c.old c.new) bytes rest
-  head_is_ahead bytes rest c h = says_line e (head c.var c.old c.new) bytes rest h.0 h.0 h.1
+pub head_is_ahead : (bytes rest : List ℕ) (c : Change) → ChangeAhead bytes c rest → LineAhead (head c.var c.old c.new) bytes rest
+head_is_ahead bytes rest c h = says_line (head c.var c.old c.new) bytes rest h.0 h.0 h.1
 
-pub effect_is_ahead : (ends : Ending) (bytes more rest : List ℕ) (c : Change) → bytes ≡ 48 ∷ 32 ∷ more → ChangeAhead ends more c rest → LineAhead ends (effect (plain_effect c)) bytes rest
-effect_is_ahead ends bytes more rest c e h =
+pub effect_is_ahead : (bytes more rest : List ℕ) (c : Change) → bytes ≡ 48 ∷ 32 ∷ more → ChangeAhead more c rest → LineAhead (effect (plain_effect c)) bytes rest
+effect_is_ahead bytes more rest c e h =
     let numbers : EffectNumbers (plain_effect c) = record { count = omega arith; conditions = tt; head = h.0 } in
     let zero_is : decimal 0 ≡ 48 ∷ [] = decimal_digit 0 (omega arith) in
-    says_line ends (effect (plain_effect c)) bytes rest numbers numbers (then _ _ bytes more (end_bytes ends ++ rest) 32 (e ∙ ap (λ (x : List ℕ). x ++ 32 ∷ more) (sym zero_is)) h.1)
+    says_line (effect (plain_effect c)) bytes rest numbers numbers (then _ _ bytes more (10 ∷ rest) 32 (e ∙ ap (λ (x : List ℕ). x ++ 32 ∷ more) (sym zero_is)) h.1)
 
 -- ---- a word, a name
 
@@ -130,15 +128,15 @@ both false b h = absurd cc
 Name_all : (w : List ℕ) → IsName w → IsTrue (list_all is_plain w)
 Name_all w h = both (not (length w == 0)) (list_all is_plain w) h
 
-pub word_is_ahead : (e : Ending) (first : ℕ) (bytes w more rest : List ℕ) → IsName w → bytes ≡ w ++ first ∷ more → first ∷ more ≡ end_bytes e ++ rest → LineAhead e (word w) bytes rest
-word_is_ahead e first bytes w more rest h before ends = says_line e (word w) bytes rest tt (Name_all w h) (before ∙ ap (λ (x : List ℕ). w ++ x) ends)
+pub word_is_ahead : (bytes w rest : List ℕ) → IsName w → bytes ≡ w ++ 10 ∷ rest → LineAhead (word w) bytes rest
+word_is_ahead bytes w rest h e = says_line (word w) bytes rest tt (Name_all w h) e
 
-pub name_is_ahead : (e : Ending) (first_byte : ℕ) (bytes rest : List ℕ) (end : ℕ) → 0 < end → NoneBefore (Passes (is_byte2 10 13) bytes) 0 (length bytes) end → get_or bytes end 0 ≡ first_byte → first_byte ∷ drop (end + 1) bytes ≡ end_bytes e ++ rest → IsName (take end bytes) × LineAhead e (name (take end bytes)) bytes rest
-name_is_ahead e first_byte bytes rest end some first here ends =
+pub name_is_ahead : (bytes : List ℕ) (end : ℕ) → 0 < end → NoneBefore (Passes (is_byte2 10 13) bytes) 0 (length bytes) end → get_or bytes end 0 ≡ 10 → IsName (take end bytes) × LineAhead (name (take end bytes)) bytes (drop (end + 1) bytes)
+name_is_ahead bytes end some first here =
     let w = take end bytes in
     let l : length w ≡ end = length-take-le end bytes (omega (arith, first.high)) in
     let nowhere : Nowhere (Passes (is_byte2 10 13) w) 0 (length w) = λ k low below found. first.before k low (omega arith) (rw (get_or-take end bytes k 0 (omega arith)) at found) in
     let one_line = is_none-search w None true nowhere refl in
     let many : (length w == 0) ≡ false = ne_eqb (length w) 0 (λ e. omega (arith, e, l, some)) in
     let h : IsName w = ap (λ (b : Bool). not b && list_all is_plain w) many ∙ sym one_line in
-    (h, says_line e (name w) bytes rest tt h (sym (take-append-drop end bytes) ∙ ap (λ (x : List ℕ). w ++ x) (drop_more bytes end 0 first.high ∙ ap (λ (b : ℕ). b ∷ drop (end + 1) bytes) here ∙ ends)))
+    (h, says_line (name w) bytes (drop (end + 1) bytes) tt h (sym (take-append-drop end bytes) ∙ ap (λ (x : List ℕ). w ++ x) (drop_more bytes end 0 first.high ∙ ap (λ (b : ℕ). b ∷ drop (end + 1) bytes) here)))

@@ -4,41 +4,36 @@ use Rattle.std.specs.List.{flat_map, list_all, AllByRecursion}
 use Rattle.sas_core.specs.declared.parts.Fact.{Fact}
 use Rattle.sas_core.specs.Names.{is_name}
 use Rattle.sas_core.specs.declared.grounded.Change.{Change}
+use Rattle.sas_lines.specs.Lines.{text}
 use Rattle.sas_reader.specs.System.{IsPlain}
 use Rattle.sas_task_format.specs.TaskFormat.{TaskLine, name, number, fact, effect, line, TaskLineFits}
 use Rattle.sas_flat.specs.Effects.{plain_effect}
-use Rattle.sas_task_line.specs.Ahead.{Ending, end_bytes}
 use Rattle.sas_task_line.specs.Sections.{spelled}
 use Rattle.sas_task_line.specs.TaskRanges.{fact_in_ranges, effect_in_ranges}
 
--- the lines, each with such an end
-abbrev pub text_ended : Ending → List (List ℕ) → List ℕ
-text_ended e lines = flat_map (λ line. line ++ end_bytes e) lines
-
--- the bytes are these lines, which have numbers that a file can spell, each with such an end, and
--- the rest
-pub record LinesBefore (e : Ending) (items : List TaskLine) (bytes rest : List ℕ) : Type 0 where
+-- the bytes are these lines, which have numbers that a file can spell, each with LF, and the rest
+pub record LinesBefore (items : List TaskLine) (bytes rest : List ℕ) : Type 0 where
   pub fits : AllByRecursion TaskLineFits items
   pub plain : AllByRecursion IsPlain (spelled items)
-  pub before : bytes ≡ text_ended e (spelled items) ++ rest
+  pub before : bytes ≡ text (spelled items) ++ rest
 
 -- this number and a line for each of these, each of which may stand, are before the rest
-pub record CountedBefore {A : Type 0} (says : A → TaskLine) (may_stand : A → Bool) (e : Ending)
+pub record CountedBefore {A : Type 0} (says : A → TaskLine) (may_stand : A → Bool)
     (count : ℕ) (each : List A) (bytes rest : List ℕ) : Type 0 where
-  pub lines : LinesBefore e (number count ∷ flat_map (line says) each) bytes rest
+  pub lines : LinesBefore (number count ∷ flat_map (line says) each) bytes rest
   pub stand : IsTrue (list_all may_stand each)
 
 -- this number and these names are before the rest
-abbrev pub NamesBefore : Ending → ℕ → List (List ℕ) → List ℕ → List ℕ → Type 0
-NamesBefore e count names bytes rest = CountedBefore name is_name e count names bytes rest
+abbrev pub NamesBefore : ℕ → List (List ℕ) → List ℕ → List ℕ → Type 0
+NamesBefore count names bytes rest = CountedBefore name is_name count names bytes rest
 
 -- this number and the lines of these facts, each of which exists, are before the rest
-abbrev pub FactsBefore : Ending → List ℕ → ℕ → List Fact → List ℕ → List ℕ → Type 0
-FactsBefore e ranges count facts bytes rest =
-    CountedBefore fact (fact_in_ranges ranges) e count facts bytes rest
+abbrev pub FactsBefore : List ℕ → ℕ → List Fact → List ℕ → List ℕ → Type 0
+FactsBefore ranges count facts bytes rest =
+    CountedBefore fact (fact_in_ranges ranges) count facts bytes rest
 
 -- this number and the lines of the effects that make these changes without
 -- conditions, each of whose facts exists, are before the rest
-abbrev pub ChangesBefore : Ending → List ℕ → ℕ → List Change → List ℕ → List ℕ → Type 0
-ChangesBefore e ranges count changes bytes rest =
-    CountedBefore effect (effect_in_ranges ranges) e count (map plain_effect changes) bytes rest
+abbrev pub ChangesBefore : List ℕ → ℕ → List Change → List ℕ → List ℕ → Type 0
+ChangesBefore ranges count changes bytes rest =
+    CountedBefore effect (effect_in_ranges ranges) count (map plain_effect changes) bytes rest

@@ -1,20 +1,19 @@
 -- Whole sections that stand first in some bytes: a variable, a mutex group, an operator, a rule.
-use Rattle.std.specs.Prelude.{◌≡◌, ◌<◌, ◌==◌, not, ℕ, List, length, map, take, Option, IsTrue}
-use Rattle.std.specs.List.{AllByRecursion, list_all, filter}
+use Rattle.std.specs.Prelude.{◌≡◌, ◌<◌, ℕ, List, length, map, take, Option, IsTrue}
+use Rattle.std.specs.List.{AllByRecursion, list_all}
 use Rattle.sas_core.specs.declared.parts.Fact.{Fact}
 use Rattle.sas_core.specs.declared.parts.Variable.{Variable}
 use Rattle.sas_core.specs.declared.parts.Operator.{Operator}
 use Rattle.sas_core.specs.declared.parts.Rule.{Rule}
 use Rattle.sas_core.specs.Names.{IsName}
 use Rattle.sas_core.specs.declared.grounded.Change.{Change}
-use Rattle.sas_lines.specs.Lines.{text, lines}
+use Rattle.sas_lines.specs.Lines.{text}
 use Rattle.sas_reader.specs.declared.reader.Front.{Front}
 use Rattle.sas_reader.specs.Machine.{IsFront}
 use Rattle.sas_task_format.specs.TaskFormat.{TaskLine, task_line_bytes, TaskLineFits, variable_lines, group_lines, operator_lines, rule_lines}
 use Rattle.sas_task_line.specs.declared.sections.Gathered.{Gathered}
 use Rattle.sas_flat.specs.Effects.{plain_effect}
 use Rattle.sas_task_line.specs.TaskRanges.{fact_in_ranges, effect_in_ranges, change_in}
-use Rattle.sas_task_line.specs.Ahead.{Ending, with_lf, with_cr_lf}
 
 -- the bytes of each of the lines
 abbrev pub spelled : List TaskLine → List (List ℕ)
@@ -25,18 +24,7 @@ spelled items = map task_line_bytes items
 pub record LinesAhead (items : List TaskLine) (bytes : List ℕ) (front : Front) : Type 0 where
   pub fits : AllByRecursion TaskLineFits items
   pub stands : IsFront (spelled items) bytes front
-  pub some : 0 < front.bytes
-
--- the bytes without those that are CR
-abbrev pub without_returns : List ℕ → List ℕ
-without_returns bytes = filter (λ b. not (b == 13)) bytes
-
--- The lines of a front end so, and have no other CR: their text is the front itself, or the front
--- without its CRs.
-abbrev pub EndsSo : Ending → List ℕ → Front → Type 0
-EndsSo with_lf bytes front = text (lines (take front.bytes bytes)) ≡ take front.bytes bytes
-EndsSo with_cr_lf bytes front =
-    text (lines (take front.bytes bytes)) ≡ without_returns (take front.bytes bytes)
+  pub whole : take front.bytes bytes ≡ text (spelled items)
 
 -- the variable has a name and at least one value, each of which has a name
 pub record HasNames (v : Variable) : Type 0 where

@@ -1,36 +1,14 @@
-// The first line of some bytes, read straight off these, where it is quick to see that it ends as is asked for and
-// holds what is asked for. All else is left to the functions that are given the line by itself, and report its fault.
-ghost use Rattle.std.specs.Prelude.{◌≡◌, ◌+◌, ◌<◌, ◌∷◌, ◌++◌, length, IfSome};
+// The first line of some bytes, read straight off these, where it is quick to see that it ends with LF and holds what
+// is asked for. All else is left to the functions that are given the line by itself, and report its fault.
+ghost use Rattle.std.specs.Prelude.{◌≡◌, ◌+◌, ◌<◌, ◌++◌, length, IfSome};
 ghost use Rattle.std.specs.Fmt.{decimal};
 ghost use Rattle.sas_core.specs.Names.{IsName};
 ghost use Rattle.sas_task_format.specs.TaskFormat as format;
 ghost use Rattle.sas_task_line.specs.Ahead.{SpellsAhead, LineAhead, NumberAhead, SignedAhead, ChangeAhead};
-ghost use Rattle.sas_task_line.specs.Ahead.{end_bytes, ending_with};
 ghost use Rattle.sas_flat.specs.Effects.{plain_effect};
 
 use memchr::memchr2;
 use sas_core::{Change, Fact};
-
-/// What the ends of lines begin with, where each is LF alone. Functions that read lines with their ends have this or
-/// `CR` as a constant parameter, so that neither sort of file pays for the other.
-pub const LF: u8 = b'\n';
-
-/// The same, where each is CR LF.
-pub const CR: u8 = b'\r';
-
-/// Returns what follows the end of a line whose first byte, LF or CR, stood before these.
-#[inline]
-fn behind_end<const END: u8>(bytes: &[u8]) -> Option<&[u8]>
-    ensures { IfSome result (λ rest. END ∷ bytes.now ≡ end_bytes (ending_with END) ++ rest.now) }
-{
-    if END == LF {
-        return Some(bytes);
-    }
-    match bytes {
-        [b'\n', rest @ ..] if END == CR => Some(rest),
-        _ => None,
-    }
-}
 
 /// What the first line of some bytes holds, and how many of the bytes the line takes with its LF.
 #[derive(Clone, Copy, Debug, PartialEq, Eq)]
@@ -99,97 +77,72 @@ pub(crate) fn signed_before(bytes: &[u8], end: u8) -> Option<(Option<u32>, &[u8]
     Some((Some(number), rest))
 }
 
-/// Returns the number that stands before such an end of a line, and what follows the end.
+/// Returns the change that stands before LF, and what follows LF.
 #[inline(always)]
-pub(crate) fn number_line<const END: u8>(bytes: &[u8]) -> Option<(u32, &[u8])>
-    ensures { IfSome result
-        (λ found. LineAhead (ending_with END) (format.number found.0) bytes.now found.1.now) }
-{
-    let (number, rest) = number_before(bytes, END)?;
-    let rest = behind_end::<END>(rest)?;
-    Some((number, rest))
-}
-
-/// Returns the number, or `-1` for none, that stands before such an end of a line, and what follows the end.
-#[inline(always)]
-pub(crate) fn signed_line<const END: u8>(bytes: &[u8]) -> Option<(Option<u32>, &[u8])>
-    ensures { IfSome result
-        (λ found. LineAhead (ending_with END) (format.signed found.0) bytes.now found.1.now) }
-{
-    let (number, rest) = signed_before(bytes, END)?;
-    let rest = behind_end::<END>(rest)?;
-    Some((number, rest))
-}
-
-/// Returns the change that stands before such an end of a line, and what follows the end.
-#[inline(always)]
-pub(crate) fn change_line<const END: u8>(bytes: &[u8]) -> Option<(Change, &[u8])>
-    ensures { IfSome result (λ found. ChangeAhead (ending_with END) bytes.now found.0 found.1.now) }
+pub(crate) fn change_before(bytes: &[u8]) -> Option<(Change, &[u8])>
+    ensures { IfSome result (λ found. ChangeAhead bytes.now found.0 found.1.now) }
 {
     let (var, rest) = number_before(bytes, b' ')?;
     let (old, rest) = signed_before(rest, b' ')?;
-    let (new, rest) = number_line::<END>(rest)?;
+    let (new, rest) = number_before(rest, b'\n')?;
     Some((Change { var, old, new }, rest))
 }
 
-/// Returns the fact that stands before such an end of a line, whether it exists or not, and what follows the end.
+/// Returns the fact that stands before LF, whether it exists or not, and what follows LF.
 #[inline(always)]
-pub(crate) fn fact_line<const END: u8>(bytes: &[u8]) -> Option<(Fact, &[u8])>
-    ensures { IfSome result
-        (λ found. LineAhead (ending_with END) (format.fact found.0) bytes.now found.1.now) }
+pub(crate) fn fact_before(bytes: &[u8]) -> Option<(Fact, &[u8])>
+    ensures { IfSome result (λ found. LineAhead (format.fact found.0) bytes.now found.1.now) }
 {
     let (var, rest) = number_before(bytes, b' ')?;
-    let (value, rest) = number_line::<END>(rest)?;
+    let (value, rest) = number_before(rest, b'\n')?;
     Some((Fact { var, value }, rest))
 }
 
-/// Returns the effect without conditions that stands before such an end of a line, by its change, whether its facts
-/// exist or not, and what follows the end.
+/// Returns the effect without conditions that stands before LF, by its change, whether its facts exist or not, and what
+/// follows LF.
 #[inline(always)]
-pub(crate) fn effect_line<const END: u8>(bytes: &[u8]) -> Option<(Change, &[u8])>
-    ensures { IfSome result (λ found.
-        LineAhead (ending_with END) (format.effect (plain_effect found.0)) bytes.now found.1.now) }
+pub(crate) fn effect_before(bytes: &[u8]) -> Option<(Change, &[u8])>
+    ensures { IfSome result
+        (λ found. LineAhead (format.effect (plain_effect found.0)) bytes.now found.1.now) }
 {
     let [b'0', b' ', rest @ ..] = bytes else {
         return None;
     };
-    change_line::<END>(rest)
+    change_before(rest)
 }
 
-/// Returns what follows the fixed word and such an end, where the bytes begin with them.
+/// Returns what follows the fixed word and LF, where the bytes begin with them. The word is an array, since with a
+/// constant length it is compared without a call.
 #[inline(always)]
-pub(crate) fn word_line<'a, const END: u8>(bytes: &'a [u8], word: &[u8]) -> Option<&'a [u8]>
+pub(crate) fn word_before<'a, const N: usize>(bytes: &'a [u8], word: &[u8; N]) -> Option<&'a [u8]>
     requires { IsName word.now }
-    ensures { IfSome result
-        (λ rest. LineAhead (ending_with END) (format.word word.now) bytes.now rest.now) }
+    ensures { IfSome result (λ rest. LineAhead (format.word word.now) bytes.now rest.now) }
 {
-    let [byte, rest @ ..] = bytes.strip_prefix(word)? else {
-        return None;
-    };
-    if *byte != END {
-        return None;
+    let (first, rest) = bytes.split_first_chunk::<N>()?;
+    match rest {
+        [b'\n', rest @ ..] if first == word => Some(rest),
+        _ => None,
     }
-    behind_end::<END>(rest)
 }
 
-/// Returns the name that stands before such an end of a line, and what follows the end.
-pub(crate) fn name_line<const END: u8>(bytes: &[u8]) -> Option<(&[u8], &[u8])>
-    ensures { IfSome result (λ found. IsName found.0.now
-        × LineAhead (ending_with END) (format.name found.0.now) bytes.now found.1.now) }
+/// Returns the name that stands before LF, and what follows LF.
+pub(crate) fn name_before(bytes: &[u8]) -> Option<(&[u8], &[u8])>
+    ensures { IfSome result (λ found.
+        IsName found.0.now × LineAhead (format.name found.0.now) bytes.now found.1.now) }
 {
     let end = memchr2(b'\n', b'\r', bytes)?;
-    if end == 0 || bytes[end] != END {
-        return None;
+    if end > 0 && bytes[end] == b'\n' {
+        Some((&bytes[..end], &bytes[end + 1..]))
+    } else {
+        None
     }
-    let rest = behind_end::<END>(&bytes[end + 1..])?;
-    Some((&bytes[..end], rest))
 }
 
 /// Returns the number on the first line, or `None` where it isn't quick to see.
 pub fn number_ahead(bytes: &[u8]) -> Option<Ahead<u32>>
     ensures { IfSome result (λ a. SpellsAhead (format.number a.said) bytes.now a.taken) }
 {
-    let (said, rest) = number_line::<LF>(bytes)?;
+    let (said, rest) = number_before(bytes, b'\n')?;
     Some(Ahead {
         said,
         taken: bytes.len() - rest.len(),
@@ -200,7 +153,7 @@ pub fn number_ahead(bytes: &[u8]) -> Option<Ahead<u32>>
 pub fn fact_ahead(bytes: &[u8]) -> Option<Ahead<Fact>>
     ensures { IfSome result (λ a. SpellsAhead (format.fact a.said) bytes.now a.taken) }
 {
-    let (said, rest) = fact_line::<LF>(bytes)?;
+    let (said, rest) = fact_before(bytes)?;
     Some(Ahead {
         said,
         taken: bytes.len() - rest.len(),
@@ -213,7 +166,7 @@ pub fn effect_ahead(bytes: &[u8]) -> Option<Ahead<Change>>
     ensures { IfSome result
         (λ a. SpellsAhead (format.effect (plain_effect a.said)) bytes.now a.taken) }
 {
-    let (said, rest) = effect_line::<LF>(bytes)?;
+    let (said, rest) = effect_before(bytes)?;
     Some(Ahead {
         said,
         taken: bytes.len() - rest.len(),
@@ -225,7 +178,7 @@ pub fn head_ahead(bytes: &[u8]) -> Option<Ahead<Change>>
     ensures { IfSome result
         (λ a. SpellsAhead (format.head a.said.var a.said.old a.said.new) bytes.now a.taken) }
 {
-    let (said, rest) = change_line::<LF>(bytes)?;
+    let (said, rest) = change_before(bytes)?;
     Some(Ahead {
         said,
         taken: bytes.len() - rest.len(),
@@ -238,8 +191,10 @@ pub fn word_ahead(bytes: &[u8], word: &[u8]) -> Option<usize>
     requires { IsName word.now }
     ensures { IfSome result (λ taken. SpellsAhead (format.word word.now) bytes.now taken) }
 {
-    let rest = word_line::<LF>(bytes, word)?;
-    Some(bytes.len() - rest.len())
+    match bytes.strip_prefix(word)? {
+        [b'\n', ..] => Some(word.len() + 1),
+        _ => None,
+    }
 }
 
 /// Returns the name on the first line, or `None` where it isn't quick to see.
@@ -247,6 +202,6 @@ pub fn name_ahead(bytes: &[u8]) -> Option<&[u8]>
     ensures { IfSome result (λ name.
         IsName name.now × SpellsAhead (format.name name.now) bytes.now (length name.now + 1)) }
 {
-    let (name, _) = name_line::<LF>(bytes)?;
+    let (name, _) = name_before(bytes)?;
     Some(name)
 }

@@ -10,7 +10,7 @@ mod task_line;
 mod variables_and_groups;
 
 pub use ahead::{
-    Ahead, CR, LF, effect_ahead, fact_ahead, head_ahead, name_ahead, number_ahead, word_ahead,
+    Ahead, effect_ahead, fact_ahead, head_ahead, name_ahead, number_ahead, word_ahead,
 };
 pub use sections::{Gathered, OperatorFound, RuleFound, operator_found, rule_found};
 pub use so_far::SoFar;

@@ -3,12 +3,13 @@
 ghost use Rattle.std.specs.Prelude.{◌≡◌, [], ◌∷◌, length, codes, IsTrue, IfOk, IfSome};
 ghost use Rattle.sas_core.specs.Names.{IsName};
 ghost use Rattle.sas_task_format.specs.TaskFormat as format;
-ghost use Rattle.sas_task_line.specs.Ahead.{ending_with};
 ghost use Rattle.sas_task_line.specs.LinesBefore.{LinesBefore, FactsBefore, ChangesBefore};
 ghost use Rattle.sas_task_line.specs.TaskRanges.{change_in};
-ghost use Rattle.sas_task_line.specs.Sections.{OperatorAhead, RuleAhead, EndsSo, gathered_operator, gathered_rule};
+ghost use Rattle.sas_task_line.specs.Sections.{OperatorAhead, RuleAhead, gathered_operator, gathered_rule};
 
-use crate::ahead::{change_line, effect_line, fact_line, name_line, number_line, word_line};
+use crate::ahead::{
+    change_before, effect_before, fact_before, name_before, number_before, word_before,
+};
 use crate::task_line::{change_in, value_in};
 use sas_core::{Change, Fact, Items};
 use sas_lists::Lists;
@@ -58,23 +59,23 @@ pub struct RuleFound {
 
 /// Takes the facts that stand with their number before some rest, where each exists. Returns the rest.
 #[inline(always)]
-pub(crate) fn facts_before<'a, const END: u8>(
+pub(crate) fn facts_before<'a>(
     ranges: &Items<u32>,
     bytes: &'a [u8],
     facts: &mut Items<Fact>,
 ) -> Result<Option<&'a [u8]>, AllocError>
     ensures { IfOk result (λ found. IfSome found (λ rest.
-        FactsBefore (ending_with END) ranges.now (length facts.new) facts.new bytes.now rest.now)) }
+        FactsBefore ranges.now (length facts.new) facts.new bytes.now rest.now)) }
 {
     facts.clear();
-    let Some((count, mut rest)) = number_line::<END>(bytes) else {
+    let Some((count, mut rest)) = number_before(bytes, b'\n') else {
         return Ok(None);
     };
     if count > MOST_FACTS {
         return Ok(None);
     }
     for _i in 0..count {
-        let Some((fact, more)) = fact_line::<END>(rest) else {
+        let Some((fact, more)) = fact_before(rest) else {
             return Ok(None);
         };
         if !value_in(ranges, fact.var, fact.value) {
@@ -89,20 +90,20 @@ pub(crate) fn facts_before<'a, const END: u8>(
 /// Takes the changes of the effects without conditions that stand with their number before some rest, where the facts
 /// of each exist. Returns the rest.
 #[inline(always)]
-fn changes_before<'a, const END: u8>(
+fn changes_before<'a>(
     ranges: &Items<u32>,
     bytes: &'a [u8],
     changes: &mut Items<Change>,
 ) -> Result<Option<&'a [u8]>, AllocError>
     ensures { IfOk result (λ found. IfSome found (λ rest.
-        ChangesBefore (ending_with END) ranges.now (length changes.new) changes.new bytes.now rest.now)) }
+        ChangesBefore ranges.now (length changes.new) changes.new bytes.now rest.now)) }
 {
     changes.clear();
-    let Some((count, mut rest)) = number_line::<END>(bytes) else {
+    let Some((count, mut rest)) = number_before(bytes, b'\n') else {
         return Ok(None);
     };
     for _i in 0..count {
-        let Some((change, more)) = effect_line::<END>(rest) else {
+        let Some((change, more)) = effect_before(rest) else {
             return Ok(None);
         };
         if !change_in(ranges, change.var, change.old, change.new) {
@@ -116,51 +117,50 @@ fn changes_before<'a, const END: u8>(
 
 /// Returns the cost that stands before the last word of an operator, and the rest behind that word.
 #[inline(always)]
-fn end_before<const END: u8>(bytes: &[u8]) -> Option<(u32, &[u8])>
+fn end_before(bytes: &[u8]) -> Option<(u32, &[u8])>
     ensures { IfSome result (λ found.
-        LinesBefore (ending_with END)
-        (format.number found.0 ∷ format.word (codes "end_operator") ∷ []) bytes.now found.1.now) }
+        LinesBefore (format.number found.0 ∷ format.word (codes "end_operator") ∷ [])
+        bytes.now found.1.now) }
 {
-    let (cost, rest) = number_line::<END>(bytes)?;
-    let rest = word_line::<END>(rest, b"end_operator")?;
+    let (cost, rest) = number_before(bytes, b'\n')?;
+    let rest = word_before(rest, b"end_operator")?;
     Some((cost, rest))
 }
 
 /// Returns the name behind the first word of an operator, and the rest.
 #[inline(always)]
-fn begin_before<const END: u8>(bytes: &[u8]) -> Option<(&[u8], &[u8])>
+fn begin_before(bytes: &[u8]) -> Option<(&[u8], &[u8])>
     ensures { IfSome result (λ found. IsName found.0.now
-        × LinesBefore (ending_with END)
-        (format.word (codes "begin_operator") ∷ format.name found.0.now ∷ []) bytes.now found.1.now) }
+        × LinesBefore (format.word (codes "begin_operator") ∷ format.name found.0.now ∷ [])
+        bytes.now found.1.now) }
 {
-    let rest = word_line::<END>(bytes, b"begin_operator")?;
-    name_line::<END>(rest)
+    let rest = word_before(bytes, b"begin_operator")?;
+    name_before(rest)
 }
 
-/// Returns the operator that stands first in the bytes, where the ends of its lines begin with this byte, LF or CR, and
-/// it is quick to see that its facts exist and its effects have no conditions. Its prevail conditions and changes are
-/// gathered. After `None` or an `Err` anything may be gathered.
+/// Returns the operator that stands first in the bytes, where it is quick to see that its facts exist and its effects
+/// have no conditions. Its prevail conditions and changes are gathered. After `None` or an `Err` anything may be
+/// gathered.
 #[inline(always)]
-pub fn operator_found<'a, const END: u8>(
+pub fn operator_found<'a>(
     ranges: &Items<u32>,
     bytes: &'a [u8],
     gathered: &mut Gathered,
 ) -> Result<Option<OperatorFound<'a>>, AllocError>
     ensures { IfOk result (λ found. IfSome found (λ o.
         OperatorAhead ranges.now bytes.now
-        (gathered_operator o.name.now o.cost gathered.new) o.front
-        × EndsSo (ending_with END) bytes.now o.front)) }
+        (gathered_operator o.name.now o.cost gathered.new) o.front)) }
 {
-    let Some((name, rest)) = begin_before::<END>(bytes) else {
+    let Some((name, rest)) = begin_before(bytes) else {
         return Ok(None);
     };
-    let Some(rest) = facts_before::<END>(ranges, rest, &mut gathered.facts)? else {
+    let Some(rest) = facts_before(ranges, rest, &mut gathered.facts)? else {
         return Ok(None);
     };
-    let Some(rest) = changes_before::<END>(ranges, rest, &mut gathered.changes)? else {
+    let Some(rest) = changes_before(ranges, rest, &mut gathered.changes)? else {
         return Ok(None);
     };
-    let Some((cost, rest)) = end_before::<END>(rest) else {
+    let Some((cost, rest)) = end_before(rest) else {
         return Ok(None);
     };
     let front = Front {
@@ -172,42 +172,38 @@ pub fn operator_found<'a, const END: u8>(
 
 /// Returns the head of a rule that stands before the last word, where its facts exist, and the rest behind that word.
 #[inline(always)]
-fn head_before<'a, const END: u8>(
-    ranges: &Items<u32>,
-    bytes: &'a [u8],
-) -> Option<(Change, &'a [u8])>
+fn head_before<'a>(ranges: &Items<u32>, bytes: &'a [u8]) -> Option<(Change, &'a [u8])>
     ensures { IfSome result (λ found.
         IsTrue (change_in ranges.now found.0.var found.0.old found.0.new)
-        × LinesBefore (ending_with END) (format.head found.0.var found.0.old found.0.new
+        × LinesBefore (format.head found.0.var found.0.old found.0.new
         ∷ format.word (codes "end_rule") ∷ []) bytes.now found.1.now) }
 {
-    let (head, rest) = change_line::<END>(bytes)?;
+    let (head, rest) = change_before(bytes)?;
     if !change_in(ranges, head.var, head.old, head.new) {
         return None;
     }
-    let rest = word_line::<END>(rest, b"end_rule")?;
+    let rest = word_before(rest, b"end_rule")?;
     Some((head, rest))
 }
 
-/// Returns the rule that stands first in the bytes likewise, where it is quick to see that its facts exist. Its
-/// conditions are gathered.
+/// Returns the rule that stands first in the bytes, where it is quick to see that its facts exist. Its conditions are
+/// gathered. After `None` or an `Err` anything may be gathered.
 #[inline(always)]
-pub fn rule_found<const END: u8>(
+pub fn rule_found(
     ranges: &Items<u32>,
     bytes: &[u8],
     gathered: &mut Gathered,
 ) -> Result<Option<RuleFound>, AllocError>
     ensures { IfOk result (λ found. IfSome found (λ r.
-        RuleAhead ranges.now bytes.now (gathered_rule r.head gathered.new) r.front
-        × EndsSo (ending_with END) bytes.now r.front)) }
+        RuleAhead ranges.now bytes.now (gathered_rule r.head gathered.new) r.front)) }
 {
-    let Some(rest) = word_line::<END>(bytes, b"begin_rule") else {
+    let Some(rest) = word_before(bytes, b"begin_rule") else {
         return Ok(None);
     };
-    let Some(rest) = facts_before::<END>(ranges, rest, &mut gathered.facts)? else {
+    let Some(rest) = facts_before(ranges, rest, &mut gathered.facts)? else {
         return Ok(None);
     };
-    let Some((head, rest)) = head_before::<END>(ranges, rest) else {
+    let Some((head, rest)) = head_before(ranges, rest) else {
         return Ok(None);
     };
     let front = Front {

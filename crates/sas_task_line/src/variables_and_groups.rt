@@ -2,11 +2,10 @@
 ghost use Rattle.std.specs.Prelude.{◌<◌, [], ◌∷◌, length, codes, IfOk, IfSome};
 ghost use Rattle.sas_core.specs.Names.{IsName};
 ghost use Rattle.sas_task_format.specs.TaskFormat as format;
-ghost use Rattle.sas_task_line.specs.Ahead.{ending_with};
 ghost use Rattle.sas_task_line.specs.LinesBefore.{LinesBefore, NamesBefore};
-ghost use Rattle.sas_task_line.specs.Sections.{VariableAhead, GroupAhead, EndsSo, gathered_variable};
+ghost use Rattle.sas_task_line.specs.Sections.{VariableAhead, GroupAhead, gathered_variable};
 
-use crate::ahead::{name_line, number_line, signed_line, word_line};
+use crate::ahead::{name_before, number_before, signed_before, word_before};
 use crate::sections::{Gathered, facts_before};
 use sas_core::Items;
 use sas_lists::Lists;
@@ -23,35 +22,32 @@ pub struct VariableFound<'a> {
 
 /// Returns the name and the axiom layer behind the first word of a variable, and the rest.
 #[inline(always)]
-fn begin_before<const END: u8>(bytes: &[u8]) -> Option<(&[u8], Option<u32>, &[u8])>
+fn begin_before(bytes: &[u8]) -> Option<(&[u8], Option<u32>, &[u8])>
     ensures { IfSome result (λ found. IsName found.0.now
-        × LinesBefore (ending_with END) (format.word (codes "begin_variable")
+        × LinesBefore (format.word (codes "begin_variable")
         ∷ format.name found.0.now ∷ format.signed found.1 ∷ []) bytes.now found.2.now) }
 {
-    let rest = word_line::<END>(bytes, b"begin_variable")?;
-    let (name, rest) = name_line::<END>(rest)?;
-    let (layer, rest) = signed_line::<END>(rest)?;
+    let rest = word_before(bytes, b"begin_variable")?;
+    let (name, rest) = name_before(rest)?;
+    let (layer, rest) = signed_before(rest, b'\n')?;
     Some((name, layer, rest))
 }
 
 /// Takes the names that stand with their number before some rest, where there is one at least. Returns the rest.
 #[inline(always)]
-fn names_before<'a, const END: u8>(
-    bytes: &'a [u8],
-    names: &mut Lists<u8>,
-) -> Result<Option<&'a [u8]>, AllocError>
+fn names_before<'a>(bytes: &'a [u8], names: &mut Lists<u8>) -> Result<Option<&'a [u8]>, AllocError>
     ensures { IfOk result (λ found. IfSome found (λ rest. 0 < length names.new
-        × NamesBefore (ending_with END) (length names.new) names.new bytes.now rest.now)) }
+        × NamesBefore (length names.new) names.new bytes.now rest.now)) }
 {
     names.clear();
-    let Some((count, mut rest)) = number_line::<END>(bytes) else {
+    let Some((count, mut rest)) = number_before(bytes, b'\n') else {
         return Ok(None);
     };
     if count == 0 {
         return Ok(None);
     }
     for _i in 0..count {
-        let Some((name, more)) = name_line::<END>(rest) else {
+        let Some((name, more)) = name_before(rest) else {
             return Ok(None);
         };
         names.push(name)?;
@@ -60,24 +56,23 @@ fn names_before<'a, const END: u8>(
     Ok(Some(rest))
 }
 
-/// Returns the variable that stands first in the bytes, where the ends of its lines begin with this byte, LF or CR, if
-/// it is quick to see. Its values are gathered. After `None` or an `Err` any may be gathered.
+/// Returns the variable that stands first in the bytes, if it is quick to see. Its values are gathered. After `None` or
+/// an `Err` any may be gathered.
 #[inline(always)]
-pub fn variable_found<'a, const END: u8>(
+pub fn variable_found<'a>(
     bytes: &'a [u8],
     gathered: &mut Gathered,
 ) -> Result<Option<VariableFound<'a>>, AllocError>
     ensures { IfOk result (λ found. IfSome found (λ v.
-        VariableAhead bytes.now (gathered_variable v.name.now v.layer gathered.new) v.front
-        × EndsSo (ending_with END) bytes.now v.front)) }
+        VariableAhead bytes.now (gathered_variable v.name.now v.layer gathered.new) v.front)) }
 {
-    let Some((name, layer, rest)) = begin_before::<END>(bytes) else {
+    let Some((name, layer, rest)) = begin_before(bytes) else {
         return Ok(None);
     };
-    let Some(rest) = names_before::<END>(rest, &mut gathered.values)? else {
+    let Some(rest) = names_before(rest, &mut gathered.values)? else {
         return Ok(None);
     };
-    let Some(rest) = word_line::<END>(rest, b"end_variable") else {
+    let Some(rest) = word_before(rest, b"end_variable") else {
         return Ok(None);
     };
     let front = Front {
@@ -87,29 +82,29 @@ pub fn variable_found<'a, const END: u8>(
     Ok(Some(VariableFound { name, layer, front }))
 }
 
-/// Returns how many lines and bytes the mutex group takes up that stands first in the bytes likewise, where it is quick
-/// to see that its facts exist. These are gathered.
+/// Returns how many lines and bytes the mutex group takes up that stands first in the bytes, where it is quick to see
+/// that its facts exist. These are gathered. After `None` or an `Err` any may be gathered.
 #[inline(always)]
-pub fn group_found<const END: u8>(
+pub fn group_found(
     ranges: &Items<u32>,
     bytes: &[u8],
     gathered: &mut Gathered,
 ) -> Result<Option<Front>, AllocError>
     ensures { IfOk result (λ found. IfSome found (λ front.
-        GroupAhead ranges.now bytes.now gathered.new.facts front
-        × EndsSo (ending_with END) bytes.now front)) }
+        GroupAhead ranges.now bytes.now gathered.new.facts front)) }
 {
-    let Some(rest) = word_line::<END>(bytes, b"begin_mutex_group") else {
+    let Some(rest) = word_before(bytes, b"begin_mutex_group") else {
         return Ok(None);
     };
-    let Some(rest) = facts_before::<END>(ranges, rest, &mut gathered.facts)? else {
+    let Some(rest) = facts_before(ranges, rest, &mut gathered.facts)? else {
         return Ok(None);
     };
-    let Some(rest) = word_line::<END>(rest, b"end_mutex_group") else {
+    let Some(rest) = word_before(rest, b"end_mutex_group") else {
         return Ok(None);
     };
-    Ok(Some(Front {
+    let front = Front {
         lines: 3 + gathered.facts.len() as u64,
         bytes: bytes.len() - rest.len(),
-    }))
+    };
+    Ok(Some(front))
 }

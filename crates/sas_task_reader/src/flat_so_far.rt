@@ -13,14 +13,15 @@ ghost use Rattle.sas_task_judge.specs.Sections.{VariableWithRange, behind_variab
 ghost use Rattle.sas_task_judge.specs.Sections.{behind_group, behind_operator, behind_rule};
 ghost use Rattle.sas_task_reader.specs.TaskOutline.{outline_with};
 
-use crate::first_sections::{first_group, first_operator, first_rule, first_variable};
 use crate::fronts::NO_VARIABLE;
 use sas_core::{Change, Fact, Items};
 use sas_flat::{Effects, FlatTask, Operators, Outline, Rules, TaskColumns, Variables};
 use sas_lists::Lists;
 use sas_reader::{Front, Kind};
 use sas_task_judge::{Keeper, VariableKept};
-use sas_task_line::{Event, Gathered, Said};
+use sas_task_line::{
+    Event, Gathered, Said, group_found, operator_found, rule_found, variable_found,
+};
 use std::alloc::{AllocError, Global};
 use std::marker::Model;
 
@@ -212,7 +213,7 @@ impl FlatSoFar {
             × (self.new ≡ behind_variable self.old v)) }
         ensures none { IfOk result (λ kept. kept.front.bytes ≡ 0 → self.new ≡ self.old) }
     {
-        let found = first_variable(bytes, &mut self.begun.gathered)?;
+        let found = variable_found(bytes, &mut self.begun.gathered)?;
         let Some(found) = found else {
             return Ok(NO_VARIABLE);
         };
@@ -235,7 +236,7 @@ impl FlatSoFar {
             × (self.new ≡ behind_group self.old facts)) }
         ensures none { IfOk result (λ front. front.bytes ≡ 0 → self.new ≡ self.old) }
     {
-        let found = first_group(ranges, bytes, &mut self.begun.gathered)?;
+        let found = group_found(ranges, bytes, &mut self.begun.gathered)?;
         let Some(front) = found else {
             return Ok(Front::EMPTY);
         };
@@ -253,7 +254,7 @@ impl FlatSoFar {
             × (self.new ≡ behind_operator self.old o)) }
         ensures none { IfOk result (λ front. front.bytes ≡ 0 → self.new ≡ self.old) }
     {
-        let found = first_operator(ranges, bytes, &mut self.begun.gathered)?;
+        let found = operator_found(ranges, bytes, &mut self.begun.gathered)?;
         let Some(found) = found else {
             return Ok(Front::EMPTY);
         };
@@ -276,7 +277,7 @@ impl FlatSoFar {
             × (self.new ≡ behind_rule self.old r)) }
         ensures none { IfOk result (λ front. front.bytes ≡ 0 → self.new ≡ self.old) }
     {
-        let found = first_rule(ranges, bytes, &mut self.begun.gathered)?;
+        let found = rule_found(ranges, bytes, &mut self.begun.gathered)?;
         let Some(found) = found else {
             return Ok(Front::EMPTY);
         };

@@ -5,14 +5,12 @@ ghost use Rattle.sas_core.specs.declared.parts.Variable.{Variable};
 ghost use Rattle.sas_core.specs.declared.parts.Operator.{Operator};
 ghost use Rattle.sas_core.specs.declared.parts.Rule.{Rule};
 ghost use Rattle.sas_task_judge.specs.Sections.{VariableWithRange};
-ghost use Rattle.sas_task_line.specs.Ahead.{ending_with};
-ghost use Rattle.sas_task_line.specs.Sections.{GroupAhead, OperatorAhead, RuleAhead, EndsSo};
+ghost use Rattle.sas_task_line.specs.Sections.{GroupAhead, OperatorAhead, RuleAhead};
 
-use crate::first_sections::has_cr_behind;
 use sas_core::Items;
 use sas_reader::{Front, Kind};
 use sas_task_judge::VariableKept;
-use sas_task_line::{CR, Gathered, group_found, operator_found, rule_found, variable_found};
+use sas_task_line::{Gathered, group_found, operator_found, rule_found, variable_found};
 
 /// No variable was kept.
 pub const NO_VARIABLE: VariableKept = VariableKept {
@@ -21,20 +19,13 @@ pub const NO_VARIABLE: VariableKept = VariableKept {
 };
 
 /// Returns how many lines and bytes the variable takes up that stands first in the bytes, and how many values it has,
-/// where the ends of its lines begin with this byte, LF or CR, and it is found. Anything may be gathered.
-pub fn variable_front<const END: u8>(
-    bytes: &[u8],
-    gathered: &mut Gathered,
-) -> Result<Option<VariableKept>, Kind>
+/// where it is found. Anything may be gathered.
+pub fn variable_front(bytes: &[u8], gathered: &mut Gathered) -> Result<Option<VariableKept>, Kind>
     ensures found { IfOk result (λ found. IfSome found (λ kept.
-        ((v : Variable) × VariableWithRange bytes.now v kept)
-        × EndsSo (ending_with END) bytes.now kept.front)) }
+        (v : Variable) × VariableWithRange bytes.now v kept)) }
     ensures err { IfErr result (λ k. k ≡ Kind.Memory) }
 {
-    if END == CR && !has_cr_behind(bytes, b"begin_variable") {
-        return Ok(None);
-    }
-    let Some(found) = variable_found::<END>(bytes, gathered)? else {
+    let Some(found) = variable_found(bytes, gathered)? else {
         return Ok(None);
     };
     Ok(Some(VariableKept {
@@ -44,57 +35,45 @@ pub fn variable_front<const END: u8>(
 }
 
 /// Returns how many lines and bytes the mutex group takes up that stands first in the bytes, likewise.
-pub fn group_front<const END: u8>(
+pub fn group_front(
     ranges: &Items<u32>,
     bytes: &[u8],
     gathered: &mut Gathered,
 ) -> Result<Option<Front>, Kind>
     ensures found { IfOk result (λ found. IfSome found (λ front.
-        ((facts : List Fact) × GroupAhead ranges.now bytes.now facts front)
-        × EndsSo (ending_with END) bytes.now front)) }
+        (facts : List Fact) × GroupAhead ranges.now bytes.now facts front)) }
     ensures err { IfErr result (λ k. k ≡ Kind.Memory) }
 {
-    if END == CR && !has_cr_behind(bytes, b"begin_mutex_group") {
-        return Ok(None);
-    }
-    Ok(group_found::<END>(ranges, bytes, gathered)?)
+    Ok(group_found(ranges, bytes, gathered)?)
 }
 
 /// Returns how many lines and bytes the operator takes up that stands first in the bytes, likewise.
-pub fn operator_front<const END: u8>(
+pub fn operator_front(
     ranges: &Items<u32>,
     bytes: &[u8],
     gathered: &mut Gathered,
 ) -> Result<Option<Front>, Kind>
     ensures found { IfOk result (λ found. IfSome found (λ front.
-        ((o : Operator) × OperatorAhead ranges.now bytes.now o front)
-        × EndsSo (ending_with END) bytes.now front)) }
+        (o : Operator) × OperatorAhead ranges.now bytes.now o front)) }
     ensures err { IfErr result (λ k. k ≡ Kind.Memory) }
 {
-    if END == CR && !has_cr_behind(bytes, b"begin_operator") {
-        return Ok(None);
-    }
-    let Some(found) = operator_found::<END>(ranges, bytes, gathered)? else {
+    let Some(found) = operator_found(ranges, bytes, gathered)? else {
         return Ok(None);
     };
     Ok(Some(found.front))
 }
 
 /// Returns how many lines and bytes the rule takes up that stands first in the bytes, likewise.
-pub fn rule_front<const END: u8>(
+pub fn rule_front(
     ranges: &Items<u32>,
     bytes: &[u8],
     gathered: &mut Gathered,
 ) -> Result<Option<Front>, Kind>
     ensures found { IfOk result (λ found. IfSome found (λ front.
-        ((r : Rule) × RuleAhead ranges.now bytes.now r front)
-        × EndsSo (ending_with END) bytes.now front)) }
+        (r : Rule) × RuleAhead ranges.now bytes.now r front)) }
     ensures err { IfErr result (λ k. k ≡ Kind.Memory) }
 {
-    if END == CR && !has_cr_behind(bytes, b"begin_rule") {
-        return Ok(None);
-    }
-    let Some(found) = rule_found::<END>(ranges, bytes, gathered)? else {
+    let Some(found) = rule_found(ranges, bytes, gathered)? else {
         return Ok(None);
     };
     Ok(Some(found.front))

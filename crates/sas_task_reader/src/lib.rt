@@ -1,7 +1,6 @@
 //! The task file, read in pieces. Each fault is reported at its exact place.
 #![tactic(auto)]
 
-mod first_sections;
 mod flat_so_far;
 mod flat_task;
 mod fronts;

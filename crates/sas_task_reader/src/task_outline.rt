@@ -14,7 +14,7 @@ use sas_core::Items;
 use sas_flat::Outline;
 use sas_reader::{Front, Kind};
 use sas_task_judge::{Keeper, VariableKept};
-use sas_task_line::{CR, Event, Gathered, LF, Said};
+use sas_task_line::{Event, Gathered, Said};
 use std::alloc::Global;
 use std::marker::Model;
 
@@ -123,11 +123,7 @@ impl Keeper for TaskOutline {
     }
 
     fn keep_group(&mut self, ranges: &Items<u32>, bytes: &[u8]) -> Result<Front, Kind> {
-        if let Some(front) = group_front::<LF>(ranges, bytes, &mut self.gathered)? {
-            self.seen.group();
-            return Ok(front);
-        }
-        let Some(front) = group_front::<CR>(ranges, bytes, &mut self.gathered)? else {
+        let Some(front) = group_front(ranges, bytes, &mut self.gathered)? else {
             return Ok(Front::EMPTY);
         };
         self.seen.group();
@@ -135,11 +131,7 @@ impl Keeper for TaskOutline {
     }
 
     fn keep_operator(&mut self, ranges: &Items<u32>, bytes: &[u8]) -> Result<Front, Kind> {
-        if let Some(front) = operator_front::<LF>(ranges, bytes, &mut self.gathered)? {
-            self.seen.operator();
-            return Ok(front);
-        }
-        let Some(front) = operator_front::<CR>(ranges, bytes, &mut self.gathered)? else {
+        let Some(front) = operator_front(ranges, bytes, &mut self.gathered)? else {
             return Ok(Front::EMPTY);
         };
         self.seen.operator();
@@ -147,11 +139,7 @@ impl Keeper for TaskOutline {
     }
 
     fn keep_rule(&mut self, ranges: &Items<u32>, bytes: &[u8]) -> Result<Front, Kind> {
-        if let Some(front) = rule_front::<LF>(ranges, bytes, &mut self.gathered)? {
-            self.seen.rule();
-            return Ok(front);
-        }
-        let Some(front) = rule_front::<CR>(ranges, bytes, &mut self.gathered)? else {
+        let Some(front) = rule_front(ranges, bytes, &mut self.gathered)? else {
             return Ok(Front::EMPTY);
         };
         self.seen.rule();

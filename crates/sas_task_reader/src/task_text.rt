@@ -1,16 +1,13 @@
 // Stores the text of a task file, and nothing else of the task.
 ghost use Rattle.std.specs.Prelude.{◌≡◌, ◌++◌, ◌≤◌, [], length, take, OnOk, IfErr};
-ghost use Rattle.sas_lines.specs.Lines.{text, lines};
-ghost use Rattle.sas_task_line.specs.Ahead.{with_lf, with_cr_lf};
-ghost use Rattle.sas_task_line.specs.Sections.{EndsSo, without_returns};
 
 use crate::fronts::{NO_VARIABLE, group_front, operator_front, rule_front, variable_front};
 use sas_core::Items;
 use sas_lines::push_line;
 use sas_reader::{Front, Kind};
 use sas_task_judge::{Keeper, VariableKept};
-use sas_task_line::{CR, Event, Gathered, LF, Said};
-use std::alloc::{AllocError, Global};
+use sas_task_line::{Event, Gathered, Said};
+use std::alloc::Global;
 use std::marker::Model;
 
 /// The lines so far, each ended by LF. In a contract it represents this text.
@@ -27,34 +24,6 @@ impl Model for TaskText {
     ghost Value = { List ℕ };
 
     ghost view = { λ t. t.text.items };
-}
-
-/// Moves all bytes but CR to the front, in their order. Returns how many these are.
-fn move_up(bytes: &mut [u8]) -> usize
-    ensures front { take result bytes.new ≡ without_returns bytes.old }
-    ensures within { result ≤ length bytes.new }
-{
-    let mut kept = 0;
-    for i in 0..bytes.len() {
-        // A CR is written too, and then written over, so that no byte is a jump.
-        let byte = bytes[i];
-        bytes[kept] = byte;
-        if byte != b'\r' {
-            kept += 1;
-        }
-    }
-    kept
-}
-
-/// Appends all bytes but CR.
-fn push_without_returns(out: &mut Vec<u8>, bytes: &[u8]) -> Result<(), AllocError>
-    ensures { OnOk result (out.new.items ≡ out.old.items ++ without_returns bytes.now) }
-{
-    let start = out.len();
-    out.extend_from_slice(bytes)?;
-    let kept = move_up(&mut out[start..]);
-    out.truncate(start + kept);
-    Ok(())
 }
 
 impl TaskText {
@@ -76,29 +45,13 @@ impl TaskText {
         text
     }
 
-    /// Takes the lines in front of the bytes, which end with LF.
-    #[inline(always)]
-    fn take(&mut self, bytes: &[u8], front: Front) -> Result<(), Kind>
-        requires within { front.bytes ≤ length bytes.now }
-        requires ends { EndsSo with_lf bytes.now front }
-        ensures ok { OnOk result
-            (self.new ≡ self.old ++ text (lines (take front.bytes bytes.now))) }
+    /// Takes so many of the bytes, which are whole lines.
+    fn take(&mut self, bytes: &[u8], count: usize) -> Result<(), Kind>
+        requires { count ≤ length bytes.now }
+        ensures ok { OnOk result (self.new ≡ self.old ++ take count bytes.now) }
         ensures err { IfErr result (λ k. k ≡ Kind.Memory) }
     {
-        self.text.extend_from_slice(&bytes[..front.bytes])?;
-        Ok(())
-    }
-
-    /// Takes the lines in front of the bytes, which end with CR LF.
-    #[inline(never)]
-    fn take_without_returns(&mut self, bytes: &[u8], front: Front) -> Result<(), Kind>
-        requires within { front.bytes ≤ length bytes.now }
-        requires ends { EndsSo with_cr_lf bytes.now front }
-        ensures ok { OnOk result
-            (self.new ≡ self.old ++ text (lines (take front.bytes bytes.now))) }
-        ensures err { IfErr result (λ k. k ≡ Kind.Memory) }
-    {
-        push_without_returns(&mut self.text, &bytes[..front.bytes])?;
+        self.text.extend_from_slice(&bytes[..count])?;
         Ok(())
     }
 }
@@ -115,50 +68,34 @@ impl Keeper for TaskText {
     }
 
     fn keep_variable(&mut self, bytes: &[u8]) -> Result<VariableKept, Kind> {
-        if let Some(kept) = variable_front::<LF>(bytes, &mut self.gathered)? {
-            self.take(bytes, kept.front)?;
-            return Ok(kept);
-        }
-        let Some(kept) = variable_front::<CR>(bytes, &mut self.gathered)? else {
+        let Some(kept) = variable_front(bytes, &mut self.gathered)? else {
             return Ok(NO_VARIABLE);
         };
-        self.take_without_returns(bytes, kept.front)?;
+        self.take(bytes, kept.front.bytes)?;
         Ok(kept)
     }
 
     fn keep_group(&mut self, ranges: &Items<u32>, bytes: &[u8]) -> Result<Front, Kind> {
-        if let Some(front) = group_front::<LF>(ranges, bytes, &mut self.gathered)? {
-            self.take(bytes, front)?;
-            return Ok(front);
-        }
-        let Some(front) = group_front::<CR>(ranges, bytes, &mut self.gathered)? else {
+        let Some(front) = group_front(ranges, bytes, &mut self.gathered)? else {
             return Ok(Front::EMPTY);
         };
-        self.take_without_returns(bytes, front)?;
+        self.take(bytes, front.bytes)?;
         Ok(front)
     }
 
     fn keep_operator(&mut self, ranges: &Items<u32>, bytes: &[u8]) -> Result<Front, Kind> {
-        if let Some(front) = operator_front::<LF>(ranges, bytes, &mut self.gathered)? {
-            self.take(bytes, front)?;
-            return Ok(front);
-        }
-        let Some(front) = operator_front::<CR>(ranges, bytes, &mut self.gathered)? else {
+        let Some(front) = operator_front(ranges, bytes, &mut self.gathered)? else {
             return Ok(Front::EMPTY);
         };
-        self.take_without_returns(bytes, front)?;
+        self.take(bytes, front.bytes)?;
         Ok(front)
     }
 
     fn keep_rule(&mut self, ranges: &Items<u32>, bytes: &[u8]) -> Result<Front, Kind> {
-        if let Some(front) = rule_front::<LF>(ranges, bytes, &mut self.gathered)? {
-            self.take(bytes, front)?;
-            return Ok(front);
-        }
-        let Some(front) = rule_front::<CR>(ranges, bytes, &mut self.gathered)? else {
+        let Some(front) = rule_front(ranges, bytes, &mut self.gathered)? else {
             return Ok(Front::EMPTY);
         };
-        self.take_without_returns(bytes, front)?;
+        self.take(bytes, front.bytes)?;
         Ok(front)
     }
 }

@@ -1,8 +1,13 @@
 //! The tool: the words that ask for a request, the devices of its inputs, and how the program ends.
 #![tactic(auto)]
 
+mod plan_files;
 mod program;
+mod until_end;
 mod words;
 
 pub use program::start;
-pub use sas_requests::{Request, Status, ToolFault, run, run_laws};
+pub use sas_plans::{
+    InputFault, JudgeFault, PlanInputs, judge, judge_laws, trace, trace_output_laws,
+};
+pub use sas_requests::{Request, Status, ToolFault, explain, explain_laws, run, run_laws};

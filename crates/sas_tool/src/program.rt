@@ -1,9 +1,12 @@
 // The program: its words, its devices and how it ends.
 ghost use Rattle.std.specs.Prelude.{◌≡◌, false};
 
-use crate::words::{Job, Source, WordsFault, command};
-use crate::{Status, ToolFault, run};
+use crate::plan_files::{PlanFiles, are_labels, name_input_twice};
+use crate::until_end::UntilEnd;
+use crate::words::{Asked, Job, Source, WordsFault, command};
+use crate::{Status, ToolFault, explain, judge, run, trace};
 use sas_lines::{Opened, Watched};
+use sas_plans::{InputFault, JudgeFault};
 use std::io::{ErrorKind, Write};
 use std::process::ExitCode;
 use std::rt::{Env, Files};
@@ -27,6 +30,8 @@ const FOLDER: &str = "/";
 const OUT_OF_MEMORY: &str = "sas: out of memory";
 
 const WRITE_FAILED: &str = "sas: write failed";
+
+const INPUT_TWICE: &str = "sas: standard input used twice";
 
 /// What stands in the places of standard streams that were closed at the start, while the program runs. A file that is
 /// opened takes the lowest place that is free, and one that is named must not become standard input or output.
@@ -52,24 +57,92 @@ pub fn start<R: AllocGlobal + Env + Files + Input + Print + Eprint>(rt: &R) -> E
     ended
 }
 
-/// Opens the inputs of the job, runs it and flushes standard output.
+/// Does the job, and flushes standard output.
 fn run_job<R: AllocGlobal + Files + Input + Print + Eprint>(rt: &R, job: Job) -> ExitCode {
+    match job {
+        Job::Files { asked, task, plan } => run_files(rt, asked, task, plan),
+        Job::Plans { task, labels } => run_plans(rt, task, labels.as_slice()),
+    }
+}
+
+/// Opens a task, a plan or both, and answers what is asked of them. It isn't inlined, nor is `run_plans`: what is inlined together
+/// would keep the buffers of both on the stack.
+#[inline(never)]
+fn run_files<R: AllocGlobal + Files + Input + Print + Eprint>(
+    rt: &R,
+    asked: Asked,
+    task_source: Option<Source>,
+    plan_source: Option<Source>,
+) -> ExitCode {
     let mut task = Watched::new(Opened::Nothing);
-    if open_source(rt, job.task, &mut task).is_err() {
+    if open_source(rt, task_source, &mut task).is_err() {
         return stop(rt, FAULT, "sas: cannot open the task");
     }
     let mut plan = Watched::new(Opened::Nothing);
-    if open_source(rt, job.plan, &mut plan).is_err() {
+    if open_source(rt, plan_source, &mut plan).is_err() {
         return stop(rt, FAULT, "sas: cannot open the plan");
     }
     let mut out = Watched::new(io::writer(rt));
-    let result = run(rt.alloc(), job.request, &mut task, &mut plan, &mut out);
+    let result = match asked {
+        Asked::Answer(request) => run(rt.alloc(), request, &mut task, &mut plan, &mut out),
+        Asked::Explanation(request) => explain(rt.alloc(), request, &mut task, &mut plan, &mut out),
+        Asked::Trace => trace(rt.alloc(), &mut task, &mut plan, &mut out),
+    };
     if result.is_ok() && out.into_device().flush().is_err() {
         return stop(rt, FAULT, WRITE_FAILED);
     }
-    match ending(&result) {
+    end(rt, &result)
+}
+
+/// Opens a task, judges the plans of these labels, and flushes standard output.
+#[inline(never)]
+fn run_plans<R: AllocGlobal + Files + Input + Print + Eprint>(
+    rt: &R,
+    task_source: Option<Source>,
+    labels: &[String],
+) -> ExitCode {
+    if !are_labels(labels) {
+        return stop(rt, NOT_UNDERSTOOD, "sas: a plan's name has a line end");
+    }
+    if name_input_twice(labels, task_source == Some(Source::Input)) {
+        return stop(rt, NOT_UNDERSTOOD, INPUT_TWICE);
+    }
+    let mut task = Watched::new(UntilEnd::nothing());
+    if open_until_end(rt, task_source, &mut task).is_err() {
+        return stop(rt, FAULT, "sas: cannot open the task");
+    }
+    let mut plans = PlanFiles { rt, labels };
+    let mut out = Watched::new(io::writer(rt));
+    let result = judge(rt.alloc(), &mut task, &mut plans, &mut out);
+    if result.is_ok() && out.into_device().flush().is_err() {
+        return stop(rt, FAULT, WRITE_FAILED);
+    }
+    match result {
+        Ok(status) => end(rt, &Ok(status)),
+        Err(JudgeFault::Tool(fault)) => end(rt, &Err(fault)),
+        Err(JudgeFault::Plan { number, fault }) => stop_at(rt, fault, labels, number),
+    }
+}
+
+/// Ends as the result says.
+fn end<R: Eprint>(rt: &R, outcome: &Result<Status, ToolFault>) -> ExitCode {
+    match ending(outcome) {
         (status, None) => ExitCode::from(status),
         (status, Some(line)) => stop(rt, status, line),
+    }
+}
+
+/// Ends where the plan with this number wasn't read.
+fn stop_at<R: Eprint>(rt: &R, fault: InputFault, labels: &[String], number: usize) -> ExitCode {
+    let words = match fault {
+        InputFault::NotOpened => "sas: cannot open the plan: ",
+        InputFault::Read => "sas: read failed: ",
+        InputFault::TooLong => "sas: input too long: ",
+    };
+    let _ = rt.eprint(words);
+    match labels.get(number) {
+        Some(label) => stop(rt, FAULT, label.as_str()),
+        None => stop(rt, FAULT, ""),
     }
 }
 
@@ -88,9 +161,7 @@ fn job_of_words<R: AllocGlobal + Env + Eprint>(rt: &R) -> Result<Job, ExitCode> 
             let _ = rt.eprint(error);
             Err(ExitCode::from(NOT_UNDERSTOOD))
         }
-        Err(WordsFault::InputTwice) => {
-            Err(stop(rt, NOT_UNDERSTOOD, "sas: standard input used twice"))
-        }
+        Err(WordsFault::InputTwice) => Err(stop(rt, NOT_UNDERSTOOD, INPUT_TWICE)),
         Err(WordsFault::Memory) => Err(stop(rt, FAULT, OUT_OF_MEMORY)),
     }
 }
@@ -154,6 +225,27 @@ fn open_source<R: Files + Input>(
         Some(Source::Input) => *input = Watched::new(Opened::Standard(rt.reader())),
         Some(Source::File(name)) => {
             *input = Watched::new(Opened::File(fs::open(rt, name.as_str())?));
+        }
+    }
+    Ok(())
+}
+
+/// Opens the task of many plans, in this place, as `open_source` does. It is let go at its end, before the first plan is opened.
+#[inline(never)]
+fn open_until_end<R: Files + Input>(
+    rt: &R,
+    source: Option<Source>,
+    input: &mut Watched<UntilEnd<Opened<R::File, R::Reader>>>,
+) -> io::Result<()>
+    requires { input.old.failed ≡ false }
+    ensures { input.new.failed ≡ false }
+{
+    match source {
+        None => {}
+        Some(Source::Input) => *input = Watched::new(UntilEnd::new(Opened::Standard(rt.reader()))),
+        Some(Source::File(name)) => {
+            let file = fs::open(rt, name.as_str())?;
+            *input = Watched::new(UntilEnd::new(Opened::File(file)));
         }
     }
     Ok(())

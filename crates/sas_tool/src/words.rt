@@ -1,11 +1,21 @@
 // The words of the command line.
 use crate::Request;
 use clap::error::ErrorKind;
-use clap::{Arg, ArgMatches, Command, Error};
+use clap::{Arg, ArgAction, ArgMatches, Command, Error};
 use std::alloc::{AllocError, Global};
 
 /// The program's version.
 const VERSION: &str = "0.1.0";
+
+/// The flag that asks for reasons.
+const WHY: &str = "why";
+
+/// What stands below each help.
+const STATUSES_AND_FILES: &str = "\
+The exit status is 0 for yes, 1 for no, 2 if the words aren't understood, 3 at any other fault.
+Fast Downward's translator writes the task file, output.sas; its driver deletes that file at the
+end unless it is told to keep it (--keep-sas-file). A compressed file is read from standard input:
+  zcat output.sas.gz | sas plan - sas_plan";
 
 /// Where an input comes from.
 #[derive(Debug, PartialEq, Eq, Drop)]
@@ -16,12 +26,31 @@ pub enum Source {
     File(String),
 }
 
-/// What the words ask for. An input that the request doesn't read has no source.
+/// What is asked of a task, a plan or both.
+#[derive(Clone, Copy, Debug, PartialEq, Eq)]
+pub enum Asked {
+    /// The answer to a request.
+    Answer(Request),
+    /// The answer to a request, with the reasons for a no.
+    Explanation(Request),
+    /// The trace of a plan.
+    Trace,
+}
+
+/// What the words ask for.
 #[derive(Debug, PartialEq, Eq, Drop)]
-pub struct Job {
-    pub request: Request,
-    pub task: Option<Source>,
-    pub plan: Option<Source>,
+pub enum Job {
+    /// Something about a task, a plan or both. An input that isn't read has no source.
+    Files {
+        asked: Asked,
+        task: Option<Source>,
+        plan: Option<Source>,
+    },
+    /// Whether many plans solve a task. The words that name them are their labels.
+    Plans {
+        task: Option<Source>,
+        labels: Vec<String>,
+    },
 }
 
 /// Why the words are no job.
@@ -52,60 +81,85 @@ pub fn command(alloc: Global, words: Vec<String>) -> Result<Job, WordsFault> {
 impl Job {
     /// Returns the job, unless both of its sources are standard input.
     fn with_one_input(self) -> Result<Job, WordsFault> {
-        match (&self.task, &self.plan) {
-            (Some(Source::Input), Some(Source::Input)) => Err(WordsFault::InputTwice),
+        match &self {
+            Job::Files {
+                task: Some(Source::Input),
+                plan: Some(Source::Input),
+                ..
+            } => Err(WordsFault::InputTwice),
             _ => Ok(self),
         }
     }
+}
+
+/// The files that a request is over.
+#[derive(Clone, Copy, Debug, PartialEq, Eq)]
+enum Over {
+    Task,
+    Plan,
+    Both,
+    /// A task and one plan or more.
+    Many,
 }
 
 /// A request as the command line names it.
 struct Words {
     name: &'static str,
     about: &'static str,
-    /// Whether it is over a task.
-    task: bool,
-    /// Whether it is over a plan.
-    plan: bool,
+    over: Over,
+    /// Whether reasons can be asked for.
+    why: bool,
 }
 
 /// All requests, in the order in which the help names them.
-const REQUESTS: [Words; 6] = [
+const REQUESTS: [Words; 8] = [
     Words {
         name: "plan",
-        about: "Says whether a plan solves a task, or why it doesn't",
-        task: true,
-        plan: true,
+        about: "Says whether a plan solves a task, or why it doesn't; for many plans, see plans",
+        over: Over::Both,
+        why: true,
+    },
+    Words {
+        name: "plans",
+        about: "Says of each of many plans whether it solves a task, and which is best",
+        over: Over::Many,
+        why: false,
+    },
+    Words {
+        name: "trace",
+        about: "Says what each step of a plan does, and whether the plan solves a task",
+        over: Over::Both,
+        why: false,
     },
     Words {
         name: "mutex",
         about: "Says for each mutex group of a task whether it is shown to be exclusive",
-        task: true,
-        plan: false,
+        over: Over::Task,
+        why: true,
     },
     Words {
         name: "show",
         about: "Shows what a task is about: its numbers, initial state and goal",
-        task: true,
-        plan: false,
+        over: Over::Task,
+        why: true,
     },
     Words {
         name: "check",
         about: "Says whether a task is well formed and layered, or what is wrong with it",
-        task: true,
-        plan: false,
+        over: Over::Task,
+        why: true,
     },
     Words {
         name: "print",
         about: "Prints a task file again, in its one canonical form",
-        task: true,
-        plan: false,
+        over: Over::Task,
+        why: true,
     },
     Words {
         name: "steps",
         about: "Prints a plan file again; with no words, that on standard input",
-        task: false,
-        plan: true,
+        over: Over::Plan,
+        why: true,
     },
 ];
 
@@ -113,6 +167,7 @@ const REQUESTS: [Words; 6] = [
 fn grammar<'a>(alloc: Global) -> Result<Command<'a>, AllocError> {
     let mut program = Command::new(alloc, "sas")
         .about("Reads, checks and validates task files and plan files of Fast Downward")
+        .after_help(STATUSES_AND_FILES)
         .version(VERSION);
     for words in &REQUESTS {
         program = program.subcommand(words.command(alloc)?)?;
@@ -123,15 +178,26 @@ fn grammar<'a>(alloc: Global) -> Result<Command<'a>, AllocError> {
 impl Words {
     /// Returns the grammar of the words of the request.
     fn command<'a>(&self, alloc: Global) -> Result<Command<'a>, AllocError> {
-        let mut request = Command::new(alloc, self.name).about(self.about);
-        if self.task {
-            request = request.arg(the_task(alloc))?;
+        let mut request = Command::new(alloc, self.name)
+            .about(self.about)
+            .after_help(STATUSES_AND_FILES);
+        if self.why {
+            request = request.arg(the_flag(alloc))?;
         }
-        if self.plan {
-            request = request.arg(the_plan(alloc))?;
+        match self.over {
+            Over::Task => request.arg(the_task(alloc)),
+            Over::Plan => request.arg(the_plan(alloc)),
+            Over::Both => request.arg(the_task(alloc))?.arg(the_plan(alloc)),
+            Over::Many => request.arg(the_task(alloc))?.arg(the_plans(alloc)),
         }
-        Ok(request)
     }
+}
+
+fn the_flag<'a>(alloc: Global) -> Arg<'a> {
+    Arg::new(alloc, WHY)
+        .long(WHY)
+        .action(ArgAction::SetTrue)
+        .help("Tells the reasons for a no, too")
 }
 
 fn the_task<'a>(alloc: Global) -> Arg<'a> {
@@ -146,42 +212,77 @@ fn the_plan<'a>(alloc: Global) -> Arg<'a> {
         .help("The plan file, or - for standard input")
 }
 
+fn the_plans<'a>(alloc: Global) -> Arg<'a> {
+    Arg::new(alloc, "PLAN")
+        .required(true)
+        .num_args(1..)
+        .help("The plan files; one of them may be - for standard input")
+}
+
 /// Returns the job of words that were understood. Without a request, it is the steps of the plan on standard input.
 fn job_of(alloc: Global, matches: &ArgMatches<'_>) -> Result<Job, AllocError> {
     match matches.subcommand() {
+        Some(("plans", inner)) => Ok(Job::Plans {
+            task: named(alloc, inner, "TASK")?,
+            labels: labels_of(alloc, inner)?,
+        }),
+        Some(("trace", inner)) => job_over_both(alloc, Asked::Trace, inner),
+        Some(("plan", inner)) => job_over_both(alloc, by_flag(Request::Plan, inner), inner),
         Some(("show", inner)) => job_over_task(alloc, Request::Show, inner),
         Some(("check", inner)) => job_over_task(alloc, Request::Check, inner),
         Some(("print", inner)) => job_over_task(alloc, Request::Print, inner),
         Some(("mutex", inner)) => job_over_task(alloc, Request::Mutex, inner),
-        Some(("plan", inner)) => Ok(Job {
-            request: Request::Plan,
-            task: named(alloc, inner, "TASK")?,
-            plan: named(alloc, inner, "PLAN")?,
-        }),
-        Some((_steps, inner)) => Ok(Job {
-            request: Request::Steps,
+        Some((_steps, inner)) => Ok(Job::Files {
+            asked: by_flag(Request::Steps, inner),
             task: None,
             plan: named(alloc, inner, "PLAN")?,
         }),
-        None => Ok(Job {
-            request: Request::Steps,
+        None => Ok(Job::Files {
+            asked: Asked::Answer(Request::Steps),
             task: None,
             plan: Some(Source::Input),
         }),
     }
 }
 
-/// Returns the job of a request over a task alone.
+/// Returns what is asked of the request, by its flag.
+fn by_flag(request: Request, matches: &ArgMatches<'_>) -> Asked {
+    if matches.get_flag(WHY) {
+        Asked::Explanation(request)
+    } else {
+        Asked::Answer(request)
+    }
+}
+
+/// Returns the job over a task alone.
 fn job_over_task(
     alloc: Global,
     request: Request,
     matches: &ArgMatches<'_>,
 ) -> Result<Job, AllocError> {
-    Ok(Job {
-        request,
+    Ok(Job::Files {
+        asked: by_flag(request, matches),
         task: named(alloc, matches, "TASK")?,
         plan: None,
     })
+}
+
+/// Returns the job over a task and a plan.
+fn job_over_both(alloc: Global, asked: Asked, matches: &ArgMatches<'_>) -> Result<Job, AllocError> {
+    let task = named(alloc, matches, "TASK")?;
+    let plan = named(alloc, matches, "PLAN")?;
+    Ok(Job::Files { asked, task, plan })
+}
+
+/// Returns the words that name the plans.
+fn labels_of(alloc: Global, matches: &ArgMatches<'_>) -> Result<Vec<String>, AllocError> {
+    let mut labels = Vec::new(alloc);
+    if let Some(words) = matches.get_strs("PLAN") {
+        for word in words {
+            labels.push(String::from_str(alloc, word)?)?;
+        }
+    }
+    Ok(labels)
 }
 
 /// Returns the source that an argument names.

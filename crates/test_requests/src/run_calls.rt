@@ -1,39 +1,70 @@
-// Calls of `sas_requests`: `run`, over devices that return all of a file, or fail.
+// Calls of `sas_requests` and `sas_plans`: `run`, `explain` and `trace`, over devices that return all of a file, or fail.
+use crate::answers::{ROOM, is_cut_off, say_answer, say_exactly};
 use sas_lines::Watched;
 use sas_lines::trial::{Breaks, Narrow};
-use sas_requests::{Request, Status, ToolFault, run, run_laws};
+use sas_plans::{judge_laws, trace, trace_output_laws};
+use sas_requests::{Request, Status, ToolFault, explain, explain_laws, run, run_laws};
 use std::alloc::{AllocError, Global};
 use std::cell::Cell;
 use std::io::{Read, Write};
 use test_words::{
-    Asked, NotingReader, ToldReader, ToldWriter, cut, longer_than, say, say_bytes, say_either,
+    Asked, NotingReader, ToldReader, ToldWriter, cut, longer_than, number_in, say, say_either,
     say_right, spend,
 };
 
-/// More bytes than any answer here has.
-const ROOM: usize = 131_072;
+/// How many rooms are tried at a place of an answer.
+const NEAR: usize = 20;
 
 /// Makes the call if it is one of these, and returns whether it is.
 pub fn call_of_tool<R: AllocGlobal + Print>(rt: &R, asked: &Asked<'_>) -> Result<bool, AllocError> {
-    let request = request_of(asked.kind);
+    let question = question_of(asked.kind);
     match asked.call {
-        "run" => run_whole(rt, asked.number, request, asked.bytes, ROOM)?,
-        "run-without-room" => run_whole(rt, asked.number, request, asked.bytes, 0)?,
-        "run-broken" => run_broken(rt, request, asked.bytes)?,
-        "run-broken-plan" => run_broken_plan(rt, request, asked.bytes)?,
+        "run" => run_whole(rt, asked.number, question, asked.bytes, ROOM)?,
+        "run-without-room" => run_whole(rt, asked.number, question, asked.bytes, 0)?,
+        "run-broken" => run_broken(rt, question, asked.bytes)?,
+        "run-broken-plan" => run_broken_plan(rt, question, asked.bytes)?,
         "run-broken-plan-fronts" => {
-            say_right(rt, wrong_plan_front(rt.alloc(), request, asked.bytes)?)
+            say_right(rt, wrong_plan_front(rt.alloc(), question, asked.bytes)?)
         }
-        "run-broken-fronts" => say_right(rt, wrong_front(rt.alloc(), request, asked.bytes)?),
-        "run-told" => run_told(rt, request, asked.bytes)?,
-        "run-into" => run_into(rt, request, asked.bytes),
-        "run-longest" => run_longest(rt, request, asked.bytes)?,
-        "run-narrow" => say_right(rt, wrong_room(rt.alloc(), request, asked.bytes)?),
+        "run-broken-fronts" => say_right(rt, wrong_front(rt.alloc(), question, asked.bytes)?),
+        "run-told" => run_told(rt, question, asked.bytes)?,
+        "run-into" => run_into(rt, question, asked.bytes),
+        "run-longest" => run_longest(rt, question, asked.bytes)?,
+        "run-narrow" => say_right(rt, wrong_room(rt.alloc(), question, asked.bytes, 0, ROOM)?),
+        "run-narrow-from" => { say_right(rt, wrong_room_from(rt.alloc(), question, asked.bytes)?) }
         "messages" => say_messages(rt),
         "laws" => say_laws(rt),
         _ => return Ok(false),
     }
     Ok(true)
+}
+
+/// What is asked: an answer, with the reasons for a no or without them, or the trace of a plan.
+#[derive(Clone, Copy)]
+enum Question {
+    Answer(Request),
+    Explanation(Request),
+    Trace,
+}
+
+/// Returns the question of this name: `trace`, or that of a request, with `-why` behind it where reasons are asked for.
+fn question_of(name: &str) -> Question {
+    if name == "trace" {
+        return Question::Trace;
+    }
+    match name.strip_suffix("-why") {
+        Some(request) => Question::Explanation(request_of(request)),
+        None => Question::Answer(request_of(name)),
+    }
+}
+
+/// Returns whether the question is about a plan of a task.
+fn is_of_plan(question: Question) -> bool {
+    match question {
+        Question::Answer(request) => request == Request::Plan,
+        Question::Explanation(request) => request == Request::Plan,
+        Question::Trace => true,
+    }
 }
 
 /// Returns the request of this name.
@@ -50,8 +81,8 @@ fn request_of(name: &str) -> Request {
 
 /// Returns the task and the plan that bytes are: a plan, a `|` and a task where a plan is to solve a task, else both
 /// are the same file.
-fn inputs(request: Request, bytes: &[u8]) -> (&[u8], &[u8]) {
-    if request == Request::Plan {
+fn inputs(question: Question, bytes: &[u8]) -> (&[u8], &[u8]) {
+    if is_of_plan(question) {
         let (plan, task) = cut(bytes, b'|');
         (task, plan)
     } else {
@@ -75,13 +106,16 @@ fn say_messages<P: Print>(out: &P) {
 /// Calls the laws of outputs. It could show that they can't be called.
 fn say_laws<P: Print>(out: &P) {
     run_laws();
+    explain_laws();
+    judge_laws();
+    trace_output_laws();
     say(out, "laws");
 }
 
-/// Returns the answer to a request, over these devices, and the writer.
+/// Returns the answer to a question, over these devices, and the writer.
 fn answer_over<T: Read + Drop, P: Read + Drop, W: Write>(
     alloc: Global,
-    request: Request,
+    question: Question,
     task: T,
     plan: P,
     out: W,
@@ -89,44 +123,27 @@ fn answer_over<T: Read + Drop, P: Read + Drop, W: Write>(
     let mut task = Watched::new(task);
     let mut plan = Watched::new(plan);
     let mut out = Watched::new(out);
-    let result = run(alloc, request, &mut task, &mut plan, &mut out);
+    let result = match question {
+        Question::Answer(request) => run(alloc, request, &mut task, &mut plan, &mut out),
+        Question::Explanation(request) => explain(alloc, request, &mut task, &mut plan, &mut out),
+        Question::Trace => trace(alloc, &mut task, &mut plan, &mut out),
+    };
     (result, out.into_device())
 }
 
-/// Prints the answer and what was written.
-fn say_answer<P: Print>(out: &P, answer: &Result<Status, ToolFault>, written: &[u8]) {
-    match answer {
-        Ok(Status::Yes) => say(out, "yes"),
-        Ok(Status::No) => say(out, "no"),
-        Err(ToolFault::Memory) => say(out, "wanting"),
-        Err(_) => say(out, "fault"),
-    }
-    if !written.is_empty() {
-        say_bytes(out, written);
-        say(out, "");
-    }
-}
-
-/// Prints the answer as its derived `Debug` writes it, and what was written.
-fn say_exactly<P: Print>(out: &P, answer: &Result<Status, ToolFault>, written: &[u8]) {
-    let _ = println!(out; "{answer:?}");
-    say_bytes(out, written);
-    say(out, "");
-}
-
-/// Calls `run` over these inputs, and a writer that then fails behind so many bytes. It could show that it always wants
+/// Calls one of them over these inputs, and a writer that then fails behind so many bytes. It could show that it always wants
 /// memory, writes before its answer is whole, or writes where the answer is empty.
 fn run_whole<R: AllocGlobal + Print>(
     rt: &R,
     count: usize,
-    request: Request,
+    question: Question,
     bytes: &[u8],
     room: usize,
 ) -> Result<(), AllocError> {
-    let (task, plan) = inputs(request, bytes);
+    let (task, plan) = inputs(question, bytes);
     let out = Narrow::new(rt.alloc(), ROOM, room, true)?;
     spend(rt.alloc(), count)?;
-    let (result, written) = answer_over(rt.alloc(), request, task, plan, out);
+    let (result, written) = answer_over(rt.alloc(), question, task, plan, out);
     say_answer(rt, &result, written.kept());
     Ok(())
 }
@@ -134,12 +151,12 @@ fn run_whole<R: AllocGlobal + Print>(
 /// Does the same with devices that return the bytes and then fail. It could show a fault that waits for a further read.
 fn run_broken<R: AllocGlobal + Print>(
     rt: &R,
-    request: Request,
+    question: Question,
     bytes: &[u8],
 ) -> Result<(), AllocError> {
     let out = Narrow::new(rt.alloc(), ROOM, ROOM, true)?;
     let (task, plan) = (Breaks::new(bytes, false), Breaks::new(bytes, false));
-    let (result, written) = answer_over(rt.alloc(), request, task, plan, out);
+    let (result, written) = answer_over(rt.alloc(), question, task, plan, out);
     say_answer(rt, &result, written.kept());
     Ok(())
 }
@@ -148,13 +165,13 @@ fn run_broken<R: AllocGlobal + Print>(
 /// the task was found to be layered.
 fn run_broken_plan<R: AllocGlobal + Print>(
     rt: &R,
-    request: Request,
+    question: Question,
     bytes: &[u8],
 ) -> Result<(), AllocError> {
-    let (task, plan) = inputs(request, bytes);
+    let (task, plan) = inputs(question, bytes);
     let out = Narrow::new(rt.alloc(), ROOM, ROOM, true)?;
     let plan = Breaks::new(plan, false);
-    let (result, written) = answer_over(rt.alloc(), request, task, plan, out);
+    let (result, written) = answer_over(rt.alloc(), question, task, plan, out);
     say_answer(rt, &result, written.kept());
     Ok(())
 }
@@ -163,24 +180,24 @@ fn run_broken_plan<R: AllocGlobal + Print>(
 /// further read behind the end.
 fn run_told<R: AllocGlobal + Print>(
     rt: &R,
-    request: Request,
+    question: Question,
     bytes: &[u8],
 ) -> Result<(), AllocError> {
-    let (task, plan) = inputs(request, bytes);
+    let (task, plan) = inputs(question, bytes);
     let out = Narrow::new(rt.alloc(), ROOM, ROOM, true)?;
     let (task, plan) = (ToldReader::new(task), ToldReader::new(plan));
-    let (result, written) = answer_over(rt.alloc(), request, task, plan, out);
+    let (result, written) = answer_over(rt.alloc(), question, task, plan, out);
     say_exactly(rt, &result, written.kept());
     Ok(())
 }
 
-/// Calls `run` with a writer that follows a text: `TURNS|` before the inputs. It could show a write that is tried again
+/// Calls one of them with a writer that follows a text: `TURNS|` before the inputs. It could show a write that is tried again
 /// where it failed or took none, and a count of bytes that didn't go out.
-fn run_into<R: AllocGlobal + Print>(rt: &R, request: Request, bytes: &[u8]) {
+fn run_into<R: AllocGlobal + Print>(rt: &R, question: Question, bytes: &[u8]) {
     let (turns, bytes) = cut(bytes, b'|');
-    let (task, plan) = inputs(request, bytes);
+    let (task, plan) = inputs(question, bytes);
     let out = ToldWriter::new(rt.alloc(), turns);
-    let (result, written) = answer_over(rt.alloc(), request, task, plan, out);
+    let (result, written) = answer_over(rt.alloc(), question, task, plan, out);
     say_exactly(rt, &result, written.kept());
 }
 
@@ -188,17 +205,17 @@ fn run_into<R: AllocGlobal + Print>(rt: &R, request: Request, bytes: &[u8]) {
 /// buffer.
 fn run_longest<R: AllocGlobal + Print>(
     rt: &R,
-    request: Request,
+    question: Question,
     bytes: &[u8],
 ) -> Result<(), AllocError> {
     let longest = Cell::new(0usize);
-    let (task, plan) = inputs(request, bytes);
+    let (task, plan) = inputs(question, bytes);
     let (task, plan) = (
         NotingReader::new(task, &longest),
         NotingReader::new(plan, &longest),
     );
     let out = Narrow::new(rt.alloc(), ROOM, ROOM, true)?;
-    let (result, _) = answer_over(rt.alloc(), request, task, plan, out);
+    let (result, _) = answer_over(rt.alloc(), question, task, plan, out);
     say_either(rt, result.is_ok(), "answered", "WRONG: no answer");
     say_right(rt, longer_than(longest.get(), 65_536));
     Ok(())
@@ -207,28 +224,28 @@ fn run_longest<R: AllocGlobal + Print>(
 /// Returns whether a failure of the devices behind these bytes is reported so, and nothing is written.
 fn is_failure(
     alloc: Global,
-    request: Request,
+    question: Question,
     bytes: &[u8],
     interrupted: bool,
 ) -> Result<bool, AllocError> {
     let out = Narrow::new(alloc, ROOM, ROOM, true)?;
     let task = Breaks::new(bytes, interrupted);
     let plan = Breaks::new(bytes, interrupted);
-    let (result, written) = answer_over(alloc, request, task, plan, out);
+    let (result, written) = answer_over(alloc, question, task, plan, out);
     Ok(result == Err(ToolFault::Read) && written.kept().is_empty())
 }
 
 /// Returns whether a failure of the plan's device alone behind these bytes is reported so.
 fn is_plan_failure(
     alloc: Global,
-    request: Request,
+    question: Question,
     task: &[u8],
     bytes: &[u8],
     interrupted: bool,
 ) -> Result<bool, AllocError> {
     let out = Narrow::new(alloc, ROOM, ROOM, true)?;
     let plan = Breaks::new(bytes, interrupted);
-    let (result, written) = answer_over(alloc, request, task, plan, out);
+    let (result, written) = answer_over(alloc, question, task, plan, out);
     Ok(result == Err(ToolFault::Read) && written.kept().is_empty())
 }
 
@@ -236,14 +253,14 @@ fn is_plan_failure(
 /// failure that is passed over where the verdict is known before, or is reported of the task.
 fn wrong_plan_front(
     alloc: Global,
-    request: Request,
+    question: Question,
     bytes: &[u8],
 ) -> Result<Option<usize>, AllocError> {
-    let (task, plan) = inputs(request, bytes);
+    let (task, plan) = inputs(question, bytes);
     for length in 0..=plan.len() {
         let front = &plan[..length];
-        let right = is_plan_failure(alloc, request, task, front, false)?
-            && is_plan_failure(alloc, request, task, front, true)?;
+        let right = is_plan_failure(alloc, question, task, front, false)?
+            && is_plan_failure(alloc, question, task, front, true)?;
         if !right {
             return Ok(Some(length));
         }
@@ -253,11 +270,15 @@ fn wrong_plan_front(
 
 /// Returns the length of the first front of a file with another result where the devices then fail. It could show a
 /// failure that is taken for the end.
-fn wrong_front(alloc: Global, request: Request, file: &[u8]) -> Result<Option<usize>, AllocError> {
+fn wrong_front(
+    alloc: Global,
+    question: Question,
+    file: &[u8],
+) -> Result<Option<usize>, AllocError> {
     for length in 0..=file.len() {
         let front = &file[..length];
-        let right = is_failure(alloc, request, front, false)?
-            && is_failure(alloc, request, front, true)?;
+        let right = is_failure(alloc, question, front, false)?
+            && is_failure(alloc, question, front, true)?;
         if !right {
             return Ok(Some(length));
         }
@@ -265,21 +286,11 @@ fn wrong_front(alloc: Global, request: Request, file: &[u8]) -> Result<Option<us
     Ok(None)
 }
 
-/// Returns whether a writer with this room gets as much of the text as there is room, and the answer reports that.
-fn is_cut_off(text: &[u8], room: usize, answer: (Result<Status, ToolFault>, Narrow)) -> bool {
-    let (result, written) = answer;
-    let told = match result {
-        Ok(_) => room == text.len(),
-        Err(fault) => room < text.len() && fault == ToolFault::Write { written: room },
-    };
-    told && written.kept().len() == room && text.starts_with(written.kept())
-}
-
-/// Returns whether that is so of a writer that takes so much at a time and so much in all, whether it then fails or
-/// takes none.
+/// Returns whether a writer that takes so much at a time and so much in all gets as much of the text as there is room, and the
+/// answer reports that, whether the writer then fails or takes none.
 fn is_right_room(
     alloc: Global,
-    request: Request,
+    question: Question,
     files: (&[u8], &[u8]),
     text: &[u8],
     sizes: (usize, usize),
@@ -289,24 +300,50 @@ fn is_right_room(
     let fails = Narrow::new(alloc, piece, room, true)?;
     let stops = Narrow::new(alloc, piece, room, false)?;
     Ok(
-        is_cut_off(text, room, answer_over(alloc, request, task, plan, fails))
-            && is_cut_off(text, room, answer_over(alloc, request, task, plan, stops)),
+        is_cut_off(text, room, answer_over(alloc, question, task, plan, fails))
+            && is_cut_off(text, room, answer_over(alloc, question, task, plan, stops)),
     )
 }
 
-/// Returns the least room, up to that of the answer, with which a writer doesn't get so much of it, or the answer isn't
-/// that. It could show bytes that go out twice or not at all.
-fn wrong_room(alloc: Global, request: Request, bytes: &[u8]) -> Result<Option<usize>, AllocError> {
-    let files = inputs(request, bytes);
+/// Returns the least of these rooms, up to that of the answer, with which a writer doesn't get so much of it, or the answer
+/// isn't that; the first one if the answer is shorter. It could show bytes that go out twice or not at all.
+fn wrong_room(
+    alloc: Global,
+    question: Question,
+    bytes: &[u8],
+    first: usize,
+    last: usize,
+) -> Result<Option<usize>, AllocError> {
+    let files = inputs(question, bytes);
     let ample = Narrow::new(alloc, ROOM, ROOM, true)?;
-    let (_, whole) = answer_over(alloc, request, files.0, files.1, ample);
+    let (_, whole) = answer_over(alloc, question, files.0, files.1, ample);
     let text = whole.kept();
-    for room in 0..=text.len() {
-        let right = is_right_room(alloc, request, files, text, (1, room))?
-            && is_right_room(alloc, request, files, text, (1000, room))?;
+    if first > text.len() {
+        return Ok(Some(first));
+    }
+    for room in first..=text.len().min(last) {
+        let right = is_right_room(alloc, question, files, text, (1, room))?
+            && is_right_room(alloc, question, files, text, (1000, room))?;
         if !right {
             return Ok(Some(room));
         }
     }
     Ok(None)
+}
+
+/// Returns the same of `FROM|` and the inputs, for rooms from that number on. It could show a piece of a long answer that goes
+/// out twice or not at all, or isn't counted.
+fn wrong_room_from(
+    alloc: Global,
+    question: Question,
+    bytes: &[u8],
+) -> Result<Option<usize>, AllocError> {
+    let (from, bytes) = cut(bytes, b'|');
+    match number_in(from) {
+        Some(from) => {
+            let first = from as usize;
+            wrong_room(alloc, question, bytes, first, first + NEAR)
+        }
+        None => Ok(Some(0)),
+    }
 }

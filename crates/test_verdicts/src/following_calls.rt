@@ -5,7 +5,7 @@ ghost use Rattle.sas_meaning.specs.Layers.{IsBasic};
 
 use crate::axiom_calls::{say_values, state_of};
 use crate::files::pieces_of;
-use sas_axioms::{Layered, Settle, State};
+use sas_axioms::{Layered, Settle, State, Touched};
 use sas_core::{Fact, Grounded, Task};
 use std::alloc::AllocError;
 use test_words::{cut, fact_of, say};
@@ -36,10 +36,23 @@ impl<'a, P: Print, E: Settle<Task> + Drop> Settle<Task> for Telling<'a, P, E> {
         say_values(self.out, state.values());
     }
 
-    fn settle_on(&mut self, layered: &Layered<Task>, gone: &[Fact], state: &mut State) {
-        self.evaluator.settle_on(layered, gone, state);
+    fn settle_on(
+        &mut self,
+        layered: &Layered<Task>,
+        gone: &[Fact],
+        state: &mut State,
+        touched: &mut Touched,
+    ) {
+        self.evaluator.settle_on(layered, gone, state, touched);
         say_values(self.out, state.values());
     }
+}
+
+/// A state that is followed, and what is told of its changes.
+#[derive(Drop)]
+struct Followed {
+    state: State,
+    touched: Touched,
 }
 
 /// Settles a state, and goes on from it: `STATE;FACT,FACT;FACT,FACT|FILE`. Two facts on different basic variables are set
@@ -76,7 +89,9 @@ fn follow_from<R: AllocGlobal + Print, E: Settle<Task>>(
     };
     evaluator.settle(layered, &mut state);
     say_values(rt, state.values());
-    follow_each(rt, evaluator, layered, pairs, &mut state);
+    let touched = Touched::none(rt.alloc());
+    let mut followed = Followed { state, touched };
+    follow_each(rt, evaluator, layered, pairs, &mut followed);
 }
 
 /// Sets the pairs in turn, and prints the state behind each, which the evaluator settles.
@@ -85,19 +100,19 @@ fn follow_each<P: Print, E: Settle<Task>>(
     evaluator: &mut E,
     layered: &Layered<Task>,
     pairs: &[&[u8]],
-    state: &mut State,
+    followed: &mut Followed,
 )
     requires ready { E.ready evaluator.old layered.now }
-    requires follows { E.follows evaluator.old layered.now state.old }
-    requires state { IsState layered.now.variables state.old }
+    requires follows { E.follows evaluator.old layered.now followed.old.state }
+    requires state { IsState layered.now.variables followed.old.state }
 {
     for words in pairs {
         let (first, second) = cut(words, b',');
         match (fact_of(first), fact_of(second)) {
-            (Some(first), Some(second)) => follow_pair(evaluator, layered, first, second, state),
+            (Some(first), Some(second)) => follow_pair(evaluator, layered, first, second, followed),
             _ => say(out, "WRONG: no facts"),
         }
-        say_values(out, state.values());
+        say_values(out, followed.state.values());
     }
 }
 
@@ -107,22 +122,25 @@ fn follow_pair<E: Settle<Task>>(
     layered: &Layered<Task>,
     first: Fact,
     second: Fact,
-    state: &mut State,
+    followed: &mut Followed,
 )
     requires ready { E.ready evaluator.old layered.now }
-    requires follows { E.follows evaluator.old layered.now state.old }
-    requires state { IsState layered.now.variables state.old }
+    requires follows { E.follows evaluator.old layered.now followed.old.state }
+    requires state { IsState layered.now.variables followed.old.state }
     ensures ready { E.ready evaluator.new layered.now }
-    ensures follows { E.follows evaluator.new layered.now state.new }
-    ensures state { IsState layered.now.variables state.new }
+    ensures follows { E.follows evaluator.new layered.now followed.new.state }
+    ensures state { IsState layered.now.variables followed.new.state }
 {
     if first.var == second.var || !is_basic(layered, first) || !is_basic(layered, second) {
         return;
     }
-    let gone = [held_on(first.var, state), held_on(second.var, state)];
-    state.set(first);
-    state.set(second);
-    evaluator.settle_on(layered, &gone, state);
+    let gone = [
+        held_on(first.var, &followed.state),
+        held_on(second.var, &followed.state),
+    ];
+    followed.state.set(first);
+    followed.state.set(second);
+    evaluator.settle_on(layered, &gone, &mut followed.state, &mut followed.touched);
 }
 
 /// Returns the fact on the variable that holds.

@@ -1,5 +1,5 @@
 -- Each rule of the layer is among these.
-use Rattle.std.proofs.Common.{◌≡◌, ◌<◌, length, set, ap, subst, get_or, ◌∙◌, inl, inr, arith}
+use Rattle.std.proofs.Common.{◌≡◌, ◌<◌, length, ap, subst, get_or, ◌∙◌, inl, inr, arith}
 use Rattle.std.proofs.lemmas.Bool.{cases_eq}
 use Rattle.std.proofs.lemmas.List.{get_or_default, get_or-set_same, get_or-set_other, length-set}
 use Rattle.sas_axioms.specs.LayerRules.{IsRuleOn}

@@ -1,11 +1,10 @@
 -- One fact after another is counted as gone.
-use Rattle.std.proofs.Common.{rules, ◌≡◌, ℕ, ◌+◌, ◌<◌, List, ◌∷◌, [], length, get_or, set, drop, refl, sym, ap, subst, ◌∙◌, arith}
+use Rattle.std.proofs.Common.{◌≡◌, ◌+◌, ◌<◌, List, ◌∷◌, length, get_or, set, drop, refl, subst, ◌∙◌, arith}
 use Rattle.std.proofs.lemmas.List.{drop_more, at_drop_all}
 use Rattle.std.proofs.lemmas.List.Elements.{All-head}
 use Rattle.sas_core.specs.declared.parts.Fact.{Fact}
 use Rattle.sas_meaning.specs.Following.{HaveGone}
 use Rattle.sas_meaning.specs.States.{Holds}
-use Rattle.sas_axioms.specs.Following.{CountedSoFar, IsFollowed}
 use Rattle.sas_meaning.specs.Layers.{IsBasic}
 use Rattle.sas_axioms.proofs.Tracking.{same_more}
 use Rattle.sas_axioms.proofs.GoneSteps.{counted_nothing, counted_more, gone_one, gone_same, between_begins}

@@ -1,10 +1,8 @@
 -- One rule after another is taken off: its variable falls, or it is made ready.
-use Rattle.std.proofs.Common.{rules, ◌≡◌, ◌≢◌, ◌⊎◌, ℕ, ◌+◌, ◌<◌, ◌≤◌, true, false, List, ◌∷◌, ◌++◌, [], length, get_or, set, refl, sym, ap, subst, ◌∙◌, inl, inr, arith}
+use Rattle.std.proofs.Common.{◌≡◌, ◌⊎◌, ℕ, ◌<◌, true, List, ◌∷◌, [], length, get_or, set, is_some, refl, sym, ap, subst, ◌∙◌, inl, inr, arith}
 use Rattle.std.specs.List.{All, Contains}
 use Rattle.std.specs.BinaryHeap.{heap_items}
-use Rattle.std.specs.declared.cmp.Reverse.{Reverse}
 use Rattle.std.proofs.Math.ListN.{length-append}
-use Rattle.std.proofs.lemmas.List.Elements.{All-contains}
 use Rattle.sas_core.specs.declared.grounded.Change.{Change}
 use Rattle.sas_core.specs.Grounded.{rule_at}
 use Rattle.sas_core.specs.Variables.{IsState}
@@ -14,13 +12,12 @@ use Rattle.sas_meaning.proofs.Layers.{on_layer_within}
 use Rattle.sas_meaning.proofs.Forced.{state_set, differs_not}
 use Rattle.sas_axioms.specs.declared.agenda.Agenda.{Agenda}
 use Rattle.sas_axioms.specs.declared.firing.Work.{Work}
-use Rattle.sas_axioms.specs.declared.layer_rules.LayerRule.{LayerRule}
-use Rattle.sas_axioms.specs.Agenda.{entry_for, work_left}
-use Rattle.sas_axioms.specs.Following.{IsFalling, Moves}
+use Rattle.sas_axioms.specs.Agenda.{work_left}
+use Rattle.sas_axioms.specs.Following.{IsFalling}
 use Rattle.sas_axioms.specs.LayerRules.{IsRuleOn}
 use Rattle.sas_axioms.specs.Sources.{IsHolding}
 use Rattle.sas_axioms.proofs.FallingSteps.{FallingBut, falling_taken, falling_passed, falling_fell, risen_from_fallen}
-use Rattle.sas_axioms.proofs.Tracking.{holding_when_zero, off_step, same_more}
+use Rattle.sas_axioms.proofs.Tracking.{holding_when_zero, off_step, told_step}
 use Rattle.sas_axioms.proofs.following.fall.Goals as goal
 use Rattle.sas_axioms.proofs.following.fall.Given.{Over}
 use Rattle.sas_axioms.proofs.following.fall.Goals.{In-Some, After-rule_change-var}
@@ -68,8 +65,11 @@ set_to-requires-clause-counts g c = (some g (goal.at.set_to-requires-clause-coun
 pub set_to-requires-clause-ordered : goal.set_to-requires-clause-ordered
 set_to-requires-clause-ordered g c = (some g (goal.at.set_to-requires-clause-ordered g c).In-Some).track.ordered
 
-pub set_to-requires-clause-exists : goal.set_to-requires-clause-exists
-set_to-requires-clause-exists g c = rw (ap (λ (x : Change). x.var) c.rule_change-var.ensures) (within g (goal.at.set_to-requires-clause-exists g c).In-Some)
+pub set_to-requires-clause-derived : goal.set_to-requires-clause-derived
+set_to-requires-clause-derived g c = rw (ap (λ (x : Change). x.var) c.rule_change-var.ensures) (ap is_some (some g (goal.at.set_to-requires-clause-derived g c).In-Some).is.on)
+
+pub get-requires : goal.get-requires
+get-requires g c = rw (ap (λ (x : Change). x.var) c.rule_change-var.ensures) (omega (arith, within g (goal.at.get-requires g c).In-Some, c.requires.rules.one_each))
 
 pub set_to-requires-clause-other : goal.set_to-requires-clause-other
 set_to-requires-clause-other g c same =
@@ -101,6 +101,22 @@ returns-in_err-make_ready-clause-off g c =
     let e = ap (λ (x : Change). x.var) c.rule_change-var.ensures in
     off_step p c.args.work.now.layer c.loop-rule.work.layer c.args.state.now c.loop-rule.state c.set_to.new.state _ _ inv.same.layer inv.off
     (subst (λ v. IsOnLayer p c.loop-rule.work.layer v) (sym e) (some g i).is.on) c.set_to.ensures.state
+
+pub returns-in_err-set_to-clause-told : goal.returns-in_err-set_to-clause-told
+returns-in_err-set_to-clause-told g c =
+    let p = c.args.task.now in
+    let i = (goal.at.returns-in_err-set_to-clause-told g c).In-Some in
+    let e = ap (λ (x : Change). x.var) c.rule_change-var.ensures in
+    told_step p c.loop-rule.work.layer c.args.state.now c.loop-rule.state c.set_to.new.state _ _ c.args.touched.now c.loop-rule.touched c.set_to.new.touched
+    c.loop-rule.invariant.told (subst (λ v. IsOnLayer p c.loop-rule.work.layer v) (sym e) (some g i).is.on) c.set_to.ensures.state c.set_to.ensures.noted
+
+pub returns-in_err-make_ready-clause-told : goal.returns-in_err-make_ready-clause-told
+returns-in_err-make_ready-clause-told g c =
+    let p = c.args.task.now in
+    let i = (goal.at.returns-in_err-make_ready-clause-told g c).In-Some in
+    let e = ap (λ (x : Change). x.var) c.rule_change-var.ensures in
+    told_step p c.loop-rule.work.layer c.args.state.now c.loop-rule.state c.set_to.new.state _ _ c.args.touched.now c.loop-rule.touched c.set_to.new.touched
+    c.loop-rule.invariant.told (subst (λ v. IsOnLayer p c.loop-rule.work.layer v) (sym e) (some g i).is.on) c.set_to.ensures.state c.set_to.ensures.noted
 
 pub returns-clause-rising : goal.returns-clause-rising
 returns-clause-rising g c s falling =
@@ -136,6 +152,8 @@ loop-rule-preserved-in-Continue-branch-2 g c =
       };
       state = state;
       off = off_step p c.args.work.now.layer work.layer c.args.state.now s (set s (rule_at p rule).var (default_of p (rule_at p rule).var)) (rule_at p rule).var (default_of p (rule_at p rule).var) inv.same.layer inv.off b.is.on refl;
+      told = told_step p work.layer c.args.state.now s (set s (rule_at p rule).var (default_of p (rule_at p rule).var)) (rule_at p rule).var (default_of p (rule_at p rule).var)
+          c.args.touched.now c.loop-rule.touched c.set_to.new.touched inv.told b.is.on refl (rw var_is at c.set_to.ensures.noted);
       falling = λ s0 falling. falling_fell p s0 s rule taken c.set_to.new.work c.make_ready.new.agenda c.get.result.now c.task.ensures.layered (but g i s0 falling)
           (omega (arith, within g i, b.track.state.one_each)) state c.set_to.ensures.same moves all each c.in_ok-make_ready.ensures;
       left = inl (less work.agenda c.args.work.now.agenda c.make_ready.new.agenda inv.left (let a = c.in-Some.ensures.left in let d = moves.left in let e = c.in_ok-make_ready.ensures.left in omega arith));
@@ -156,6 +174,7 @@ loop-rule-preserved g c =
       same = record { layer = inv.same.layer; stack = inv.same.stack; one_each = inv.same.one_each; sources = inv.same.sources };
       state = inv.state;
       off = inv.off;
+      told = inv.told;
       falling = λ s0 falling. falling_passed p s0 s rule _ _ (but g i s0 falling) holds c.in_ok-make_ready-2.ensures;
       left = inl (less work.agenda c.args.work.now.agenda c.make_ready-else-has_lost.new.self inv.left
           (let a = c.in-Some.ensures.left in let made = c.in_ok-make_ready-2.ensures in

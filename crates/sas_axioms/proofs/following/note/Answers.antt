@@ -1,9 +1,7 @@
 -- The rule is noted under its layer.
-use Rattle.std.proofs.Common.{rules, ◌≡◌, ◌+◌, ◌≤◌, ℕ, length, get_or, sym, ap, subst, ◌∙◌, inl, inr, arith}
+use Rattle.std.proofs.Common.{subst}
 use Rattle.std.proofs.lemmas.Result.{on_ok_weaker}
-use Rattle.sas_axioms.specs.Agenda.{IsNoted, Notes, work_left}
-use Rattle.sas_axioms.specs.Following.{NotesMore}
-use Rattle.sas_axioms.specs.LayerRules.{IsRuleOn}
+use Rattle.sas_axioms.specs.Agenda.{IsNoted, Notes}
 use Rattle.sas_axioms.proofs.AgendaOrder.{noted_there, notes_more, notes_left}
 use Rattle.sas_axioms.proofs.OneLayer.{one_layer}
 use Rattle.sas_axioms.proofs.following.note.Goals as goal

@@ -1,10 +1,6 @@
 -- The rules that wait for values of the variable are counted anew.
-use Rattle.std.proofs.Common.{rules, ◌≡◌, ◌≢◌, ℕ, ◌+◌, ◌<◌, ◌≤◌, ◌^◌, List, length, get_or, set, sym, ap, subst, ◌∙◌, inl, inr, arith}
-use Rattle.std.specs.List.{All}
+use Rattle.std.proofs.Common.{sym, ◌∙◌}
 use Rattle.std.proofs.lemmas.Result.{on_ok_weaker}
-use Rattle.sas_axioms.specs.declared.waiting.Waiting.{Waiting}
-use Rattle.sas_axioms.specs.Following.{Recounts, Moves}
-use Rattle.sas_axioms.specs.Waiting.{occurrences, released}
 use Rattle.sas_axioms.proofs.AllConditions.{counters_exist, small, enough}
 use Rattle.sas_axioms.proofs.Recounting.{moved_when_recounted}
 use Rattle.sas_axioms.proofs.following.recount.Goals as goal

@@ -1,6 +1,6 @@
 -- One more entry is counted.
-use Rattle.std.proofs.Common.{rules, ◌≡◌, ℕ, ◌+◌, ◌-◌, ◌≤◌, List, length, get_or, refl, sym, ap, ◌∙◌, arith}
-use Rattle.sas_axioms.proofs.CountingEntries.{CountedEntries, no_entry, value_waits, entry_of_former, entry_of_value, entry_passed}
+use Rattle.std.proofs.Common.{ℕ, ◌+◌, List, get_or, ap, arith}
+use Rattle.sas_axioms.proofs.CountingEntries.{no_entry, value_waits, entry_of_former, entry_of_value, entry_passed}
 use Rattle.sas_axioms.proofs.following.recount_waiting.Goals as goal
 use Rattle.sas_axioms.proofs.following.recount_waiting.Goals.{then-entry-moved+in_ok-count_to, else-entry-moved+then-entry-moved-2+in_ok-count_to-2, else-entry-moved+else-entry-moved-2}
 

@@ -1,5 +1,5 @@
 -- One rule after another is taken off: it sets its variable, or has nothing to set.
-use Rattle.std.proofs.Common.{rules, ◌≡◌, ◌≢◌, ◌⊎◌, ℕ, ◌+◌, ◌<◌, ◌≤◌, true, false, List, ◌∷◌, [], length, get_or, set, refl, sym, ap, subst, ◌∙◌, inl, inr, arith}
+use Rattle.std.proofs.Common.{◌≡◌, ℕ, ◌<◌, true, List, length, get_or, set, is_some, refl, sym, ap, subst, ◌∙◌, arith}
 use Rattle.sas_core.specs.declared.grounded.Change.{Change}
 use Rattle.sas_core.specs.Grounded.{rule_at}
 use Rattle.sas_meaning.specs.Layers.{IsOnLayer}
@@ -11,7 +11,7 @@ use Rattle.sas_meaning.specs.Settled.{differs}
 use Rattle.sas_meaning.proofs.Forced.{differs_true}
 use Rattle.sas_axioms.specs.Sources.{IsHolding}
 use Rattle.sas_axioms.proofs.RisingSteps.{RisingBut, rising_taken, rising_passed, rising_set, fires, risen_in_the_end}
-use Rattle.sas_axioms.proofs.Tracking.{holding_when_zero, zero_when_holding, off_step, room_more}
+use Rattle.sas_axioms.proofs.Tracking.{holding_when_zero, zero_when_holding, off_step, told_step, room_more}
 use Rattle.sas_axioms.proofs.following.rise.Goals as goal
 use Rattle.sas_axioms.proofs.following.rise.Given.{Over}
 use Rattle.sas_axioms.proofs.following.rise.Goals.{In-Some}
@@ -50,8 +50,8 @@ rule_change-change-requires g c = (some g (goal.at.rule_change-change-requires g
 pub set_to-requires-clause-counts : goal.set_to-requires-clause-counts
 set_to-requires-clause-counts g c = (some g (goal.at.set_to-requires-clause-counts g c).In-Some).track.counts
 
-pub set_to-requires-clause-exists : goal.set_to-requires-clause-exists
-set_to-requires-clause-exists g c = rw (ap (λ (x : Change). x.var) c.rule_change-change.ensures) (within g (goal.at.set_to-requires-clause-exists g c).In-Some)
+pub set_to-requires-clause-derived : goal.set_to-requires-clause-derived
+set_to-requires-clause-derived g c = rw (ap (λ (x : Change). x.var) c.rule_change-change.ensures) (ap is_some (some g (goal.at.set_to-requires-clause-derived g c).In-Some).is.on)
 
 -- the rule holds
 holds : (g : Over) (i : In-Some g) → get_or i.loop-rule.work.counters i.in-Some.rule 0 ≡ 0 → IsHolding i.args.task.now i.loop-rule.state i.in-Some.rule
@@ -72,6 +72,14 @@ returns-in_err-set_to-clause-off g c =
     let inv = c.loop-rule.invariant in
     let state_is : c.set_to.new.state ≡ set c.loop-rule.state (rule_at p c.in-Some.rule).var (rule_at p c.in-Some.rule).new = c.set_to.ensures.state ∙ ap (λ (x : Change). set c.loop-rule.state x.var x.new) c.rule_change-change.ensures in
     off_step p c.args.work.now.layer c.loop-rule.work.layer c.args.state.now c.loop-rule.state c.set_to.new.state _ _ inv.room.layer inv.off (some g i).is.on state_is
+
+pub returns-in_err-set_to-clause-told : goal.returns-in_err-set_to-clause-told
+returns-in_err-set_to-clause-told g c =
+    let p = c.args.task.now in
+    let i = (goal.at.returns-in_err-set_to-clause-told g c).In-Some in
+    let e = ap (λ (x : Change). x.var) c.rule_change-change.ensures in
+    told_step p c.loop-rule.work.layer c.args.state.now c.loop-rule.state c.set_to.new.state _ _ c.args.touched.now c.loop-rule.touched c.set_to.new.touched
+    c.loop-rule.invariant.told (subst (λ v. IsOnLayer p c.loop-rule.work.layer v) (sym e) (some g i).is.on) c.set_to.ensures.state c.set_to.ensures.noted
 
 pub set-requires : goal.set-requires
 set-requires g c =
@@ -101,6 +109,8 @@ loop-rule-preserved-then-has_to_set g c =
           ∙ (ap (λ (xs : List ℕ). get_or xs v 0) same.sources ∙ inv.sources v off);
       state = (fires p c.requires.rising.0 s rule taken c.task.ensures.well_ranged c.task.ensures.layered b hold ne).state;
       off = off_step p c.args.work.now.layer work.layer c.args.state.now s (set s (rule_at p rule).var (rule_at p rule).new) (rule_at p rule).var (rule_at p rule).new inv.room.layer inv.off b.is.on refl;
+      told = told_step p work.layer c.args.state.now s (set s (rule_at p rule).var (rule_at p rule).new) (rule_at p rule).var (rule_at p rule).new
+          c.args.touched.now c.loop-rule.touched c.set_to.new.touched inv.told b.is.on refl (rw (ap (λ (x : Change). x.var) e) at c.set_to.ensures.noted);
       rising = λ s0 r. rising_set p s0 s rule taken c.task.ensures.well_ranged c.task.ensures.layered (but g i s0 r) hold ne c.set_to.new.work
           (omega (arith, within g i, b.track.state.one_each)) (omega (arith, within g i, b.track.places)) same moves;
       left = let a = inv.left in let d = c.in-Some.ensures.some.left in let f = moves.left in omega arith;
@@ -122,6 +132,7 @@ loop-rule-preserved g c =
       sources = inv.sources;
       state = inv.state;
       off = inv.off;
+      told = inv.told;
       rising = λ s0 r. rising_passed p s0 s rule _ (but g i s0 r) done;
       left = let a = inv.left in let d = c.in-Some.ensures.some.left in omega arith;
     }

@@ -1,6 +1,5 @@
 -- One layer after another is settled.
-use Rattle.std.proofs.Common.{rules, ◌≡◌, ℕ, ◌+◌, ◌<◌, ◌≤◌, List, length, get_or, refl, sym, ap, subst, ◌∙◌, arith}
-use Rattle.std.specs.List.{All, Contains}
+use Rattle.std.proofs.Common.{ℕ, ◌+◌, ◌≤◌, List, length, get_or, sym, ap, subst, ◌∙◌}
 use Rattle.std.specs.BinaryHeap.{heap_items}
 use Rattle.std.specs.declared.cmp.Reverse.{Reverse}
 use Rattle.std.proofs.lemmas.List.Elements.{All-contains}
@@ -36,6 +35,12 @@ fall-requires-clause-falling g c = (c.requires.between.0, begins g (goal.at.fall
 pub rise-requires-clause-rising : goal.rise-requires-clause-rising
 rise-requires-clause-rising g c = (c.requires.between.0, c.in_ok-fall.ensures.rising c.requires.between.0 (begins g (goal.at.rise-requires-clause-rising g c).In-Some c.requires.between.0 c.requires.between.1))
 
+pub returns-in_err-fall-clause-told : goal.returns-in_err-fall-clause-told
+returns-in_err-fall-clause-told g c before tells = c.fall.ensures.told before (c.loop-layer.invariant.told before tells)
+
+pub returns-in_err-rise-clause-told : goal.returns-in_err-rise-clause-told
+returns-in_err-rise-clause-told g c before tells = c.rise.ensures.told before (c.fall.ensures.told before (c.loop-layer.invariant.told before tells))
+
 pub returns-clause-followed : goal.returns-clause-followed
 returns-clause-followed g c =
     let b = c.loop-layer.invariant.between c.requires.between.0 c.requires.between.1 in
@@ -54,6 +59,7 @@ loop-layer-preserved g c =
       sources = c.rise.ensures.stands.sources ∙ (ap length c.fall.ensures.same.sources ∙ inv.sources);
       state = c.rise.ensures.state;
       basic = λ v b. inv.basic v b ∙ basic_off p layer c.loop-layer.state c.rise.new.state c.task.ensures.layered off v b;
+      told = λ before tells. c.rise.ensures.told before (c.fall.ensures.told before (inv.told before tells));
       between = λ s0 start.
           (let b = inv.between s0 start in (
             layer + 1,

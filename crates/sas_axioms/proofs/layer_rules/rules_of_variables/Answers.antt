@@ -1,8 +1,7 @@
 -- Each turn adds the entry of a rule that can fire, or passes one that can't.
-use Rattle.std.proofs.Common.{rules, ◌≡◌, ◌++◌, ◌∷◌, [], sym, ap, subst, ◌∙◌, arith}
+use Rattle.std.proofs.Common.{◌≡◌, sym, ap, subst, ◌∙◌, arith}
 use Rattle.std.proofs.lemmas.Result.{IfOk-weaker}
 use Rattle.sas_core.specs.declared.grounded.Change.{Change}
-use Rattle.sas_core.specs.Grounded.{rule_at}
 use Rattle.sas_lists.specs.ByKey.{by_key}
 use Rattle.sas_axioms.specs.LayerRules.{AreRulesOf}
 use Rattle.sas_axioms.proofs.RulesOf.{rules_none, rules_more, rules_skip, rules_exist, rules_index}

@@ -1,14 +1,16 @@
 -- A chosen operator whose step is refused has effects that conflict.
-use Rattle.std.proofs.Common.{refl}
+use Rattle.std.proofs.Common.{Err, ◌≡◌, rules, subst, sym}
+use Rattle.std.specs.Prelude.{IfErr}
 use Rattle.sas_core.specs.Grounded.{operator_at}
-use Rattle.sas_run.proofs.NamedAlike.{found_is_choice}
-use Rattle.sas_run.proofs.NextStates.{fault_is_conflict}
+use Rattle.sas_run.specs.Running.{StopsAt}
+use Rattle.sas_run.proofs.Going.{conflict_stops}
 use Rattle.sas_run.proofs.plan_check.go_on.Goals as goal
 
-pub returns-in-Err-clause-err : goal.returns-in-Err-clause-err
-returns-in-Err-clause-err g c =
-    let chosen = found_is_choice c.args.layered.now c.args.state.now (operator_at c.args.layered.now c.args.next.first).name c.args.next.first c.in-Some.operator c.requires.first c.in-Some.ensures in (
-      refl,
-      chosen,
-      fault_is_conflict c.args.state.now (operator_at c.args.layered.now c.in-Some.operator) c.in-Err.field-0 chosen.applicable c.in-Err.ensures.steps.0,
-    )
+pub returns-in_err-make-clause-err : goal.returns-in_err-make-clause-err
+returns-in_err-make-clause-err g c =
+    let p = c.args.layered.now in
+    let s = c.args.state.now in
+    let name = (operator_at p c.args.next.first).name in
+    let same : c.from_residual-in_err-make.result ≡ Err c.in_err-make.field-0.0 = search rules in
+    subst (λ r. IfErr r (StopsAt p s name c.args.next.number)) (sym same)
+    (conflict_stops p s name c.in_ok-operator.operator c.args.next.number c.in_err-make.field-0.0 c.in_ok-operator.ensures.ok c.in_err-make.ensures.makes.0 c.in_err-make.ensures.makes.1)

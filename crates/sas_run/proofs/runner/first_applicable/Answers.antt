@@ -1,7 +1,5 @@
 -- One operator more isn't applicable.
 use Rattle.std.proofs.Common.{◌≡◌, get_or, None, Some, sym, ◌∙◌, true≢false}
-use Rattle.sas_core.specs.Grounded.{operator_at}
-use Rattle.sas_run.specs.Plans.{IsApplicable}
 use Rattle.sas_run.proofs.NamedAlike.{SearchedTo, search_goes_on}
 use Rattle.sas_run.proofs.runner.first_applicable.Goals as goal
 

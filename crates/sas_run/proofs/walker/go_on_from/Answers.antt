@@ -1,8 +1,17 @@
 -- The effects, and what settles them from the state before.
-use Rattle.std.proofs.Common.{List, sym, subst}
+use Rattle.std.proofs.Common.{◌≢◌, ◌⊎◌, ℕ, ◌∷◌, List, [], is_some, sym, ◌∙◌, ap, subst, inl, inr}
+use Rattle.std.specs.List.{All}
+use Rattle.std.proofs.lemmas.Bool.{cases_eq}
+use Rattle.std.proofs.lemmas.List.Elements.{All-nil, All-cons, Contains-append_left, Contains-append_right, Contains-push}
 use Rattle.sas_core.specs.declared.parts.Fact.{Fact}
+use Rattle.sas_core.specs.declared.parts.Parts.{Parts}
 use Rattle.sas_core.specs.Grounded.{operator_at}
+use Rattle.sas_meaning.specs.declared.touched.Touched.{Touched}
 use Rattle.sas_meaning.specs.Following.{HaveGone}
+use Rattle.sas_meaning.specs.Settled.{SameBasic}
+use Rattle.sas_meaning.specs.Touched.{TellsChanges}
+use Rattle.sas_meaning.proofs.Layers.{layer_cases}
+use Rattle.sas_run.specs.Walking.{HasFactOn, TellsStep}
 use Rattle.sas_run.proofs.NextStates.{effects_basic, step_from_applied}
 use Rattle.sas_run.proofs.walker.go_on_from.Goals as goal
 
@@ -18,3 +27,43 @@ returns-clause-steps g c =
     let p = c.args.layered.now in
     step_from_applied p c.args.state.now (operator_at p c.args.operator) c.apply.new.state c.settle_on.new.state
     (effects_basic p c.args.operator c.task.ensures.layered c.requires.operator) c.in_ok-apply.ensures.applies c.settle_on.ensures.settles
+
+-- ---- what is told
+
+of_one : (facts : List Fact) (var : ℕ) → HasFactOn facts var ⊎ All (λ (f : Fact). f.var ≢ var) facts
+of_one [] var = inr (All-nil (λ (f : Fact). f.var ≢ var))
+of_one (fact ∷ facts) var = elim (cases_eq fact.var var) [
+  | inl e ↦ inl (fact, Contains-append_left (fact ∷ []) facts fact (Contains-push [] fact), e)
+  | inr ne ↦ elim (of_one facts var) [
+    | inl there ↦ inl (there.0, Contains-append_right (fact ∷ []) facts there.0 there.1, there.2)
+    | inr none ↦ inr (All-cons (λ (f : Fact). f.var ≢ var) fact facts ne none)
+  ]
+]
+
+-- from s the effects lead to m, which is settled in s'
+tells_step : (p : Parts) (s m s' : List ℕ) (gone : List Fact) (touched : Touched) → HaveGone p gone s m → SameBasic p m s' → TellsChanges p s s' touched → TellsStep p s s' gone touched
+tells_step p s m s' gone touched have basic tells = record {
+  basic = have.basic;
+  exist = have.exist;
+  held = have.held;
+  once = have.once;
+  derived = tells.only;
+  each = λ var. elim (layer_cases p var) [
+    | inl b ↦ elim (of_one gone var) [
+      | inl there ↦ inr (inl there)
+      | inr none ↦ inl (sym (basic var b) ∙ have.others var none)
+    ]
+    | inr on ↦ elim (tells.each var (ap is_some on.1)) [
+      | inl same ↦ inl same
+      | inr may ↦ inr (inr (ap is_some on.1, may))
+    ]
+  ];
+}
+
+pub returns-clause-told : goal.returns-clause-told
+returns-clause-told g c =
+    let p = c.args.layered.now in
+    let s = c.args.state.now in
+    let gone = c.apply.new.gone.items in
+    tells_step p s c.apply.new.state c.settle_on.new.state gone c.settle_on.new.touched c.in_ok-apply.ensures.gone c.settle_on.ensures.settles.basic
+    (c.settle_on.ensures.told s c.requires.follows (subst (λ (facts : List Fact). HaveGone p facts s c.apply.new.state) (sym c.as_slice.ensures.value) c.in_ok-apply.ensures.gone))

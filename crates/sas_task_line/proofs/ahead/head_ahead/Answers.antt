@@ -1,7 +1,6 @@
 use Rattle.std.proofs.Common.{refl}
 use Rattle.sas_task_line.proofs.AheadReading.{head_is_ahead, spells_ahead}
 use Rattle.sas_task_line.proofs.ahead.head_ahead.Goals as goal
-use Rattle.sas_task_line.specs.Ahead.{with_lf}
 
 pub returns : goal.returns
-returns c = spells_ahead _ c.args.bytes.now c.in_ok-said.rest.now _ (head_is_ahead with_lf c.args.bytes.now c.in_ok-said.rest.now c.in_ok-said.said c.in_ok-said.ensures) refl
+returns c = spells_ahead _ c.args.bytes.now c.in_ok-said.rest.now _ (head_is_ahead c.args.bytes.now c.in_ok-said.rest.now c.in_ok-said.said c.in_ok-said.ensures) refl

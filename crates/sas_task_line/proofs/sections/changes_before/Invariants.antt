@@ -1,8 +1,7 @@
 -- The changes so far, behind their number, stood before what is left.
 use Rattle.std.proofs.Common.{◌≡◌, length}
-use Rattle.sas_task_line.specs.Ahead.{ending_with}
 use Rattle.sas_task_line.specs.LinesBefore.{ChangesBefore}
 use Rattle.sas_task_line.proofs.sections.changes_before.Given as goal
 
 abbrev pub invariant-loop-i : goal.invariant-loop-i
-invariant-loop-i g l = ChangesBefore (ending_with g.row.END) l.fn.ranges l.count l.changes l.fn.bytes l.rest × (length l.changes ≡ l._i)
+invariant-loop-i l = ChangesBefore l.fn.ranges l.count l.changes l.fn.bytes l.rest × (length l.changes ≡ l._i)

@@ -1,8 +1,7 @@
 -- The facts so far, behind their number, stood before what is left.
 use Rattle.std.proofs.Common.{◌≡◌, length}
-use Rattle.sas_task_line.specs.Ahead.{ending_with}
 use Rattle.sas_task_line.specs.LinesBefore.{FactsBefore}
 use Rattle.sas_task_line.proofs.sections.facts_before.Given as goal
 
 abbrev pub invariant-loop-i : goal.invariant-loop-i
-invariant-loop-i g l = FactsBefore (ending_with g.row.END) l.fn.ranges l.count l.facts l.fn.bytes l.rest × (length l.facts ≡ l._i)
+invariant-loop-i l = FactsBefore l.fn.ranges l.count l.facts l.fn.bytes l.rest × (length l.facts ≡ l._i)

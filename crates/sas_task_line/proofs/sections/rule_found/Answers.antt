@@ -4,7 +4,7 @@ use Rattle.sas_task_line.proofs.LinesReading.{rule_is_ahead}
 use Rattle.sas_task_line.proofs.sections.rule_found.Goals as goal
 
 pub returns : goal.returns
-returns g c =
+returns c =
     let gathered : Gathered = record { values = c.args.gathered.now.values; facts = c.facts_before.new.facts; changes = c.args.gathered.now.changes } in
     let facts = rw c.in-Some-2.is at c.in_ok-rest.ensures in
-    rule_is_ahead _ c.args.ranges.now c.in-Some-head_before.head gathered _ c.in-Some.ensures facts c.in-Some-head_before.ensures refl (omega (arith, c.len.ensures))
+    rule_is_ahead c.args.ranges.now c.in-Some-head_before.head gathered _ c.in-Some.ensures facts c.in-Some-head_before.ensures refl (omega (arith, c.len.ensures))

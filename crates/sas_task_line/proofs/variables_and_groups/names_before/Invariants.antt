@@ -1,8 +1,7 @@
 -- The names so far, behind their number, stood before what is left.
 use Rattle.std.proofs.Common.{◌≡◌, length}
-use Rattle.sas_task_line.specs.Ahead.{ending_with}
 use Rattle.sas_task_line.specs.LinesBefore.{NamesBefore}
 use Rattle.sas_task_line.proofs.variables_and_groups.names_before.Given as goal
 
 abbrev pub invariant-loop-i : goal.invariant-loop-i
-invariant-loop-i g l = NamesBefore (ending_with g.row.END) l.count l.names l.fn.bytes l.rest × (length l.names ≡ l._i)
+invariant-loop-i l = NamesBefore l.count l.names l.fn.bytes l.rest × (length l.names ≡ l._i)

@@ -4,4 +4,4 @@ use Rattle.test_verdicts.proofs.following_calls.follow_each.Given as goal
 -- the evaluator is ready, and settled the state last
 abbrev pub invariant-loop-words : goal.invariant-loop-words
 invariant-loop-words g l = g.E.Settle.ready l.evaluator l.layered
-    × g.E.Settle.follows l.evaluator l.layered l.state × IsState l.layered.variables l.state
+    × g.E.Settle.follows l.evaluator l.layered l.followed.state × IsState l.layered.variables l.followed.state

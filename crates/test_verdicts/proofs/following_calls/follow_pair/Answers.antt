@@ -8,7 +8,7 @@ use Rattle.test_verdicts.proofs.following_calls.follow_pair.Goals as goal
 pub settle_on-requires-clause-follows : goal.settle_on-requires-clause-follows
 settle_on-requires-clause-follows g c =
     let p = c.args.layered.now in
-    let s = c.args.state.now in
+    let s = c.args.followed.now.state in
     let f = c.held_on.result in
     let h = c.held_on-2.result in
     let on-f : f.var ≡ c.args.first.var = c.held_on.ensures.var in

@@ -1,5 +1,5 @@
 -- The last rule that is ready, or a noted one.
-use Rattle.std.proofs.Common.{rules, ◌≡◌, ◌∷◌, ◌++◌, [], length, get_or, arith, inl, inr, refl, ap}
+use Rattle.std.proofs.Common.{◌≡◌, ◌∷◌, ◌++◌, [], length, arith, inl, inr, ap}
 use Rattle.std.proofs.Math.ListN.{length-append}
 use Rattle.std.specs.BinaryHeap.{heap_items}
 use Rattle.std.proofs.lemmas.List.Elements.{Contains-get_or}

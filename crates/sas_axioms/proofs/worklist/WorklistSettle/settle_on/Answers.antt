@@ -1,8 +1,8 @@
 -- A state that was followed is settled.
-use Rattle.std.proofs.Common.{rules, ◌≡◌, ℕ, length, sym, ◌∙◌, arith}
+use Rattle.std.proofs.Common.{rules, ◌≡◌, ℕ, sym, ◌∙◌, arith}
 use Rattle.std.proofs.lemmas.Bool.{eqb-true}
 use Rattle.std.specs.Vec.{vec_len}
-use Rattle.sas_meaning.specs.Settled.{Settles}
+use Rattle.sas_meaning.proofs.Telling.{tells_gone, tells_any}
 use Rattle.sas_axioms.specs.Following.{IsFollowed}
 use Rattle.sas_axioms.specs.LayerRules.{IsRuleOn}
 use Rattle.sas_axioms.proofs.GoneSteps.{idle_followed, idle_settles}
@@ -29,3 +29,16 @@ pub returns-else-is_err-clause-settles : goal.returns-else-is_err-clause-settles
 returns-else-is_err-clause-settles g c =
     let followed : IsFollowed c.args.layered.now c.follow.new.state c.follow.new.self.work = search rules in
     record { state = c.follow.ensures.state; basic = c.follow.ensures.basic; settled = followed.settled }
+
+-- the facts that have gone are on basic variables, so no derived one had changed
+pub returns-then-is_empty-clause-told : goal.returns-then-is_empty-clause-told
+returns-then-is_empty-clause-told g c s followed have = tells_gone c.args.layered.now c.args.gone.now s c.args.state.now c.clear.new.self have c.clear.ensures.cleared
+
+pub returns-then-is_err-clause-told : goal.returns-then-is_err-clause-told
+returns-then-is_err-clause-told g c s followed have =
+    let told = c.follow.ensures.told s (tells_gone c.args.layered.now c.args.gone.now s c.args.state.now c.clear.new.self have c.clear.ensures.cleared) in
+    tells_any c.args.layered.now s c.settle_by_layers.new.state c.note_any.new.self (rw c.note_any.ensures.same told.only) c.note_any.ensures.any
+
+pub returns-else-is_err-clause-told : goal.returns-else-is_err-clause-told
+returns-else-is_err-clause-told g c s followed have =
+    c.follow.ensures.told s (tells_gone c.args.layered.now c.args.gone.now s c.args.state.now c.clear.new.self have c.clear.ensures.cleared)

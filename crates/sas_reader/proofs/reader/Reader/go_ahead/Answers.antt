@@ -1,4 +1,4 @@
-use Rattle.std.proofs.Common.{◌≡◌, ap, sym, rules, Err, ◌∙◌}
+use Rattle.std.proofs.Common.{◌≡◌, ap, rules, Err, ◌∙◌}
 use Rattle.sas_lines.specs.Progress.{Progress}
 use Rattle.sas_reader.proofs.Advancing.{advances_no_more, took_behind, stopped_behind, advances_wider}
 use Rattle.sas_reader.proofs.reader.Reader.go_ahead.Goals as goal

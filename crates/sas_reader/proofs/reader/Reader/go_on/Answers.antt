@@ -1,4 +1,4 @@
-use Rattle.std.proofs.Common.{◌≡◌, refl, sym, rules, Err}
+use Rattle.std.proofs.Common.{◌≡◌, refl, rules, Err}
 use Rattle.sas_reader.proofs.Advancing.{advances_no_more, accepted_part, accepted_line, stopped_at}
 use Rattle.sas_reader.proofs.Pieces.{takes_bound}
 use Rattle.sas_reader.proofs.reader.Reader.go_on.Goals as goal

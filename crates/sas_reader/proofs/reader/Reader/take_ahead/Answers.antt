@@ -1,4 +1,4 @@
-use Rattle.std.proofs.Common.{◌<◌, ◌≤◌, ◌+◌, ◌∙◌, refl, ap, sym, length, take, arith}
+use Rattle.std.proofs.Common.{◌+◌, refl, ap, sym, arith}
 use Rattle.sas_reader.proofs.Advancing.{took_lines, front_few}
 use Rattle.sas_reader.proofs.reader.Reader.take_ahead.Goals as goal
 

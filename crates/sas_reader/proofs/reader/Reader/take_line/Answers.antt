@@ -1,4 +1,4 @@
-use Rattle.std.proofs.Common.{rules, sym, Err, ◌≡◌, ◌<◌, ◌≤◌, ◌+◌, [], length, refl, arith}
+use Rattle.std.proofs.Common.{rules, Err, ◌≡◌, ◌<◌, ◌≤◌, ◌+◌, [], length, refl, arith}
 use Rattle.std.proofs.lemmas.List.{nil_from_length}
 use Rattle.std.proofs.lemmas.Bool.Decides.{nat_tests}
 use Rattle.sas_reader.proofs.Advancing.{advances_no_more, took_whole, stopped_whole, stopped_full, stopped_over, advances_wider, within_fits, within_none}

@@ -1,0 +1,307 @@
+"""Large tasks and long plans that fail, with `--why`: cases as in program.json, for run.py.
+
+No proof speaks of time. A program that takes the square of these numbers is proved, too. The larger cases here are of a size at
+which such a program takes a minute or more, and run.py stops it; one that looks at each step a second time, and at each rule
+once, takes a second or two. In those of long texts the program has less memory than the text has bytes.
+
+A maker returns for a size the task, the names of a plan's steps, its cost, and what is printed, line by line. For a small size
+that is compared with what the meaning of reasons gives.
+"""
+from axioms import text_of, value_name
+from large import STACK, case, plan_text, task_with
+from reasons import reasons
+
+# how many steps a plan has; how many facts, rules, operators or effects there are, or more where a step over each pair of them is
+# quick; how many variables a tree has that is whole
+STEPS, MANY, MORE, TREE = 1_000_000, 100_000, 200_000, 2**17 - 1
+# the small size, which a tree may have too
+SMALL = 7
+# the length of a name that comes in each of so many causes, or in the line of each of so many rules, and what memory the program
+# has then, in bytes
+NAME, TIMES, RULES, MEMORY = 20_000, 15_000, 5_000, 40_000_000
+# how large other tasks are
+MODEST, MODEST_TREE = 20_000, 2**14 - 1
+
+
+def asks(var, value, other, when="the start"):
+    """The first lines of a cause."""
+    names = (f"{var} {its} {value_name({}, var, its)}" for its in (value, other))
+    return [f"    {word} {name}" for word, name in zip(("asks", "has"), names)] + [f"    since {when}"]
+
+
+def gives(rule, var):
+    """The line of a rule that gives a variable value 1."""
+    return f"    rule {rule} gives {var} 1 {value_name({}, var, 1)}"
+
+
+def held(rule, var, value):
+    """The line of a rule that this fact holds back."""
+    return f"    rule {rule} asks {var} {value} {value_name({}, var, value)}"
+
+
+def blocked(step, name):
+    """The first lines where a step isn't applicable."""
+    return [f"plan invalid: step {step}: not applicable", f"  step {step} {name}"]
+
+
+def missed(*causes):
+    """The lines where no goal fact holds, of which these are the causes."""
+    facts = [line for place, cause in enumerate(causes) for line in (f"  goal fact {place}", *cause)]
+    return ["plan invalid: goal fact 0 not reached", *facts]
+
+
+def turning(name, var):
+    """An operator that turns a switch."""
+    return name, [], [([(var, 0)], var, -1, 1), ([(var, 1)], var, -1, 0)], 1
+
+
+def long_blocked(size):
+    """So many steps, and one that isn't applicable. Each has a later operator of its name, which never is."""
+    stay = "stay", [(0, 1), (1, 0), (2, 1)], [], 1
+    operators = [("set", [], [([], 1, -1, 1)], 1), turning("turn", 0), stay, ("turn", [(2, 1)], [], 1)]
+    turns = size - size % 2
+    names = ["set", *["turn"] * turns, "stay"]
+    first = [*asks(0, 1, 0, f"step {turns + 1} turn"), *asks(1, 0, 1, "step 1 set"), *asks(2, 1, 0)]
+    return task_with([2] * 3, operators=operators), names, 0, [*blocked(turns + 2, "stay"), "  operator 2", *first]
+
+
+def long_missed(size):
+    """So many steps, of which only the last may mean another operator."""
+    operators = [("wait", [], [], 1), ("set", [], [([], 0, -1, 1)], 1), ("wait", [(1, 1)], [], 1), ("wait", [(0, 1)], [], 1)]
+    names = [*["wait"] * size, "set", "wait"]
+    lines = [*missed(asks(1, 1, 0)), f"  step {size + 2} may mean operator 3"]
+    return task_with([2, 2], goal=[(1, 1)], operators=operators), names, 0, lines
+
+
+def long_unknown(size):
+    """So many steps, and one of another name."""
+    operators = [turning("turn", 0), turning("Turn  ", 0)]
+    lines = [f"plan invalid: step {size + 1}: no operator of that name", f"  step {size + 1} Turn", "  like operator 0 turn"]
+    return task_with([2], operators=operators), [*["turn"] * size, "Turn"], 0, lines
+
+
+def long_settled(size):
+    """So many steps that change nothing which a rule asks about, and a derived variable on each of many layers."""
+    depth = max(1, size // 20)
+    layers = [None, None, *range(depth)]
+    rules = [([(var - 1, 1)], var, -1, 1) for var in range(2, depth + 2)]
+    operators = [turning("idle", 0), turning("main", 1), ("dark", [(depth + 1, 0)], [], 1)]
+    task = task_with([2] * (depth + 2), layers=layers, rules=rules, defaults=[0, 1, *[0] * depth], operators=operators)
+    names = [*["idle"] * size, "main", "dark", "idle", "main", "idle", "dark"]
+    given = [gives(rule, rule + 2) for rule in range(depth)]
+    cause = asks(depth + 1, 0, 1, f"step {size + 4} main")
+    return task, names, 0, [*blocked(size + 6, "dark"), "  operator 2", *cause, *given]
+
+
+def long_changed(size):
+    """So many steps, each of which changes another variable; then the goal fails on all of them."""
+    operators = [(f"go {var}", [], [([], var, -1, 1)], 1) for var in range(size)]
+    names = [f"go {size - place}" for place in range(1, size + 1)]
+    causes = [asks(var, 0, 1, f"step {size - var} go {var}") for var in range(size)]
+    return task_with([2] * size, goal=[(var, 0) for var in range(size)], operators=operators), names, 0, missed(*causes)
+
+
+def derived_task(size, rules, goal, **parts):
+    """A task of a switch, 0, which is off, and so many derived variables on one layer."""
+    return {**task_with([2] * (size + 1), layers=[None, *[0] * size], rules=rules, goal=goal), **parts}
+
+
+def beside(size):
+    """A goal of so many derived variables beside one another."""
+    rules = [([(0, 0)], var, -1, 1) for var in range(1, size + 1)]
+    causes = [[*asks(var, 0, 1), gives(var - 1, var)] for var in range(1, size + 1)]
+    return derived_task(size, rules, [(var, 0) for var in range(1, size + 1)]), [], 0, missed(*causes)
+
+
+def chain_rules(size):
+    """Rules by which each variable gives the next one, the last first: that of a variable is the size less its number."""
+    return [([(var - 1, 1 if var > 1 else 0)], var, -1, 1) for var in range(size, 0, -1)]
+
+
+def chain_up(size):
+    """A goal of so many variables, each given by the one before it."""
+    causes = [[*asks(var, 0, 1), gives(size - var, var)] for var in range(1, size + 1)]
+    return derived_task(size, chain_rules(size), [(var, 0) for var in range(1, size + 1)]), [], 0, missed(*causes)
+
+
+def chain_down(size):
+    """The same goal the other way round, so that the first fact has all rules."""
+    given = [gives(size - var, var) for var in range(1, size + 1)]
+    causes = [[*asks(var, 0, 1), *(given if var == size else [])] for var in range(size, 0, -1)]
+    return derived_task(size, chain_rules(size), [(var, 0) for var in range(size, 0, -1)]), [], 0, missed(*causes)
+
+
+def chain_again(size):
+    """A goal that has the last variable of a chain so many times."""
+    given = [gives(size - var, var) for var in range(1, size + 1)]
+    causes = [[*asks(size, 0, 1), *given], *[asks(size, 0, 1)] * (size - 1)]
+    return derived_task(size, chain_rules(size), [(size, 0)] * size), [], 0, missed(*causes)
+
+
+def chain_of_layers(size):
+    """The same chain, each variable on a layer of its own."""
+    task, names, cost, lines = chain_again(size)
+    return {**task, "layers": [None, *range(size)]}, names, cost, lines
+
+
+def tree_rules(size):
+    """Rules by which two variables give the one above them, down from 1. That of a variable is its number less 1."""
+    leaves = (size + 1) // 2
+    return [([(2 * var, 1), (2 * var + 1, 1)] if var < leaves else [(0, 0)], var, -1, 1) for var in range(1, size + 1)]
+
+
+def tree_down(size):
+    """A goal of a tree of so many variables, from its top: the first fact has all rules, the lowest ones first."""
+    order = sorted(range(1, size + 1), key=lambda var: (-var.bit_length(), var))
+    causes = [[*asks(var, 0, 1), *([gives(its - 1, its) for its in order] if var == 1 else [])] for var in range(1, size + 1)]
+    return derived_task(size, tree_rules(size), [(var, 0) for var in range(1, size + 1)]), [], 0, missed(*causes)
+
+
+def tree_up(size):
+    """The same goal the other way round."""
+    causes = [[*asks(var, 0, 1), gives(var - 1, var)] for var in range(size, 0, -1)]
+    return derived_task(size, tree_rules(size), [(var, 0) for var in range(size, 0, -1)]), [], 0, missed(*causes)
+
+
+def chain_dark(size):
+    """A goal of a chain that the switch holds back: each rule asks for the variable before."""
+    goal = [(var, 1) for var in range(size, 0, -1)]
+    causes = [[*asks(var, 1, 0), held(size - var, var - 1, 1 if var > 1 else 0)] for var in range(size, 0, -1)]
+    return derived_task(size, chain_rules(size), goal, defaults=[1, *[0] * size]), [], 0, missed(*causes)
+
+
+def rules_again(size):
+    """A goal that has so many times a variable that so many rules would give."""
+    rules = [([(0, 0), (1, 1)], 1, -1, 1)] * size
+    causes = [[*asks(1, 1, 0), *(held(rule, 0, 0) for rule in range(size))], *[asks(1, 1, 0)] * (size - 1)]
+    return derived_task(1, rules, [(1, 1)] * size, defaults=[1, 0]), [], 0, missed(*causes)
+
+
+def no_rules_again(size):
+    """A goal that has so many times a value that none of so many rules gives."""
+    task = derived_task(1, [([], 1, -1, 1)] * size, [(1, 2)] * size, ranges=[2, 3])
+    causes = [[*asks(1, 2, 1), *([gives(0, 1)] if place == 0 else []), "    no rule gives it"] for place in range(size)]
+    return task, [], 0, missed(*causes)
+
+
+def many_blocked(size):
+    """A name that so many operators have, of which each asks for two facts. None is applicable."""
+    operators = [("go", [(var, 1), (0, 1)], [], 1) for var in range(1, size + 1)]
+    named = [(f"  operator {place}", *asks(place + 1, 1, 0), *asks(0, 1, 0)) for place in range(size)]
+    lines = [*blocked(1, "go"), *(line for its in named for line in its)]
+    return task_with([2] * (size + 1), operators=operators), ["go"], 0, lines
+
+
+def many_blocked_derived(size):
+    """A name that so many operators have, of which each asks for a variable of a chain, the first for the last one."""
+    operators = [("go", [(var, 0)], [], 1) for var in range(size, 0, -1)]
+    given = [gives(size - var, var) for var in range(1, size + 1)]
+    lines = blocked(1, "go")
+    for place in range(size):
+        lines += [f"  operator {place}", *asks(size - place, 0, 1), *(given if place == 0 else [])]
+    return derived_task(size, chain_rules(size), [], operators=operators), ["go"], 0, lines
+
+
+def many_preconditions(size):
+    """An operator that asks for the last variable of a chain so many times, and for it again by the old values of its effects."""
+    operators = [("go", [(size, 0)] * size, [([(0, 1)], 0, 1, 0)] * size, 1)]
+    given = [gives(size - var, var) for var in range(1, size + 1)]
+    again = [line for _ in range(size - 1) for line in asks(size, 0, 1)] + [line for _ in range(size) for line in asks(0, 1, 0)]
+    lines = [*blocked(1, "go"), "  operator 0", *asks(size, 0, 1), *given, *again]
+    return derived_task(size, chain_rules(size), [], operators=operators), ["go"], 0, lines
+
+
+def many_effects(size):
+    """An operator with so many effects on each of two variables, of which the last contradicts those on the second one."""
+    ones = [([], var, -1, 1) for var in (0, 1) for _ in range(size)]
+    lines = ["plan invalid: step 1: conflicting effects", "  step 1 go", "  operator 0"]
+    pair = [(size, 1), (2 * size, 0)]
+    lines += [f"    effect {effect} sets 1 {value} {value_name({}, 1, value)}" for effect, value in pair]
+    return task_with([2, 2], operators=[("go", [], [*ones, ([], 1, -1, 0)], 1)]), ["go"], 0, lines
+
+
+def many_named(size):
+    """A name that so many operators have, of which the last is applicable, too. It isn't what an earlier step may mean."""
+    operators = [("go", [], [], 1), *[("go", [(0, 1)], [], 1)] * size, ("turn", [], [([], 1, -1, 1)], 1), ("go", [(1, 1)], [], 2)]
+    lines = ["plan invalid: cost is 13, not 0", "  metric 0", "  steps 13", "  cost lines 13"]
+    lines.append(f"  step 12 may mean operator {size + 2}")
+    return task_with([2, 2], operators=operators), [*["go"] * 10, "turn", "go", "go"], 0, lines
+
+
+def many_alike(size):
+    """So many operators whose names are nearly like that of a step, and two that are like it."""
+    spaces = " " * 40
+    operators = [(f"Go {place}{spaces}", [], [], 1) for place in range(1, size + 1)]
+    operators += [(f"GO 0{spaces}", [], [], 1), ("go 0 ", [], [], 1)]
+    lines = ["plan invalid: step 1: no operator of that name", "  step 1 go 0", f"  like operator {size} GO 0{spaces}"]
+    return task_with([2], operators=operators), ["go 0"], 0, lines
+
+
+def compare_small(maker):
+    """Compares what is said of a small size with what the meaning of reasons gives."""
+    task, names, cost, lines = maker(SMALL)
+    fault, behind = reasons(task, names, cost)
+    assert [fault, *behind] == lines, (maker.__name__, [fault, *behind], lines)
+
+
+def made_case(maker, size, **limits):
+    """A case of this size."""
+    compare_small(maker)
+    task, names, cost, lines = maker(size)
+    output = "".join(f"{line}\n" for line in lines)
+    inputs = {"files": {"t.sas": text_of(task)}, "input": plan_text(names, cost), **limits}
+    name = f"{maker.__name__.replace('_', ' ')} of {size}, plan --why"
+    return case(name, ["plan", "--why", "t.sas", "-"], output, 1, **inputs)
+
+
+def long_texts():
+    """Small files whose reasons repeat a long name very often: of a value that the goal or a rule asks for, or of the step since
+    which another one is there. They could show a text that is made before it is written, and lines that are kept so that they
+    aren't told again."""
+    name, goal = "a" * NAME, [(0, 1)] * TIMES
+    facts = [f"  goal fact {place}\n    asks 0 1 " for place in range(TIMES)]
+    told = [[fact, name, "\n    has 0 0 no\n    since the start\n"] for fact in facts]
+    yield long_text("the name of a value", task_with([2], goal=goal, names=[["no", name]]), [], told)
+    operators, names = [(name, [], [([], 0, -1, 2)], 1)], [["no", "yes", "so"]]
+    told = [[f"{fact}yes\n    has 0 2 so\n    since step 1 ", name, "\n"] for fact in facts]
+    yield long_text("the name of a step", task_with([3], goal=goal, operators=operators, names=names), [name], told)
+    task = derived_task(1, [([(0, 1)], 1, -1, 1)] * RULES, [(1, 1)] * 2, names=[["no", name], ["off", "on"]])
+    cause = "    asks 1 1 on\n    has 1 0 off\n    since the start\n"
+    rules = [[f"    rule {rule} asks 0 1 ", name, "\n"] for rule in range(RULES)]
+    told = [f"  goal fact 0\n{cause}", *rules, f"  goal fact 1\n{cause}"]
+    yield long_text("the name of a value that rules ask for", task, [], told)
+
+
+def long_text(name, task, steps, told):
+    """A case of such a text, of which these parts are told behind the verdict."""
+    files = {"t.sas": text_of(task), "p.txt": plan_text(steps, 0)}
+    told = [[part, 1] for part in ("plan invalid: goal fact 0 not reached\n", *told)]
+    words = ["plan", "--why", "t.sas", "p.txt"]
+    return case(f"{name} in a long text, plan --why", words, "", 1, files=files, told=told, memory=MEMORY)
+
+
+def limited_cases():
+    """Derivations with a small stack, and in a file that may have fewer bytes. They could show a call that goes as deep as a
+    derivation is long, and bytes that are missing before those that went out."""
+    for maker, size in ((chain_up, MODEST), (chain_down, MODEST), (chain_of_layers, MODEST), (tree_down, MODEST_TREE)):
+        yield made_case(maker, size, stack=STACK)
+    made = made_case(chain_up, MODEST, error="sas: write failed\n")
+    for room in (512, 51_200, 1_024_000):
+        limits = {"name": f"{made['name']}, into {room} bytes", "file": room, "output": made["output"][:room], "status": 3}
+        yield {**made, **limits}
+
+
+def lengthy_cases():
+    """All of these."""
+    for maker in (long_blocked, long_missed, long_unknown, long_settled):
+        yield made_case(maker, STEPS)
+    for maker in (long_changed, chain_again, chain_of_layers, many_blocked, many_preconditions):
+        yield made_case(maker, MANY)
+    for maker in (rules_again, no_rules_again, many_effects, many_named, many_alike):
+        yield made_case(maker, MORE)
+    yield made_case(tree_down, TREE)
+    yield made_case(tree_up, MODEST_TREE)
+    for maker in (beside, chain_dark, many_blocked_derived):
+        yield made_case(maker, MODEST)
+    yield from long_texts()
+    yield from limited_cases()

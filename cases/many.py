@@ -1,0 +1,309 @@
+"""Many plans of one task: what `plans` prints of them, computed from the meaning of a task; cases as in program.json, for run.py.
+A task here is as in walks.py, and a plan is a pair of its label and of its file, as a string of which each character is a byte.
+
+A label is the word that names a plan. For each plan, in the order of the words, there is a line: its label, `: `, and the line
+that `plan` prints of it, also where the plan file is refused. Last there is
+
+    N plans, V valid                        where none is valid
+    N plans, V valid, best cost C: LABEL    where V are: C is the lowest cost of these, and LABEL names the first of that cost
+
+A plan that is refused counts among the N. The exit status is 0 if all are valid. No plan changes what is said of another. Where
+the task is refused, or isn't layered, all that is printed is the line that `plan` prints, and no plan is opened.
+
+many.json: plans of tasks.
+
+    shows    a mistake that this one could show
+    task     the file, as a text
+    plans    pairs [LABEL, TEXT]: the files, as texts; [LABEL] alone names a file that there is already
+    lines    what is printed of them
+"""
+import os
+import random
+import re
+
+from axioms import task_of, text_of
+from following import long_runs, run_over, turning_names, turning_task
+from steps import cost_of, holds, initial, verdict
+from texts import as_bytes, changed_lines, table
+from walks import operated_task, plan_of, plan_text, random_facts, walk
+from why import MINIMAL, TURNS, spoiled
+
+SEED = 78
+# how many tasks are made as in walks.py, and as in following.py, and the most plans of each
+WALKED, TURNED, MOST = 450, 120, 12
+# of one in so many of these each plan is given to `plan` too
+EACH = 4
+STEP = re.compile(r"\([^\r]+\)")
+COST = re.compile(r"; cost = (0|[1-9][0-9]{0,19}) \((unit|general) cost\)")
+LARGEST = 2**64 - 1
+# what labels are made of, each with a number
+LABELS = ("p.{}", "sas_plan.{}", "plan {}", " {} ", "{}: plan valid: 1 steps, cost 1", "./{}", "pl\u00c3\u00a4n {}", "(go)\t{}")
+
+
+def line_fault(line):
+    """Returns the word for what is wrong with a line of a plan file; None where nothing is."""
+    if line.startswith("("):
+        return None if STEP.fullmatch(line) else "name"
+    if not line.startswith("; cost = "):
+        return "keyword"
+    cost = COST.fullmatch(line)
+    return None if cost and int(cost[1]) <= LARGEST else "shape"
+
+
+def plan_fault(text):
+    """Returns the first fault of a plan file; None where it is well formed."""
+    *lines, rest = text.split("\n")
+    for place, line in enumerate(lines, 1):
+        line = line.removesuffix("\r")
+        fault = line_fault(line)
+        if fault:
+            return f"line {place}: {fault}"
+        if line.startswith(";"):
+            return f"line {place + 1}: trailing" if lines[place:] or rest else None
+    return f"line {len(lines) + 1}: end"
+
+
+def judged(task, text):
+    """Returns the line that `plan` prints of a plan file, and what the plan costs; None where it isn't valid."""
+    fault = plan_fault(text)
+    if fault:
+        return f"plan refused: {fault}", None
+    names, cost = plan_of(text)
+    said, _ = verdict(task, names, cost)
+    return said, cost if said.startswith("plan valid: ") else None
+
+
+def summary(costs):
+    """Returns the last line about plans with these labels, each with its cost, or None where it isn't valid."""
+    valid = [(cost, label) for label, cost in costs if cost is not None]
+    line = f"{len(costs)} plans, {len(valid)} valid"
+    if not valid:
+        return line
+    cost, label = min(valid, key=lambda it: it[0])
+    return f"{line}, best cost {cost}: {label}"
+
+
+def lines_of(task, plans):
+    """Returns what is printed of plans of a layered task."""
+    verdicts = [(label, *judged(task, text)) for label, text in plans]
+    lines = [f"{label}: {said}" for label, said, _ in verdicts]
+    return [*lines, summary([(label, cost) for label, _, cost in verdicts])]
+
+
+def status_of(lines):
+    """Returns the exit status with which these lines are printed."""
+    counts = re.match(r"(\d+) plans, (\d+) valid", lines[-1])
+    return 0 if counts and counts[1] == counts[2] else 1
+
+
+def asked(name, words, files, lines, **inputs):
+    """Returns the case of a request for plans with these words, of which these lines are printed."""
+    return {
+        "name": f"{name}, plans {' '.join(words)[:200]}",
+        "words": ["plans", *words],
+        "files": files,
+        "output": "".join(f"{line}\n" for line in lines),
+        "status": status_of(lines),
+        **inputs,
+    }
+
+
+def over_files(name, task, plans, lines):
+    """Returns the case of plans of which each is a file."""
+    return asked(name, ["t.sas", *(label for label, _ in plans)], {"t.sas": task, **dict(plans)}, lines)
+
+
+def with_task_from_input(name, task, plans, lines):
+    """Returns the case of these plans with the task from standard input."""
+    return asked(name, ["-", *(label for label, _ in plans)], dict(plans), lines, input=task)
+
+
+def with_plan_from_input(name, task, plans, place):
+    """Returns the case of these plans with the one in this place from standard input."""
+    given = [*plans[:place], ("-", plans[place][1]), *plans[place + 1 :]]
+    words, files = [label for label, _ in given], {label: text for label, text in given if label != "-"}
+    lines = lines_of(task, given)
+    return asked(name, ["t.sas", *words], {"t.sas": text_of(task), **files, "-": "x\n"}, lines, input=plans[place][1])
+
+
+def behind_dashes(name, task, plans, lines):
+    """Returns the case of these plans, whose labels may begin with a dash, as they stand behind `--`."""
+    return asked(name, ["--", "-t", *(label for label, _ in plans)], {"-t": task, **dict(plans)}, lines)
+
+
+def each_alone(name, task, plans):
+    """Yields the case of `plan` for each of these plans."""
+    for label, text in dict(plans).items():
+        said, cost = judged(task, text)
+        yield {
+            "name": f"{name}, plan {label}",
+            "words": ["plan", "t.sas", "p.txt"],
+            "files": {"t.sas": text_of(task), "p.txt": text},
+            "output": f"{said}\n",
+            "status": 1 if cost is None else 0,
+        }
+
+
+def written_plans():
+    """Yields the plans of many.json: a name, the file of the task, the plans, and the lines. Where the task isn't refused,
+    these stand there and are computed too."""
+    for made in table("many.json"):
+        task, files = as_bytes(made["task"]).decode("latin-1"), {}
+        for label, *text in made["plans"]:
+            files.update({os.path.normpath(label): as_bytes(part).decode("latin-1") for part in text})
+        plans = [(label, files[os.path.normpath(label)]) for label, *_ in made["plans"]]
+        if not made["lines"][-1].startswith("task refused: "):
+            computed = lines_of(task_of(task), plans)
+            assert computed == made["lines"], (made["shows"], computed)
+        yield made["shows"], task, plans, made["lines"]
+
+
+def written_cases():
+    """Yields the plans of many.json, from files, and the task and each plan from standard input. They could show a wrong
+    definition of what is printed of many plans, and inputs that are exchanged."""
+    for name, task, plans, lines in written_plans():
+        yield over_files(name, task, plans, lines)
+        yield with_task_from_input(name, task, plans, lines)
+        if not lines[-1].startswith("task refused: "):
+            yield from each_alone(name, task_of(task), plans)
+            for place in range(len(plans)):
+                yield with_plan_from_input(name, task_of(task), plans, place)
+
+
+def refused_cases():
+    """Yields each plan file of plans.json between others, and all fronts of those that are cut off, beside one another. They
+    could show a plan that is refused and spoils others, and bytes of a plan that are taken for those of the next one."""
+    minimal = as_bytes(MINIMAL).decode("latin-1")
+    task, valid = task_of(minimal), ("valid", plan_text([], 0))
+    for made in table("plans.json"):
+        text = as_bytes(made["plan"]).decode("latin-1")
+        said = f"plan refused: {plan_fault(text)}\n" if plan_fault(text) else made["output"]
+        assert as_bytes(said) == as_bytes(made["output"])
+        plans = [valid, ("p.txt", text), valid]
+        yield over_files(f"{made['name']}, between others", minimal, plans, lines_of(task, plans))
+        if made.get("cut_off"):
+            fronts = [(f"front {length}", text[:length]) for length in range(len(text) + 1)]
+            yield over_files(f"{made['name']}, its fronts", minimal, fronts, lines_of(task, fronts))
+
+
+def unopened_cases():
+    """Yields tasks that are refused, with plans that there aren't, and one that is a folder. They could show a plan that is
+    opened though there is no task for it."""
+    for changed in changed_lines():
+        if changed["fault"] or changed["layers"]:
+            said = f"task refused: {changed['fault'] or changed['layers']}"
+            files = {"t.sas": as_bytes(changed["task"])}
+            yield asked(f"{changed['name']}, no plans", ["t.sas", "none", ".", "none"], files, [said])
+
+
+def plan_file(chance, names, cost):
+    """Returns the file of a plan, with either kind of cost and either end of lines."""
+    text = plan_text(names, cost)
+    text = text.replace("unit", "general") if chance.random() < 0.5 else text
+    return text.replace("\n", "\r\n") if chance.random() < 0.2 else text
+
+
+def damaged(chance, text):
+    """Returns a plan file that is cut off, or has a byte less or more."""
+    place = chance.randrange(len(text))
+    behind = (text[place:], text[place + 1 :], chance.choice("\n\r(); 0a") + text[place:])
+    change = chance.randrange(5)
+    if change == 0:
+        return text + chance.choice("\n\r( ;a")
+    return text[:place] + ("" if change == 1 else behind[change - 2])
+
+
+def files_made(chance, task, make):
+    """Returns plan files of a task, by what this makes: names, a cost and a state. Some are spoiled, some damaged, and some
+    come again, so that they cost the same."""
+    texts = []
+    for _ in range(chance.randint(1, MOST)):
+        kind = chance.random()
+        if texts and kind < 0.2:
+            texts.append(chance.choice(texts))
+            continue
+        names, cost, _ = make()
+        if kind < 0.45:
+            names, cost = spoiled(chance, task, names, cost)
+        text = plan_file(chance, names, cost)
+        texts.append(damaged(chance, text) if kind > 0.88 else text)
+    return texts
+
+
+def walked(chance):
+    """Returns a task as in walks.py, and plan files of it."""
+    task = operated_task(chance)
+
+    def make():
+        return walk(chance, task)
+
+    _, _, state = make()
+    facts = random_facts(chance, task, (0, 0, 1, 1, 2, 3))
+    task["goal"] = [fact for fact in facts if holds(state, [fact]) or chance.random() < 0.1]
+    return task, files_made(chance, task, make)
+
+
+def turned(chance):
+    """Returns a task as in following.py, and plan files of it."""
+    task, derived = turning_task(chance)
+
+    def make():
+        run = run_over(task, turning_names(chance, derived), chance.randrange(TURNS))
+        names = [task["operators"][operator][0] for operator, _ in run]
+        return names, sum(cost_of(task, operator) for operator, _ in run), run[-1][1] if run else initial(task)
+
+    _, _, state = make()
+    task["goal"] = [(var, state[var]) for var in chance.sample(derived, chance.choice((0, 1, 1, 2)))]
+    return task, files_made(chance, task, make)
+
+
+def labelled(chance, texts, forms=LABELS):
+    """Returns plans with these files, of which some are named twice."""
+    plans = []
+    for place, text in enumerate(texts):
+        again = plans and chance.random() < 0.1
+        plans.append(chance.choice(plans) if again else (chance.choice(forms).format(place), text))
+    return plans
+
+
+def random_cases():
+    """Yields plans made at random, of tasks that are, too. They could show a wrong definition of what is printed of many
+    plans, in a case that no one thought of, and another verdict than that of `plan`."""
+    chance = random.Random(SEED)
+    for number in range(WALKED + TURNED):
+        task, texts = walked(chance) if number < WALKED else turned(chance)
+        name, text, plans = f"many plans of task {number}", text_of(task), labelled(chance, texts)
+        yield over_files(name, text, plans, lines_of(task, plans))
+        if number % EACH == 0:
+            yield from each_alone(name, task, plans)
+        elif number % EACH == 1:
+            yield with_plan_from_input(name, task, plans, chance.randrange(len(plans)))
+        elif number % EACH == 2:
+            plans = labelled(chance, texts, ("-{}", "--{}", "--why {}", "{}"))
+            yield behind_dashes(name, text, plans, lines_of(task, plans))
+        else:
+            plans.reverse()
+            yield with_task_from_input(name, text, plans, lines_of(task, plans))
+
+
+def long_cases():
+    """Yields the long plans of following.py that have their task in common: the run itself, the one that fails on its way,
+    and the run again. They could show an evaluator that begins a plan with what it knows of the state in which another one
+    ended."""
+    made = long_runs()
+    for whole, broken in zip(made[::3], made[1::3]):
+        assert whole["task"] == broken["task"] and not whole["status"] and broken["status"]
+        plans = [("whole", whole["plan"]), ("broken", broken["plan"]), ("again", whole["plan"])]
+        _, cost = plan_of(whole["plan"])
+        said = [f"{label}: {its['output']}".removesuffix("\n") for (label, _), its in zip(plans, (whole, broken, whole))]
+        lines = [*said, summary([("whole", cost), ("broken", None), ("again", cost)])]
+        yield over_files(whole["name"], whole["task"], plans, lines)
+
+
+def plans_cases():
+    """All of these."""
+    yield from written_cases()
+    yield from refused_cases()
+    yield from unopened_cases()
+    yield from long_cases()
+    yield from random_cases()

@@ -1,0 +1,283 @@
+"""Long traces, and plans by the thousand: cases as in program.json, for run.py.
+
+No proof speaks of time, of files that are open, or of when memory is there. A program that takes the square of these numbers is
+proved, too, and so is one that keeps each file open, or what each plan held. The larger cases here are of a size at which such a
+program takes a minute or more, so that run.py stops it, or at which it has no file or no memory left.
+
+A trace here is a task, the names of a plan's steps, which cost 1 each, and what is printed, line by line. For a small size that
+is compared with what the meaning of traces gives, and so is what is printed of plans.
+"""
+from axioms import text_of, value_name
+from large import MINIMAL, PIECE, STACK, WIDTHS, case, plan_text, task_with, wide_plans, wide_task
+from lengthy import turning
+from many import lines_of, summary
+from traces import traced
+
+# how many steps there are, and variables, of which a step changes one or none
+STEPS, VARIABLES = 400_000, 400_000
+# how many derived variables rise or fall in one step, how often they do, and how many steps between those change only some
+CHAIN, STORMS, BREEZES = 20_000, 10, 5_000
+# the length of a name that comes in the line of each of so many steps, and what memory the program has then, in bytes
+NAME, TIMES, MEMORY = 20_000, 5_000, 40_000_000
+# how many plans there are, and how many operators, whose names are looked up in one table; how many prices they have
+PLANS, OPERATORS, PRICES = 10_000, 100_000, 97
+# how many files the program may have open: three streams, what it opens in their places, and one more; and some more
+ONE, FEW = 7, 16
+# how many steps a plan has that is named so often, what memory the program has then, and how often other plans are named
+LONG, AGAIN, LEAN, OFTEN = 100_000, 80, 20_000_000, 150
+# how many bytes a file may have that an output goes into
+ROOMS = (512, 51_200, 102_400)
+TRACE = ["trace", "t.sas", "p.txt"]
+DEVICES = ("full device", "closed pipe")
+
+
+def text_with(lines):
+    """These lines as a text."""
+    return "".join(f"{line}\n" for line in lines)
+
+
+def initial_lines(count):
+    """The lines of an initial state of so many variables, which all have value 0."""
+    return [f"initial {var} 0 {value_name({}, var, 0)}" for var in range(count)]
+
+
+def change_line(var, value):
+    """The line of a switch that gets this value."""
+    return f"change {var} {1 - value} {value} {value_name({}, var, value)}"
+
+
+def valid_line(names):
+    """The line of a valid plan with these steps."""
+    return f"plan valid: {len(names)} steps, cost {len(names)}"
+
+
+def still_trace(steps, variables):
+    """So many steps, of which each tenth turns the last variable; all others change nothing."""
+    task = task_with([2] * variables, operators=[("stay", [], [([], 0, -1, 0)], 1), turning("turn", variables - 1)])
+    names, lines = [], initial_lines(variables)
+    for step in range(1, steps + 1):
+        turns = step % 10 == 0
+        names.append("turn" if turns else "stay")
+        lines.append(f"step {step} {int(turns)} 1 {names[-1]}")
+        lines += [change_line(variables - 1, step // 10 % 2)] * turns
+    return task, names, [*lines, valid_line(names)]
+
+
+def storm_task(size):
+    """A task of two switches, so many derived variables, each of which rises with the one before it, the second half of them
+    on a higher layer, and three more in a ring. These three rise with the second switch, and the others with the first
+    one."""
+    first, ring = range(2, size + 2), range(size + 2, size + 5)
+    layers = [None, None, *(int(2 * place >= size) for place in range(size)), 0, 0, 0]
+    rules = [([(var - 1, 1)], var, -1, 1) for var in reversed(first[1:])]
+    rules += [([(before, 1)], var, -1, 1) for before, var in zip((ring[-1], *ring), ring)]
+    rules += [([(0, 1)], first[0], -1, 1), ([(1, 1)], ring[0], -1, 1)]
+    operators = [turning("storm", 0), turning("breeze", 1)]
+    return task_with([2] * (size + 5), layers=layers, rules=rules, operators=operators)
+
+
+def storm_trace(size, storms, breezes):
+    """So often the step that turns the first switch of that task, and behind each so many that turn the second one."""
+    names, values = (["storm"] + ["breeze"] * breezes) * storms, {"storm": 0, "breeze": 0}
+    touched = {"storm": [0, *range(2, size + 2)], "breeze": [1, *range(size + 2, size + 5)]}
+    lines = initial_lines(size + 5)
+    for step, name in enumerate(names, 1):
+        values[name] = 1 - values[name]
+        lines.append(f"step {step} {int(name == 'breeze')} 1 {name}")
+        lines += [change_line(var, values[name]) for var in touched[name]]
+    return storm_task(size), names, [*lines, valid_line(names)]
+
+
+def over_trace(name, trace, **inputs):
+    """A case of a trace."""
+    task, names, lines = trace
+    files = {"t.sas": text_of(task), "p.txt": plan_text(names, len(names))}
+    return case(f"{name}, trace", TRACE, text_with(lines), 0, files=files, **inputs)
+
+
+def compare_traces():
+    """Compares what is printed of small traces with what their meaning gives."""
+    for task, names, lines in (still_trace(45, 3), storm_trace(1, 3, 2), storm_trace(6, 2, 5), storm_trace(7, 3, 4)):
+        assert traced(task, names, len(names)) == lines
+
+
+def long_traces():
+    """Traces of many steps. They could show one that looks through all variables at each step, or settles them anew; a change
+    that is lost, or comes twice, where the text goes out in pieces; and numbers that are written in too few digits."""
+    yield over_trace("very many steps that change nothing", still_trace(STEPS, VARIABLES))
+    yield over_trace("many that rise and fall", storm_trace(CHAIN, STORMS, BREEZES))
+
+
+def limited_traces():
+    """Traces with a small stack, into files that may have fewer bytes, and to devices that fail. They could show a call that
+    goes as deep as a trace is long, bytes that are missing before those that went out, and a write that fails unseen."""
+    made = over_trace("a storm", storm_trace(1000, 6, 20))
+    assert len(made["output"]) > 2 * PIECE
+    yield {**made, "name": f"{made['name']}, a small stack", "stack": STACK}
+    failed = {"status": 3, "error": "sas: write failed\n"}
+    for room in ROOMS:
+        yield {**made, "name": f"{made['name']}, into {room} bytes", "file": room, "output": made["output"][:room], **failed}
+    for device in DEVICES:
+        yield {**made, "name": f"{made['name']}, {device}", "output_to": device, **failed}
+
+
+def late_faults():
+    """Plans of which each step goes through, and that are refused for their last line, or whose last line memory doesn't
+    hold. They could show a trace that is written before the plan is read."""
+    files, turns = {"t.sas": text_of(task_with([2], operators=[turning("turn", 0)]))}, ["(turn)\n", LONG]
+    refusal, words = f"plan refused: line {LONG + 1}: name\n", ["trace", "t.sas", "-"]
+    yield case("a fault behind very many steps, trace", words, refusal, 1, files=files, input=[turns, "()\n"])
+    inputs = {"input": [turns, "(", ["a", 2 * MEMORY]], "memory": MEMORY, "error": "sas: out of memory\n"}
+    yield case("a name that memory doesn't hold behind very many steps, trace", words, "", 3, files=files, **inputs)
+
+
+def wide_traces():
+    """Traces of tasks that have so many of everything, as in large.py. They could show want of memory that no one was
+    refused, and a list of which only the front counts."""
+    for width in WIDTHS[:2]:
+        task = wide_task(width)
+        text = text_of(task)
+        for names, cost, said in wide_plans(width):
+            lines = traced(task, names, cost)
+            assert lines[-1] == said
+            files, status = {"t.sas": text, "p.txt": plan_text(names, cost)}, int("invalid" in said)
+            yield case(f"{width} of everything, {said}, trace", TRACE, text_with(lines), status, files=files)
+
+
+def piece_traces():
+    """Traces of about as many bytes as are written at a time, with the verdict and without it. They could show a byte that is
+    lost, or comes twice, where a piece is just full, or a verdict for which there is no room."""
+    around = "initial 0 0 \n"
+    verdict = "plan valid: 0 steps, cost 0\n"
+    for beyond in (-1, 0, 1):
+        for length in (PIECE + beyond - len(around), PIECE + beyond - len(around) - len(verdict)):
+            name = "a" * length
+            inputs = {"files": {"t.sas": {"file": MINIMAL, "line 12": name}, "p.txt": plan_text([], 0)}}
+            yield case(f"a name of {length} bytes, trace", TRACE, f"initial 0 0 {name}\n{verdict}", 0, **inputs)
+
+
+def named_trace():
+    """A trace that repeats a long name at each step, with less memory than its text has bytes. It could show a text that is
+    made before it is written."""
+    name = "a" * NAME
+    task = task_with([2], operators=[turning("turn", 0)], names=[["off", name]])
+    told = [["initial 0 0 off\n", 1]]
+    for step in range(1, TIMES + 1):
+        change = ["change 0 0 1 ", name, "\n"] if step % 2 else "change 0 1 0 off\n"
+        told.append([[f"step {step} 0 1 turn\n", change], 1])
+    files = {"t.sas": text_of(task), "p.txt": plan_text(["turn"] * TIMES, TIMES)}
+    said = f"{valid_line(['turn'] * TIMES)}\n"
+    return case("a name in a long text, trace", TRACE, said, 0, files=files, told=told, memory=MEMORY)
+
+
+def priced_task(count):
+    """A task of so many operators, each of which reaches the goal from the start at a cost of its own."""
+    operators = [(f"go {place}", [], [([], 0, 0, 1)], price(place)) for place in range(count)]
+    return task_with([2], metric=1, goal=[(0, 1)], operators=operators)
+
+
+def price(place):
+    """What the operator in this place costs: many cost the least."""
+    return 2 + place * 31 % PRICES
+
+
+def priced_plan(number, operators):
+    """A plan of that task: its label, its file, what is said of it, and what it costs where it is valid."""
+    place = number * 61 % operators
+    label, name, cost = f"plan.{number}", f"go {place}", price(place)
+    if number % 10 == 3:
+        return label, plan_text([name], cost - 1), f"plan invalid: cost is {cost}, not {cost - 1}", None
+    if number % 10 == 5:
+        return label, plan_text([], 0), "plan invalid: goal fact 0 not reached", None
+    if number % 10 == 6:
+        return label, plan_text([name, name], cost), "plan invalid: step 2: not applicable", None
+    if number % 10 == 8:
+        return label, plan_text([name], cost)[:-1], "plan refused: line 2: end", None
+    return label, plan_text([name], cost), f"plan valid: 1 steps, cost {cost}", cost
+
+
+def priced_plans(count, operators):
+    """So many of them."""
+    return [priced_plan(number, operators) for number in range(count)]
+
+
+def lines_about(plans):
+    """What is printed of them."""
+    lines = [f"{label}: {said}" for label, _, said, _ in plans]
+    return [*lines, summary([(label, cost) for label, _, _, cost in plans])]
+
+
+def over_plans(name, task, plans, lines, status=1, **inputs):
+    """A case of plans with these labels and files."""
+    labels, files = [label for label, *_ in plans], {label: text for label, text, *_ in plans}
+    words = ["plans", "t.sas", *labels]
+    return case(f"{name}, plans", words, text_with(lines), status, files={"t.sas": text_of(task), **files}, **inputs)
+
+
+def compare_plans():
+    """Compares what is printed of few plans with what their meaning gives."""
+    plans = priced_plans(50, 20)
+    assert lines_of(priced_task(20), [(label, text) for label, text, *_ in plans]) == lines_about(plans)
+
+
+def thousands_of_plans():
+    """Thousands of plans of a task with very many operators, where few files may be open, and some where no two may be. They
+    could show a file that stays open, and a task that is read, or whose names are put into a table, for each plan again."""
+    plans = priced_plans(PLANS, OPERATORS)
+    yield over_plans(f"{PLANS} files", priced_task(OPERATORS), plans, lines_about(plans), open=FEW)
+    plans = priced_plans(20, 20)
+    yield over_plans("one open file", priced_task(20), plans, lines_about(plans), open=ONE)
+
+
+def limited_plans():
+    """Plans whose lines are longer than what is written at a time, into files that may have fewer bytes, and to devices that
+    fail; and plans with a small stack. They could show lines that are lost, or come twice, where the text goes out in pieces,
+    bytes that are missing before those that went out, a write that fails unseen, and a call that goes as deep as there are
+    plans."""
+    plans = priced_plans(20, 20) * OFTEN
+    made = over_plans("plans named again", priced_task(20), plans, lines_about(plans))
+    assert len(made["output"]) > PIECE
+    yield made
+    failed = {"status": 3, "error": "sas: write failed\n"}
+    for room in ROOMS:
+        yield {**made, "name": f"{made['name']}, into {room} bytes", "file": room, "output": made["output"][:room], **failed}
+    for device in DEVICES:
+        yield {**made, "name": f"{made['name']}, {device}", "output_to": device, **failed}
+    plans = priced_plans(200, 20)
+    yield over_plans("a small stack", priced_task(20), plans, lines_about(plans), stack=STACK)
+
+
+def wide_files():
+    """The plans of tasks that have so many of everything, as in large.py, one behind the other and the other way round. They
+    could show want of memory that no one was refused, and something of a plan that the next one finds."""
+    for width in WIDTHS:
+        made = enumerate(wide_plans(width))
+        plans = [(str(place), plan_text(names, cost), said, None if place else cost) for place, (names, cost, said) in made]
+        for way, turned in (("in order", plans), ("the other way round", plans[::-1])):
+            yield over_plans(f"{width} of everything, {way}", wide_task(width), turned, lines_about(turned))
+
+
+def long_files():
+    """A long plan that is named very often, with less memory than all of these would take; and a long label. They could show
+    memory that a plan took and that isn't given back, and a label for which there is no room."""
+    task, names = task_with([2], operators=[turning("turn", 0)]), ["turn"] * LONG
+    plans = [("p", plan_text(names, LONG), valid_line(names), LONG)] * AGAIN
+    yield over_plans("a long plan named very often", task, plans, lines_about(plans), 0, memory=LEAN)
+    plans = [("./" * 2000 + "p", plan_text([], 0), "plan valid: 0 steps, cost 0", 0)]
+    yield over_plans("a long label", task, plans, lines_about(plans), 0)
+
+
+def plenty_cases():
+    """All of these."""
+    compare_traces()
+    compare_plans()
+    yield from long_traces()
+    yield from thousands_of_plans()
+    yield from long_files()
+    yield named_trace()
+    yield from limited_traces()
+    yield from limited_plans()
+    yield from late_faults()
+    yield from wide_traces()
+    yield from wide_files()
+    yield from piece_traces()

@@ -1,0 +1,269 @@
+"""Why a plan isn't valid, computed from the meaning of a task: the lines that `plan --why` prints behind the verdict. Two spaces
+stand in front of each, four where it belongs to the line above. A task here is as in walks.py; `fact` in a line represents
+`VARIABLE VALUE NAME`, with the name of the value.
+
+A run is the task, the names of a plan's steps, the operators of those steps that go through, and the states: the initial one, and
+the one behind each of these steps. A fact fails that doesn't hold in the last of them.
+
+    no operator of that name    step S NAME, and `like operator I NAME` of the first operator whose name is the same but for
+                                spaces at the end and capitals, if there is one
+    not applicable              step S NAME, then each operator of the name, with the cause of each precondition that fails
+    conflicting effects         step S NAME, operator I, and two of its effects that fire: E is the first that contradicts one
+                                before it, D the first that it contradicts
+    goal fact not reached       each goal fact that fails, with its cause
+    cost differs                metric M, steps S, and the sum of the cost lines, also where the metric doesn't count them
+
+Behind each of these comes the first step that went through and might as well mean an operator behind the one that it meant, as
+that has the name too and was applicable, with the first such operator.
+
+The cause of a fact that fails: what is asked, what the variable has instead, and since which step. That is the last one behind
+which it had another value than before; a step that sets the value that is there changes nothing. Where the variable is derived
+and isn't at its default, the rules of its derivation follow. Where it is derived and what is asked isn't the default, there
+follows for each rule that would give that the first of its conditions that fails, or that there is no such rule. A line of a rule
+that stands further up already isn't said again.
+
+Variables of a layer rise in rounds: in each round all whose rules hold in what has risen in the rounds before. The rule that
+gives a variable its value is the first of its rules that holds when it rises. The derivation of a variable has the variable,
+and with each one those that this rule asks for and that have risen, too; so none rests on itself.
+"""
+from functools import cached_property
+
+from axioms import value_name
+from steps import conflict, holds, initial, meant, next_state, preconditions, verdict
+
+
+class Run:
+    """How far the steps of a plan with these names go in a task."""
+
+    def __init__(self, task, names, operators, states):
+        self.task, self.names, self.operators, self.states = task, names, operators, states
+        self.last = states[-1]
+
+    @cached_property
+    def rising(self):
+        """How the derived variables come to the values that they have in the last state."""
+        return rising(self.task, self.last)
+
+
+def run_of(task, names):
+    """Returns the run of a plan with steps of these names."""
+    states, operators = [initial(task)], []
+    for name in names:
+        operator = meant(task, states[-1], name)
+        if isinstance(operator, str) or conflict(states[-1], task["operators"][operator]) is not None:
+            break
+        operators.append(operator)
+        states.append(next_state(task, states[-1], task["operators"][operator]))
+    return Run(task, names, operators, states)
+
+
+def fact_said(task, var, value):
+    """Returns a fact as it stands in a line."""
+    return f"{var} {value} {value_name(task, var, value)}"
+
+
+def operators_named(task, name):
+    """Returns the operators of exactly this name."""
+    return [place for place, operator in enumerate(task["operators"]) if operator[0] == name]
+
+
+def folded(name):
+    """Returns a name without the spaces at its end and with A to Z made small; other letters stay."""
+    return "".join(chr(ord(letter) + 32) if "A" <= letter <= "Z" else letter for letter in name.rstrip(" "))
+
+
+def like(task, name):
+    """Returns the first operator whose name is like this one; None where none is."""
+    names = (operator[0] for operator in task["operators"])
+    return next((place for place, its in enumerate(names) if folded(its) == folded(name)), None)
+
+
+def rules_of(task, var):
+    """Returns the rules of a variable that can fire: those whose new value isn't its default."""
+    rules = enumerate(task["rules"])
+    return [place for place, (_, of, _, new) in rules if of == var and new != task["defaults"][var]]
+
+
+def with_risen(task, state, rules, risen):
+    """Returns a state in which of the variables that have these rules those alone have risen that do so here."""
+    values = list(state)
+    for var, its in rules.items():
+        values[var] = task["rules"][its[0]][3] if var in risen else task["defaults"][var]
+    return values
+
+
+def rising_on(task, state, layer):
+    """Returns for each variable on a layer that rises in which round it does, and by which rule."""
+    variables = [var for var, its in enumerate(task["layers"]) if its == layer]
+    rules = {var: rules_of(task, var) for var in variables if rules_of(task, var)}
+    found, risen, rank = {}, None, 0
+    while risen != set(found):
+        risen, rank = set(found), rank + 1
+        values = with_risen(task, state, rules, risen)
+        for var, its in rules.items():
+            holding = [rule for rule in its if holds(values, task["rules"][rule][0])]
+            if holding:
+                found.setdefault(var, (rank, holding[0]))
+    return found
+
+
+def rising(task, state):
+    """Returns the same for the variables on all layers."""
+    found = {}
+    for layer in {layer for layer in task["layers"] if layer is not None}:
+        found.update(rising_on(task, state, layer))
+    assert set(found) == {var for var in range(len(state)) if is_risen(task, state, var)}
+    return found
+
+
+def is_risen(task, state, var):
+    """Returns whether a variable is derived and isn't at its default."""
+    return task["layers"][var] is not None and state[var] != task["defaults"][var]
+
+
+def derivation(run, var):
+    """Returns the variables of the derivation of one that has risen: by layer, by round, by number."""
+    found = [var]
+    for its in found:
+        _, rule = run.rising[its]
+        asked = (on for on, _ in run.task["rules"][rule][0] if is_risen(run.task, run.last, on))
+        found += [on for on in dict.fromkeys(asked) if on not in found]
+    ordered = sorted(found, key=lambda its: (run.task["layers"][its], run.rising[its][0], its))
+    assert_explains(run, var, ordered)
+    return ordered
+
+
+def assert_explains(run, var, ordered):
+    """Compares a derivation with what it is for: each rule asks for basic facts, for defaults on lower layers and for variables
+    that stand before its own, and gives the value that there is; the variable that is asked about is the last."""
+    task, before = run.task, set()
+    for its in ordered:
+        facts, of, _, new = task["rules"][run.rising[its][1]]
+        assert of == its and new == run.last[its] and holds(run.last, facts)
+        for on, value in facts:
+            layer = task["layers"][on]
+            is_lower_default = layer is not None and value == task["defaults"][on] and layer < task["layers"][its]
+            assert layer is None or is_lower_default or on in before
+        before.add(its)
+    assert ordered[-1] == var
+
+
+def since(run, var):
+    """Returns since when a variable has the value of the last state."""
+    steps = [step for step in range(1, len(run.states)) if run.states[step - 1][var] != run.states[step][var]]
+    return f"since step {steps[-1]} {run.names[steps[-1] - 1]}" if steps else "since the start"
+
+
+def given_by(run, var):
+    """Returns the rules of a variable's derivation, as they are said."""
+    if not is_risen(run.task, run.last, var):
+        return []
+    return [f"rule {run.rising[its][1]} gives {fact_said(run.task, its, run.last[its])}" for its in derivation(run, var)]
+
+
+def held_back(run, var, value):
+    """Returns what holds back the rules that would give a variable this value, as it is said."""
+    task = run.task
+    if task["layers"][var] is None or value == task["defaults"][var]:
+        return []
+    rules = [rule for rule in rules_of(task, var) if task["rules"][rule][3] == value]
+    if not rules:
+        return ["no rule gives it"]
+    asked = [next(fact for fact in task["rules"][rule][0] if not holds(run.last, [fact])) for rule in rules]
+    return [f"rule {rule} asks {fact_said(task, *fact)}" for rule, fact in zip(rules, asked)]
+
+
+def cause(run, fact):
+    """Returns the lines of the cause of a fact that fails in the last state."""
+    var, value = fact
+    said = [f"asks {fact_said(run.task, var, value)}", f"has {fact_said(run.task, var, run.last[var])}", since(run, var)]
+    return [f"    {line}" for line in [*said, *given_by(run, var), *held_back(run, var, value)]]
+
+
+def clash(state, effects):
+    """Returns two effects that fire and set a variable to different values: the second is the first that contradicts one before
+    it, and the first one is the first that it contradicts. None where none does."""
+    fired = [(place, var, new) for place, (facts, var, _, new) in enumerate(effects) if holds(state, facts)]
+    for second, var, new in fired:
+        against = [first for first, its, value in fired if first < second and its == var and value != new]
+        if against:
+            return against[0], second
+    return None
+
+
+def name_reasons(task, name):
+    """Returns the line of the operator whose name is like this one, if there is one."""
+    operator = like(task, name)
+    return [] if operator is None else [f"  like operator {operator} {task['operators'][operator][0]}"]
+
+
+def blocked_reasons(run, operator):
+    """Returns why an operator isn't applicable."""
+    facts = preconditions(run.task["operators"][operator])
+    failing = [fact for fact in facts if not holds(run.last, [fact])]
+    return [f"  operator {operator}", *(line for fact in failing for line in cause(run, fact))]
+
+
+def conflict_reasons(run, operator):
+    """Returns which effects of an operator conflict."""
+    said, effects = [f"  operator {operator}"], run.task["operators"][operator][2]
+    for place in clash(run.last, effects):
+        _, var, _, new = effects[place]
+        said.append(f"    effect {place} sets {fact_said(run.task, var, new)}")
+    return said
+
+
+def step_reasons(run):
+    """Returns why the first step that doesn't go through fails."""
+    step = len(run.states)
+    name = run.names[step - 1]
+    operator = meant(run.task, run.last, name)
+    if operator == "Unknown":
+        said = name_reasons(run.task, name)
+    elif operator == "Blocked":
+        said = [line for its in operators_named(run.task, name) for line in blocked_reasons(run, its)]
+    else:
+        said = conflict_reasons(run, operator)
+    return [f"  step {step} {name}", *said]
+
+
+def goal_reasons(run):
+    """Returns the goal facts that fail, each with its cause."""
+    failing = [(place, fact) for place, fact in enumerate(run.task["goal"]) if not holds(run.last, [fact])]
+    return [line for place, fact in failing for line in (f"  goal fact {place}", *cause(run, fact))]
+
+
+def cost_reasons(run):
+    """Returns what the cost of a plan is made of."""
+    lines = sum(run.task["operators"][operator][3] for operator in run.operators)
+    return [f"  metric {run.task['metric']}", f"  steps {len(run.names)}", f"  cost lines {lines}"]
+
+
+def may_mean(run):
+    """Returns the line of the first step that may mean a later operator, if there is one."""
+    for step, (operator, state) in enumerate(zip(run.operators, run.states), 1):
+        named = operators_named(run.task, run.names[step - 1])
+        later = [its for its in named if its > operator and holds(state, preconditions(run.task["operators"][its]))]
+        if later:
+            return [f"  step {step} may mean operator {later[0]}"]
+    return []
+
+
+def said_once(lines):
+    """Returns the lines without those of rules that stand further up already."""
+    return [line for place, line in enumerate(lines) if not line.startswith("    rule ") or line not in lines[:place]]
+
+
+def reasons_of(run):
+    """Returns the lines behind the verdict on the plan of a run that isn't valid."""
+    if len(run.operators) < len(run.names):
+        said = step_reasons(run)
+    else:
+        said = goal_reasons(run) or cost_reasons(run)
+    return said_once([*said, *may_mean(run)])
+
+
+def reasons(task, names, cost):
+    """Returns the verdict on a plan, and the lines behind it; none where the plan is valid."""
+    fault, _ = verdict(task, names, cost)
+    return fault, [] if fault.startswith("plan valid") else reasons_of(run_of(task, names))

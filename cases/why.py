@@ -1,0 +1,201 @@
+"""Plans with `--why`: cases as in program.json, for run.py. reasons.py computes what is said of them.
+
+why.json: small tasks, and plans of each.
+
+    task     as in walks.py; metric 0, no rules, no goal where that is left out, and what it is about
+    plans    plans of it:
+
+        shows    a mistake that this one could show
+        steps    the names of its steps
+        cost     its cost
+        lines    what is printed of it with `--why`
+
+Each of these is given to `plan` without `--why` too, and so are those that are made here at random. With it the first line is the
+same, and so is the status; the lines behind it begin with two spaces.
+"""
+import random
+
+from axioms import task_of, text_of
+from following import long_runs, run_over, turning_names, turning_task
+from reasons import reasons, reasons_of
+from steps import cost_of, holds
+from texts import as_bytes, changed_lines, table
+from walks import operated_task, plan_of, plan_text, random_facts, spoiled_plan, walk, walked_plans
+
+SEED = 9
+MINIMAL = {"file": "cases/tasks/minimal.sas"}
+# how many tasks are made as in walks.py, and as in following.py, and how many plans of each
+WALKED, TURNED, PLANS = 900, 350, 4
+# the most steps of a plan as in following.py
+TURNS = 12
+# where the flag may stand
+PLACES = (["--why", "t.sas", "p.txt"], ["t.sas", "--why", "p.txt"], ["t.sas", "p.txt", "--why"])
+
+
+def asked(name, task, plan, lines, words=PLACES[0]):
+    """Returns the case of a plan with `--why`, of which these lines are printed."""
+    return {
+        "name": f"{name}, plan {' '.join(words)}",
+        "words": ["plan", *words],
+        "files": {"t.sas": task, "p.txt": plan},
+        "output": "".join(f"{line}\n" for line in lines),
+        "status": 0 if lines[0].startswith("plan valid") else 1,
+    }
+
+
+def twice(name, task, plan, lines, words=PLACES[0]):
+    """Yields the same, and the case without `--why`."""
+    assert all(line.startswith("  ") for line in lines[1:]) and not lines[0].startswith(" ")
+    yield asked(name, task, plan, lines[:1], PLACES[0][1:])
+    yield asked(name, task, plan, lines, words)
+
+
+def written_task(task):
+    """Returns a task of why.json."""
+    parts = {"metric": 0, "rules": [], **task}
+    return {**parts, "goal": [tuple(fact) for fact in task.get("goal", [])]}
+
+
+def written_plans():
+    """Yields the plans of why.json: a name, the files of the task and of the plan, and the lines. These stand there, and are
+    computed too."""
+    for group in table("why.json"):
+        task = written_task(group["task"])
+        for plan in group["plans"]:
+            name, lines = f"{group['task']['about']}: {plan['shows']}", plan["lines"]
+            fault, behind = reasons(task, plan["steps"], plan["cost"])
+            assert [fault, *behind] == lines, name
+            yield name, text_of(task), plan_text(plan["steps"], plan["cost"]), lines
+
+
+def written_cases():
+    """Yields the plans of why.json, with either end of lines, and with the flag in each place."""
+    for name, task, plan, lines in written_plans():
+        for words in PLACES:
+            yield from twice(name, task, plan, lines, words)
+        yield asked(f"{name}, with CR LF", *(text.replace("\n", "\r\n") for text in (task, plan)), lines)
+
+
+def verdict_cases():
+    """Yields the plans of verdicts.json with `--why`, but for those that are too long. Nothing is told behind the refusal of a
+    file."""
+    for made in table("verdicts.json"):
+        task, plan = (as_bytes(made[it]).decode("latin-1") for it in ("task", "plan"))
+        fault, behind = made["output"].removesuffix("\n"), []
+        if "call" in made:
+            fault, behind = reasons(task_of(task), *plan_of(plan))
+            assert f"{fault}\n" == made["output"]
+        if "call" in made or " refused: " in fault:
+            yield asked(made["name"], task, plan, [fault, *behind])
+
+
+def refused_cases():
+    """Yields files that are refused, for the plan of a task or for its task: nothing is told behind that."""
+    for made in table("plans.json"):
+        if made["status"]:
+            plan = as_bytes(made["plan"])
+            yield asked(f"{made['name']}, of a task", as_bytes(MINIMAL), plan, [made["output"].removesuffix("\n")])
+    for changed in changed_lines():
+        if changed["fault"] or changed["layers"]:
+            said = f"task refused: {changed['fault'] or changed['layers']}"
+            yield asked(changed["name"], as_bytes(changed["task"]), "", [said])
+
+
+def walked_cases():
+    """Yields the plans of walks.py with `--why`."""
+    for made in walked_plans():
+        fault, behind = reasons(task_of(made["task"]), *plan_of(made["plan"]))
+        assert f"{fault}\n" == made["output"]
+        yield asked(made["name"], made["task"], made["plan"], [fault, *behind])
+
+
+def long_cases():
+    """Yields the long plans of following.py with `--why`. They could show a second pass over the steps that comes to other states
+    than the first."""
+    for made in long_runs():
+        fault = made["output"].removesuffix("\n")
+        behind = [] if fault.startswith("plan valid") else reasons_of(made["run"])
+        yield asked(made["name"], made["task"], made["plan"], [fault, *behind])
+
+
+def alike(chance, name):
+    """Returns a name that is like this one, or nearly."""
+    changed = (name.upper(), name.swapcase(), name.rstrip(), f"{name} ", f"{name}  ", f" {name}", f"{name}n", name[:-1])
+    return chance.choice(changed)
+
+
+def renamed(chance, names):
+    """Returns other names for these: some with capitals, which step names have too."""
+    return {name: chance.choice((name, name, name.upper(), name.title())) for name in names}
+
+
+def failing_goal(chance, task, state):
+    """Returns a goal that most often has facts that fail in a state, derived ones among them."""
+    facts = random_facts(chance, task, range(1, 7))
+    derived = [var for var, layer in enumerate(task["layers"]) if layer is not None]
+    for var in chance.sample(derived, min(len(derived), chance.randrange(9))):
+        value = chance.choice((task["defaults"][var], chance.randrange(task["ranges"][var])))
+        facts.insert(chance.randrange(len(facts) + 1), (var, value))
+    return facts if chance.random() < 0.9 else [fact for fact in facts if holds(state, [fact])]
+
+
+def spoiled(chance, task, names, cost):
+    """Returns a plan of which something is changed, most often: its cost, its steps, or the name of one."""
+    kind = chance.random()
+    if kind < 0.3 or not names:
+        return names, cost
+    if kind < 0.4:
+        return spoiled_plan(chance, task, names, cost)
+    place = chance.randrange(len(names) + 1)
+    name = chance.choice(task["operators"])[0]
+    if kind < 0.55:
+        name = alike(chance, name)
+    return [*names[:place], name, *names[place:]], cost
+
+
+def walked_again(chance):
+    """Yields tasks and plans as walks.py makes them, with other names, that fail in each way."""
+    task = operated_task(chance)
+    names = renamed(chance, {operator[0] for operator in task["operators"]})
+    for _ in range(PLANS):
+        steps, cost, state = walk(chance, task)
+        goal = [] if chance.random() < 0.4 else failing_goal(chance, task, state)
+        steps, cost = spoiled(chance, task, steps, cost)
+        operators = [(names[name], *parts) for name, *parts in task["operators"]]
+        yield {**task, "goal": goal, "operators": operators}, [names.get(step, step) for step in steps], cost
+
+
+def turned(chance):
+    """Yields tasks and plans as following.py makes them, that fail in each way."""
+    task, derived = turning_task(chance)
+    for _ in range(PLANS):
+        run = run_over(task, turning_names(chance, derived), chance.randrange(TURNS))
+        steps = [task["operators"][operator][0] for operator, _ in run]
+        cost = sum(cost_of(task, operator) for operator, _ in run)
+        state = run[-1][1] if run else task["defaults"]
+        if chance.random() < 0.4:
+            var = chance.choice(derived)
+            steps.append(f"ask {var} {chance.randrange(task['ranges'][var])}")
+        yield {**task, "goal": failing_goal(chance, task, state)}, *spoiled(chance, task, steps, cost)
+
+
+def random_cases():
+    """Yields plans made at random, with and without `--why`. They could show a wrong definition of reasons, in a case that no one
+    thought of."""
+    chance = random.Random(SEED)
+    for number in range(WALKED + TURNED):
+        made = walked_again(chance) if number < WALKED else turned(chance)
+        for place, (task, names, cost) in enumerate(made):
+            fault, behind = reasons(task, names, cost)
+            name, words = f"plan {place} of task {number}", PLACES[(number + place) % len(PLACES)]
+            yield from twice(name, text_of(task), plan_text(names, cost), [fault, *behind], words)
+
+
+def why_cases():
+    """All of these."""
+    yield from written_cases()
+    yield from verdict_cases()
+    yield from refused_cases()
+    yield from walked_cases()
+    yield from long_cases()
+    yield from random_cases()

@@ -1,0 +1,4 @@
+pub mod Deeds
+pub mod Judgement
+pub mod ReasonsText
+pub mod Verdict

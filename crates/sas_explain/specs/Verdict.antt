@@ -1,0 +1,43 @@
+-- The answers about plans with the reasons for a no.
+use Rattle.std.specs.Prelude.{◌≡◌, ◌⊎◌, ℕ, ◌<◌, ◌^◌, List, ◌++◌, length, Some}
+use Rattle.sas_core.specs.declared.parts.Parts.{Parts}
+use Rattle.sas_core.specs.PlanParts.{PlanParts}
+use Rattle.sas_lines.specs.Lines.{text}
+use Rattle.sas_run.specs.declared.plan_check.PlanFault.{PlanFault}
+use Rattle.sas_run.specs.Plans.{IsValid}
+use Rattle.sas_run.specs.Verdicts.{IsFaultOf}
+use Rattle.sas_output.specs.declared.ending.Status.TheVariants.{No}
+use Rattle.sas_output.specs.Ending.{Output, output_told}
+use Rattle.sas_answers.specs.Answers.{valid_answer, invalid_answer}
+use Rattle.sas_reasons.specs.WhyPlan.{IsWhy}
+use Rattle.sas_explain.specs.declared.plans.PlanAnswer.{PlanAnswer}
+use Rattle.sas_explain.specs.declared.plans.PlanAnswer.TheVariants.{Valid, Explained}
+
+-- the text of the answer about a plan with this fault: its verdict, and behind it the lines that
+-- tell why
+pub record Explains (p : Parts) (plan : PlanParts) (fault : PlanFault) (bytes : List ℕ)
+    : Type 0 where
+  pub verdict : Output
+  pub told : invalid_answer plan.cost fault ≡ Some verdict
+  pub reasons : List (List ℕ)
+  pub why : IsWhy p plan fault reasons
+  pub whole : bytes ≡ verdict.text ++ text reasons
+
+-- the answer about a plan, with reasons: that it is valid for the task, or else its fault and why
+abbrev pub WhyVerdict : Parts → PlanParts → Output → Type 0
+WhyVerdict p plan output =
+    (((operators : List ℕ) × IsValid p plan operators) × (output ≡ valid_answer plan))
+    ⊎ ((fault : PlanFault) × IsFaultOf p plan fault × Explains p plan fault output.text
+    × (output.status ≡ No))
+
+-- an answer, as an output
+abbrev pub output_of_plan : PlanAnswer → Output
+output_of_plan (Valid told) = output_told told
+output_of_plan (Explained bytes) = record { text = bytes; status = No }
+
+-- whatever the plan's fault is, its verdict and its reasons are short enough that their bytes can be
+-- counted
+abbrev pub ReasonsFit : Parts → PlanParts → Type 0
+ReasonsFit p plan = (fault : PlanFault) (verdict : Output) (reasons : List (List ℕ))
+    → invalid_answer plan.cost fault ≡ Some verdict → IsWhy p plan fault reasons
+    → length (verdict.text ++ text reasons) < 2 ^ 64

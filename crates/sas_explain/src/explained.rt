@@ -1,0 +1,125 @@
+// The answer about a plan that isn't valid, with its reasons. It is put together as it is written: names that are repeated may make it
+// far longer than the task.
+ghost use Rattle.std.specs.Prelude.{◌≡◌, ◌<◌, ◌^◌, ◌⊎◌, ◌↔◌, ◌++◌, [], length, false, Some};
+ghost use Rattle.std.specs.Prelude.{IfErr, IsErr, IsErrAnd, IsTrue, OnOk};
+ghost use Rattle.std.specs.Io.KnownBytes.{Appends};
+ghost use Rattle.sas_output.specs.Ending.{Ends, IsWrite};
+ghost use Rattle.sas_output.specs.Pieces.{PutsOrBreaks};
+ghost use Rattle.sas_explain.specs.ReasonsText.{reasons_text};
+
+use crate::lines::{Named, push_reason};
+use sas_flat::{FlatPlan, FlatTask};
+use sas_lines::{Short, Watched};
+use sas_meaning::Layered;
+use sas_output::{Pieces, Status, ToolFault};
+use sas_why::Line;
+use std::alloc::Global;
+use std::io::Write;
+use std::marker::Model;
+
+/// The answer about a plan that isn't valid, with its reasons. Its status is `No`. In a contract its value is its text. A `usize` can
+/// hold the text's length, so the bytes of it that are written can be counted.
+#[derive(Drop)]
+pub struct Explained {
+    verdict: Vec<u8>,
+    reasons: Vec<Line>,
+    task: Layered<FlatTask>,
+    plan: FlatPlan,
+}
+
+impl Model for Explained {
+    ghost use Rattle.std.specs.Prelude.{ℕ, List, ◌<◌, ◌^◌, ◌++◌, length};
+    ghost use Rattle.sas_explain.specs.ReasonsText.{reasons_text};
+
+    ghost Value = { List ℕ };
+
+    ghost view = { λ e. e.verdict.items ++ reasons_text e.task e.plan e.reasons.items };
+
+    ghost invariant = { λ e.
+        length (e.verdict.items ++ reasons_text e.task e.plan e.reasons.items) < 2 ^ 64 };
+}
+
+impl Explained {
+    /// Returns the answer with this verdict, a line with its end, and these reasons.
+    pub fn new(
+        verdict: Vec<u8>,
+        reasons: Vec<Line>,
+        task: Layered<FlatTask>,
+        plan: FlatPlan,
+    ) -> Explained
+        requires { length (verdict.items ++ reasons_text task plan reasons.items) < 2 ^ 64 }
+        ensures { result ≡ verdict.items ++ reasons_text task plan reasons.items }
+    {
+        Explained {
+            verdict,
+            reasons,
+            task,
+            plan,
+        }
+    }
+
+    /// Writes the text, in pieces. If an `Err` isn't a failed write, it is `Memory`, and nothing was written. Not to be called
+    /// after a failure.
+    pub fn write<W: Write>(&self, alloc: Global, out: &mut Watched<W>) -> Result<Status, ToolFault>
+        requires { out.old.failed ≡ false }
+        ensures ends { Ends
+            (λ output. output ≡ Some (record { text = self.now; status = Status.No }))
+            (Appends (W.contents out.old.device) (W.contents out.new.device)) result }
+        ensures nothing { IfErr result (λ e. IsWrite e
+            ⊎ ((e ≡ ToolFault.Memory) × (out.new ≡ out.old))) }
+        ensures writes { IsErrAnd result IsWrite ↔ IsTrue out.new.failed }
+    {
+        // What takes memory comes first.
+        let mut pieces = Pieces::new(alloc)?;
+        let named = Named {
+            task: &self.task,
+            plan: &self.plan,
+        };
+        let verdict = self.verdict.as_slice();
+        match push_explained(&mut pieces, out, verdict, &named, self.reasons.as_slice()) {
+            Ok(()) => Ok(Status::No),
+            Err(short) => Err(ToolFault::Write {
+                written: short.written,
+            }),
+        }
+    }
+}
+
+/// Writes the verdict and the lines behind it. In the end nothing is held back.
+fn push_explained<W: Write>(
+    pieces: &mut Pieces,
+    out: &mut Watched<W>,
+    verdict: &[u8],
+    named: &Named<'_>,
+    reasons: &[Line],
+) -> Result<(), Short>
+    requires { out.old.failed ≡ false }
+    ensures puts { PutsOrBreaks (W.contents out.old.device) (W.contents out.new.device)
+        pieces.old pieces.new
+        (verdict.now ++ reasons_text named.now.task.now named.now.plan.now reasons.now) result }
+    ensures empty { OnOk result (pieces.new.held ≡ []) }
+    ensures note { IsErr result ↔ IsTrue out.new.failed }
+{
+    pieces.push(out, verdict)?;
+    push_reasons(pieces, out, named, reasons)?;
+    pieces.flush(out)
+}
+
+/// Adds the lines, each with its end, to the text.
+fn push_reasons<W: Write>(
+    pieces: &mut Pieces,
+    out: &mut Watched<W>,
+    named: &Named<'_>,
+    reasons: &[Line],
+) -> Result<(), Short>
+    requires { out.old.failed ≡ false }
+    ensures puts { PutsOrBreaks (W.contents out.old.device) (W.contents out.new.device)
+        pieces.old pieces.new
+        (reasons_text named.now.task.now named.now.plan.now reasons.now) result }
+    ensures note { IsErr result ↔ IsTrue out.new.failed }
+{
+    for line in reasons {
+        push_reason(pieces, out, named, *line)?;
+    }
+    Ok(())
+}

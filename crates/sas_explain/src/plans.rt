@@ -1,0 +1,123 @@
+// Whether a plan is valid, and why it isn't.
+ghost use Rattle.std.specs.Prelude.{◌≡◌, Some, IfOk};
+ghost use Rattle.sas_run.specs.Verdicts.{IsFaultOf};
+ghost use Rattle.sas_explain.specs.Verdict.{WhyVerdict, ReasonsFit, output_of_plan};
+ghost use Rattle.sas_explain.specs.Judgement.{IsJudgement, IsAccepted};
+ghost use Rattle.sas_why.specs.Retracing.{IsRetraced};
+
+use crate::explained::Explained;
+use sas_answers::{accept_plan, refuse_plan, verdict_answer};
+use sas_axioms::Worklist;
+use sas_core::Stepwise;
+use sas_flat::{FlatPlan, FlatTask};
+use sas_meaning::Layered;
+use sas_output::{Status, Told};
+use sas_run::PlanFault;
+use sas_why::{Line, Retraced, reasons, retrace};
+use std::alloc::{AllocError, Global};
+
+/// The answer about a plan.
+#[derive(Drop)]
+pub enum PlanAnswer {
+    /// It is valid.
+    Valid(Told),
+    /// It isn't, and why.
+    Explained(Explained),
+}
+
+/// What is found out about a plan: an answer, but for the task and the plan that its reasons name.
+#[derive(Drop)]
+enum Judgement {
+    /// It is valid.
+    Valid(Told),
+    /// It isn't: the line that says so, and the reasons.
+    Refused {
+        verdict: Vec<u8>,
+        reasons: Vec<Line>,
+    },
+}
+
+/// Returns the answer about the plan of a task, with the reasons where it isn't valid. The verdict is found first; then the steps
+/// are gone through once more.
+pub fn explain_plan(
+    alloc: Global,
+    task: Layered<FlatTask>,
+    plan: FlatPlan,
+) -> Result<PlanAnswer, AllocError>
+    requires { ReasonsFit task plan }
+    ensures { IfOk result (λ a. WhyVerdict task plan (output_of_plan a)) }
+{
+    match judge(alloc, &task, &plan) {
+        Ok(Judgement::Refused { verdict, reasons }) => {
+            let explained = Explained::new(verdict, reasons, task, plan);
+            Ok(PlanAnswer::Explained(explained))
+        }
+        Ok(Judgement::Valid(told)) => {
+            drop(task);
+            drop(plan);
+            Ok(PlanAnswer::Valid(told))
+        }
+        Err(error) => {
+            drop(task);
+            drop(plan);
+            Err(error)
+        }
+    }
+}
+
+/// Judges the plan, and returns the reasons where it isn't valid.
+fn judge(alloc: Global, task: &Layered<FlatTask>, plan: &FlatPlan) -> Result<Judgement, AllocError>
+    ensures { IfOk result (IsJudgement task.now plan.now) }
+{
+    let verdict = verdict_answer(alloc, task, plan)?;
+    if verdict.status == Status::Yes {
+        return Ok(Judgement::Valid(verdict));
+    }
+    drop(verdict);
+    let noted = second_pass(alloc, task, plan)?;
+    let judgement = match noted.fault {
+        Some(fault) => explain_fault(alloc, task, plan, &noted, fault),
+        None => accept(alloc, plan),
+    };
+    drop(noted);
+    judgement
+}
+
+/// Goes through the steps of the plan once more, and notes what its reasons need.
+fn second_pass(
+    alloc: Global,
+    task: &Layered<FlatTask>,
+    plan: &FlatPlan,
+) -> Result<Retraced, AllocError>
+    ensures { IfOk result (λ noted. IsRetraced task.now plan.now noted) }
+{
+    let worklist = Worklist::new(alloc, task)?;
+    retrace(alloc, task, worklist, plan)
+}
+
+/// Returns that the plan is valid.
+fn accept(alloc: Global, plan: &FlatPlan) -> Result<Judgement, AllocError>
+    ensures { IfOk result (IsAccepted plan.now) }
+{
+    Ok(Judgement::Valid(accept_plan(alloc, plan)?))
+}
+
+/// Returns the reasons for the fault that the plan has, behind the line that tells it.
+fn explain_fault(
+    alloc: Global,
+    task: &Layered<FlatTask>,
+    plan: &FlatPlan,
+    noted: &Retraced,
+    fault: PlanFault,
+) -> Result<Judgement, AllocError>
+    requires noted { IsRetraced task.now plan.now noted.now }
+    requires fault { noted.now.fault ≡ Some fault }
+    ensures { IfOk result (IsJudgement task.now plan.now) }
+{
+    let lines = reasons(alloc, task, plan, noted, fault)?;
+    let verdict = refuse_plan(alloc, plan.cost(), fault)?;
+    Ok(Judgement::Refused {
+        verdict: verdict.text,
+        reasons: lines,
+    })
+}

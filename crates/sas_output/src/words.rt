@@ -1,0 +1,133 @@
+// Lines of words, as they go out.
+ghost use Rattle.std.specs.Prelude.{◌≡◌, ◌↔◌, false, [], ◌∷◌, ◌++◌, flat_map, replicate};
+ghost use Rattle.std.specs.Prelude.{IsErr, IsTrue, decimal};
+ghost use Rattle.sas_output.specs.Pieces.{PutsOrBreaks};
+ghost use Rattle.sas_output.specs.Words.{word_bytes, behind_space, spaces_of, words_line};
+
+use crate::pieces::Pieces;
+use itoa::Buffer;
+use sas_lines::{Short, Watched};
+use std::io::Write;
+
+/// A word of a line.
+#[derive(Clone, Copy, Debug)]
+pub enum Word<'w> {
+    /// These bytes.
+    Text(&'w [u8]),
+    /// This number, in decimal.
+    Number(u64),
+}
+
+/// How many spaces stand in front of a line.
+#[derive(Clone, Copy, Debug, PartialEq, Eq)]
+pub enum Indent {
+    None,
+    Two,
+    Four,
+}
+
+impl Indent {
+    /// Returns the spaces.
+    fn spaces(self) -> &'static [u8]
+        ensures { result.now ≡ replicate (spaces_of self) 32 }
+    {
+        match self {
+            Indent::None => b"",
+            Indent::Two => b"  ",
+            Indent::Four => b"    ",
+        }
+    }
+}
+
+/// A line of words: spaces in front, and one between each two words.
+#[derive(Clone, Copy, Debug)]
+pub struct Words<'w> {
+    pub indent: Indent,
+    pub first: &'w [u8],
+    pub rest: &'w [Word<'w>],
+}
+
+impl Pieces {
+    /// Adds the line and its end, LF, to the text. Not to be called after a failure.
+    pub fn push_line<W: Write>(
+        &mut self,
+        out: &mut Watched<W>,
+        line: Words<'_>,
+    ) -> Result<(), Short>
+        requires { out.old.failed ≡ false }
+        ensures puts { PutsOrBreaks (W.contents out.old.device) (W.contents out.new.device)
+            self.old self.new
+            (words_line line.entry ++ 10 ∷ []) result }
+        ensures note { IsErr result ↔ IsTrue out.new.failed }
+    {
+        self.push(out, line.indent.spaces())?;
+        self.push(out, line.first)?;
+        self.push_rest(out, line.rest)?;
+        self.push(out, b"\n")
+    }
+
+    /// Adds these words, with a space in front of each.
+    fn push_rest<W: Write>(&mut self, out: &mut Watched<W>, words: &[Word<'_>]) -> Result<(), Short>
+        requires { out.old.failed ≡ false }
+        ensures puts { PutsOrBreaks (W.contents out.old.device) (W.contents out.new.device)
+            self.old self.new
+            (flat_map behind_space words.now) result }
+        ensures note { IsErr result ↔ IsTrue out.new.failed }
+    {
+        for word in words {
+            self.push_word(out, *word)?;
+        }
+        Ok(())
+    }
+
+    /// Adds a space and the word.
+    fn push_word<W: Write>(&mut self, out: &mut Watched<W>, word: Word<'_>) -> Result<(), Short>
+        requires { out.old.failed ≡ false }
+        ensures puts { PutsOrBreaks (W.contents out.old.device) (W.contents out.new.device)
+            self.old self.new
+            (behind_space word.entry) result }
+        ensures note { IsErr result ↔ IsTrue out.new.failed }
+    {
+        match word {
+            Word::Text(bytes) => self.push_behind_space(out, bytes),
+            Word::Number(number) => self.push_number(out, number),
+        }
+    }
+
+    /// Adds a space and the number. Most numbers have one digit.
+    fn push_number<W: Write>(&mut self, out: &mut Watched<W>, number: u64) -> Result<(), Short>
+        requires { out.old.failed ≡ false }
+        ensures puts { PutsOrBreaks (W.contents out.old.device) (W.contents out.new.device)
+            self.old self.new
+            (32 ∷ decimal number) result }
+        ensures note { IsErr result ↔ IsTrue out.new.failed }
+    {
+        if number < 10 {
+            let digit = [b'0' + number as u8];
+            return self.push_behind_space(out, &digit);
+        }
+        let mut buffer = Buffer::new();
+        let digits = buffer.format(number).as_bytes();
+        self.push_behind_space(out, digits)
+    }
+
+    /// Adds a space and the bytes.
+    fn push_behind_space<W: Write>(
+        &mut self,
+        out: &mut Watched<W>,
+        bytes: &[u8],
+    ) -> Result<(), Short>
+        requires { out.old.failed ≡ false }
+        ensures puts { PutsOrBreaks (W.contents out.old.device) (W.contents out.new.device)
+            self.old self.new
+            (32 ∷ bytes.now) result }
+        ensures note { IsErr result ↔ IsTrue out.new.failed }
+    {
+        if self.has_room_behind_space(bytes) {
+            self.hold_behind_space(bytes);
+            return Ok(());
+        }
+        let parts: [&[u8]; 2] = [b" ", bytes];
+        self.push_all(out, &parts)
+    }
+}

@@ -1,0 +1,14 @@
+mod SideBySide
+mod BestPlans
+mod Tallying
+mod PlanVerdicts
+mod SaidPlans
+mod TaskAnswers
+mod JudgeLaws
+mod LastBytes
+mod PlanLines
+mod PlansHeadlines
+mod JudgeEndings
+mod TraceLengths
+mod TraceEnds
+mod TraceLaws

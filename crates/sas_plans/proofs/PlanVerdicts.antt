@@ -1,0 +1,116 @@
+-- The verdict on one plan, by what was read of it.
+use Rattle.std.proofs.Common.{◌≡◌, ◌≢◌, ℕ, List, codes, refl, sym, ◌∙◌, Option, Some, None, Result, Ok, Err}
+use Rattle.std.specs.Prelude.{IfOk, IfErr, IsErrOf}
+use Rattle.std.specs.Io.KnownBytes.{Consumes, IsAtEnd}
+use Rattle.sas_core.specs.declared.parts.Parts.{Parts}
+use Rattle.sas_core.specs.PlanParts.{PlanParts}
+use Rattle.sas_lines.specs.Device.{Device}
+use Rattle.sas_reader.specs.declared.fault.Fault.{Fault}
+use Rattle.sas_reader.specs.declared.fault.Kind.TheVariants as kinds
+use Rattle.sas_reader.specs.Devices.{ValueOf, ReadsAll}
+use Rattle.sas_reader.specs.Format.{ReadsAs}
+use Rattle.sas_reader.specs.Limit.{most_bytes}
+use Rattle.sas_reader.proofs.Known.{known_answer, known_fault}
+use Rattle.sas_plan_file.specs.PlanFormat.{plan_format}
+use Rattle.sas_output.specs.declared.ending.Status.{Status}
+use Rattle.sas_output.specs.declared.ending.Status.TheVariants.{Yes, No}
+use Rattle.sas_output.specs.declared.ending.ToolFault.{ToolFault}
+use Rattle.sas_output.specs.declared.ending.ToolFault.TheVariants as tool_fault
+use Rattle.sas_output.specs.Ending.{Output, IsWrite}
+use Rattle.sas_answers.specs.Answers.{VerdictAnswer}
+use Rattle.sas_requests.specs.Output.{refusal, refusal_line, word_of}
+use Rattle.sas_requests.proofs.Outputs.{refused_kind, too_long_else, reading_of_refusal, file_refused, file_too_long}
+use Rattle.sas_requests.proofs.WhyAnswers.{worded}
+use Rattle.sas_plans.specs.declared.verdicts.Verdict.{Verdict}
+use Rattle.sas_plans.specs.Judged.{HasCost}
+use Rattle.sas_plans.specs.Judging.{IsFront, IsRefused, IsVerdict, TellsPlan, cost_if, Judges}
+
+-- ---- what was read of known bytes
+
+pub consumed_front : (old new : Option (List ℕ)) (c : List ℕ) → Consumes old new c → IsFront old c
+consumed_front None new c h whole e = absurd cc
+consumed_front (Some xs) None c h whole e = absurd h
+consumed_front (Some xs) (Some ys) c h whole e = (ys, let same : xs ≡ whole = cc in sym same ∙ h)
+
+-- ---- a plan that was read
+
+cost_of : (c : List ℕ) (plan : PlanParts) (s : Status) (cost : Option ℕ) → ReadsAs plan_format most_bytes c (Ok plan) → cost ≡ cost_if s plan.cost → HasCost c s cost
+cost_of c plan Yes cost reads e = (plan, reads.0, e)
+cost_of c plan No cost reads e = e
+
+read_verdict : (p : Parts) (c : List ℕ) (plan : PlanParts) (v : Verdict) → ReadsAs plan_format most_bytes c (Ok plan) → TellsPlan p plan v → IsVerdict p c v
+read_verdict p c plan v reads (output, answer, line, cost) =
+    (output, (Ok plan, reads, (output, answer, refl)), line, cost_of c plan output.status v.cost reads cost)
+
+-- ---- a plan file that is refused
+
+refused_status : (name : List ℕ) (f : Fault) (o : Output) → refusal name f ≡ Some o → o.status ≡ No
+refused_status name f o is = (worded (word_of f.kind) (refusal_line name f.line) o is).status
+
+no_cost : (c : List ℕ) (s : Status) (cost : Option ℕ) → s ≡ No → cost ≡ None → HasCost c s cost
+no_cost c Yes cost e none = absurd cc
+no_cost c No cost e none = none
+
+refused_verdict : (p : Parts) (c : List ℕ) (f : Fault) (v : Verdict) → IsRefused f v → (f.kind ≢ kinds.Memory → f.kind ≢ kinds.Read → ReadsAs plan_format most_bytes c (Err f)) → IsVerdict p c v
+refused_verdict p c f v (o, is, line, cost) fault =
+    (o, file_refused plan_format (codes "plan") (VerdictAnswer p) c f o is fault, line, no_cost c o.status v.cost (refused_status (codes "plan") f o is) cost)
+
+-- ---- as it is read from a device
+
+module _ {D : Type 0} (left : D → Option (List ℕ)) (p : Parts) (old new : Device D) where
+  pub judges_read : (plan : PlanParts) (v : Verdict) → ReadsAll left plan_format (ValueOf plan_format) old new (Ok plan) → TellsPlan p plan v → Judges p (left old.device) (Ok v)
+  judges_read plan v h tells = record {
+    output = λ c known. read_verdict p c plan v (known_answer left plan_format (ValueOf plan_format) old new plan c h known) tells;
+    taken = λ decided.
+        let got = h.read in
+        (got.0, consumed_front (left old.device) (left new.device) got.0 got.1.0, read_verdict p got.0 plan v got.2 tells);
+    writes = tt;
+  }
+
+  module _ (f : Fault) (h : ReadsAll left plan_format (ValueOf plan_format) old new (Err f)) where
+    judges_refused : (v : Verdict) → IsRefused f v → Judges p (left old.device) (Ok v)
+    judges_refused v is = record {
+      output = λ c known. refused_verdict p c f v is (known_fault left plan_format (ValueOf plan_format) old new f c h known);
+      taken = λ decided.
+          let got = h.fault (refused_kind f.kind kinds.Memory _ is.0 refl is.1) in (
+            got.0,
+            consumed_front (left old.device) (left new.device) got.0 got.1,
+            refused_verdict p got.0 f v is (λ memory read. reading_of_refusal plan_format got.0 (IsAtEnd (left new.device)) f got.2 read),
+          );
+      writes = tt;
+    }
+
+    -- or the run ends at it
+    judges_long : f.kind ≡ kinds.TooLong → Judges p (left old.device) (Err tool_fault.TooLong)
+    judges_long long = record {
+      output = λ c known e. file_too_long plan_format (codes "plan") (VerdictAnswer p) c f long (known_fault left plan_format (ValueOf plan_format) old new f c h known);
+      taken = λ decided.
+          let got = h.fault (too_long_else f.kind kinds.Memory long (λ e. absurd cc)) in (
+            got.0,
+            consumed_front (left old.device) (left new.device) got.0 got.1,
+            λ e. file_too_long plan_format (codes "plan") (VerdictAnswer p) got.0 f long (λ memory read. reading_of_refusal plan_format got.0 (IsAtEnd (left new.device)) f got.2 read),
+          );
+      writes = λ w. w;
+    }
+
+    judges_none : (why : ToolFault) → (IsErrOf {T = Verdict} (Err why) tool_fault.TooLong → f.kind ≡ kinds.TooLong) → (IsWrite why → ⊥) → Judges p (left old.device) (Err why)
+    judges_none tool_fault.TooLong long writes = judges_long (long refl)
+    judges_none tool_fault.Memory long writes = record { output = λ c known e. absurd cc; taken = λ decided. absurd decided; writes = writes }
+    judges_none tool_fault.Read long writes = record { output = λ c known e. absurd cc; taken = λ decided. absurd decided; writes = writes }
+    judges_none (tool_fault.Write n) long writes = absurd (writes tt)
+
+    pub judges_fault : (r : Result Verdict ToolFault) → IfOk r (IsRefused f) → (IsErrOf r tool_fault.TooLong → f.kind ≡ kinds.TooLong) → IfErr r (λ e. IsWrite e → ⊥) → Judges p (left old.device) r
+    judges_fault (Ok v) ok long writes = judges_refused v ok
+    judges_fault (Err why) ok long writes = judges_none why long writes
+
+-- ---- of an input whose bytes are those of the plan, where these are known
+
+pub judges_by : (p : Parts) (a b : Option (List ℕ)) (r : Result Verdict ToolFault) → ((whole : List ℕ) → b ≡ Some whole → a ≡ Some whole) → Judges p a r → Judges p b r
+judges_by p a b r to h = record {
+  output = λ c known. h.output c (to c known);
+  taken = λ decided. let t = h.taken decided in (t.0, λ whole known. t.1 whole (to whole known), t.2);
+  writes = h.writes;
+}
+
+pub judges_unopened : (p : Parts) (known : Option (List ℕ)) → Judges p known (Err tool_fault.Read)
+judges_unopened p known = record { output = λ c is e. absurd cc; taken = λ decided. absurd decided; writes = λ w. w }

@@ -1,0 +1,173 @@
+-- What is printed of many plans tells which of them solve the task.
+use Rattle.std.proofs.Common.{◌≡◌, ℕ, zero, suc, ◌<◌, Bool, true, false, List, [], ◌∷◌, ◌++◌, length, get_or, codes, decimal, append_assoc, refl, sym, ap, subst, ◌∙◌, arith, Option, Some, None, Result, Ok, Err}
+use Rattle.std.specs.Prelude.{◌↔◌, All, zip, is_some, if◌then◌else◌}
+use Rattle.std.specs.List.{list_all}
+use Rattle.std.specs.Io.KnownBytes.{Appends}
+use Rattle.std.proofs.lemmas.List.{append_cancel_left, append_cancel_right}
+use Rattle.std.proofs.lemmas.List.Elements.{All-get_or, All-from_get_or}
+use Rattle.std.proofs.lemmas.List.Sums.{AllPass-from_list_all, list_all-from_AllPass}
+use Rattle.sas_core.specs.declared.parts.Parts.{Parts}
+use Rattle.sas_core.specs.FirstFault.{first_fault}
+use Rattle.sas_meaning.specs.declared.layered.LayerFault.{LayerFault}
+use Rattle.sas_meaning.specs.Layers.{IsLayered}
+use Rattle.sas_meaning.specs.LayerChecks.{layer_checks}
+use Rattle.sas_meaning.proofs.LayerChecksAreRules.{checks_are_rules}
+use Rattle.sas_lines.specs.Lines.{lines}
+use Rattle.sas_lines.proofs.Splitting.{lines-one}
+use Rattle.sas_reader.specs.declared.fault.Fault.{Fault}
+use Rattle.sas_reader.specs.Format.{ReadsAs}
+use Rattle.sas_reader.specs.Limit.{most_bytes}
+use Rattle.sas_reader.proofs.Plain.{plain}
+use Rattle.sas_task_format.specs.TaskFormat.{task_format}
+use Rattle.sas_task_format.proofs.TaskLaws.{task_laws_hold}
+use Rattle.sas_output.specs.declared.ending.Status.{Status}
+use Rattle.sas_output.specs.declared.ending.Status.TheVariants.{Yes, No}
+use Rattle.sas_output.specs.Ending.{Output}
+use Rattle.sas_answers.specs.Answers.{VerdictAnswer}
+use Rattle.sas_answers.specs.PlanWords.{valid_line}
+use Rattle.sas_requests.specs.Headline.{Solves, Headline}
+use Rattle.sas_requests.specs.Output.{IsLayeredText}
+use Rattle.sas_requests.proofs.Headlines.{tells_valid, headline_of, sent_same}
+use Rattle.sas_requests.proofs.PlanAnswers.{judged_out}
+use Rattle.sas_plans.specs.Inputs.{IsLabel}
+use Rattle.sas_plans.specs.Judged.{Judged, HasCost, IsJudged, PlansAnswer, JudgedLayers, JudgedTask, JudgeOut, is_valid, labelled}
+use Rattle.sas_plans.specs.Judging.{unjudged}
+use Rattle.sas_plans.specs.PlansHeadline.{PlansHeadline, line_of, labelled_valid}
+use Rattle.sas_plans.proofs.SideBySide.{zip_long, zip_at}
+use Rattle.sas_plans.proofs.JudgeLaws.{refuses_as_plan}
+use Rattle.sas_plans.proofs.LastBytes.{last, IsDigit, digit_behind}
+use Rattle.sas_plans.proofs.PlanLines.{IsLine, IsRefusal, verdict_line, labelled_line, line_at, file_refusal, layers_refused}
+
+-- what is said of one plan, and what that tells
+record PlanTold (b c label : List ℕ) (j : Judged) : Type 0 where
+  output : Output
+  headline : Headline b c (Appends (Some []) (Some output.text)) output.status
+  line : labelled j ≡ label ++ codes ": " ++ output.text
+  valid : (output.status ≡ Yes) ↔ (is_valid j ≡ true)
+  is_line : IsLine (labelled j)
+
+status_valid : (c : List ℕ) (s : Status) (cost : Option ℕ) → HasCost c s cost → (s ≡ Yes) ↔ (is_some cost ≡ true)
+status_valid c Yes cost (plan, reads, is) = (λ e. rw is refl, λ e. refl)
+status_valid c No cost is = (λ e. absurd cc, λ e. (let other : false ≡ true = rw is at e in absurd cc))
+
+-- ---- of a layered task
+
+module _ (p : Parts) (layered : IsLayered p) (labels : List (List ℕ)) (b : List ℕ) (cs : List (List ℕ)) (reads : ReadsAs task_format most_bytes b (Ok p)) (many : length cs ≡ length labels) (are_labels : All IsLabel labels) where
+  plan_told : (label c : List ℕ) (j : Judged) → IsLabel label → IsJudged p (label, c) j → PlanTold b c label j
+  plan_told label c j is_label (o, out, same, line, cost) = record {
+    output = o;
+    headline = headline_of VerdictAnswer tells_valid b c o (judged_out VerdictAnswer p layered b c reads (Some o) out) (Some []) (Some o.text) [] o.status refl refl refl;
+    line = ap (λ (x : List ℕ). x ++ codes ": " ++ j.line) same ∙ ap (λ (x : List ℕ). label ++ codes ": " ++ x) line;
+    valid = status_valid c o.status j.cost cost;
+    is_line = labelled_line label j is_label same (subst IsLine (sym line) (verdict_line p c o out));
+  }
+
+  module _ (o : Output) (answer : PlansAnswer p (zip labels cs) o) where
+    all_long : length answer.all ≡ length labels
+    all_long = zip_long (IsJudged p) labels cs answer.all many answer.each
+
+    told_at : (k : ℕ) → k < length labels → PlanTold b (get_or cs k []) (get_or labels k []) (get_or answer.all k unjudged)
+    told_at k less =
+        plan_told (get_or labels k []) (get_or cs k []) (get_or answer.all k unjudged) (All-get_or IsLabel labels k [] less are_labels) (zip_at (IsJudged p) unjudged labels cs answer.all k many answer.each less)
+
+    text_at : (k : ℕ) (less : k < length labels) → line_of o.text k ≡ get_or labels k [] ++ codes ": " ++ (told_at k less).output.text
+    text_at k less =
+        ap (λ (x : List ℕ). line_of x k) answer.whole
+        ∙ line_at answer.all answer.summary k (λ i within. (told_at i (omega (arith, all_long, within))).is_line) (omega (arith, all_long))
+        ∙ (told_at k less).line
+
+    valid_at : (k steps cost : ℕ) → k < length labels → (line_of o.text k ≡ labelled_valid (get_or labels k []) steps cost) ↔ Solves b (get_or cs k []) (valid_line steps cost)
+    valid_at k steps cost less =
+        let told = told_at k less in
+        let both = told.headline.line steps cost in (
+          λ e. both.0 (append_cancel_left (get_or labels k [] ++ codes ": ") told.output.text (valid_line steps cost) (sym (text_at k less) ∙ e)),
+          λ solves. text_at k less ∙ ap (λ (x : List ℕ). get_or labels k [] ++ codes ": " ++ x) (both.1 solves),
+        )
+
+    all_solve : o.status ≡ Yes → (k : ℕ) → k < length labels → (steps cost : ℕ) × Solves b (get_or cs k []) (valid_line steps cost)
+    all_solve is_yes k less =
+        let told = told_at k less in
+        let pass = AllPass-from_list_all is_valid answer.all (all_pass (list_all is_valid answer.all) (sym answer.status ∙ is_yes)) in
+        told.headline.yes.0 (told.valid.1 (pass k unjudged (omega (arith, all_long))))
+      where
+        all_pass : (t : Bool) → (if t then Yes else No) ≡ Yes → t ≡ true
+        all_pass true e = refl
+        all_pass false e = absurd cc
+
+    status_yes : ((k : ℕ) → k < length labels → (steps cost : ℕ) × Solves b (get_or cs k []) (valid_line steps cost)) → o.status ≡ Yes
+    status_yes solve =
+        let pass = All-from_get_or (λ (j : Judged). is_valid j ≡ true) answer.all unjudged
+        (λ k less. let within : k < length labels = omega (arith, all_long, less) in let told = told_at k within in told.valid.0 (told.headline.yes.1 (solve k within))) in
+        answer.status ∙ ap (λ (t : Bool). if t then Yes else No) (list_all-from_AllPass is_valid answer.all pass)
+
+    headline_layered : (old new : Option (List ℕ)) (before : List ℕ) (status : Status) → old ≡ Some before → status ≡ o.status → Appends old new o.text → PlansHeadline labels b cs (Appends old new) status
+    headline_layered old new before status known is sent = record {
+      line = λ number steps cost out less sent_out.
+          subst (λ (x : List ℕ). (line_of x number ≡ labelled_valid (get_or labels number []) steps cost) ↔ Solves b (get_or cs number []) (valid_line steps cost)) (sent_same old new before o.text out known sent sent_out)
+          (valid_at number steps cost less);
+      yes = (λ e. ((p, reads, layered), all_solve (sym is ∙ e)), λ h. is ∙ status_yes h.1);
+    }
+
+-- ---- of a task that is refused
+
+not_valid : (line label : List ℕ) (steps cost : ℕ) → (IsDigit (last line) → ⊥) → line ++ 10 ∷ [] ≡ labelled_valid label steps cost → ⊥
+not_valid line label steps cost other e =
+    let front = label ++ codes ": " in
+    let words = codes "plan valid: " ++ decimal steps ++ codes " steps, cost " in
+    let regrouped : labelled_valid label steps cost ≡ (front ++ words ++ decimal cost) ++ 10 ∷ [] =
+    sym (append_assoc front (words ++ decimal cost) (10 ∷ [])) ∙ ap (λ (x : List ℕ). x ++ 10 ∷ []) (sym (append_assoc front words (decimal cost))) in
+    let same : line ≡ front ++ words ++ decimal cost = append_cancel_right line (front ++ words ++ decimal cost) (10 ∷ []) (e ∙ regrouped) in
+    other (subst (λ (x : List ℕ). IsDigit (last x)) (sym same) (digit_behind (front ++ words) cost))
+
+module _ (labels : List (List ℕ)) (b : List ℕ) (cs : List (List ℕ)) (o : Output) (out : JudgeOut labels b cs (Some o)) (refused : IsRefusal o) (unlayered : IsLayeredText b → ⊥) where
+  no_digit : (k : ℕ) → IsDigit (last (get_or (refused.line ∷ []) k [])) → ⊥
+  no_digit zero d = omega (arith, d.1, refused.letter)
+  no_digit (suc k) d = omega (arith, d.0)
+
+  no_line : (k steps cost : ℕ) (label : List ℕ) → line_of o.text k ≡ labelled_valid label steps cost → ⊥
+  no_line k steps cost label e =
+      let line = plain refused.line refused.plain in
+      let one : lines o.text ≡ refused.line ∷ [] = ap lines refused.is ∙ lines-one refused.line line.no_end ∙ ap (λ (x : List ℕ). x ∷ []) line.no_return in
+      not_valid (get_or (refused.line ∷ []) k []) label steps cost (no_digit k) (sym (ap (λ (x : List (List ℕ)). get_or x k [] ++ 10 ∷ []) one) ∙ e)
+
+  none_solves : (c : List ℕ) (steps cost : ℕ) → Solves b c (valid_line steps cost) → ⊥
+  none_solves c steps cost solves =
+      let h = headline_of VerdictAnswer tells_valid b c o (refuses_as_plan labels b cs o unlayered out c) (Some []) (Some o.text) [] o.status refl refl refl in
+      let apart : No ≡ Yes = sym refused.status ∙ h.yes.1 (steps, cost, solves) in
+      absurd cc
+
+  headline_refused : (old new : Option (List ℕ)) (before : List ℕ) (status : Status) → old ≡ Some before → status ≡ o.status → Appends old new o.text → PlansHeadline labels b cs (Appends old new) status
+  headline_refused old new before status known is sent = record {
+    line = λ number steps cost sent_out less sent_too. (
+      λ e. absurd (no_line number steps cost (get_or labels number []) (ap (λ (x : List ℕ). line_of x number) (sent_same old new before o.text sent_out known sent sent_too) ∙ e)),
+      λ solves. absurd (none_solves (get_or cs number []) steps cost solves),
+    );
+    yes = (λ e. (let apart : No ≡ Yes = sym refused.status ∙ sym is ∙ e in absurd cc), λ h. absurd (unlayered h.0));
+  }
+
+-- ---- both
+
+module _ (labels : List (List ℕ)) (b : List ℕ) (cs : List (List ℕ)) (o : Output) (many : length cs ≡ length labels) (are_labels : All IsLabel labels)
+    (old new : Option (List ℕ)) (before : List ℕ) (status : Status) (known : old ≡ Some before) (is : status ≡ o.status) (sent : Appends old new o.text) where
+  layers_headline : (p : Parts) (first : Option LayerFault) → first_fault (layer_checks p) ≡ first → ReadsAs task_format most_bytes b (Ok p) → JudgeOut labels b cs (Some o) → JudgedLayers p first (zip labels cs) (Some o)
+      → PlansHeadline labels b cs (Appends old new) status
+  layers_headline p None e reads out judged = headline_layered p ((checks_are_rules p).0 e) labels b cs reads many are_labels o judged old new before status known is sent
+  layers_headline p (Some fault) e reads out judged =
+      headline_refused labels b cs o out (layers_refused fault o (sym judged))
+      (λ (q, other, layered).
+      let same : Ok p ≡ Ok q = task_laws_hold.one_reading most_bytes b (Ok p) (Ok q) reads other in
+      let parts : p ≡ q = cc in
+      let none : first_fault (layer_checks p) ≡ None = (checks_are_rules p).1 (subst IsLayered (sym parts) layered) in
+      let apart : Some fault ≡ None = sym e ∙ none in
+      absurd cc)
+      old new before status known is sent
+
+  task_headline : (r : Result Parts Fault) → ReadsAs task_format most_bytes b r → JudgeOut labels b cs (Some o) → JudgedTask r (zip labels cs) (Some o) → PlansHeadline labels b cs (Appends old new) status
+  task_headline (Ok p) reads out judged = layers_headline p (first_fault (layer_checks p)) refl reads out judged
+  task_headline (Err f) reads out judged =
+      headline_refused labels b cs o out (file_refusal f o (sym judged))
+      (λ (q, other, layered). let same : Err f ≡ Ok q = task_laws_hold.one_reading most_bytes b (Err f) (Ok q) reads other in absurd cc)
+      old new before status known is sent
+
+  pub plans_headline_of : JudgeOut labels b cs (Some o) → PlansHeadline labels b cs (Appends old new) status
+  plans_headline_of out = task_headline out.0 out.1 out out.2

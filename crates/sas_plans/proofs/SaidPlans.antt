@@ -1,0 +1,198 @@
+-- What is said of one plan after another.
+use Rattle.std.proofs.Common.{◌≡◌, ◌≢◌, ℕ, ◌+◌, ◌<◌, ◌≤◌, ◌⊎◌, List, [], ◌∷◌, ◌++◌, length, get_or, codes, decimal, append_assoc, append-nil, refl, sym, ap, subst, ◌∙◌, arith, inl, inr, Option, Some, None, Ok, Err}
+use Rattle.std.specs.Prelude.{zip, flat_map, count_by, if◌then◌else◌, IsErrOf}
+use Rattle.std.specs.List.{list_all}
+use Rattle.std.proofs.Math.ListN.{get_or-append}
+use Rattle.std.proofs.Math.Seq.{get_or-append_seam}
+use Rattle.std.proofs.lemmas.Bool.{cases_lt}
+use Rattle.std.proofs.lemmas.List.{length_push}
+use Rattle.std.proofs.lemmas.List.Sums.{count_by-le-length}
+use Rattle.std.proofs.lemmas.Grind.{flat_map-append}
+use Rattle.sas_core.specs.declared.parts.Parts.{Parts}
+use Rattle.sas_output.specs.declared.ending.Status.{Status}
+use Rattle.sas_output.specs.declared.ending.Status.TheVariants.{Yes, No}
+use Rattle.sas_output.specs.declared.ending.ToolFault.{ToolFault}
+use Rattle.sas_output.specs.declared.ending.ToolFault.TheVariants as tool_fault
+use Rattle.sas_output.specs.Ending.{IsDecided, IsWrite}
+use Rattle.sas_answers.specs.Answers.{VerdictAnswer}
+use Rattle.sas_requests.specs.Output.{VerdictOut}
+use Rattle.sas_plans.specs.declared.inputs.JudgeFault.{JudgeFault}
+use Rattle.sas_plans.specs.declared.inputs.JudgeFault.TheVariants.{Tool}
+use Rattle.sas_plans.specs.declared.tally.Best.{Best}
+use Rattle.sas_plans.specs.declared.tally.Tally.{Tally}
+use Rattle.sas_plans.specs.declared.verdicts.Verdict.{Verdict}
+use Rattle.sas_plans.specs.Inputs.{tool_fault as fault_of}
+use Rattle.sas_plans.specs.Judged.{Judged, IsJudged, IsBest, IsSummary, PlansAnswer, PlansOut, count_words, is_valid, labelled}
+use Rattle.sas_plans.specs.Judging.{AreSaid, AreTold, HasBest, IsFront, IsOneUnsaid, IsPlace, IsSaid, IsUnsaid, Judges, JudgesPlans, Tallies, summary_of, unjudged}
+use Rattle.sas_plans.proofs.SideBySide.{all_zip, choose, contains_pair}
+use Rattle.sas_plans.proofs.Tallying.{status_yes, status_no}
+
+-- ---- one plan
+
+-- what is said of a plan with this label, by the verdict on it
+pub said_of : (p : Parts) (known : Option (List ℕ)) (label : List ℕ) (v : Verdict) → Judges p known (Ok v) → IsSaid p known label (record { label = label; line = v.line.items; cost = v.cost })
+said_of p known label v h = record {
+  output = λ c e. let is = h.output c e in (is.0, is.1, refl, is.2, is.3);
+  taken = let t = h.taken tt in (t.0, t.1, (t.2.0, t.2.1, refl, t.2.2, t.2.3));
+}
+
+-- how that is pushed
+pub said_text : (before after label same_label line same_line : List ℕ) (cost : Option ℕ) → after ≡ before ++ (label ++ codes ": " ++ line) → label ≡ same_label → line ≡ same_line
+    → after ≡ before ++ labelled (record { label = same_label; line = same_line; cost = cost })
+said_text before after label same_label line same_line cost is e f =
+    is ∙ ap (λ (x : List ℕ). before ++ (x ++ codes ": " ++ line)) e ∙ ap (λ (x : List ℕ). before ++ (same_label ++ codes ": " ++ x)) f
+
+-- of the same plan
+pub said_same : (p q : Parts) (a b : Option (List ℕ)) (l m : List ℕ) (j : Judged) → p ≡ q → a ≡ b → l ≡ m → IsSaid p a l j → IsSaid q b m j
+said_same p q a b l m j e f g h =
+    subst (λ (x : Parts). IsSaid x b m j) e (subst (λ (x : Option (List ℕ)). IsSaid p x m j) f (subst (λ (x : List ℕ). IsSaid p a x j) g h))
+
+pub unsaid_same : (p q : Parts) (a b : Option (List ℕ)) (why : JudgeFault) → p ≡ q → a ≡ b → IsUnsaid p a why → IsUnsaid q b why
+unsaid_same p q a b why e f h = subst (λ (x : Parts). IsUnsaid x b why) e (subst (λ (x : Option (List ℕ)). IsUnsaid p x why) f h)
+
+-- why nothing is said of it
+pub unsaid : (p : Parts) (known : Option (List ℕ)) (why : JudgeFault) → Judges p known (Err (fault_of why)) → (IsErrOf {T = Verdict} (Err why) (Tool tool_fault.Read) → ⊥) → IsUnsaid p known why
+unsaid p known why h task = record {
+  output = h.output;
+  taken = λ long. let t = h.taken (rw long tt) in (t.0, t.1, t.2 long);
+  reads = λ e. task (ap Err e);
+  writes = h.writes;
+}
+
+-- ---- which faults the inputs decide
+
+pub decided_long : (why : ToolFault) → IsDecided {T = Status} (Err why) → (IsWrite why → ⊥) → why ≡ tool_fault.TooLong
+decided_long tool_fault.TooLong decided writes = refl
+decided_long tool_fault.Memory decided writes = absurd decided
+decided_long tool_fault.Read decided writes = absurd decided
+decided_long (tool_fault.Write n) decided writes = absurd (writes tt)
+
+same_or_not : (m n : ℕ) → (m ≡ n) ⊎ (m ≢ n)
+same_or_not m n = elim (cases_lt m n) [
+  | inl less ↦ inr (λ e. omega arith)
+  | inr from ↦ elim (cases_lt n m) [ inl more ↦ inr (λ e. omega arith) | inr back ↦ (let e : m ≡ n = omega arith in inl e) ]
+]
+
+-- ---- one plan more
+
+module _ (p : Parts) (known : ℕ → Option (List ℕ)) (labels : List (List ℕ)) where
+  said_at : (all : List Judged) (j : Judged) (n : ℕ) → AreSaid p known labels n all → IsSaid p (known n) (get_or labels n []) j → (k : ℕ) → k < n + 1 → (k < n) ⊎ (n ≡ k)
+      → IsSaid p (known k) (get_or labels k []) (get_or (all ++ j ∷ []) k unjudged)
+  said_at all j n said h k less (inl before) =
+      subst (λ (x : Judged). IsSaid p (known k) (get_or labels k []) x) (sym (get_or-append all (j ∷ []) unjudged k (omega (arith, said.many)))) (said.each k before)
+  said_at all j n said h k less (inr here) =
+      let last : get_or (all ++ j ∷ []) (length all) unjudged ≡ j = get_or-append_seam all j [] unjudged in
+      let at_k : get_or (all ++ j ∷ []) k unjudged ≡ j = ap (λ (m : ℕ). get_or (all ++ j ∷ []) m unjudged) (sym (said.many ∙ here)) ∙ last in
+      subst (λ (x : Judged). IsSaid p (known k) (get_or labels k []) x) (sym at_k) (rw here at h)
+
+  pub said_more : (all : List Judged) (j : Judged) (n : ℕ) → AreSaid p known labels n all → IsSaid p (known n) (get_or labels n []) j → AreSaid p known labels (n + 1) (all ++ j ∷ [])
+  said_more all j n said h = record {
+    many = length_push all j ∙ ap (λ (m : ℕ). m + 1) said.many;
+    each = λ k less. said_at all j n said h k less (elim (cases_lt k n) [ inl before ↦ inl before | inr from ↦ (let e : n ≡ k = omega arith in inr e) ]);
+  }
+
+  -- ---- the last line
+
+  regroup : (a b c d e f : List ℕ) → (a ++ (b ++ c ++ d ++ e)) ++ f ≡ a ++ b ++ c ++ d ++ e ++ f
+  regroup a b c d e f = simp append_assoc
+
+  label_at : (all : List Judged) (n k : ℕ) → AreSaid p known labels n all → k < n → (get_or all k unjudged).label ≡ get_or labels k []
+  label_at all n k said less = (said.each k less).taken.2.2
+
+  module _ (all : List Judged) (said : AreSaid p known labels (length labels) all) where
+    place_of : (best : Option Best) → HasBest all best → IsPlace labels best
+    place_of None h = tt
+    place_of (Some best) (judged, is, place) = omega (arith, said.many, place, ap (λ (x : List Judged). length x) is.whole, length_front is.front judged is.behind)
+      where
+        length_front : (front : List Judged) (j : Judged) (behind : List Judged) → length front < length (front ++ j ∷ behind)
+        length_front [] j behind = omega arith
+        length_front (x ∷ front) j behind = omega (arith, length_front front j behind)
+
+    best_of : (best : Best) (judged : Judged) (is : IsBest all judged best.cost) → length is.front ≡ best.number → judged.label ≡ get_or labels best.number []
+    best_of best judged is place =
+        let at : get_or all best.number unjudged ≡ judged =
+        ap (λ (x : List Judged). get_or x best.number unjudged) is.whole ∙ ap (λ (k : ℕ). get_or (is.front ++ judged ∷ is.behind) k unjudged) (sym place) ∙ get_or-append_seam is.front judged is.behind unjudged in
+        let below : best.number < length labels = place_of (Some best) (judged, is, place) in
+        ap (λ (j : Judged). j.label) (sym at) ∙ label_at all (length labels) best.number said below
+
+    summary_by : (valid : ℕ) (best : Option Best) → valid ≡ count_by is_valid all → HasBest all best → IsSummary all (summary_of labels (record { valid = valid; best = best }))
+    summary_by valid None e h = inl (h, words)
+      where
+        words : summary_of labels (record { valid = valid; best = None }) ≡ count_words all ++ codes "\n"
+        words = rw (e, sym said.many) (simp append-nil)
+    summary_by valid (Some best) e (judged, is, place) = inr (judged, best.cost, is, words)
+      where
+        words : summary_of labels (record { valid = valid; best = Some best }) ≡ count_words all ++ codes ", best cost " ++ decimal best.cost ++ codes ": " ++ judged.label ++ codes "\n"
+        words = rw (e, sym said.many, sym (best_of best judged is place)) (regroup (count_words all) (codes ", best cost ") (decimal best.cost) (codes ": ") judged.label (codes "\n"))
+
+    -- what is said of all plans, and the last line, are the answer for the bytes of the plans
+    answer_for : (text : List ℕ) (tally : Tally) (status : Status) (cs : List (List ℕ)) → text ≡ flat_map labelled all → Tallies tally all → status ≡ (if list_all is_valid all then Yes else No) → length cs ≡ length labels
+        → ((k : ℕ) → k < length labels → IsJudged p (get_or labels k [], get_or cs k []) (get_or all k unjudged)) → PlansAnswer p (zip labels cs) (record { text = text ++ summary_of labels tally; status = status })
+    answer_for text tally status cs whole tallies is many each = record {
+      all = all;
+      each = all_zip (IsJudged p) unjudged labels cs all many said.many each;
+      summary = summary_of labels tally;
+      last = summary_by tally.valid tally.best tallies.valid tallies.best;
+      whole = ap (λ (x : List ℕ). x ++ summary_of labels tally) whole;
+      status = is;
+    }
+
+  -- ---- all plans
+
+  -- no more are valid than there are
+  pub valid_few : (count : ℕ) (text : List ℕ) (tally : Tally) → AreTold p known labels count text tally → tally.valid ≤ count
+  valid_few count text tally (all, said, whole, tallies) = omega (arith, tallies.valid, said.many, count_by-le-length is_valid all)
+
+  -- one plan more is told
+  pub told_more : (count : ℕ) (before after : List ℕ) (tally_before tally_after : Tally) (j : Judged) → AreTold p known labels count before tally_before → IsSaid p (known count) (get_or labels count []) j → after ≡ before ++ labelled j
+      → ((all : List Judged) → Tallies tally_before all → length all ≡ count → Tallies tally_after (all ++ j ∷ [])) → AreTold p known labels (count + 1) after tally_after
+  told_more count before after tally_before tally_after j (all, said, whole, tallies) is e add = (
+    all ++ j ∷ [],
+    said_more all j count said is,
+    e ∙ ap (λ (x : List ℕ). x ++ labelled j) whole ∙ ap (λ (x : List ℕ). flat_map labelled all ++ x) (sym (append-nil (labelled j))) ∙ sym (flat_map-append labelled all (j ∷ [])),
+    add all tallies said.many,
+  )
+
+  told : (text : List ℕ) (tally : Tally) (status : Status) (all : List Judged) → AreSaid p known labels (length labels) all → text ≡ flat_map labelled all → Tallies tally all
+      → status ≡ (if list_all is_valid all then Yes else No) → JudgesPlans p known labels (Ok (record { text = text ++ summary_of labels tally; status = status }))
+  told text tally status all said whole tallies is = record {
+    output = λ cs have. answer_for all said text tally status cs whole tallies is have.0 (λ k less. (said.each k less).output (get_or cs k []) (have.1 k less));
+    taken = λ decided.
+        let chosen = choose (λ k c. IsFront (known k) c × IsJudged p (get_or labels k [], c) (get_or all k unjudged)) (length labels) (λ k less. let t = (said.each k less).taken in (t.0, (t.1, t.2))) in (
+          chosen.items,
+          (chosen.many, λ k bytes less is. (chosen.each k less).0 bytes is),
+          answer_for all said text tally status chosen.items whole tallies is chosen.many (λ k less. (chosen.each k less).1),
+        );
+    reads = λ e. absurd cc;
+    writes = tt;
+  }
+
+  -- the whole text, and the status by how many are valid
+  module _ (text : List ℕ) (tally : Tally) (h : AreTold p known labels (length labels) text tally) (whole : List ℕ) (is : whole ≡ text ++ summary_of labels tally) where
+    pub told_yes : tally.valid ≡ length labels → JudgesPlans p known labels (Ok (record { text = whole; status = Yes }))
+    told_yes e = rw is (let (all, said, words, tallies) = h in told text tally Yes all said words tallies (status_yes all tally (length labels) tallies said.many e))
+
+    pub told_no : tally.valid ≢ length labels → JudgesPlans p known labels (Ok (record { text = whole; status = No }))
+    told_no e = rw is (let (all, said, words, tallies) = h in told text tally No all said words tallies (status_no all tally (length labels) tallies said.many e))
+
+  -- ---- or a plan of which nothing is said
+
+  module _ (why : JudgeFault) (h : IsOneUnsaid p known (length labels) why) where
+    long_plan : (cs : List (List ℕ)) → length cs ≡ length labels → VerdictOut VerdictAnswer p (get_or cs h.0 []) None → PlansOut p (zip labels cs) None
+    long_plan cs many out = (get_or labels h.0 [], get_or cs h.0 [], contains_pair labels cs h.0 many h.1, out)
+
+    -- the bytes that were read of the plans: of those behind it none
+    front_at : fault_of why ≡ tool_fault.TooLong → (k : ℕ) → (h.0 ≡ k) ⊎ (h.0 ≢ k) → (c : List ℕ) × (IsFront (known k) c × (h.0 ≡ k → VerdictOut VerdictAnswer p c None))
+    front_at long k (inl here) = let t = h.2.taken long in (t.0, (rw here at t.1, λ same. t.2))
+    front_at long k (inr other) = ([], (λ whole is. (whole, refl), λ same. absurd (other same)))
+
+    pub untold : JudgesPlans p known labels (Err why)
+    untold = record {
+      output = λ cs have long. long_plan cs have.0 (h.2.output (get_or cs h.0 []) (have.1 h.0 h.1) long);
+      taken = λ decided.
+          let long = decided_long (fault_of why) decided h.2.writes in
+          let chosen = choose (λ k c. IsFront (known k) c × (h.0 ≡ k → VerdictOut VerdictAnswer p c None)) (length labels) (λ k less. front_at long k (same_or_not h.0 k)) in
+          (chosen.items, (chosen.many, λ k bytes less is. (chosen.each k less).0 bytes is), λ e. long_plan chosen.items chosen.many ((chosen.each h.0 h.1).1 refl));
+      reads = λ e. h.2.reads (let same : why ≡ Tool tool_fault.Read = cc in same);
+      writes = h.2.writes;
+    }

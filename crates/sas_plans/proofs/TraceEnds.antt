@@ -1,0 +1,163 @@
+-- How the output of a trace goes out.
+use Rattle.std.proofs.Common.{◌≡◌, ◌≢◌, ℕ, ◌⊎◌, false, List, [], codes, refl, sym, subst, ◌∙◌, inl, inr, Option, Some, None, Result, Ok, Err}
+use Rattle.std.specs.Prelude.{◌↔◌, ◌||◌, IsTrue, IfErr, IsErrOf}
+use Rattle.std.specs.Io.KnownBytes.{Consumes}
+use Rattle.sas_core.specs.declared.parts.Parts.{Parts}
+use Rattle.sas_core.specs.FirstFault.{first_fault}
+use Rattle.sas_meaning.specs.declared.layered.LayerFault.{LayerFault}
+use Rattle.sas_meaning.specs.declared.layered.LayerFault.TheVariants as layer_fault
+use Rattle.sas_meaning.specs.Layers.{IsLayered}
+use Rattle.sas_meaning.specs.LayerChecks.{layer_checks}
+use Rattle.sas_lines.specs.Device.{Device}
+use Rattle.sas_reader.specs.declared.fault.Fault.{Fault}
+use Rattle.sas_reader.specs.declared.fault.Kind.{Kind}
+use Rattle.sas_reader.specs.declared.fault.Kind.TheVariants as kinds
+use Rattle.sas_reader.specs.Devices.{ValueOf, ReadsAll}
+use Rattle.sas_reader.specs.Format.{Format}
+use Rattle.sas_reader.proofs.Known.{known_answer, known_fault}
+use Rattle.sas_task_format.specs.TaskFormat.{task_format}
+use Rattle.sas_output.specs.declared.ending.Status.{Status}
+use Rattle.sas_output.specs.declared.ending.ToolFault.{ToolFault}
+use Rattle.sas_output.specs.declared.ending.ToolFault.TheVariants as tool_fault
+use Rattle.sas_output.specs.Ending.{Output, Ends, IsDecided, IsWrite}
+use Rattle.sas_answers.specs.Answers.{layers_refusal}
+use Rattle.sas_requests.specs.Output.{IsLayeredText, refusal, FileOut, VerdictOut}
+use Rattle.sas_requests.proofs.Outputs.{refused_kind, reading_of_refusal, takes_nothing}
+use Rattle.sas_requests.proofs.PlanAnswers.{NoAnswer, RefusedOut, told_fault, first_alone, second_alone, refused_out, judged_out, unlayered_out}
+use Rattle.sas_trace.specs.Traced.{TraceVerdict}
+use Rattle.sas_plans.specs.TraceOut.{TraceOut}
+use Rattle.sas_plans.specs.TraceSteps.{EndsFile}
+
+-- ---- outputs that went out
+
+-- a run that ends for want of memory or at a failed write doesn't end at another fault
+memory_alone : (r : Result Status ToolFault) (other : ToolFault) (Q : Type 0) → other ≢ tool_fault.Memory → (IsWrite other → ⊥) → IfErr r (λ e. IsWrite e ⊎ ((e ≡ tool_fault.Memory) × Q)) → IsErrOf r other → ⊥
+memory_alone r other Q apart quiet starved is =
+    let why = subst (λ (x : Result Status ToolFault). IfErr x (λ e. IsWrite e ⊎ ((e ≡ tool_fault.Memory) × Q))) is starved in
+    elim why [ inl writes ↦ quiet writes | inr memory ↦ apart memory.0 ]
+
+module _ (Sent : List ℕ → Type 0) where
+  -- what ends with one output ends with another that follows from it, where the inputs decided
+  pub ends_by : (A B : Option Output → Type 0) (r : Result Status ToolFault) → (IsDecided r → (o : Option Output) → A o → B o) → Ends A Sent r → Ends B Sent r
+  ends_by A B (Ok status) to (output, is, same, sent) = (output, to tt (Some output) is, same, sent)
+  ends_by A B (Err (tool_fault.Write written)) to (output, is, less, sent) = (output, to tt (Some output) is, less, sent)
+  ends_by A B (Err tool_fault.TooLong) to is = to tt None is
+  ends_by A B (Err tool_fault.Memory) to is = tt
+  ends_by A B (Err tool_fault.Read) to is = tt
+
+  -- what was told of a fault of a file
+  abbrev pub TellsFault : List ℕ → Fault → Result Status ToolFault → Type 0
+  TellsFault name f r = Ends (λ output. output ≡ refusal name f) Sent r
+
+  -- a refusal that went out is of a fault of the bytes
+  told_kind : (name : List ℕ) (f : Fault) (o : Output) → Some o ≡ refusal name f → (f.kind ≢ kinds.Memory) × (f.kind ≢ kinds.Read)
+  told_kind name f o is = (refused_kind f.kind kinds.Memory _ o refl (sym is), refused_kind f.kind kinds.Read _ o refl (sym is))
+
+  long_kind : (k : Kind) → k ≡ kinds.TooLong → (k ≢ kinds.Memory) × (k ≢ kinds.Read)
+  long_kind k long = (λ e. absurd (let apart : kinds.TooLong ≡ kinds.Memory = sym long ∙ e in cc), λ e. absurd (let apart : kinds.TooLong ≡ kinds.Read = sym long ∙ e in cc))
+
+  decided_kind : (name : List ℕ) (f : Fault) (r : Result Status ToolFault) → TellsFault name f r → (IsErrOf r tool_fault.TooLong → f.kind ≡ kinds.TooLong) → IsDecided r
+      → (f.kind ≢ kinds.Memory) × (f.kind ≢ kinds.Read)
+  decided_kind name f (Ok status) (output, is, same, sent) long decided = told_kind name f output is
+  decided_kind name f (Err (tool_fault.Write written)) (output, is, less, sent) long decided = told_kind name f output is
+  decided_kind name f (Err tool_fault.TooLong) is long decided = long_kind f.kind (long refl)
+  decided_kind name f (Err tool_fault.Memory) is long decided = absurd decided
+  decided_kind name f (Err tool_fault.Read) is long decided = absurd decided
+
+  -- ---- one file
+
+  module _ {D V I S A : Type 0} (left : D → Option (List ℕ)) (F : Format V I S) (Gives : List ℕ → A → Type 0) (name : List ℕ) (IsAnswer : V → Output → Type 0) (old new : Device D) where
+    -- a fault is refused, or the run ends at it
+    pub ends_refused : (f : Fault) (r : Result Status ToolFault) → ReadsAll left F Gives old new (Err f) → TellsFault name f r
+        → (IsErrOf r tool_fault.TooLong → f.kind ≡ kinds.TooLong) → IsErrOf r tool_fault.Read ↔ (f.kind ≡ kinds.Read)
+        → EndsFile left (FileOut F name IsAnswer) Sent old new r
+    ends_refused f r read told long reads =
+        let kind = decided_kind name f r told long in
+        record {
+          output = λ b known. ends_by (λ o. o ≡ refusal name f) (FileOut F name IsAnswer b) r
+              (λ decided o is. (Err f, known_fault left F Gives old new f b read known (kind decided).0 (kind decided).1, is)) told;
+          taken = λ decided.
+              let (b, consumed, why) = read.fault (kind decided).0 in (
+                b,
+                consumed,
+                ends_by (λ o. o ≡ refusal name f) (FileOut F name IsAnswer b) r
+                    (λ _ o is. (Err f, reading_of_refusal F b _ f why (kind decided).1, is)) told,
+              );
+          reads = (λ e. read.note.0 (reads.0 e), λ t. reads.1 (read.note.1 t));
+        }
+
+  -- ---- a task and a plan
+
+  -- how the output about a task and a plan went out, of which the plan is read only where the task is known to be layered
+  pub record EndsFiles {T P : Type 0} (left_task : T → Option (List ℕ)) (left_plan : P → Option (List ℕ))
+      (old_task new_task : Device T) (old_plan new_plan : Device P) (result : Result Status ToolFault) : Type 0 where
+    pub output : (b c : List ℕ) → left_task old_task.device ≡ Some b → left_plan old_plan.device ≡ Some c → Ends (TraceOut b c) Sent result
+    pub taken : IsDecided result → (b c : List ℕ)
+        × Consumes (left_task old_task.device) (left_task new_task.device) b
+        × Consumes (left_plan old_plan.device) (left_plan new_plan.device) c
+        × Ends (TraceOut b c) Sent result
+    pub waits : (b : List ℕ) → left_task old_task.device ≡ Some b → (IsLayeredText b → ⊥) → new_plan ≡ old_plan
+    pub reads : IsErrOf result tool_fault.Read ↔ IsTrue (new_task.failed || new_plan.failed)
+
+  module _ {T P : Type 0} (left_task : T → Option (List ℕ)) (left_plan : P → Option (List ℕ)) (old new : Device T) where
+    -- a file that is no task is refused, and the plan waits
+    pub refused_files : (plan : Device P) (f : Fault) (r : Result Status ToolFault) → plan.failed ≡ false
+        → ReadsAll left_task task_format (ValueOf task_format) old new (Err f) → TellsFault (codes "task") f r
+        → (IsErrOf r tool_fault.TooLong → f.kind ≡ kinds.TooLong) → IsErrOf r tool_fault.Read ↔ (f.kind ≡ kinds.Read)
+        → EndsFiles left_task left_plan old new plan plan r
+    refused_files plan f r working read told long reads =
+        let one = ends_refused left_task task_format (ValueOf task_format) (codes "task") NoAnswer old new f r read told long reads in
+        record {
+          output = λ b c known known_plan. ends_by (RefusedOut b) (TraceOut b c) r (λ _. refused_out TraceVerdict b c) (one.output b known);
+          taken = λ decided.
+              let (b, consumed, ends) = one.taken decided in
+              (b, [], consumed, takes_nothing _, ends_by (RefusedOut b) (TraceOut b []) r (λ _. refused_out TraceVerdict b []) ends);
+          waits = λ b known none. refl;
+          reads = (λ e. (first_alone new.failed plan.failed working).1 (one.reads.0 e), λ t. one.reads.1 ((first_alone new.failed plan.failed working).0 t));
+        }
+
+    module _ (p : Parts) (read : ReadsAll left_task task_format (ValueOf task_format) old new (Ok p)) where
+      -- the plan of a layered task is traced
+      pub traced_files : (plan_old plan_new : Device P) (r : Result Status ToolFault) → IsLayered p
+          → EndsFile left_plan (VerdictOut TraceVerdict p) Sent plan_old plan_new r
+          → EndsFiles left_task left_plan old new plan_old plan_new r
+      traced_files plan_old plan_new r layered one = record {
+        output = λ b c known known_plan.
+            let value = known_answer left_task task_format (ValueOf task_format) old new p b read known in
+            ends_by (VerdictOut TraceVerdict p c) (TraceOut b c) r (λ _. judged_out TraceVerdict p layered b c value) (one.output c known_plan);
+        taken = λ decided.
+            let (b, consumed, value) = read.read in
+            let (c, consumed_plan, ends) = one.taken decided in
+            (b, c, consumed.0, consumed_plan, ends_by (VerdictOut TraceVerdict p c) (TraceOut b c) r (λ _. judged_out TraceVerdict p layered b c value) ends);
+        waits = λ b known none. absurd (none (p, known_answer left_task task_format (ValueOf task_format) old new p b read known, layered));
+        reads = (
+          λ e. (second_alone new.failed plan_new.failed (λ t. read.note.1 t)).1 (one.reads.0 e),
+          λ t. one.reads.1 ((second_alone new.failed plan_new.failed (λ f. read.note.1 f)).0 t),
+        );
+      }
+
+      -- what was told of the layers is the output
+      module _ (fault : LayerFault) (first : fault ≢ layer_fault.Memory → first_fault (layer_checks p) ≡ Some fault) where
+        layers_out : (b c : List ℕ) → ValueOf task_format b p → (r : Result Status ToolFault) → Ends (λ o. o ≡ layers_refusal fault) Sent r → (IsErrOf r tool_fault.TooLong → ⊥) → Ends (TraceOut b c) Sent r
+        layers_out b c value (Ok status) (output, is, same, sent) long = (output, unlayered_out TraceVerdict p fault b c output value (first (told_fault fault output (sym is))) (sym is), same, sent)
+        layers_out b c value (Err (tool_fault.Write written)) (output, is, less, sent) long = (output, unlayered_out TraceVerdict p fault b c output value (first (told_fault fault output (sym is))) (sym is), less, sent)
+        layers_out b c value (Err tool_fault.TooLong) is long = absurd (long refl)
+        layers_out b c value (Err tool_fault.Memory) is long = tt
+        layers_out b c value (Err tool_fault.Read) is long = tt
+
+        -- a task that isn't layered is refused, and the plan waits
+        pub unlayered_files : (plan : Device P) (r : Result Status ToolFault) (Q : Type 0) → plan.failed ≡ false → Ends (λ o. o ≡ layers_refusal fault) Sent r
+            → IfErr r (λ e. IsWrite e ⊎ ((e ≡ tool_fault.Memory) × Q)) → EndsFiles left_task left_plan old new plan plan r
+        unlayered_files plan r Q working told starved =
+            let long = memory_alone r tool_fault.TooLong Q (λ e. absurd cc) (λ w. w) starved in
+            record {
+              output = λ b c known known_plan. layers_out b c (known_answer left_task task_format (ValueOf task_format) old new p b read known) r told long;
+              taken = λ decided.
+                  let (b, consumed, value) = read.read in
+                  (b, [], consumed.0, takes_nothing _, layers_out b [] value r told long);
+              waits = λ b known none. refl;
+              reads = (
+                λ e. absurd (memory_alone r tool_fault.Read Q (λ m. absurd cc) (λ w. w) starved e),
+                λ t. absurd (read.note.1 ((first_alone new.failed plan.failed working).0 t)),
+              );
+            }

@@ -1,0 +1,57 @@
+-- What holds of the outputs of traces.
+use Rattle.std.proofs.Common.{◌≡◌, ℕ, List, [], ◌++◌, codes, refl, subst, Option, Some, None, Result, Ok, Err}
+use Rattle.sas_core.specs.declared.parts.Parts.{Parts}
+use Rattle.sas_core.specs.FirstFault.{first_fault}
+use Rattle.sas_core.specs.PlanParts.{PlanParts}
+use Rattle.sas_meaning.specs.declared.layered.LayerFault.{LayerFault}
+use Rattle.sas_meaning.specs.LayerChecks.{layer_checks}
+use Rattle.sas_reader.specs.declared.fault.Fault.{Fault}
+use Rattle.sas_output.specs.Ending.{Output}
+use Rattle.sas_answers.specs.Answers.{VerdictAnswer}
+use Rattle.sas_requests.specs.Output.{IsAnswerOrRefusal, LayersOut, JudgedOut}
+use Rattle.sas_requests.proofs.PlanAnswers.{one_plan_output, some_plan_output, no_plan_output}
+use Rattle.sas_trace.specs.Traced.{TraceVerdict}
+use Rattle.sas_trace.specs.Laws.{EndsWithVerdict, OneTrace, SomeTrace}
+use Rattle.sas_plans.specs.TraceOut.{EndsAsPlan, OneTraceOutput, SomeTraceOutput, NoneTraceIsLong}
+
+-- ---- behind a trace stands the output of `plan`
+
+-- the output ends as this one, and with its status
+abbrev EndsAs : Output → Output → Type 0
+EndsAs traced plain = (front : List ℕ) × (traced.text ≡ front ++ plain.text) × (traced.status ≡ plain.status)
+
+itself : (o : Output) → EndsAs o o
+itself o = ([], refl, refl)
+
+module _ (ends : EndsWithVerdict) (p : Parts) (c : List ℕ) where
+  plan_ends : (r : Result PlanParts Fault) (o : Output) → IsAnswerOrRefusal (codes "plan") (TraceVerdict p) r (Some o)
+      → (plain : Output) × IsAnswerOrRefusal (codes "plan") (VerdictAnswer p) r (Some plain) × EndsAs o plain
+  plan_ends (Ok plan) o (answer, traced, is) =
+      let same : answer ≡ o = cc in
+      let (verdict, told, front, whole, status) = ends p plan o (subst (λ (x : Output). TraceVerdict p plan x) same traced) in
+      (verdict, (verdict, told, refl), (front, whole, status))
+  plan_ends (Err fault) o is = (o, is, itself o)
+
+  layers_end : (first : Option LayerFault) (o : Output) → LayersOut TraceVerdict p first c (Some o) → (plain : Output) × LayersOut VerdictAnswer p first c (Some plain) × EndsAs o plain
+  layers_end (Some fault) o is = (o, is, itself o)
+  layers_end None o (read, reads, out) = let (plain, its, as_plain) = plan_ends read o out in (plain, (read, reads, its), as_plain)
+
+judged_ends : EndsWithVerdict → (r : Result Parts Fault) (c : List ℕ) (o : Output) → JudgedOut TraceVerdict r c (Some o) → (plain : Output) × JudgedOut VerdictAnswer r c (Some plain) × EndsAs o plain
+judged_ends ends (Err fault) c o is = (o, is, itself o)
+judged_ends ends (Ok p) c o out = layers_end ends p c (first_fault (layer_checks p)) o out
+
+pub ends_as_plan : EndsWithVerdict → EndsAsPlan
+ends_as_plan ends b c traced (read, reads, out) =
+    let (plain, its, (front, whole, status)) = judged_ends ends read c traced out in
+    (plain, (read, reads, its), front, whole, status)
+
+-- ---- one output, always one, and none only where an input is too long
+
+pub one_trace_output : OneTrace → OneTraceOutput
+one_trace_output one b c o p = one_plan_output TraceVerdict (λ task layered plan x y. one task plan x y layered) b c o p
+
+pub some_trace_output : SomeTrace → SomeTraceOutput
+some_trace_output some b c = some_plan_output TraceVerdict (λ p ranged layered plan none. let it = some p plan ranged layered in none it.0 it.1) b c
+
+pub long_trace_output : NoneTraceIsLong
+long_trace_output b c out = no_plan_output TraceVerdict b c out

@@ -1,0 +1,14 @@
+use Rattle.sas_plans.proofs.TaskAnswers.{answers_refused, answers_layered, answers_unlayered}
+use Rattle.sas_plans.proofs.judging.answer_about.Goals as goal
+
+pub returns-in-Err-clause-answers : goal.returns-in-Err-clause-answers
+returns-in-Err-clause-answers g c =
+    answers_refused g.T.Read.remaining _ _ _ _ c.in-Err.fault c.in-Err.ensures c.refuse_task.result c.refuse_task.ensures.ok c.refuse_task.ensures.long c.refuse_task.ensures.read c.refuse_task.ensures.writes
+
+pub returns-in-Ok-new-clause-answers : goal.returns-in-Ok-new-clause-answers
+returns-in-Ok-new-clause-answers g c =
+    answers_layered g.T.Read.remaining _ _ _ _ c.in-Ok.read c.in-Ok.ensures _ (rw c.in-Ok-new.ensures.task at c.in-Ok-new.ensures.layered) (rw c.in-Ok-new.ensures.task at c.judge_plans-told.ensures.judges)
+
+pub returns-in_ok-refuse_layers-in-Err-new-clause-answers : goal.returns-in_ok-refuse_layers-in-Err-new-clause-answers
+returns-in_ok-refuse_layers-in-Err-new-clause-answers g c =
+    answers_unlayered g.T.Read.remaining _ _ _ _ c.in-Ok.read c.in-Ok.ensures c.in-Err-new.fault c.in_ok-refuse_layers-in-Err-new.field-0 c.in-Err-new.ensures.first c.in_ok-refuse_layers-in-Err-new.ensures

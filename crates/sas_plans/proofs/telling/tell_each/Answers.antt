@@ -1,0 +1,30 @@
+use Rattle.std.proofs.Common.{ℕ, List, [], get_or, ap, ◌∙◌, arith}
+use Rattle.sas_plans.proofs.SaidPlans.{said_same, told_more, unsaid_same, valid_few}
+use Rattle.sas_plans.proofs.telling.tell_each.Goals as goal
+
+pub add-requires : goal.add-requires
+add-requires g c =
+    let few = valid_few c.args.runner.now (g.S.PlanInputs.bytes c.args.plans.now) (g.S.PlanInputs.labels c.args.plans.now) c.loop-number.number c.loop-number.text.items c.loop-number.tally c.loop-number.invariant.told in
+    omega (arith, few)
+
+pub returns-in-Err-clause-err : goal.returns-in-Err-clause-err
+returns-in-Err-clause-err g c = (
+  c.loop-number.number,
+  omega (arith, c.loop-number.invariant.end),
+  unsaid_same c.loop-number.runner c.args.runner.now _ _ c.in-Err.fault c.loop-number.invariant.task (c.loop-number.invariant.later c.loop-number.number (omega arith)) c.in-Err.ensures.err,
+)
+
+pub loop-number-preserved : goal.loop-number-preserved
+loop-number-preserved g c =
+    let before = c.loop-number.invariant in
+    let said = c.in-Ok.ensures.ok in
+    record {
+      task = c.in-Ok.ensures.same ∙ before.task;
+      labels = c.in-Ok.ensures.labels ∙ before.labels;
+      end = before.end;
+      later = λ k less. c.in-Ok.ensures.later k (omega arith) ∙ before.later k (omega arith);
+      told =
+          told_more c.args.runner.now (g.S.PlanInputs.bytes c.args.plans.now) (g.S.PlanInputs.labels c.args.plans.now) c.loop-number.number _ _ c.loop-number.tally _ said.0 before.told
+          (said_same c.loop-number.runner c.args.runner.now _ _ _ _ said.0 before.task (before.later c.loop-number.number (omega arith)) (ap (λ (l : List (List ℕ)). get_or l c.loop-number.number []) before.labels) said.1)
+          said.2 (λ all h place. c.add.ensures all said.0 h place said.3);
+    }

@@ -1,0 +1,193 @@
+-- What the private steps of a run over many plans promise.
+use Rattle.std.specs.Prelude.{◌≡◌, ◌≢◌, ◌↔◌, ℕ, ◌<◌, List, [], ◌++◌, length, count_by, zip, All}
+use Rattle.std.specs.Prelude.{slice_index_or, codes, decimal, flat_map, IsTrue}
+use Rattle.std.specs.Prelude.{Option, Some, None, Result, Ok, Err, IfErr, IsErrOf}
+use Rattle.std.specs.Io.KnownBytes.{Consumes}
+use Rattle.sas_core.specs.declared.parts.Parts.{Parts}
+use Rattle.sas_core.specs.PlanParts.{PlanParts}
+use Rattle.sas_lines.specs.Device.{Device}
+use Rattle.sas_output.specs.declared.ending.Status.{Status}
+use Rattle.sas_output.specs.declared.ending.Status.TheVariants.{Yes, No}
+use Rattle.sas_output.specs.declared.told.Told.{Told}
+use Rattle.sas_output.specs.declared.ending.ToolFault.{ToolFault}
+use Rattle.sas_output.specs.declared.ending.ToolFault.TheVariants as fault
+use Rattle.sas_output.specs.Ending.{Output, output_told, IsDecided, IsWrite}
+use Rattle.sas_answers.specs.Answers.{VerdictAnswer}
+use Rattle.sas_reader.specs.declared.fault.Fault.{Fault}
+use Rattle.sas_requests.specs.Output.{VerdictOut, refusal}
+use Rattle.sas_plans.specs.declared.inputs.JudgeFault.{JudgeFault}
+use Rattle.sas_plans.specs.declared.inputs.JudgeFault.TheVariants as judge_fault
+use Rattle.sas_plans.specs.declared.tally.Best.{Best}
+use Rattle.sas_plans.specs.declared.tally.Tally.{Tally}
+use Rattle.sas_plans.specs.declared.verdicts.Verdict.{Verdict}
+use Rattle.sas_plans.specs.Inputs.{HaveBytes, WereRead, tool_fault, tool_result}
+use Rattle.sas_plans.specs.Judged.{Judged, HasCost, IsJudged, IsBest, is_valid, labelled, JudgeOut, PlansOut}
+
+-- ---- one plan
+
+-- where the bytes of a plan are known, they begin with these
+abbrev pub IsFront : Option (List ℕ) → List ℕ → Type 0
+IsFront known c = (whole : List ℕ) → known ≡ Some whole → (rest : List ℕ) × (whole ≡ c ++ rest)
+
+-- the verdict on a plan with these bytes
+abbrev pub IsVerdict : Parts → List ℕ → Verdict → Type 0
+IsVerdict p c verdict = (output : Output)
+    × VerdictOut VerdictAnswer p c (Some output)
+    × (verdict.line.items ≡ output.text)
+    × HasCost c output.status verdict.cost
+
+-- the cost of a plan, if the answer about it is yes
+abbrev pub cost_if : Status → ℕ → Option ℕ
+cost_if Yes cost = Some cost
+cost_if No cost = None
+
+-- the verdict on a plan that was read
+abbrev pub TellsPlan : Parts → PlanParts → Verdict → Type 0
+TellsPlan p plan verdict = (output : Output)
+    × VerdictAnswer p plan output
+    × (verdict.line.items ≡ output.text)
+    × (verdict.cost ≡ cost_if output.status plan.cost)
+
+-- the verdict on a plan file that is refused for this fault
+abbrev pub IsRefused : Fault → Verdict → Type 0
+IsRefused fault verdict = (output : Output)
+    × (refusal (codes "plan") fault ≡ Some output)
+    × (verdict.line.items ≡ output.text)
+    × (verdict.cost ≡ None)
+
+-- the result is the verdict on it, and past the limit there is none
+abbrev pub GivesVerdict : Parts → List ℕ → Result Verdict ToolFault → Type 0
+GivesVerdict p c (Ok verdict) = IsVerdict p c verdict
+GivesVerdict p c (Err why) = why ≡ fault.TooLong → VerdictOut VerdictAnswer p c None
+
+-- what the verdict on a plan promises that is read to its end or to its first fault; `known` are
+-- its bytes, where they are known
+pub record Judges (p : Parts) (known : Option (List ℕ)) (result : Result Verdict ToolFault)
+    : Type 0 where
+  -- of a plan whose bytes are known, it is the verdict on them
+  pub output : (c : List ℕ) → known ≡ Some c → GivesVerdict p c result
+  -- and of any plan, the verdict on the bytes that were read of it
+  pub taken : IsDecided result → (c : List ℕ) × IsFront known c × GivesVerdict p c result
+  pub writes : IfErr result (λ e. IsWrite e → ⊥)
+
+-- what is said of a plan is right for its bytes where they are known, and for those that were read
+pub record IsSaid (p : Parts) (known : Option (List ℕ)) (label : List ℕ) (judged : Judged)
+    : Type 0 where
+  pub output : (c : List ℕ) → known ≡ Some c → IsJudged p (label, c) judged
+  pub taken : (c : List ℕ) × IsFront known c × IsJudged p (label, c) judged
+
+-- why nothing is said of a plan: where it is too long, that is right for its bytes
+pub record IsUnsaid (p : Parts) (known : Option (List ℕ)) (why : JudgeFault) : Type 0 where
+  pub output : (c : List ℕ) → known ≡ Some c → tool_fault why ≡ fault.TooLong
+      → VerdictOut VerdictAnswer p c None
+  pub taken : tool_fault why ≡ fault.TooLong → (c : List ℕ)
+      × IsFront known c
+      × VerdictOut VerdictAnswer p c None
+  pub reads : why ≢ judge_fault.Tool fault.Read
+  pub writes : IsWrite (tool_fault why) → ⊥
+
+-- ---- some first plans
+
+-- nothing
+abbrev pub unjudged : Judged
+unjudged = record { label = []; line = []; cost = None }
+
+-- these are said of so many first plans
+pub record AreSaid (p : Parts) (known : ℕ → Option (List ℕ)) (labels : List (List ℕ))
+    (count : ℕ) (all : List Judged) : Type 0 where
+  pub many : length all ≡ count
+  pub each : (number : ℕ) → number < count
+      → IsSaid p (known number) (slice_index_or labels number [])
+      (slice_index_or all number unjudged)
+
+-- the first of the valid plans that cost least, by its place; there is none where no plan is valid
+abbrev pub HasBest : List Judged → Option Best → Type 0
+HasBest all None = All (λ (j : Judged). j.cost ≡ None) all
+HasBest all (Some best) = (judged : Judged)
+    × (is : IsBest all judged best.cost)
+    × (length is.front ≡ best.number)
+
+-- how many of them are valid, and the best of these
+pub record Tallies (tally : Tally) (all : List Judged) : Type 0 where
+  pub valid : tally.valid ≡ count_by is_valid all
+  pub best : HasBest all tally.best
+
+-- the cost is lower than that of the best so far, if there is one
+abbrev pub IsLower : ℕ → Option Best → Type 0
+IsLower cost None = Unit {0}
+IsLower cost (Some best) = cost < best.cost
+
+-- this text is what is said of so many first plans, and this their tally
+abbrev pub AreTold : Parts → (ℕ → Option (List ℕ)) → List (List ℕ) → ℕ → List ℕ → Tally → Type 0
+AreTold p known labels count text tally = (all : List Judged)
+    × AreSaid p known labels count all
+    × (text ≡ flat_map labelled all)
+    × Tallies tally all
+
+-- why nothing is said of one of so many first plans
+abbrev pub IsOneUnsaid : Parts → (ℕ → Option (List ℕ)) → ℕ → JudgeFault → Type 0
+IsOneUnsaid p known count why = (number : ℕ) × (number < count) × IsUnsaid p (known number) why
+
+-- ---- the last line
+
+-- `, best cost C: LABEL`, where a plan is valid
+abbrev pub best_words : List (List ℕ) → Option Best → List ℕ
+best_words labels None = []
+best_words labels (Some best) =
+    codes ", best cost " ++ decimal best.cost ++ codes ": " ++ slice_index_or labels best.number []
+
+-- the place of the best is that of a plan
+abbrev pub IsPlace : List (List ℕ) → Option Best → Type 0
+IsPlace labels None = Unit {0}
+IsPlace labels (Some best) = best.number < length labels
+
+-- the last line, from what was counted
+abbrev pub summary_of : List (List ℕ) → Tally → List ℕ
+summary_of labels tally =
+    decimal (length labels) ++ codes " plans, " ++ decimal tally.valid ++ codes " valid"
+    ++ best_words labels tally.best ++ codes "\n"
+
+-- ---- all plans
+
+-- an answer is the output, and past the limit there is none
+abbrev pub Tells : (Option Output → Type 0) → Result Output JudgeFault → Type 0
+Tells Out (Ok output) = Out (Some output)
+Tells Out (Err why) = tool_fault why ≡ fault.TooLong → Out None
+
+-- the answer that is at hand
+abbrev pub answer_told : Result Told JudgeFault → Result Output JudgeFault
+answer_told (Ok told) = Ok (output_told told)
+answer_told (Err why) = Err why
+
+-- the answer with this text
+abbrev pub answer_of : List ℕ → Result Status JudgeFault → Result Output JudgeFault
+answer_of text (Ok status) = Ok (record { text = text; status = status })
+answer_of text (Err why) = Err why
+
+-- What the answer about the plans of a layered task promises. `known` maps a plan's number to its
+-- bytes, where these are known.
+pub record JudgesPlans (p : Parts) (known : ℕ → Option (List ℕ)) (labels : List (List ℕ))
+    (result : Result Output JudgeFault) : Type 0 where
+  pub output : (cs : List (List ℕ)) → HaveBytes known (length labels) cs
+      → Tells (PlansOut p (zip labels cs)) result
+  pub taken : IsDecided (tool_result result) → (cs : List (List ℕ))
+      × WereRead known (length labels) cs
+      × Tells (PlansOut p (zip labels cs)) result
+  pub reads : IsErrOf result (judge_fault.Tool fault.Read) → ⊥
+  pub writes : IfErr result (λ e. IsWrite (tool_fault e) → ⊥)
+
+-- What the answer about a task and plans promises, before anything of it is written. `left` maps the
+-- task's device to the bytes that it has left, where these are known.
+module _ {D : Type 0} (left : D → Option (List ℕ)) where
+  pub record AnswersPlans (known : ℕ → Option (List ℕ)) (labels : List (List ℕ))
+      (old new : Device D) (result : Result Output JudgeFault) : Type 0 where
+    -- of inputs whose bytes are known, the answer is their output
+    pub output : (b : List ℕ) (cs : List (List ℕ)) → left old.device ≡ Some b
+        → HaveBytes known (length labels) cs → Tells (JudgeOut labels b cs) result
+    -- and of any inputs, the output for the bytes that were read of them
+    pub taken : IsDecided (tool_result result) → (b : List ℕ) × (cs : List (List ℕ))
+        × Consumes (left old.device) (left new.device) b
+        × WereRead known (length labels) cs
+        × Tells (JudgeOut labels b cs) result
+    pub reads : IsErrOf result (judge_fault.Tool fault.Read) ↔ IsTrue new.failed
+    pub writes : IfErr result (λ e. IsWrite (tool_fault e) → ⊥)

@@ -1,0 +1,12 @@
+-- What the public clauses cite.
+pub use Rattle.sas_requests.specs.Output
+pub use Rattle.sas_requests.specs.Headline
+pub use Rattle.sas_trace.specs.Trace
+pub use Rattle.sas_trace.specs.Traced
+pub mod Judged
+pub mod Inputs
+pub mod PlansHeadline
+pub mod TraceOut
+pub mod Laws
+pub mod Judging
+pub mod TraceSteps

@@ -1,0 +1,31 @@
+-- What `trace` prints: the output of `plan`, with the trace of the plan in front where it is judged.
+use Rattle.std.specs.Prelude.{◌≡◌, ℕ, List, ◌++◌, Option, Some, None}
+use Rattle.sas_output.specs.Ending.{Output}
+use Rattle.sas_requests.specs.declared.Request.TheVariants.{Plan}
+use Rattle.sas_requests.specs.Output.{Out, PlanOutBy, IsLong}
+use Rattle.sas_trace.specs.Traced.{TraceVerdict}
+
+-- the output about the bytes b of the task and c of the plan
+abbrev pub TraceOut : List ℕ → List ℕ → Option Output → Type 0
+TraceOut = PlanOutBy TraceVerdict
+
+-- ---- laws
+
+-- behind the trace stands the output of `plan` for the same inputs, with the same status
+abbrev pub EndsAsPlan : Type 0
+EndsAsPlan = (b c : List ℕ) (traced : Output) → TraceOut b c (Some traced)
+    → (plain : Output) × Out Plan b c (Some plain) × (front : List ℕ)
+    × (traced.text ≡ front ++ plain.text)
+    × (traced.status ≡ plain.status)
+
+-- there is one output over the same inputs
+abbrev pub OneTraceOutput : Type 0
+OneTraceOutput = (b c : List ℕ) (o p : Option Output) → TraceOut b c o → TraceOut b c p → o ≡ p
+
+-- and it can't have nothing
+abbrev pub SomeTraceOutput : Type 0
+SomeTraceOutput = (b c : List ℕ) → ((o : Option Output) → TraceOut b c o → ⊥) → ⊥
+
+-- there is none only where an input passes the limit
+abbrev pub NoneTraceIsLong : Type 0
+NoneTraceIsLong = (b c : List ℕ) → TraceOut b c None → IsLong Plan b c

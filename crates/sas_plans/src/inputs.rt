@@ -1,0 +1,65 @@
+// Plans that are opened one after another.
+ghost use Rattle.std.specs.Prelude.{◌≡◌, ◌<◌, ℕ, List, [], length, Option, Some, IfSome, slice_index_or};
+
+use sas_output::ToolFault;
+use std::alloc::AllocError;
+use std::io::Read;
+
+/// Many plans, each with a number, counted from 0, and a label. One is opened when its turn comes.
+pub trait PlanInputs {
+    type Input: Read + Drop;
+
+    /// The labels, in order.
+    ghost labels: { Self → List (List ℕ) };
+
+    /// The bytes of the plan with a number, where they are known.
+    ghost bytes: { Self → ℕ → Option (List ℕ) };
+
+    /// Returns how many plans there are.
+    fn count(&self) -> usize
+        ensures { result ≡ length (labels self.now) };
+
+    /// Returns the label of the plan with this number.
+    fn label(&self, number: usize) -> &[u8]
+        requires { number < length (labels self.now) }
+        ensures { result.now ≡ slice_index_or (labels self.now) number [] };
+
+    /// Opens the plan with this number. Returns `None` where it can't be opened.
+    fn open(&mut self, number: usize) -> Option<Self::Input>
+        requires number { number < length (labels self.old) }
+        ensures labels { labels self.new ≡ labels self.old }
+        ensures later { (k : ℕ) → number < k → bytes self.new k ≡ bytes self.old k }
+        ensures opened { IfSome result (λ input. (known : List ℕ)
+            → bytes self.old number ≡ Some known → Self.Input.remaining input ≡ Some known) };
+}
+
+/// Why a plan wasn't read.
+#[derive(Clone, Copy, Debug, PartialEq, Eq)]
+pub enum InputFault {
+    /// It couldn't be opened.
+    NotOpened,
+    /// A read of it failed.
+    Read,
+    /// It is longer than the limit.
+    TooLong,
+}
+
+/// Why a run over many plans ended without an answer, or without all of it.
+#[derive(Clone, Copy, Debug, PartialEq, Eq)]
+pub enum JudgeFault {
+    /// Memory was refused, a write failed, a read of the task failed, or the task is longer than the limit.
+    Tool(ToolFault),
+    /// The plan with this number wasn't read.
+    Plan { number: usize, fault: InputFault },
+}
+
+impl From<AllocError> for JudgeFault {
+    ghost use Rattle.sas_output.specs.declared.ending.ToolFault.TheVariants.{Memory};
+    ghost use Rattle.sas_plans.specs.declared.inputs.JudgeFault.TheVariants.{Tool};
+
+    ghost from_gives = { λ _ e. e ≡ Tool Memory };
+
+    fn from(_error: AllocError) -> JudgeFault {
+        JudgeFault::Tool(ToolFault::Memory)
+    }
+}

@@ -1,0 +1,173 @@
+// Many plans of one task, judged one after another.
+ghost use Rattle.std.specs.Prelude.{◌≡◌, ◌↔◌, ◌⊎◌, ℕ, List, [], length, All, Some, false, codes};
+ghost use Rattle.std.specs.Prelude.{IfOk, IfErr, IsErrAnd, IsErrOf, IsTrue};
+ghost use Rattle.std.specs.Io.KnownBytes.{Appends, Consumes};
+ghost use Rattle.sas_output.specs.Ending.{Ends, IsDecided, IsWrite, output_told};
+ghost use Rattle.sas_requests.specs.Output.{IsLayeredText, refusal};
+ghost use Rattle.sas_plans.specs.Inputs.{HaveBytes, IsLabel, WereRead, tool_fault, tool_result};
+ghost use Rattle.sas_plans.specs.Judged.{JudgeOut};
+ghost use Rattle.sas_plans.specs.PlansHeadline.{PlansHeadline};
+ghost use Rattle.sas_plans.specs.Judging.{AnswersPlans, JudgesPlans, answer_told};
+
+use crate::inputs::{JudgeFault, PlanInputs};
+use crate::telling::tell_plans;
+use sas_answers::refuse_layers;
+use sas_axioms::Worklist;
+use sas_flat::FlatTask;
+use sas_lines::Watched;
+use sas_meaning::Layered;
+use sas_output::{Status, Told, ToolFault};
+use sas_reader::{Fault, Kind};
+use sas_requests::refuse_file;
+use sas_run::Runner;
+use sas_task_reader::read_flat_task;
+use std::alloc::{AllocError, Global};
+use std::io::{Read, Write};
+
+/// Judges many plans of one task, and answers with a line for each, its label in front, and a line behind them that says how
+/// many are valid, and which of these cost least. A task that is refused has its line alone, and then no plan is opened. The
+/// task is read once, its layers are checked once, its names are looked up in one table, and one evaluator serves all plans.
+/// The status is `Yes` if all plans are valid. A plan file that is refused is one line, and no fault of the run. Nothing is
+/// written before all verdicts are known, so at any fault but `Write` nothing was written, and at `Write` the first bytes of
+/// the answer. Not to be called with a device that has failed.
+///
+/// The theorem, `output`, holds where the bytes of the task and of all plans are known, and `taken` in any case, of those
+/// that were read.
+pub fn judge<T: Read, S: PlanInputs, W: Write>(
+    alloc: Global,
+    task: &mut Watched<T>,
+    plans: &mut S,
+    out: &mut Watched<W>,
+) -> Result<Status, JudgeFault>
+    requires task { task.old.failed ≡ false }
+    requires out { out.old.failed ≡ false }
+    requires labels { All IsLabel (S.labels plans.old) }
+    // Of inputs whose bytes are known, the output went out, or its first bytes, or there is none.
+    ensures output { (b : List ℕ) (cs : List (List ℕ)) → T.remaining task.old.device ≡ Some b
+        → HaveBytes (S.bytes plans.old) (length (S.labels plans.old)) cs
+        → Ends (JudgeOut (S.labels plans.old) b cs)
+        (Appends (W.contents out.old.device) (W.contents out.new.device)) (tool_result result) }
+    // And of any inputs, the output for the bytes that were read of them.
+    ensures taken { IsDecided (tool_result result) → (b : List ℕ) × (cs : List (List ℕ))
+        × Consumes (T.remaining task.old.device) (T.remaining task.new.device) b
+        × WereRead (S.bytes plans.old) (length (S.labels plans.old)) cs
+        × Ends (JudgeOut (S.labels plans.old) b cs)
+        (Appends (W.contents out.old.device) (W.contents out.new.device)) (tool_result result) }
+    // Before the answer is known nothing is written.
+    ensures nothing { IfErr result (λ e. IsWrite (tool_fault e) ⊎ (out.new ≡ out.old)) }
+    // `LABEL: plan valid` is printed of a plan exactly if it solves the task at the printed cost.
+    ensures headline { IfOk result (λ status. (b before : List ℕ) (cs : List (List ℕ))
+        → T.remaining task.old.device ≡ Some b
+        → HaveBytes (S.bytes plans.old) (length (S.labels plans.old)) cs
+        → W.contents out.old.device ≡ Some before
+        → PlansHeadline (S.labels plans.old) b cs
+        (Appends (W.contents out.old.device) (W.contents out.new.device)) status) }
+    // The plans stay as they were where the task isn't a text of a layered one.
+    ensures plans_wait { (b : List ℕ) → T.remaining task.old.device ≡ Some b
+        → (IsLayeredText b → ⊥) → plans.new ≡ plans.old }
+    ensures labels { S.labels plans.new ≡ S.labels plans.old }
+    ensures reads { IsErrOf result (JudgeFault.Tool ToolFault.Read) ↔ IsTrue task.new.failed }
+    ensures writes { IsErrAnd result (λ e. IsWrite (tool_fault e)) ↔ IsTrue out.new.failed }
+{
+    match answer_about(alloc, task, plans) {
+        Ok(told) => write_answer(&told, out),
+        Err(fault) => Err(fault),
+    }
+}
+
+/// Writes the answer, and returns its status.
+fn write_answer<W: Write>(told: &Told, out: &mut Watched<W>) -> Result<Status, JudgeFault>
+    requires { out.old.failed ≡ false }
+    ensures ends { Ends (λ output. output ≡ Some (output_told told.now))
+        (Appends (W.contents out.old.device) (W.contents out.new.device)) (tool_result result) }
+    ensures write { IfErr result (λ e. IsWrite (tool_fault e)) }
+    ensures task { IsErrOf result (JudgeFault.Tool ToolFault.Read) → ⊥ }
+    ensures writes { IsErrAnd result (λ e. IsWrite (tool_fault e)) ↔ IsTrue out.new.failed }
+{
+    match told.write(out) {
+        Ok(status) => Ok(status),
+        Err(fault) => Err(JudgeFault::Tool(fault)),
+    }
+}
+
+/// Returns the answer about the plans of a task. They are opened only where the task is layered.
+fn answer_about<T: Read, S: PlanInputs>(
+    alloc: Global,
+    task: &mut Watched<T>,
+    plans: &mut S,
+) -> Result<Told, JudgeFault>
+    requires { task.old.failed ≡ false }
+    ensures answers { AnswersPlans T.remaining (S.bytes plans.old) (S.labels plans.old)
+        task.old task.new (answer_told result) }
+    ensures waits { (b : List ℕ) → T.remaining task.old.device ≡ Some b
+        → (IsLayeredText b → ⊥) → plans.new ≡ plans.old }
+    ensures labels { S.labels plans.new ≡ S.labels plans.old }
+{
+    let read = match read_flat_task(alloc, task) {
+        Ok(read) => read,
+        Err(fault) => return refuse_task(alloc, fault),
+    };
+    match Layered::new(alloc, read) {
+        Ok(layered) => {
+            let told = judge_plans(alloc, &layered, plans);
+            drop(layered);
+            told
+        }
+        Err((task, fault)) => {
+            drop(task);
+            Ok(refuse_layers(alloc, fault)?)
+        }
+    }
+}
+
+/// Returns the refusal of a task file for its fault, or why the run ends at it.
+fn refuse_task(alloc: Global, fault: Fault) -> Result<Told, JudgeFault>
+    ensures ok { IfOk result (λ told. refusal (codes "task") fault ≡ Some (output_told told)) }
+    ensures long { IfErr result (λ e. tool_fault e ≡ ToolFault.TooLong → fault.kind ≡ Kind.TooLong) }
+    ensures read { IsErrOf result (JudgeFault.Tool ToolFault.Read) ↔ (fault.kind ≡ Kind.Read) }
+    ensures writes { IfErr result (λ e. IsWrite (tool_fault e) → ⊥) }
+{
+    match refuse_file(alloc, "task", fault) {
+        Ok(told) => Ok(told),
+        Err(why) => Err(JudgeFault::Tool(why)),
+    }
+}
+
+/// Returns the answer about the plans of a layered task. One runner serves them all.
+fn judge_plans<S: PlanInputs>(
+    alloc: Global,
+    layered: &Layered<FlatTask>,
+    plans: &mut S,
+) -> Result<Told, JudgeFault>
+    ensures judges { JudgesPlans layered.now (S.bytes plans.old) (S.labels plans.old) (answer_told result) }
+    ensures labels { S.labels plans.new ≡ S.labels plans.old }
+{
+    let mut runner = runner_for(alloc, layered)?;
+    let mut text = Vec::new(alloc);
+    let status = tell_plans(alloc, &mut runner, plans, &mut text);
+    drop(runner);
+    match status {
+        Ok(status) => Ok(Told { text, status }),
+        Err(fault) => {
+            drop(text);
+            Err(fault)
+        }
+    }
+}
+
+/// Returns a runner for the task.
+fn runner_for<'a>(
+    alloc: Global,
+    layered: &'a Layered<FlatTask>,
+) -> Result<Runner<'a, Worklist, FlatTask>, AllocError>
+    ensures { IfOk result (λ r. r ≡ layered.now) }
+{
+    let worklist = Worklist::new(alloc, layered)?;
+    match Runner::new(alloc, layered, worklist) {
+        Ok(runner) => Ok(runner),
+        Err((worklist, error)) => {
+            drop(worklist);
+            Err(error)
+        }
+    }
+}

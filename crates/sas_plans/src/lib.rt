@@ -1,0 +1,15 @@
+//! The requests about what plans do: many plans of one task, and the trace of a plan.
+#![tactic(auto)]
+
+mod inputs;
+mod judging;
+mod laws;
+mod tally;
+mod telling;
+mod tracing;
+mod verdicts;
+
+pub use inputs::{InputFault, JudgeFault, PlanInputs};
+pub use judging::judge;
+pub use laws::{judge_laws, trace_output_laws};
+pub use tracing::trace;

@@ -1,0 +1,137 @@
+// The verdict on one of many plans.
+ghost use Rattle.std.specs.Prelude.{◌≡◌, ◌≢◌, ◌<◌, ℕ, length, false, IfOk, IfErr, IsErrOf};
+ghost use Rattle.sas_output.specs.Ending.{IsWrite};
+ghost use Rattle.sas_plans.specs.Inputs.{tool_fault, tool_result};
+ghost use Rattle.sas_plans.specs.Judging.{IsRefused, Judges, TellsPlan};
+
+use crate::inputs::{InputFault, JudgeFault, PlanInputs};
+use sas_answers::answer_by;
+use sas_axioms::Worklist;
+use sas_core::Stepwise;
+use sas_flat::{FlatPlan, FlatTask};
+use sas_lines::Watched;
+use sas_output::{Status, ToolFault};
+use sas_plan_file::read_flat_plan;
+use sas_reader::{Fault, Kind};
+use sas_requests::refuse_file;
+use sas_run::Runner;
+use std::alloc::{AllocError, Global};
+use std::io::Read;
+
+/// What is said of a plan: the line that `plan` prints of it, with its end, and the plan's cost if it is valid.
+#[derive(Drop)]
+pub struct Verdict {
+    pub line: Vec<u8>,
+    pub cost: Option<u64>,
+}
+
+/// Opens the plan with this number, reads it, and returns the verdict on it. The input is let go.
+pub fn judge_plan<S: PlanInputs>(
+    alloc: Global,
+    runner: &mut Runner<'_, Worklist, FlatTask>,
+    plans: &mut S,
+    number: usize,
+) -> Result<Verdict, JudgeFault>
+    requires { number < length (S.labels plans.old) }
+    ensures judges { Judges runner.old (S.bytes plans.old number) (tool_result result) }
+    ensures task { IsErrOf result (JudgeFault.Tool ToolFault.Read) → ⊥ }
+    ensures same { runner.new ≡ runner.old }
+    ensures labels { S.labels plans.new ≡ S.labels plans.old }
+    ensures later { (k : ℕ) → number < k → S.bytes plans.new k ≡ S.bytes plans.old k }
+{
+    let Some(input) = plans.open(number) else {
+        return Err(JudgeFault::Plan {
+            number,
+            fault: InputFault::NotOpened,
+        });
+    };
+    match judge_input(alloc, runner, input) {
+        Ok(verdict) => Ok(verdict),
+        Err(fault) => Err(fault_of_plan(number, fault)),
+    }
+}
+
+/// Returns the fault of a run that ends at the plan with this number.
+fn fault_of_plan(number: usize, fault: ToolFault) -> JudgeFault
+    ensures fault { tool_fault result ≡ fault }
+    ensures task { result ≢ JudgeFault.Tool ToolFault.Read }
+{
+    match fault {
+        ToolFault::Read => JudgeFault::Plan {
+            number,
+            fault: InputFault::Read,
+        },
+        ToolFault::TooLong => JudgeFault::Plan {
+            number,
+            fault: InputFault::TooLong,
+        },
+        ToolFault::Memory => JudgeFault::Tool(ToolFault::Memory),
+        ToolFault::Write { written } => JudgeFault::Tool(ToolFault::Write { written }),
+    }
+}
+
+/// Reads a plan, and returns the verdict on it. The input is let go.
+fn judge_input<P: Read + Drop>(
+    alloc: Global,
+    runner: &mut Runner<'_, Worklist, FlatTask>,
+    input: P,
+) -> Result<Verdict, ToolFault>
+    ensures judges { Judges runner.old (P.remaining input) result }
+    ensures same { runner.new ≡ runner.old }
+{
+    let mut plan = Watched::new(input);
+    let verdict = judge_device(alloc, runner, &mut plan);
+    drop(plan);
+    verdict
+}
+
+/// Reads a plan from a device, and returns the verdict on it. A plan file that is refused has a verdict, too.
+fn judge_device<P: Read>(
+    alloc: Global,
+    runner: &mut Runner<'_, Worklist, FlatTask>,
+    plan: &mut Watched<P>,
+) -> Result<Verdict, ToolFault>
+    requires { plan.old.failed ≡ false }
+    ensures judges { Judges runner.old (P.remaining plan.old.device) result }
+    ensures same { runner.new ≡ runner.old }
+{
+    match read_flat_plan(alloc, plan) {
+        Ok(read) => Ok(verdict_by(alloc, runner, &read)?),
+        Err(fault) => refuse_plan(alloc, fault),
+    }
+}
+
+/// Returns the verdict that refuses a plan file for its fault, or why the run ends at it.
+fn refuse_plan(alloc: Global, fault: Fault) -> Result<Verdict, ToolFault>
+    ensures ok { IfOk result (IsRefused fault) }
+    ensures long { IsErrOf result ToolFault.TooLong → fault.kind ≡ Kind.TooLong }
+    ensures writes { IfErr result (λ e. IsWrite e → ⊥) }
+{
+    match refuse_file(alloc, "plan", fault) {
+        Ok(told) => Ok(Verdict {
+            line: told.text,
+            cost: None,
+        }),
+        Err(why) => Err(why),
+    }
+}
+
+/// Returns the verdict on a plan that was read.
+fn verdict_by(
+    alloc: Global,
+    runner: &mut Runner<'_, Worklist, FlatTask>,
+    plan: &FlatPlan,
+) -> Result<Verdict, AllocError>
+    ensures verdict { IfOk result (λ v. TellsPlan runner.old plan.now v) }
+    ensures same { runner.new ≡ runner.old }
+{
+    let told = answer_by(alloc, runner, plan)?;
+    let cost = match told.status {
+        Status::Yes => Some(plan.cost()),
+        Status::No => None,
+    };
+    Ok(Verdict {
+        line: told.text,
+        cost,
+    })
+}

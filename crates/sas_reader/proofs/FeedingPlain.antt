@@ -1,0 +1,232 @@
+-- What a reader took without CRs, and where it was stopped there, is so of the bytes with them.
+use Rattle.std.proofs.Common.{◌≡◌, ℕ, ◌+◌, ◌≤◌, Bool, true, false, not, cond, ◌==◌, List, [], ◌∷◌, ◌++◌, length, take, drop, get_or, refl, sym, ap, ap₂, subst, ◌∙◌, append_assoc, inl, inr, ◌⊎◌, arith, length-append, Result, Ok, Err}
+use Rattle.std.proofs.lemmas.List.{take_at, take_all, drop_more, take-append-drop}
+use Rattle.std.proofs.lemmas.List.Elements.{filter-append}
+use Rattle.std.proofs.Math.Seq.{drop-append_seam}
+use Rattle.sas_lines.specs.Lines.{without_return, lines, unfinished}
+use Rattle.sas_lines.specs.Progress.{Progress}
+use Rattle.sas_lines.proofs.Splitting.{lines-end}
+use Rattle.sas_reader.specs.declared.fault.Fault.{Fault}
+use Rattle.sas_reader.specs.declared.fault.Kind.{Kind}
+use Rattle.sas_reader.specs.declared.reader.Reader.{Reader}
+use Rattle.sas_reader.specs.Reader.{Reached, Accepted, LineIsDue, full, over, rejected, FaultIn, TookFront, Stopped, Advances}
+use Rattle.sas_reader.specs.Returns.{without_returns}
+use Rattle.sas_reader.proofs.Standing.{FaultIn-more}
+use Rattle.sas_reader.proofs.WithLfAlone.{EachEnds, lines_behind, rest_behind, nothing, return, FrontOf, front_of}
+
+-- ---- lists
+
+-- some bytes and more, cut at a byte: it is among the first, or behind them
+abbrev Cut : List ℕ → List ℕ → List ℕ → ℕ → List ℕ → Type 0
+Cut bytes x before byte after = ((more : List ℕ) × (bytes ≡ before ++ byte ∷ more)) ⊎ ((a : List ℕ) × (before ≡ bytes ++ a) × (x ≡ a ++ byte ∷ after))
+
+cut : (bytes x before : List ℕ) (byte : ℕ) (after : List ℕ) → bytes ++ x ≡ before ++ byte ∷ after → Cut bytes x before byte after
+cut [] x before byte after e = inr (before, refl, e)
+cut (b ∷ bytes) x [] byte after e = inl (bytes, ap (λ (y : ℕ). y ∷ bytes) (ap (λ (l : List ℕ). get_or l 0 0) e))
+cut (b ∷ bytes) x (c ∷ before) byte after e =
+    let same : b ≡ c = ap (λ (l : List ℕ). get_or l 0 0) e in
+    elim (cut bytes x before byte after (ap (drop 1) e)) [
+      | inl r ↦ inl (r.0, ap₂ (λ (y : ℕ) (l : List ℕ). y ∷ l) same r.1)
+      | inr r ↦ inr (r.0, ap₂ (λ (y : ℕ) (l : List ℕ). y ∷ l) (sym same) r.1, r.2)
+    ]
+
+-- the last one and those in front of it
+last_same : (xs ys : List (List ℕ)) (p q : List ℕ) → xs ++ p ∷ [] ≡ ys ++ q ∷ [] → (xs ≡ ys) × (p ≡ q)
+last_same xs ys p q e =
+    let n : length xs ≡ length ys = omega (arith, ap length e, length-append xs (p ∷ []), length-append ys (q ∷ [])) in (
+      sym (take_at xs (p ∷ []) (length xs) refl) ∙ ap (take (length xs)) e ∙ take_at ys (q ∷ []) (length xs) (sym n),
+      ap (λ (l : List (List ℕ)). get_or l 0 []) (sym (drop-append_seam xs (p ∷ [])) ∙ ap (drop (length xs)) e ∙ ap (λ (k : ℕ). drop k (ys ++ q ∷ [])) n ∙ drop-append_seam ys (q ∷ [])),
+    )
+
+ends-append : (a b : List ℕ) → EachEnds a → EachEnds b → EachEnds (a ++ b)
+ends-append [] b h g = g
+ends-append (x ∷ []) b h g = (λ e. let none : 0 ≡ 10 = h.0 e in absurd (omega (arith, none)), g)
+ends-append (x ∷ y ∷ a) b h g = (h.0, ends-append (y ∷ a) b h.1 g)
+
+-- no more bytes stay than there are
+some_stay : (t : Bool) (b n : ℕ) (l : List ℕ) → length l ≤ n → length (cond t (b ∷ l) l) ≤ n + 1
+some_stay true b n l h = omega (arith, h)
+some_stay false b n l h = omega (arith, h)
+
+pub fewer : (bytes : List ℕ) → length (without_returns bytes) ≤ length bytes
+fewer [] = omega arith
+fewer (b ∷ bytes) = omega (arith, some_stay (not (b == 13)) b (length bytes) (without_returns bytes) (fewer bytes))
+
+-- ---- a front and its line end
+
+module _ (bytes a : List ℕ) (byte : ℕ) (r : FrontOf bytes a byte) where
+  line_end : byte ≡ 10 → EachEnds (r.between ++ 10 ∷ [])
+  line_end lf = elim r.may [
+    | nothing e ↦ subst (λ (l : List ℕ). EachEnds (l ++ 10 ∷ [])) (sym e) ((λ f. absurd (omega (arith, f))), tt)
+    | return e f ↦ subst (λ (l : List ℕ). EachEnds (l ++ 10 ∷ [])) (sym e) ((λ g. refl), ((λ g. absurd (omega (arith, g))), tt))
+  ]
+
+  end_plain : without_returns (r.between ++ 10 ∷ []) ≡ 10 ∷ []
+  end_plain = elim r.may [
+    | nothing e ↦ rw e refl
+    | return e f ↦ rw e refl
+  ]
+
+  -- the byte with which it goes on
+  goes_on : (x : ℕ) × (more : List ℕ) × (r.between ++ byte ∷ r.after ≡ x ∷ more)
+  goes_on = elim r.may [
+    | nothing e ↦ (byte, r.after, ap (λ (l : List ℕ). l ++ byte ∷ r.after) e)
+    | return e f ↦ (13, byte ∷ r.after, ap (λ (l : List ℕ). l ++ byte ∷ r.after) e)
+  ]
+
+  long : length bytes ≡ length r.front + (length r.between + (1 + length r.after))
+  long = omega (arith, ap length r.whole, length-append r.front (r.between ++ byte ∷ r.after), length-append r.between (byte ∷ r.after))
+
+  module _ (before : List ℕ) (whole : unfinished before ≡ []) where
+    front_lines : lines (before ++ r.front) ≡ lines (before ++ a)
+    front_lines = lines_behind before r.front whole r.ends ∙ ap (λ (l : List ℕ). lines (before ++ l)) r.is
+
+    front_rest : unfinished (before ++ r.front) ≡ unfinished (before ++ a)
+    front_rest = rest_behind before r.front whole r.ends ∙ ap (λ (l : List ℕ). unfinished (before ++ l)) r.is
+
+    -- the line that LF ends there
+    line_same : byte ≡ 10 → (lines (before ++ (r.front ++ r.between)) ≡ lines (before ++ a)) × (without_return (unfinished (before ++ (r.front ++ r.between))) ≡ without_return (unfinished (before ++ a)))
+    line_same lf =
+        let x = before ++ (r.front ++ r.between) in
+        let y = before ++ a in
+        let c = r.front ++ (r.between ++ 10 ∷ []) in
+        let plain : without_returns c ≡ a ++ 10 ∷ [] = filter-append _ r.front (r.between ++ 10 ∷ []) ∙ ap₂ (λ (l k : List ℕ). l ++ k) r.is end_plain in
+        let ended : x ++ 10 ∷ [] ≡ before ++ c = append_assoc before (r.front ++ r.between) (10 ∷ []) ∙ ap (λ (l : List ℕ). before ++ l) (append_assoc r.front r.between (10 ∷ [])) in
+        let both : lines (x ++ 10 ∷ []) ≡ lines (y ++ 10 ∷ []) = ap lines ended ∙ lines_behind before c whole (ends-append r.front (r.between ++ 10 ∷ []) r.ends (line_end lf)) ∙ ap (λ (l : List ℕ). lines (before ++ l)) plain ∙ ap lines (sym (append_assoc before a (10 ∷ []))) in
+        last_same (lines x) (lines y) _ _ (sym (lines-end x) ∙ both ∙ lines-end y)
+
+module _ {M : Type 0} (led_by : List (List ℕ) → M → Type 0) (ended : M → Type 0) where
+  reached_same : (m : M) (a b : List ℕ) → lines b ≡ lines a → unfinished b ≡ unfinished a → Reached led_by ended m a → Reached led_by ended m b
+  reached_same m a b l u h = record { led = subst (λ (x : List (List ℕ)). led_by x m) (sym l) h.led; rest = λ e. u ∙ h.rest e }
+
+  due_plain : (limit : ℕ) (before bytes : List ℕ) → unfinished before ≡ [] → EachEnds bytes → length before + length bytes ≤ limit → LineIsDue led_by ended limit before (without_returns bytes) → LineIsDue led_by ended limit before bytes
+  due_plain limit before bytes whole ends room h =
+      let w = without_returns bytes in
+      let a = take h.at w in
+      let byte = get_or w h.at 0 in
+      let r = front_of bytes ends a byte (drop (h.at + 1) w) (sym (take-append-drop h.at w) ∙ ap (λ (x : List ℕ). a ++ x) (drop_more w h.at 0 h.within)) in
+      let n = length r.front in
+      let front : take n bytes ≡ r.front = ap (take n) r.whole ∙ take_at r.front (r.between ++ byte ∷ r.after) n refl in
+      let l = long bytes a byte r in
+      record {
+        machine = h.machine;
+        at = n;
+        within = omega (arith, l);
+        reached = subst (λ (x : List ℕ). Reached led_by ended h.machine (before ++ x)) (sym front) (reached_same h.machine (before ++ a) (before ++ r.front) (front_lines bytes a byte r before whole) (front_rest bytes a byte r before whole) h.reached);
+        open_still = h.open_still;
+        room = omega (arith, l, room, ap length front, length-append before (take n bytes));
+      }
+
+module _ {M : Type 0} (led_by : List (List ℕ) → M → Type 0) (ended : M → Type 0) (rejects : M → List ℕ → Kind → Type 0) where
+  module _ (limit : ℕ) (before bytes : List ℕ) (f : Fault) (whole : unfinished before ≡ []) (ends : EachEnds bytes) (room : length before + length bytes ≤ limit) where
+    fault_behind : (h : FaultIn led_by ended rejects limit (before ++ without_returns bytes) f) (a : List ℕ) → h.before ≡ before ++ a → without_returns bytes ≡ a ++ h.byte ∷ h.after → FaultIn led_by ended rejects limit (before ++ bytes) f
+    fault_behind h a is e =
+        let byte = h.byte in
+        let r = front_of bytes ends a byte h.after e in
+        let l = long bytes a byte r in
+        elim h.stops [
+          | full at_limit k ↦ absurd (omega (arith, at_limit, room, ap length is, length-append before a, ap length e, length-append a (byte ∷ h.after), fewer bytes))
+          | over fits d k ↦
+              let next = goes_on bytes a byte r in
+              let more_lines : lines (before ++ r.front) ≡ lines h.before = front_lines bytes a byte r before whole ∙ ap lines (sym is) in
+              let more_rest : unfinished (before ++ r.front) ≡ unfinished h.before = front_rest bytes a byte r before whole ∙ ap unfinished (sym is) in
+              record {
+                machine = h.machine;
+                before = before ++ r.front;
+                byte = next.0;
+                after = next.1;
+                whole = ap (λ (x : List ℕ). before ++ x) (r.whole ∙ ap (λ (x : List ℕ). r.front ++ x) next.2) ∙ sym (append_assoc before r.front (next.0 ∷ next.1));
+                reached = reached_same led_by ended h.machine h.before (before ++ r.front) more_lines more_rest h.reached;
+                line = h.line ∙ ap (λ (x : List (List ℕ)). length x + 1) (sym more_lines);
+                stops = over (omega (arith, l, room, length-append before r.front)) d k;
+              }
+          | rejected fits going lf refused ↦
+              let front = before ++ (r.front ++ r.between) in
+              let same = line_same bytes a byte r before whole lf in
+              let more_lines : lines front ≡ lines h.before = same.0 ∙ ap lines (sym is) in
+              let line_is : without_return (unfinished front) ≡ without_return (unfinished h.before) = same.1 ∙ ap (λ (x : List ℕ). without_return (unfinished x)) (sym is) in
+              record {
+                machine = h.machine;
+                before = front;
+                byte = byte;
+                after = r.after;
+                whole = ap (λ (x : List ℕ). before ++ x) (r.whole ∙ sym (append_assoc r.front r.between (byte ∷ r.after))) ∙ sym (append_assoc before (r.front ++ r.between) (byte ∷ r.after));
+                reached = record { led = subst (λ (x : List (List ℕ)). led_by x h.machine) (sym more_lines) h.reached.led; rest = λ d. absurd (going d) };
+                line = h.line ∙ ap (λ (x : List (List ℕ)). length x + 1) (sym more_lines);
+                stops = rejected (omega (arith, l, room, length-append before (r.front ++ r.between), length-append r.front r.between)) going lf (subst (λ (x : List ℕ). rejects h.machine x f.kind) (sym line_is) refused);
+              }
+        ]
+
+    fault_plain : FaultIn led_by ended rejects limit (before ++ without_returns bytes) f → FaultIn led_by ended rejects limit (before ++ bytes) f
+    fault_plain h = elim (cut before (without_returns bytes) h.before h.byte h.after h.whole) [
+      | inl r ↦ FaultIn-more led_by ended rejects limit before bytes f (record { machine = h.machine; before = h.before; byte = h.byte; after = r.0; whole = r.1; reached = h.reached; line = h.line; stops = h.stops })
+      | inr r ↦ fault_behind h r.0 r.1 r.2
+    ]
+
+  module _ (old new : Reader M) (bytes : List ℕ) (none : old.pending.pending ≡ []) (ends : EachEnds bytes) where
+    pub stopped_plain : (k : Kind) → old.taken + length bytes ≤ old.limit → Stopped led_by ended rejects old new (without_returns bytes) k → Stopped led_by ended rejects old new bytes k
+    stopped_plain k room h = record {
+      kind = h.kind;
+      fault = λ ne before a. fault_plain old.limit before bytes (record { line = new.lines + 1; kind = k }) (sym a.pending ∙ none) ends (omega (arith, a.taken, room)) (h.fault ne before a);
+      memory = λ e before a. due_plain led_by ended old.limit before bytes (sym a.pending ∙ none) ends (omega (arith, a.taken, room)) (h.memory e before a);
+    }
+
+    pub took_plain : (mid : Reader M) (n : ℕ) → TookFront led_by ended rejects old mid (without_returns bytes) n → n ≡ length (without_returns bytes) → new.machine ≡ mid.machine → new.pending ≡ mid.pending → new.lines ≡ mid.lines → new.taken ≡ old.taken + length bytes
+        → TookFront led_by ended rejects old new bytes (length bytes)
+    took_plain mid n h all same_machine same_pending more_lines count = record {
+      within = omega arith;
+      count = count;
+      accepted = λ before a.
+          let w = without_returns bytes in
+          let whole : unfinished before ≡ [] = sym a.pending ∙ none in
+          let m : Accepted led_by ended mid (before ++ w) = subst (λ (x : List ℕ). Accepted led_by ended mid (before ++ x)) (take_all n w (omega (arith, all))) (h.accepted before a) in
+          let l = lines_behind before bytes whole ends in
+          let u = rest_behind before bytes whole ends in
+          subst (λ (x : List ℕ). Accepted led_by ended new (before ++ x)) (sym (take_all (length bytes) bytes (omega arith)))
+          (record {
+            reached = subst (λ (x : M). Reached led_by ended x (before ++ bytes)) (sym same_machine) (reached_same led_by ended mid.machine (before ++ w) (before ++ bytes) l u m.reached);
+            pending = ap (λ (p : Progress). p.pending) same_pending ∙ m.pending ∙ sym u;
+            lines = more_lines ∙ m.lines ∙ ap length (sym l);
+            taken = omega (arith, count, a.taken, length-append before bytes);
+          });
+    }
+
+-- ---- readers that differ in memory alone
+
+pub record Alike {M : Type 0} (r s : Reader M) : Type 0 where
+  pub machine : s.machine ≡ r.machine
+  pub pending : s.pending ≡ r.pending
+  pub lines : s.lines ≡ r.lines
+  pub taken : s.taken ≡ r.taken
+  pub limit : s.limit ≡ r.limit
+  pub fault : s.fault ≡ r.fault
+
+module _ {M : Type 0} (led_by : List (List ℕ) → M → Type 0) (ended : M → Type 0) (rejects : M → List ℕ → Kind → Type 0) where
+  accepted_alike : (r s : Reader M) → Alike r s → (bytes : List ℕ) → Accepted led_by ended r bytes → Accepted led_by ended s bytes
+  accepted_alike r s same bytes h = record {
+    reached = subst (λ (x : M). Reached led_by ended x bytes) (sym same.machine) h.reached;
+    pending = ap (λ (p : Progress). p.pending) same.pending ∙ h.pending;
+    lines = same.lines ∙ h.lines;
+    taken = same.taken ∙ h.taken;
+  }
+
+  module _ (old start mid new : Reader M) (first : Alike old start) (last : Alike mid new) (piece : List ℕ) where
+    took_alike : (n : ℕ) → TookFront led_by ended rejects start mid piece n → TookFront led_by ended rejects old new piece n
+    took_alike n h = record {
+      within = h.within;
+      count = omega (arith, h.count, first.taken, last.taken);
+      accepted = λ bytes a. accepted_alike mid new last (bytes ++ take n piece) (h.accepted bytes (accepted_alike old start first bytes a));
+    }
+
+    stopped_alike : (k : Kind) → Stopped led_by ended rejects start mid piece k → Stopped led_by ended rejects old new piece k
+    stopped_alike k h = record {
+      kind = h.kind;
+      fault = λ ne bytes a.
+          subst (λ (l : ℕ). FaultIn led_by ended rejects l (bytes ++ piece) (record { line = new.lines + 1; kind = k })) first.limit
+          (subst (λ (n : ℕ). FaultIn led_by ended rejects start.limit (bytes ++ piece) (record { line = n + 1; kind = k })) (sym last.lines) (h.fault ne bytes (accepted_alike old start first bytes a)));
+      memory = λ e bytes a. subst (λ (l : ℕ). LineIsDue led_by ended l bytes piece) first.limit (h.memory e bytes (accepted_alike old start first bytes a));
+    }
+
+    pub advances_alike : (r : Result ℕ Kind) → Advances led_by ended rejects start piece mid r → Advances led_by ended rejects old piece new r
+    advances_alike (Ok n) h = record { took = took_alike n h.took; stopped = tt; fault = last.fault ∙ h.fault ∙ first.fault; limit = last.limit ∙ h.limit ∙ first.limit }
+    advances_alike (Err k) h = record { took = tt; stopped = stopped_alike k h.stopped; fault = last.fault ∙ h.fault ∙ first.fault; limit = last.limit ∙ h.limit ∙ first.limit }

@@ -1,0 +1,15 @@
+use Rattle.std.proofs.Common.{length, ◌-◌, ◌≡◌}
+use Rattle.sas_reader.specs.Reader.{TookFront}
+use Rattle.sas_reader.proofs.reader.Reader.run.Given as goal
+
+-- so much was taken
+abbrev pub invariant-loop-at : goal.invariant-loop-at
+invariant-loop-at g l =
+    record {
+      took : TookFront g.M.Machine.led_by g.M.Machine.ended g.M.Machine.rejects l.initial.self l.self l.bytes l.at;
+      fault : l.self.fault ≡ l.initial.self.fault;
+      limit : l.self.limit ≡ l.initial.self.limit;
+    }
+
+abbrev pub decreases-loop-at : goal.decreases-loop-at
+decreases-loop-at g l = length l.bytes - l.at

@@ -1,0 +1,116 @@
+-- What is said of a plan with reasons: one thing, and always something; and that it is valid exactly where it is.
+use Rattle.std.proofs.Common.{◌≡◌, ℕ, ◌<◌, List, ◌++◌, get_or, refl, sym, ap, subst, ◌∙◌, inl, inr, Some, None, Option, arith}
+use Rattle.std.specs.Prelude.{option_map}
+use Rattle.std.proofs.lemmas.Option.{none-some}
+use Rattle.sas_core.specs.declared.parts.Parts.{Parts}
+use Rattle.sas_core.specs.PlanParts.{PlanParts}
+use Rattle.sas_lines.specs.Lines.{text}
+use Rattle.sas_meaning.specs.Layers.{IsLayered}
+use Rattle.sas_run.specs.declared.plan_check.PlanFault.{PlanFault}
+use Rattle.sas_run.specs.declared.plan_check.PlanFault.TheVariants.{Memory, NoOperator, NotApplicable, Conflict, GoalMissed, CostDiffers}
+use Rattle.sas_run.specs.Verdicts.{IsFaultOf}
+use Rattle.sas_run.proofs.PlanVerdicts.{some_verdict, valid_has_no_fault, fault_is_one}
+use Rattle.sas_output.specs.declared.ending.Status.{Status}
+use Rattle.sas_output.specs.declared.ending.Status.TheVariants.{No}
+use Rattle.sas_output.specs.Ending.{Output}
+use Rattle.sas_answers.specs.Answers.{valid_answer, invalid_answer}
+use Rattle.sas_answers.specs.PlanWords.{valid_line, fault_words, invalid_line}
+use Rattle.sas_reasons.proofs.WhyPlan.{one_why, some_why}
+use Rattle.sas_explain.specs.Verdict.{WhyVerdict, Explains}
+use Rattle.sas_requests.proofs.Headlines.{TellsValid}
+use Rattle.sas_requests.proofs.PlanAnswers.{OneVerdictAnswer, SomeVerdictAnswer}
+
+-- ---- words on a line
+
+-- the output is a line with these words that says no
+pub record IsWorded (words : Option (List ℕ)) (line_of : List ℕ → List ℕ) (o : Output) : Type 0 where
+  pub said : List ℕ
+  pub among : words ≡ Some said
+  pub status : o.status ≡ No
+  pub text : o.text ≡ line_of said
+
+pub worded : (words : Option (List ℕ)) (line_of : List ℕ → List ℕ) (o : Output) → option_map (λ w. record { text = line_of w; status = No }) words ≡ Some o → IsWorded words line_of o
+worded None line_of o is = absurd (none-some o is)
+worded (Some w) line_of o is =
+    let same : (record { text = line_of w; status = No }) ≡ o = cc in
+    record { said = w; among = refl; status = sym (ap (λ (x : Output). x.status) same); text = sym (ap (λ (x : Output). x.text) same) }
+
+-- ---- the verdict on a plan is the text's first line
+
+not_same : (m n : ℕ) → m < n → n ≡ m → ⊥
+not_same m n less same = omega arith
+
+line_apart : (words behind : List ℕ) (steps cost : ℕ) → invalid_line words ++ behind ≡ valid_line steps cost → ⊥
+line_apart words behind steps cost e = not_same 105 118 (omega arith) (sym (ap (λ (t : List ℕ). get_or t 5 0) e))
+
+explained_apart : (p : Parts) (plan : PlanParts) (fault : PlanFault) (bytes : List ℕ) (steps cost : ℕ) → Explains p plan fault bytes → bytes ≡ valid_line steps cost → ⊥
+explained_apart p plan fault bytes steps cost e is =
+    let w = worded (fault_words plan.cost fault) invalid_line e.verdict e.told in
+    line_apart w.said (text e.reasons) steps cost (ap (λ (t : List ℕ). t ++ text e.reasons) (sym w.text) ∙ (sym e.whole ∙ is))
+
+-- ---- one answer
+
+explained_one : (p : Parts) (plan : PlanParts) (fault : PlanFault) (a b : List ℕ) → IsLayered p → Explains p plan fault a → Explains p plan fault b → a ≡ b
+explained_one p plan fault a b layered x y =
+    let told : Some x.verdict ≡ Some y.verdict = sym x.told ∙ y.told in
+    let verdict : x.verdict ≡ y.verdict = cc in
+    let reasons = one_why p plan fault x.reasons y.reasons layered x.why y.why in
+    x.whole
+    ∙ (ap (λ (v : Output). v.text ++ text x.reasons) verdict
+    ∙ (ap (λ (lines : List (List ℕ)). y.verdict.text ++ text lines) reasons ∙ sym y.whole))
+
+same_output : (o q : Output) → o.text ≡ q.text → o.status ≡ q.status → o ≡ q
+same_output o q text status =
+    let first : o ≡ record { text = q.text; status = o.status } = ap (λ (t : List ℕ). let x : Output = record { text = t; status = o.status } in x) text in
+    first ∙ ap (λ (s : Status). let x : Output = record { text = q.text; status = s } in x) status
+
+pub one_why_verdict : OneVerdictAnswer WhyVerdict
+one_why_verdict p layered plan o q a b = elim a [
+  | inl x ↦ elim b [
+    | inl y ↦ x.1 ∙ sym y.1
+    | inr y ↦ absurd (valid_has_no_fault p plan x.0.0 y.0 layered x.0.1 y.1)
+  ]
+  | inr x ↦ elim b [
+    | inl y ↦ absurd (valid_has_no_fault p plan y.0.0 x.0 layered y.0.1 x.1)
+    | inr y ↦
+        (let fault = fault_is_one p plan x.0 y.0 layered x.1 y.1 in
+        let here = subst (λ (f : PlanFault). Explains p plan f o.text) fault x.2 in
+        same_output o q (explained_one p plan y.0 o.text q.text layered here y.2) (x.3 ∙ sym y.3))
+  ]
+]
+
+-- ---- and always some answer
+
+-- each fault is told
+some_told : (p : Parts) (plan : PlanParts) (fault : PlanFault) → IsFaultOf p plan fault → (o : Output) × (invalid_answer plan.cost fault ≡ Some o)
+some_told p plan Memory f = absurd f
+some_told p plan (NoOperator step) f = (_, refl)
+some_told p plan (NotApplicable step) f = (_, refl)
+some_told p plan (Conflict step operator) f = (_, refl)
+some_told p plan (GoalMissed index) f = (_, refl)
+some_told p plan (CostDiffers sum) f = (_, refl)
+
+explained : (p : Parts) (plan : PlanParts) (fault : PlanFault) → IsLayered p → IsFaultOf p plan fault → (o : Output) × WhyVerdict p plan o
+explained p plan fault layered is =
+    let told = some_told p plan fault is in
+    let why = some_why p plan fault layered is in (
+      record { text = told.0.text ++ text why.0; status = No },
+      inr (fault, is, record { verdict = told.0; told = told.1; reasons = why.0; why = why.1; whole = refl }, refl),
+    )
+
+pub some_why_verdict : SomeVerdictAnswer WhyVerdict
+some_why_verdict p ranged layered plan none = elim (some_verdict p plan ranged layered) [
+  | inl valid ↦ none (valid_answer plan) (inl (valid, refl))
+  | inr fault ↦ (let told = explained p plan fault.0 layered fault.1 in none told.0 told.1)
+]
+
+-- ---- valid or not
+
+pub why_tells_valid : TellsValid WhyVerdict
+why_tells_valid = record {
+  told = λ p plan o verdict. elim verdict [
+    | inl x ↦ inl x
+    | inr x ↦ inr (record { status = x.3; text = λ steps cost. explained_apart p plan x.0 o.text steps cost x.2 })
+  ];
+  valid = λ p plan o operators layered valid verdict. one_why_verdict p layered plan o (valid_answer plan) verdict (inl ((operators, valid), refl));
+}

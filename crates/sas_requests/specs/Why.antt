@@ -1,0 +1,63 @@
+-- What the program prints with `--why`: the output without it, and reasons behind a no.
+use Rattle.std.specs.Prelude.{◌≡◌, ℕ, Bool, not, List, filter, codes, Option, Some, None}
+use Rattle.sas_lines.specs.Lines.{text, lines}
+use Rattle.sas_output.specs.declared.ending.Status.TheVariants.{Yes, No}
+use Rattle.sas_output.specs.Ending.{Output}
+use Rattle.sas_reasons.specs.Lines.{begins}
+use Rattle.sas_explain.specs.Verdict.{WhyVerdict}
+use Rattle.sas_requests.specs.declared.Request.{Request}
+use Rattle.sas_requests.specs.declared.Request.TheVariants.{Show, Print, Steps, Check, Plan, Mutex}
+use Rattle.sas_requests.specs.Output.{Out, ShowOut, PrintOut, StepsOut, CheckOut, MutexOut, PlanOutBy, IsLong}
+
+-- the output with reasons about the bytes b of the task and c of the plan
+abbrev pub WhyPlanOut : List ℕ → List ℕ → Option Output → Type 0
+WhyPlanOut = PlanOutBy WhyVerdict
+
+-- The output with reasons for the bytes b of the task and c of the plan, or none if the file that
+-- decides it is too long. Reasons are told of plans; all else is answered as without them.
+abbrev pub OutWhy : Request → List ℕ → List ℕ → Option Output → Type 0
+OutWhy Show b c output = ShowOut b output
+OutWhy Print b c output = PrintOut b output
+OutWhy Steps b c output = StepsOut c output
+OutWhy Check b c output = CheckOut b output
+OutWhy Plan b c output = WhyPlanOut b c output
+OutWhy Mutex b c output = MutexOut b output
+
+-- ---- the same answer
+
+-- whether a line tells a reason: whether it begins with two spaces
+abbrev pub is_reason : List ℕ → Bool
+is_reason line = begins (codes "  ") line
+
+-- the lines of a text but for its reasons, each ended by LF
+abbrev pub without_reasons : List ℕ → List ℕ
+without_reasons bytes = text (filter (λ line. not (is_reason line)) (lines bytes))
+
+-- The output with reasons is the same answer as this one: it has the same status, where that is yes
+-- the same text, and where it is no the text that is left is the same when the reasons are taken
+-- away.
+pub record IsSameAnswer (plain why : Output) : Type 0 where
+  pub status : why.status ≡ plain.status
+  pub yes : plain.status ≡ Yes → why.text ≡ plain.text
+  pub no : plain.status ≡ No → without_reasons why.text ≡ plain.text
+
+-- ---- laws
+
+-- each output with reasons is the same answer as the one without
+abbrev pub SameAnswer : Type 0
+SameAnswer = (request : Request) (b c : List ℕ) (why : Output) → OutWhy request b c (Some why)
+    → (plain : Output) × Out request b c (Some plain) × IsSameAnswer plain why
+
+-- a request has one output with reasons over the same inputs
+abbrev pub OneWhyOutput : Type 0
+OneWhyOutput = (request : Request) (b c : List ℕ) (o p : Option Output) → OutWhy request b c o
+    → OutWhy request b c p → o ≡ p
+
+-- and it can't have nothing
+abbrev pub SomeWhyOutput : Type 0
+SomeWhyOutput = (request : Request) (b c : List ℕ)
+    → ((o : Option Output) → OutWhy request b c o → ⊥) → ⊥
+
+-- there is none only where an input passes the limit
+abbrev pub NoneWhyIsLong : Type 0
+NoneWhyIsLong = (request : Request) (b c : List ℕ) → OutWhy request b c None → IsLong request b c

@@ -1,0 +1,104 @@
+// Why a plan doesn't solve a task. What is told of a task or a plan that is refused is what is told without reasons.
+ghost use Rattle.std.specs.Prelude.{◌≡◌, ◌↔◌, ◌||◌, ℕ, List, false, Some};
+ghost use Rattle.std.specs.Prelude.{IfErr, IsErrOf, IsFalse, IsTrue};
+ghost use Rattle.std.specs.Io.KnownBytes.{Consumes};
+ghost use Rattle.sas_explain.specs.Verdict.{WhyVerdict};
+ghost use Rattle.sas_output.specs.Ending.{IsDecided, IsWrite};
+ghost use Rattle.sas_reader.specs.Devices.{ValueOf};
+ghost use Rattle.sas_task_format.specs.TaskFormat.{task_format};
+ghost use Rattle.sas_requests.specs.Answering.{Answers, AnswersFile, AnswersFiles};
+ghost use Rattle.sas_requests.specs.Output.{VerdictOut, AreInputs, IsLayeredText, reads_plan, reads_task};
+ghost use Rattle.sas_requests.specs.Why.{OutWhy, WhyPlanOut};
+
+use crate::answers::{Answer, answer_to, refuse};
+use crate::plans::refuse_task;
+use crate::{Request, ToolFault};
+use sas_explain::{PlanAnswer, explain_plan};
+use sas_flat::FlatTask;
+use sas_lines::Watched;
+use sas_meaning::Layered;
+use sas_plan_file::read_flat_plan;
+use sas_task_reader::read_flat_task;
+use std::alloc::Global;
+use std::io::Read;
+
+/// Returns the answer to the request about the inputs, with the reasons for a no.
+pub fn explanation_to<T: Read, P: Read>(
+    alloc: Global,
+    request: Request,
+    task: &mut Watched<T>,
+    plan: &mut Watched<P>,
+) -> Result<Answer, ToolFault>
+    requires task { task.old.failed ≡ false }
+    requires plan { plan.old.failed ≡ false }
+    ensures output { (b c : List ℕ)
+        → AreInputs request (T.remaining task.old.device) (P.remaining plan.old.device) b c
+        → Answers (OutWhy request b c) result }
+    ensures taken { IsDecided result → (b c : List ℕ)
+        × Consumes (T.remaining task.old.device) (T.remaining task.new.device) b
+        × Consumes (P.remaining plan.old.device) (P.remaining plan.new.device) c
+        × Answers (OutWhy request b c) result }
+    ensures task_spared { IsFalse (reads_task request) → task.new ≡ task.old }
+    ensures plan_spared { IsFalse (reads_plan request) → plan.new ≡ plan.old }
+    ensures plan_waits { request ≡ Request.Plan → (b : List ℕ)
+        → T.remaining task.old.device ≡ Some b
+        → (IsLayeredText b → ⊥) → plan.new ≡ plan.old }
+    ensures reads { IsErrOf result ToolFault.Read ↔ IsTrue (task.new.failed || plan.new.failed) }
+    ensures writes { IfErr result (λ e. IsWrite e → ⊥) }
+{
+    match request {
+        Request::Plan => plan_explanation(alloc, task, plan),
+        Request::Show => answer_to(alloc, Request::Show, task, plan),
+        Request::Print => answer_to(alloc, Request::Print, task, plan),
+        Request::Steps => answer_to(alloc, Request::Steps, task, plan),
+        Request::Check => answer_to(alloc, Request::Check, task, plan),
+        Request::Mutex => answer_to(alloc, Request::Mutex, task, plan),
+    }
+}
+
+/// Returns the answer about a task and a plan, with the reasons where the plan isn't valid. The plan is read only where the
+/// task is layered.
+fn plan_explanation<T: Read, P: Read>(
+    alloc: Global,
+    task: &mut Watched<T>,
+    plan: &mut Watched<P>,
+) -> Result<Answer, ToolFault>
+    requires task { task.old.failed ≡ false }
+    requires plan { plan.old.failed ≡ false }
+    ensures { AnswersFiles T.remaining P.remaining WhyPlanOut
+        task.old task.new plan.old plan.new result }
+{
+    let read = match read_flat_task(alloc, task) {
+        Ok(read) => read,
+        Err(fault) => return refuse(alloc, "task", fault),
+    };
+    match Layered::new(alloc, read) {
+        Ok(layered) => explain_judged(alloc, layered, plan),
+        Err((task, fault)) => {
+            drop(task);
+            refuse_task(alloc, fault)
+        }
+    }
+}
+
+/// Returns the answer about a plan of a layered task that was read, with the reasons where the plan isn't valid.
+fn explain_judged<P: Read>(
+    alloc: Global,
+    layered: Layered<FlatTask>,
+    plan: &mut Watched<P>,
+) -> Result<Answer, ToolFault>
+    requires plan { plan.old.failed ≡ false }
+    requires task { (b : List ℕ) × ValueOf task_format b layered }
+    ensures { AnswersFile P.remaining (VerdictOut WhyVerdict layered) plan.old plan.new result }
+{
+    match read_flat_plan(alloc, plan) {
+        Ok(read) => match explain_plan(alloc, layered, read)? {
+            PlanAnswer::Valid(told) => Ok(Answer::Text(told)),
+            PlanAnswer::Explained(explained) => Ok(Answer::Explained(explained)),
+        },
+        Err(fault) => {
+            drop(layered);
+            refuse(alloc, "plan", fault)
+        }
+    }
+}

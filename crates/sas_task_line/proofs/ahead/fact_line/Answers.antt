@@ -1,5 +1,0 @@
-use Rattle.sas_task_line.proofs.AheadReading.{fact_is_ahead}
-use Rattle.sas_task_line.proofs.ahead.fact_line.Goals as goal
-
-pub returns : goal.returns
-returns g c = fact_is_ahead _ c.args.bytes.now c.in_ok-var.rest.now c.in_ok-value.rest.now (record { var = c.in_ok-var.var; value = c.in_ok-value.value }) c.in_ok-var.ensures c.in_ok-value.ensures

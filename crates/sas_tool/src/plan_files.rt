@@ -1,0 +1,83 @@
+// The plan files that the words name, opened one after another.
+ghost use Rattle.std.specs.Prelude.{◌↔◌, All, IsTrue};
+ghost use Rattle.sas_plans.specs.Inputs.{IsLabel};
+ghost use Rattle.std.specs.String.{string_bytes};
+
+use sas_lines::Opened;
+use sas_plans::PlanInputs;
+use std::fs;
+use std::rt::Files;
+
+/// The word that names standard input.
+pub const STANDARD_INPUT: &str = "-";
+
+/// Plan files, by the words that name them, which are their labels.
+#[derive(Clone, Copy)]
+pub struct PlanFiles<'p, R> {
+    pub rt: &'p R,
+    pub labels: &'p [String],
+}
+
+impl<'p, R: Files + Input> PlanInputs for PlanFiles<'p, R> {
+    ghost use Rattle.std.specs.Prelude.{None};
+    ghost use Rattle.sas_tool.specs.Labels.{labels_of};
+
+    type Input = Opened<R::File, R::Reader>;
+
+    ghost labels = { λ plans. labels_of plans.labels.now };
+
+    // What a file holds isn't known before it is read.
+    ghost bytes = { λ plans number. None };
+
+    fn count(&self) -> usize {
+        self.labels.len()
+    }
+
+    fn label(&self, number: usize) -> &[u8] {
+        self.labels[number].as_bytes()
+    }
+
+    fn open(&mut self, number: usize) -> Option<Opened<R::File, R::Reader>> {
+        let label = self.labels[number].as_str();
+        if label == STANDARD_INPUT {
+            return Some(Opened::Standard(self.rt.reader()));
+        }
+        match fs::open(self.rt, label) {
+            Ok(file) => Some(Opened::File(file)),
+            Err(_) => None,
+        }
+    }
+}
+
+/// Returns whether none of the labels has a line end.
+pub fn are_labels(labels: &[String]) -> bool
+    ensures { IsTrue result → All (λ label. IsLabel (string_bytes label)) labels.now }
+{
+    for label in labels {
+        if !is_label(label.as_bytes()) {
+            return false;
+        }
+    }
+    true
+}
+
+/// Returns whether the label has no line end.
+fn is_label(label: &[u8]) -> bool
+    ensures { IsTrue result ↔ IsLabel label.now }
+{
+    label.iter().all(|byte| *byte != b'\n' && *byte != b'\r')
+}
+
+/// Returns whether standard input is among the labels, and the task's or another one's, too.
+pub fn name_input_twice(labels: &[String], by_task: bool) -> bool {
+    let mut named = by_task;
+    for label in labels {
+        if label.as_str() == STANDARD_INPUT {
+            if named {
+                return true;
+            }
+            named = true;
+        }
+    }
+    false
+}

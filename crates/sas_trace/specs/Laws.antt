@@ -1,0 +1,54 @@
+-- What follows from the definitions of traces.
+use Rattle.std.specs.Prelude.{◌≡◌, ℕ, ◌+◌, ◌≤◌, zero, suc, List, ◌++◌, length, map, fold}
+use Rattle.std.specs.Prelude.{slice_index, slice_set, sum_by}
+use Rattle.sas_core.specs.declared.parts.Fact.{Fact}
+use Rattle.sas_core.specs.declared.parts.Parts.{Parts}
+use Rattle.sas_core.specs.PlanParts.{PlanParts}
+use Rattle.sas_core.specs.Tasks.{cost_of}
+use Rattle.sas_core.specs.WellRanged.{WellRanged}
+use Rattle.sas_meaning.specs.Layers.{IsLayered}
+use Rattle.sas_output.specs.declared.ending.Status.TheVariants.{Yes}
+use Rattle.sas_output.specs.Ending.{Output}
+use Rattle.sas_answers.specs.Answers.{VerdictAnswer}
+use Rattle.sas_reasons.specs.Runs.{Run, state_at, GoesThrough}
+use Rattle.sas_trace.specs.Trace.{variables_of, changed}
+use Rattle.sas_trace.specs.Traced.{TraceVerdict}
+
+-- the facts that step k + 1 of a run brings, as the lines of its changes tell them
+abbrev pub facts_told : Parts → Run → ℕ → List Fact
+facts_told p run k = map (λ var. record { var = var; value = slice_index (state_at run (k + 1)) var })
+    (changed p (state_at run k) (state_at run (k + 1)))
+
+-- the values that a reader of a trace has behind the first k steps: those of the initial lines,
+-- with what the changes tell written over them in turn
+abbrev pub replayed : Parts → Run → ℕ → List ℕ
+replayed p run zero = map (slice_index (state_at run 0)) (variables_of p)
+replayed p run (suc k) =
+    fold (λ s (f : Fact). slice_set s f.var f.value) (replayed p run k) (facts_told p run k)
+
+-- these are the state behind the first k steps
+abbrev pub Replays : Type 0
+Replays = (p : Parts) (run : Run) (k : ℕ) → WellRanged p → GoesThrough p run → k ≤ length run.steps
+    → replayed p run k ≡ state_at run k
+
+-- behind the trace stands the answer that there is without it, and its status is that of both
+abbrev pub EndsWithVerdict : Type 0
+EndsWithVerdict = (p : Parts) (plan : PlanParts) (output : Output) → TraceVerdict p plan output
+    → (verdict : Output) × VerdictAnswer p plan verdict × (front : List ℕ)
+    × (output.text ≡ front ++ verdict.text)
+    × (output.status ≡ verdict.status)
+
+-- the costs of a valid plan's steps, as their lines tell them, add up to its cost
+abbrev pub CostsAddUp : Type 0
+CostsAddUp = (p : Parts) (plan : PlanParts) (output : Output) (trace : TraceVerdict p plan output)
+    → output.status ≡ Yes → sum_by (cost_of p) trace.run.operators ≡ plan.cost
+
+-- a plan of a layered task has an answer with its trace
+abbrev pub SomeTrace : Type 0
+SomeTrace = (p : Parts) (plan : PlanParts) → WellRanged p → IsLayered p
+    → (output : Output) × TraceVerdict p plan output
+
+-- and only one
+abbrev pub OneTrace : Type 0
+OneTrace = (p : Parts) (plan : PlanParts) (a b : Output) → IsLayered p
+    → TraceVerdict p plan a → TraceVerdict p plan b → a ≡ b

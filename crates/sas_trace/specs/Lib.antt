@@ -1,0 +1,5 @@
+pub mod Trace
+pub mod Traced
+pub mod Laws
+pub mod Passes
+pub mod Changes

@@ -1,0 +1,40 @@
+-- The answers about plans with their traces.
+use Rattle.std.specs.Prelude.{◌≡◌, ◌⊎◌, ◌<◌, ◌^◌, ◌++◌, length, Option, Some, None}
+use Rattle.sas_core.specs.declared.parts.Parts.{Parts}
+use Rattle.sas_core.specs.PlanParts.{PlanParts}
+use Rattle.sas_lines.specs.Lines.{text}
+use Rattle.sas_run.specs.declared.plan_check.PlanFault.{PlanFault}
+use Rattle.sas_run.specs.Plans.{IsValid}
+use Rattle.sas_run.specs.Verdicts.{IsFaultOf}
+use Rattle.sas_output.specs.Ending.{Output}
+use Rattle.sas_answers.specs.Answers.{valid_answer, invalid_answer}
+use Rattle.sas_reasons.specs.Runs.{Run, GoesThrough}
+use Rattle.sas_reasons.specs.WhyPlan.{steps_before}
+use Rattle.sas_trace.specs.Trace.{run_lines}
+
+-- how a plan ends: all steps of a valid one go through, of another those before its fault; and the
+-- answer about it
+abbrev pub EndsWith : Parts → PlanParts → Run → Output → Type 0
+EndsWith p plan run verdict =
+    (IsValid p plan run.operators × (run.steps ≡ plan.steps) × (verdict ≡ valid_answer plan))
+    ⊎ ((fault : PlanFault) × IsFaultOf p plan fault × (run.steps ≡ steps_before plan fault)
+    × (invalid_answer plan.cost fault ≡ Some verdict))
+
+-- the answer about a plan with its trace: the lines of the run of its steps that go through, and
+-- behind them the answer about it
+pub record TraceVerdict (p : Parts) (plan : PlanParts) (output : Output) : Type 0 where
+  pub run : Run
+  pub through : GoesThrough p run
+  pub verdict : Output
+  pub ends : EndsWith p plan run verdict
+  pub whole : output.text ≡ text (run_lines p run) ++ verdict.text
+  pub status : output.status ≡ verdict.status
+
+-- this is the output
+abbrev pub IsTraced : Parts → PlanParts → Option Output → Type 0
+IsTraced p plan (Some output) = TraceVerdict p plan output
+IsTraced p plan None = ⊥
+
+-- whatever the answer is, it is short enough that its bytes can be counted
+abbrev pub TraceFits : Parts → PlanParts → Type 0
+TraceFits p plan = (output : Output) → TraceVerdict p plan output → length output.text < 2 ^ 64

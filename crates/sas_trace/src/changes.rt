@@ -1,0 +1,82 @@
+// Which variables a step may have changed.
+ghost use Rattle.std.specs.Prelude.{◌≡◌, ◌<◌, length, All, IsTrue};
+ghost use Rattle.sas_core.specs.declared.parts.Fact.{Fact};
+ghost use Rattle.sas_run.specs.Walking.{TellsStep};
+ghost use Rattle.sas_trace.specs.Changes.{IsNoted, Grows, CoverChanges};
+
+use sas_core::{Fact, Grounded, Stepwise};
+use sas_meaning::{Settle, State};
+use sas_run::Course;
+
+/// Lists the variables whose values in the state of the course aren't those that were told, in no order. Returns whether
+/// these are all: not so where any may have changed, or the list has too little room. It takes no memory. Only what the last step
+/// may have changed is looked at.
+pub fn list_changes<E: Settle<T> + Drop, T: Grounded, P: Stepwise>(
+    listed: &mut Vec<u32>,
+    told: &[u32],
+    course: &Course<'_, '_, E, T, P>,
+) -> bool
+    requires fits { length told.now ≡ length course.now.task.variables }
+    requires step { TellsStep course.now.task told.now course.now.state
+        course.now.gone course.now.touched }
+    ensures { IsTrue result → CoverChanges told.now course.now.state listed.new.items }
+{
+    listed.clear();
+    match course.touched().vars() {
+        Some(touched) => {
+            list_gone(listed, told, course.state(), course.gone())
+                && list_touched(listed, told, course.state(), touched)
+        }
+        None => false,
+    }
+}
+
+/// Adds the variables of the facts whose values in the state aren't those that were told. Returns whether there is room for
+/// them.
+fn list_gone(listed: &mut Vec<u32>, told: &[u32], state: &State, gone: &[Fact]) -> bool
+    requires fits { length told.now ≡ length state.now }
+    requires exist { All (λ (f : Fact). f.var < length state.now) gone.now }
+    ensures grows { Grows (length state.now) listed.old.items listed.new.items }
+    ensures noted { IsTrue result
+        → All (λ (f : Fact). IsNoted told.now state.now listed.new.items f.var) gone.now }
+{
+    for fact in gone {
+        if !list_variable(listed, told, state, fact.var) {
+            return false;
+        }
+    }
+    true
+}
+
+/// Adds those of the variables whose values in the state aren't those that were told. Returns whether there is room for them.
+fn list_touched(listed: &mut Vec<u32>, told: &[u32], state: &State, touched: &[u32]) -> bool
+    requires fits { length told.now ≡ length state.now }
+    requires exist { All (λ var. var < length state.now) touched.now }
+    ensures grows { Grows (length state.now) listed.old.items listed.new.items }
+    ensures noted { IsTrue result
+        → All (IsNoted told.now state.now listed.new.items) touched.now }
+{
+    for var in touched {
+        if !list_variable(listed, told, state, *var) {
+            return false;
+        }
+    }
+    true
+}
+
+/// Adds the variable if its value in the state isn't the one that was told. Returns whether there is room for it.
+fn list_variable(listed: &mut Vec<u32>, told: &[u32], state: &State, var: u32) -> bool
+    requires fits { length told.now ≡ length state.now }
+    requires exists { var < length state.now }
+    ensures grows { Grows (length state.now) listed.old.items listed.new.items }
+    ensures noted { IsTrue result → IsNoted told.now state.now listed.new.items var }
+{
+    if told[var as usize] == state.value(var) {
+        return true;
+    }
+    if listed.len() == listed.capacity() {
+        return false;
+    }
+    listed.push(var).unwrap();
+    true
+}

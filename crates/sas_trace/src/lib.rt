@@ -1,0 +1,13 @@
+//! What the steps of a plan do, as lines: the answer about a plan with its trace in front. No file is read.
+#![tactic(auto)]
+
+mod changes;
+mod judging;
+mod laws;
+mod lines;
+mod stepping;
+mod traces;
+mod tracing;
+
+pub use laws::trace_laws;
+pub use traces::write_trace;

@@ -1,0 +1,129 @@
+-- The entries of the rules under the variables for which they ask.
+use Rattle.std.proofs.Common.{◌≡◌, ℕ, zero, suc, ◌+◌, ◌<◌, ◌≤◌, List, [], ◌∷◌, ◌++◌, length, get_or, sym, ◌∙◌, ap, subst, inl, inr, arith}
+use Rattle.std.specs.List.{All, Contains}
+use Rattle.std.proofs.lemmas.Bool.{cases_eq}
+use Rattle.std.proofs.lemmas.List.{get_or_default}
+use Rattle.std.proofs.lemmas.List.Elements.{All-nil, All-push, All-weaker, Contains-push, Contains-append_left}
+use Rattle.sas_core.specs.declared.parts.Fact.{Fact}
+use Rattle.sas_core.specs.declared.parts.Variable.{Variable}
+use Rattle.sas_core.specs.declared.parts.Parts.{Parts}
+use Rattle.sas_core.specs.Grounded.{rule_at}
+use Rattle.sas_core.specs.Variables.{range_of, FactExists, IsDerived}
+use Rattle.sas_core.specs.WellRanged.{WellRanged, RuleFits}
+use Rattle.sas_core.proofs.Places.{holds_at}
+use Rattle.sas_lists.specs.declared.by_key.Entry.{Entry}
+use Rattle.sas_lists.specs.ByKey.{items_of, by_key}
+use Rattle.sas_lists.proofs.Tables.{length-table}
+use Rattle.sas_lists.proofs.ByKey.{under_key, all_items, holds}
+use Rattle.sas_why.specs.Asking.{asked_entry, AsksFor, IsAsked, AddsAsked, asking_at, IsAskingIndex}
+
+-- ---- a condition of a rule is on a variable of the task
+
+var_of_value : (variables : List Variable) (var value : ℕ) → value < range_of variables var → var < length variables
+var_of_value [] var value below = absurd (omega arith)
+var_of_value (v ∷ variables) zero value below = omega arith
+var_of_value (v ∷ variables) (suc var) value below = omega (arith, var_of_value variables var value below)
+
+pub condition_within : (p : Parts) (rule place : ℕ) (d : Fact) → WellRanged p → rule < length p.rules → place < length (rule_at p rule).conditions
+    → (get_or (rule_at p rule).conditions place d).var < length p.variables
+condition_within p rule place d ranged lt below =
+    let fits : RuleFits p.variables (rule_at p rule) = holds_at (RuleFits p.variables) _ p.rules ranged.rules.each rule lt in
+    let exists : FactExists p.variables (get_or (rule_at p rule).conditions place d) = holds_at (FactExists p.variables) d (rule_at p rule).conditions fits.conditions.each place below in
+    var_of_value p.variables (get_or (rule_at p rule).conditions place d).var (get_or (rule_at p rule).conditions place d).value exists
+
+-- ---- the conditions of one rule
+
+-- the entries of the first conditions are added
+pub record AddsUpTo (p : Parts) (rule count : ℕ) (before after : List (Entry ℕ)) : Type 0 where
+  pub only : All (IsAsked p) before → All (IsAsked p) after
+  pub kept : (entry : Entry ℕ) → Contains before entry → Contains after entry
+  pub each : (place : ℕ) (d : Fact) → place < count → place < length (rule_at p rule).conditions
+      → IsDerived p.variables (get_or (rule_at p rule).conditions place d).var
+      → Contains after (asked_entry (get_or (rule_at p rule).conditions place d).var rule)
+
+pub adds_none : (p : Parts) (rule : ℕ) (before : List (Entry ℕ)) → AddsUpTo p rule 0 before before
+adds_none p rule before = record { only = λ all. all; kept = λ e h. h; each = λ place d lt. absurd (omega arith) }
+
+module _ (p : Parts) (rule count : ℕ) (d : Fact) (before after : List (Entry ℕ)) (so_far : AddsUpTo p rule count before after)
+    (below : count < length (rule_at p rule).conditions) where
+  pub adds_skip : (IsDerived p.variables (get_or (rule_at p rule).conditions count d).var → ⊥) → AddsUpTo p rule (count + 1) before after
+  adds_skip not = record {
+    only = so_far.only;
+    kept = so_far.kept;
+    each = λ place e lt within derived. elim (cases_eq place count) [
+      | inr ne ↦ so_far.each place e (omega arith) within derived
+      | inl same ↦ absurd (not (subst (λ (c : Fact). IsDerived p.variables c.var)
+          (ap (λ n. get_or (rule_at p rule).conditions n e) same ∙ get_or_default (rule_at p rule).conditions count e d below) derived))
+    ];
+  }
+
+  pub adds_more : WellRanged p → rule < length p.rules
+      → AddsUpTo p rule (count + 1) before (after ++ asked_entry (get_or (rule_at p rule).conditions count d).var rule ∷ [])
+  adds_more ranged lt = record {
+    only = λ all. All-push (IsAsked p) after (asked_entry (get_or (rule_at p rule).conditions count d).var rule) (so_far.only all)
+        (record { rule = lt; var = condition_within p rule count d ranged lt below });
+    kept = λ e h. Contains-append_left after (asked_entry (get_or (rule_at p rule).conditions count d).var rule ∷ []) e (so_far.kept e h);
+    each = λ place e lt' within derived. elim (cases_eq place count) [
+      | inr ne ↦ Contains-append_left after (asked_entry (get_or (rule_at p rule).conditions count d).var rule ∷ [])
+          (asked_entry (get_or (rule_at p rule).conditions place e).var rule) (so_far.each place e (omega arith) within derived)
+      | inl same ↦ subst (λ (c : Fact). Contains (after ++ asked_entry (get_or (rule_at p rule).conditions count d).var rule ∷ []) (asked_entry c.var rule))
+          (sym (ap (λ n. get_or (rule_at p rule).conditions n e) same ∙ get_or_default (rule_at p rule).conditions count e d below))
+          (Contains-push after (asked_entry (get_or (rule_at p rule).conditions count d).var rule))
+    ];
+  }
+
+pub adds_all : (p : Parts) (rule count : ℕ) (before after : List (Entry ℕ)) → length (rule_at p rule).conditions ≤ count
+    → AddsUpTo p rule count before after → AddsAsked p rule before after
+adds_all p rule count before after done so_far = record {
+  only = so_far.only;
+  kept = so_far.kept;
+  each = λ var asks. from var asks asks.among;
+}
+  where
+    from : (var : ℕ) (asks : AsksFor p rule var) → Contains (rule_at p rule).conditions asks.condition → Contains after (asked_entry var rule)
+    from var asks (k, lt, is) = subst (λ v. Contains after (asked_entry v rule)) asks.on
+        (subst (λ (c : Fact). Contains after (asked_entry c.var rule)) is
+        (so_far.each k asks.condition (omega arith) lt
+        (subst (λ (c : Fact). IsDerived p.variables c.var) (sym is) (subst (IsDerived p.variables) (sym asks.on) asks.derived))))
+
+-- ---- all rules
+
+pub record AskedUpTo (p : Parts) (count : ℕ) (entries : List (Entry ℕ)) : Type 0 where
+  pub only : All (IsAsked p) entries
+  pub each : (rule var : ℕ) → rule < count → AsksFor p rule var → Contains entries (asked_entry var rule)
+
+pub asked_none : (p : Parts) → AskedUpTo p 0 []
+asked_none p = record { only = All-nil (IsAsked p); each = λ rule var lt asks. absurd (omega arith) }
+
+pub asked_more : (p : Parts) (count : ℕ) (before after : List (Entry ℕ)) → AddsAsked p count before after → AskedUpTo p count before → AskedUpTo p (count + 1) after
+asked_more p count before after adds up = record {
+  only = adds.only up.only;
+  each = λ rule var lt asks. elim (cases_eq rule count) [
+    | inl e ↦ subst (λ r. Contains after (asked_entry var r)) (sym e) (adds.each var (subst (λ r. AsksFor p r var) e asks))
+    | inr ne ↦ adds.kept (asked_entry var rule) (up.each rule var (omega arith) asks)
+  ];
+}
+
+pub asked_exist : (p : Parts) (count : ℕ) (entries : List (Entry ℕ)) → AskedUpTo p count entries → All (λ (e : Entry ℕ). e.key < length p.variables) entries
+asked_exist p count entries up = All-weaker (IsAsked p) (λ (e : Entry ℕ). e.key < length p.variables) (λ e h. h.var) entries up.only
+
+pub asked_index : (p : Parts) (count : ℕ) (entries : List (Entry ℕ)) → count ≡ length p.rules → AskedUpTo p count entries
+    → IsAskingIndex p (by_key entries (length p.variables))
+asked_index p count entries all up = record {
+  one_each = length-table (length p.variables) (λ var. items_of var entries);
+  only = λ var. only var;
+  each = λ rule var lt asks. there rule var (up.each rule var (omega arith) asks);
+}
+  where
+    lists : List (List ℕ)
+    lists = by_key entries (length p.variables)
+
+    under : (var : ℕ) → get_or lists var [] ≡ items_of var entries
+    under var = under_key entries (length p.variables) var (asked_exist p count entries up)
+
+    only : (var : ℕ) → All (λ rule. rule < length p.rules) (asking_at lists var)
+    only var = subst (All (λ rule. rule < length p.rules)) (sym (under var))
+        (all_items (λ v rule. rule < length p.rules) entries var (All-weaker (IsAsked p) (λ (e : Entry ℕ). e.item < length p.rules) (λ e h. h.rule) entries up.only))
+
+    there : (rule var : ℕ) → Contains entries (asked_entry var rule) → Contains (asking_at lists var) rule
+    there rule var h = subst (λ xs. Contains xs rule) (sym (under var)) (holds entries var rule h)

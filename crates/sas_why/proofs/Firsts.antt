@@ -1,0 +1,120 @@
+-- The first effects that fire on the variables, one effect more.
+use Rattle.std.proofs.Common.{◌≡◌, ◌≢◌, ℕ, ◌+◌, ◌<◌, ◌≤◌, List, length, set, Option, None, Some, refl, sym, ◌∙◌, ap, subst, inl, inr, arith}
+use Rattle.std.proofs.lemmas.Bool.{cases_eq}
+use Rattle.std.proofs.lemmas.List.{get_or-set_same, get_or-set_other, length-set}
+use Rattle.sas_core.specs.declared.parts.Operator.{Operator}
+use Rattle.sas_core.specs.declared.parts.Parts.{Parts}
+use Rattle.sas_core.specs.Grounded.{effect_at}
+use Rattle.sas_meaning.specs.Steps.{Fires, Agree}
+use Rattle.sas_reasons.specs.Lowest.{IsLowest}
+use Rattle.sas_reasons.specs.Conflicts.{Contradicts, IsContradicted, IsConflict}
+use Rattle.sas_reasons.proofs.Conflicts.{some_conflict}
+use Rattle.sas_why.specs.Conflicts.{first_on, IsNoted, AreFirsts}
+
+same_inside : (a b : ℕ) → Some a ≡ Some b → a ≡ b
+same_inside a b is = cc
+
+not_both : (a : ℕ) (first : Option ℕ) → first ≡ None → first ≡ Some a → ⊥
+not_both a first none some = let e : None ≡ Some a = sym none ∙ some in absurd cc
+
+module _ (p : Parts) (s : List ℕ) (o : Operator) where
+  pub no_firsts : (firsts : List (Option ℕ)) → length firsts ≡ length p.variables → ((var : ℕ) → first_on firsts var ≡ None) → AreFirsts p s o 0 firsts
+  no_firsts firsts one_each none = record {
+    one_each = one_each;
+    each = λ effect lt fires. absurd (omega arith);
+    only = λ var first is. absurd (not_both first (first_on firsts var) (none var) is);
+  }
+
+  module _ (n : ℕ) (firsts : List (Option ℕ)) (are : AreFirsts p s o n firsts) where
+    -- one more effect that doesn't fire
+    pub quiet : (Fires s (effect_at o n) → ⊥) → AreFirsts p s o (n + 1) firsts
+    quiet silent = record {
+      one_each = are.one_each;
+      each = λ effect lt fires. elim (cases_eq effect n) [
+        | inl e ↦ absurd (silent (subst (λ k. Fires s (effect_at o k)) e fires))
+        | inr ne ↦ are.each effect (omega arith) fires
+      ];
+      only = λ var first is. (let w = are.only var first is in (omega (arith, w.0), w.1, w.2));
+    }
+
+    -- one more that fires and agrees
+    pub again : (first : ℕ) → first_on firsts (effect_at o n).var ≡ Some first → (effect_at o first).new ≡ (effect_at o n).new → AreFirsts p s o (n + 1) firsts
+    again first is same = record {
+      one_each = are.one_each;
+      each = λ effect lt fires. elim (cases_eq effect n) [
+        | inl e ↦ (
+          first,
+          subst (λ k. IsNoted firsts o k first) (sym e)
+              (record { is = is; no_later = omega (arith, (are.only (effect_at o n).var first is).0); same = same }),
+        )
+        | inr ne ↦ are.each effect (omega arith) fires
+      ];
+      only = λ var first is. (let w = are.only var first is in (omega (arith, w.0), w.1, w.2));
+    }
+
+    -- one more that is the first on its variable
+    pub first_here : (effect_at o n).var < length p.variables → Fires s (effect_at o n) → first_on firsts (effect_at o n).var ≡ None
+        → AreFirsts p s o (n + 1) (set firsts (effect_at o n).var (Some n))
+    first_here within fires none = record {
+      one_each = length-set firsts (effect_at o n).var (Some n) ∙ are.one_each;
+      each = each;
+      only = only;
+    }
+      where
+        now : List (Option ℕ)
+        now = set firsts (effect_at o n).var (Some n)
+
+        at_n : first_on now (effect_at o n).var ≡ Some n
+        at_n = get_or-set_same firsts (effect_at o n).var (Some n) None (omega (arith, are.one_each, within))
+
+        elsewhere : (var : ℕ) → var ≢ (effect_at o n).var → first_on now var ≡ first_on firsts var
+        elsewhere var ne = get_or-set_other firsts (effect_at o n).var var (Some n) None ne
+
+        each : (effect : ℕ) → effect < n + 1 → Fires s (effect_at o effect) → (first : ℕ) × IsNoted now o effect first
+        each effect lt fires' = elim (cases_eq effect n) [
+          | inl e ↦ (n, subst (λ k. IsNoted now o k n) (sym e) (record { is = at_n; no_later = omega arith; same = refl }))
+          | inr ne ↦ (let w = are.each effect (omega arith) fires' in (
+            w.0,
+            record {
+              is = elsewhere (effect_at o effect).var (λ e. not_both w.0 (first_on firsts (effect_at o n).var) none (ap (first_on firsts) (sym e) ∙ w.1.is)) ∙ w.1.is;
+              no_later = w.1.no_later;
+              same = w.1.same;
+            },
+          ))
+        ]
+
+        only : (var first : ℕ) → first_on now var ≡ Some first → (first < n + 1) × Fires s (effect_at o first) × ((effect_at o first).var ≡ var)
+        only var first is = elim (cases_eq var (effect_at o n).var) [
+          | inl e ↦ (let same : n ≡ first = same_inside n first (sym at_n ∙ (ap (first_on now) (sym e) ∙ is)) in
+              (omega arith, subst (λ k. Fires s (effect_at o k)) same fires, ap (λ k. (effect_at o k).var) (sym same) ∙ sym e))
+          | inr ne ↦ (let w = are.only var first (sym (elsewhere var ne) ∙ is) in (omega (arith, w.0), w.1, w.2))
+        ]
+
+    -- one more that fires and doesn't agree is contradicted
+    pub contradicted : n < length o.effects → Fires s (effect_at o n) → (first : ℕ) → first_on firsts (effect_at o n).var ≡ Some first
+        → (effect_at o first).new ≢ (effect_at o n).new → IsLowest (λ k. Contradicts s o k n) first
+    contradicted exists fires first is other =
+        let w = are.only (effect_at o n).var first is in
+        record {
+          has = record { before = w.0; exists = exists; fires = w.1; fires' = fires; var = w.2; other = other };
+          first = λ lower lt c. (let v = are.each lower (let b = c.before in b) c.fires in
+              let same : v.0 ≡ first = same_inside v.0 first (sym v.1.is ∙ (ap (first_on firsts) c.var ∙ is)) in
+              omega (arith, v.1.no_later));
+        }
+
+    -- none before it is
+    pub none_before : (e : ℕ) → e < n → IsContradicted s o e → ⊥
+    none_before e lt (d, c) =
+        let v = are.each d (let b = c.before in omega arith) c.fires in
+        let w = are.each e lt c.fires' in
+        let same : v.0 ≡ w.0 = same_inside v.0 w.0 (sym v.1.is ∙ (ap (first_on firsts) c.var ∙ w.1.is)) in
+        c.other (sym v.1.same ∙ (ap (λ k. (effect_at o k).new) same ∙ w.1.same))
+
+    pub is_conflict : (d : ℕ) → IsLowest (λ k. Contradicts s o k n) d → IsConflict s o d n
+    is_conflict d lowest = record { first = record { has = (d, lowest.has); first = none_before }; lowest = lowest }
+
+    -- if there is no more effect, they agree
+    pub agree : length o.effects ≤ n → (Agree s o.effects → ⊥) → ⊥
+    agree all clash = let w = some_conflict s o clash in
+        let c = w.2.first.has.1 in
+        none_before w.1 (let lt = c.exists in omega arith) w.2.first.has

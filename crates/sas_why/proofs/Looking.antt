@@ -1,0 +1,120 @@
+-- It is enough to look at the variables that a step may have changed.
+use Rattle.std.proofs.Common.{◌≡◌, ◌≢◌, ◌⊎◌, ℕ, ◌<◌, true, false, IsFalse, List, length, get_or, refl, sym, ◌∙◌, subst, inl, inr, arith}
+use Rattle.std.specs.List.{All, Contains}
+use Rattle.std.proofs.lemmas.Bool.{cases_eq, cases_Bool}
+use Rattle.std.proofs.lemmas.List.Elements.{All-contains}
+use Rattle.sas_core.specs.declared.parts.Fact.{Fact}
+use Rattle.sas_core.specs.declared.parts.Parts.{Parts}
+use Rattle.sas_core.specs.Variables.{IsDerived, IsState}
+use Rattle.sas_meaning.specs.declared.touched.Touched.{Touched}
+use Rattle.sas_meaning.specs.Touched.{MayHaveChanged}
+use Rattle.sas_run.specs.Walking.{TellsStep}
+use Rattle.sas_why.specs.declared.changes.Changes.{Changes}
+use Rattle.sas_why.specs.Noting.{HavePlaces, NotedAt, LeftAt, NotesSome, NotesChanges, AreDerived, looked_at, CoverChanges}
+use Rattle.sas_why.proofs.DerivedVariables.{derived_within}
+
+-- ---- noting twice
+
+module _ (step : ℕ) (s : List ℕ) (old mid new : Changes) (var : ℕ) where
+  -- what is noted stays noted
+  pub noted_before : NotedAt step s old mid var → NotedAt step s mid new var ⊎ LeftAt mid new var → NotedAt step s old new var
+  noted_before noted (inl again) = record {
+    value = again.value;
+    changed = λ other. again.unchanged noted.value ∙ noted.changed other;
+    unchanged = λ same. again.unchanged noted.value ∙ noted.unchanged same;
+  }
+  noted_before noted (inr left) = record {
+    value = left.value ∙ noted.value;
+    changed = λ other. left.since ∙ noted.changed other;
+    unchanged = λ same. left.since ∙ noted.unchanged same;
+  }
+
+  -- and can be noted later
+  pub noted_then : NotedAt step s old mid var ⊎ LeftAt old mid var → NotedAt step s mid new var → NotedAt step s old new var
+  noted_then (inl before) noted = noted_before before (inl noted)
+  noted_then (inr left) noted = record {
+    value = noted.value;
+    changed = λ other. noted.changed (λ same. other (sym left.value ∙ same));
+    unchanged = λ same. noted.unchanged (left.value ∙ same) ∙ left.since;
+  }
+
+  pub some_then : NotedAt step s old mid var ⊎ LeftAt old mid var → NotedAt step s mid new var ⊎ LeftAt mid new var → NotedAt step s old new var ⊎ LeftAt old new var
+  some_then first (inl noted) = inl (noted_then first noted)
+  some_then (inl noted) (inr left) = inl (noted_before noted (inr left))
+  some_then (inr before) (inr left) = inr (record { value = left.value ∙ before.value; since = left.since ∙ before.since })
+
+-- nothing is noted yet
+pub none_noted : (step : ℕ) (s : List ℕ) (old : Changes) → HavePlaces (length s) old → NotesSome step s old old
+none_noted step s old places = record { places = places; each = λ var. inr (record { value = refl; since = refl }) }
+
+-- one variable more is noted
+one_of : (step : ℕ) (s : List ℕ) (mid new : Changes) (v : ℕ) → NotedAt step s mid new v → ((k : ℕ) → k ≢ v → LeftAt mid new k) → (var : ℕ) → NotedAt step s mid new var ⊎ LeftAt mid new var
+one_of step s mid new v noted others var = elim (cases_eq var v) [
+  | inl e ↦ inl (subst (NotedAt step s mid new) (sym e) noted)
+  | inr ne ↦ inr (others var ne)
+]
+
+module _ (step : ℕ) (s : List ℕ) (old mid new : Changes) (v : ℕ) (some : NotesSome step s old mid) (places : HavePlaces (length s) new)
+    (noted : NotedAt step s mid new v) (others : (k : ℕ) → k ≢ v → LeftAt mid new k) where
+  pub one_more_noted : NotesSome step s old new
+  one_more_noted = record {
+    places = places;
+    each = λ var. some_then step s old mid new var (some.each var) (one_of step s mid new v noted others var);
+  }
+
+  pub still_noted : (var : ℕ) → NotedAt step s old mid var → NotedAt step s old new var
+  still_noted var before = noted_before step s old mid new var before (one_of step s mid new v noted others var)
+
+  pub now_noted : NotedAt step s old new v
+  now_noted = noted_then step s old mid new v (some.each v) noted
+
+-- ---- all changes
+
+-- what isn't noted has its value still
+noted_at_last : (step : ℕ) (s : List ℕ) (old new : Changes) (var : ℕ) → NotedAt step s old new var ⊎ LeftAt old new var → get_or s var 0 ≡ get_or old.values.items var 0 → NotedAt step s old new var
+noted_at_last step s old new var (inl noted) same = noted
+noted_at_last step s old new var (inr left) same = record {
+  value = left.value ∙ sym same;
+  changed = λ other. absurd (other (sym same));
+  unchanged = λ _. left.since;
+}
+
+pub all_noted : (step : ℕ) (s : List ℕ) (old mid new : Changes) (gone : List Fact) (touched : List ℕ) → CoverChanges old.values.items s gone touched
+    → NotesSome step s old mid → All (λ (f : Fact). NotedAt step s old mid f.var) gone
+    → NotesSome step s mid new → All (NotedAt step s mid new) touched → NotesChanges step s old new
+all_noted step s old mid new gone touched cover first of_gone second of_touched = record {
+  places = second.places;
+  each = λ var lt. elim (cover.each var) [
+    | inl same ↦ noted_at_last step s old new var (some_then step s old mid new var (first.each var) (second.each var)) same
+    | inr (inl there) ↦ noted_before step s old mid new var (subst (NotedAt step s old mid) there.2 (All-contains (λ (f : Fact). NotedAt step s old mid f.var) gone there.0 of_gone there.1)) (second.each var)
+    | inr (inr there) ↦ noted_then step s old mid new var (first.each var) (All-contains (NotedAt step s mid new) touched var of_touched there)
+  ];
+}
+
+-- ---- what a step may have changed
+
+module _ (p : Parts) (s s' : List ℕ) (gone : List Fact) (touched : Touched) (derived : List ℕ) (state : IsState p.variables s')
+    (tells : TellsStep p s s' gone touched) (are : AreDerived p derived) where
+  within : (vars : List ℕ) → All (IsDerived p.variables) vars → All (λ (var : ℕ). var < length s') vars
+  within vars only k d lt = (let one = state.one_each in let in_task = derived_within p (get_or vars k d) (only k d lt) in omega (arith, one, in_task))
+
+  covers_by : (vars : List ℕ) → All (IsDerived p.variables) vars → ((var : ℕ) → IsDerived p.variables var → MayHaveChanged touched var → Contains vars var) → CoverChanges s s' gone vars
+  covers_by vars only each = record {
+    facts = λ k d lt. (let one = state.one_each in let in_task = tells.exist k d lt in omega (arith, one, in_task));
+    variables = within vars only;
+    each = λ var. elim (tells.each var) [
+      | inl same ↦ inl same
+      | inr (inl there) ↦ inr (inl there)
+      | inr (inr may) ↦ inr (inr (each var may.0 may.1))
+    ];
+  }
+
+  on_list : IsFalse touched.any → (var : ℕ) → MayHaveChanged touched var → Contains touched.vars.items var
+  on_list not var (inl any) = (let f : false ≡ true = sym not ∙ any in absurd cc)
+  on_list not var (inr there) = there
+
+  pub covers : CoverChanges s s' gone (looked_at derived touched)
+  covers = elim (cases_Bool touched.any) [
+    | inl any ↦ rw any (covers_by derived are.only (λ var is may. are.each var is))
+    | inr not ↦ rw not (covers_by touched.vars.items tells.derived (λ var is may. on_list not var may))
+  ]

@@ -1,0 +1,54 @@
+-- How the origins change when a rule fires.
+use Rattle.std.proofs.Common.{◌≡◌, ℕ, zero, suc, ◌+◌, ◌<◌, ◌≤◌, ◌⊎◌, List, [], ◌∷◌, length, set, Option, None, Some, refl, subst, inl, inr, arith}
+use Rattle.std.proofs.lemmas.Bool.Decides.{eqb_tells, leb_tells}
+use Rattle.sas_why.specs.declared.rounds.Origin.{Origin}
+use Rattle.sas_why.specs.Rounds.{origin_at, origin_now, with_rule, unreached}
+
+-- no origin of an earlier round, nor of this round by this rule or a lower one
+pub record NotEarlier (over rule : ℕ) (old : Option Origin) : Type 0 where
+  pub now : (o : Origin) → old ≡ Some o → (o.rank ≡ over + 1) × (rule < o.rule)
+
+-- the origin stays, and is of an earlier round or of no higher rule
+pub record Stays (over rule : ℕ) (old : Option Origin) : Type 0 where
+  pub origin : Origin
+  pub at : old ≡ Some origin
+  pub still : with_rule over rule old ≡ Some origin
+  pub lower : origin.rank ≡ over + 1 → origin.rule ≤ rule
+
+some_same : (o o' : Origin) → Some o ≡ Some o' → o ≡ o'
+some_same o o' e = cc
+
+pub with_rule_cases : (over rule : ℕ) (old : Option Origin)
+    → ((with_rule over rule old ≡ Some (origin_now over rule)) × NotEarlier over rule old) ⊎ Stays over rule old
+with_rule_cases over rule None = inl (refl, record { now = λ o e. absurd cc })
+with_rule_cases over rule (Some o) = elim (eqb_tells o.rank (over + 1)) [
+  | inr n ↦ inr (record { origin = o; at = refl; still = rw n.0 refl; lower = λ e. absurd (n.1 e) })
+  | inl y ↦ elim (leb_tells (suc rule) o.rule) [
+    | inl lt ↦ inl (rw (y.0, lt.0) refl, record { now = λ o' e. subst (λ (x : Origin). (x.rank ≡ over + 1) × (rule < x.rule)) (some_same o o' e) (y.1, (let less : suc rule ≤ o.rule = lt.1 in omega arith)) })
+    | inr ge ↦ inr (record { origin = o; at = refl; still = rw (y.0, ge.0) refl; lower = λ e. (let le : o.rule < suc rule = ge.1 in omega arith) })
+  ]
+]
+
+-- ---- how many variables weren't reached
+
+pub unreached_fewer : (origins : List (Option Origin)) (var : ℕ) (o : Origin) → var < length origins → origin_at origins var ≡ None
+    → unreached (set origins var (Some o)) + 1 ≡ unreached origins
+unreached_fewer [] var o lt none = absurd (omega arith)
+unreached_fewer (None ∷ os) zero o lt none = refl
+unreached_fewer (Some x ∷ os) zero o lt none = absurd cc
+unreached_fewer (None ∷ os) (suc var) o lt none = let ih = unreached_fewer os var o (omega arith) none in omega arith
+unreached_fewer (Some x ∷ os) (suc var) o lt none = unreached_fewer os var o (omega arith) none
+
+pub unreached_same : (origins : List (Option Origin)) (var : ℕ) (o o' : Origin) → var < length origins → origin_at origins var ≡ Some o'
+    → unreached (set origins var (Some o)) ≡ unreached origins
+unreached_same [] var o o' lt some = absurd (omega arith)
+unreached_same (None ∷ os) zero o o' lt some = absurd cc
+unreached_same (Some x ∷ os) zero o o' lt some = refl
+unreached_same (None ∷ os) (suc var) o o' lt some = let ih = unreached_same os var o o' (omega arith) some in omega arith
+unreached_same (Some x ∷ os) (suc var) o o' lt some = unreached_same os var o o' (omega arith) some
+
+pub unreached_none : (n : ℕ) (origins : List (Option Origin)) → length origins ≡ n → ((var : ℕ) → var < n → origin_at origins var ≡ None) → unreached origins ≡ n
+unreached_none n [] e none = e
+unreached_none zero (o ∷ os) e none = absurd (omega arith)
+unreached_none (suc n) (None ∷ os) e none = let ih = unreached_none n os (omega arith) (λ var lt. none (suc var) (omega arith)) in omega arith
+unreached_none (suc n) (Some x ∷ os) e none = absurd (let f : Some x ≡ None = none 0 (omega arith) in cc)

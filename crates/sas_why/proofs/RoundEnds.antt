@@ -1,0 +1,250 @@
+-- How a round ends, how the first one begins, and what is known when no rule is left to look at.
+use Rattle.std.proofs.Common.{◌≡◌, ℕ, suc, ◌+◌, ◌<◌, ◌≤◌, true, false, List, [], ◌∷◌, length, get_or, replicate, Option, None, Some, refl, sym, ◌∙◌, ap, subst, inl, inr, arith}
+use Rattle.std.specs.Prelude.{is_some}
+use Rattle.std.specs.List.{Contains}
+use Rattle.std.proofs.lemmas.Bool.{cases_lt, cases_Bool, false≢true, and_parts}
+use Rattle.std.proofs.lemmas.List.{get_or-replicate, length-replicate, get_or_default, get_or_past}
+use Rattle.std.proofs.lemmas.List.Elements.{All-nil, All-contains}
+use Rattle.sas_core.specs.declared.parts.Parts.{Parts}
+use Rattle.sas_core.specs.Grounded.{rule_at}
+use Rattle.sas_meaning.specs.Layers.{IsOnLayer, IsLayered}
+use Rattle.sas_meaning.specs.Settled.{IsSettled, IsClosed, differs}
+use Rattle.sas_meaning.proofs.Layers.{layer_cases}
+use Rattle.sas_reasons.specs.Derivation.{reached, Stands, FiresNext}
+use Rattle.sas_reasons.specs.Cause.{is_derived, is_given}
+use Rattle.sas_reasons.proofs.Rounds.{Fires, ReachedBy, reached_by}
+use Rattle.sas_reasons.proofs.Sorting.{contains_none}
+use Rattle.sas_why.specs.declared.rounds.Origin.{Origin}
+use Rattle.sas_why.specs.declared.rounds.Rounds.{Rounds}
+use Rattle.sas_why.specs.Asking.{asking_at}
+use Rattle.sas_why.specs.Rounds.{origin_at, IsOrigin, HasOrigin, HaveOrigins, IsReached, AreKnown, HavePassed, ReachesNow, InRound, unreached, GoesOn, AreDue, AreAllRules, AreBefore}
+use Rattle.sas_why.proofs.Reaching.{reached_up, reached_in, holds_on, Begins, all_or_begins}
+use Rattle.sas_why.proofs.Origined.{unreached_none}
+use Rattle.sas_why.proofs.RoundSteps.{fires_now, fires_next, reached_next, same_at}
+
+one_more : (n : ℕ) → suc n ≡ n + 1
+one_more n = omega arith
+
+module _ (p : Parts) (s : List ℕ) (layered : IsLayered p) (settled : IsSettled p s) where
+  module _ (r : Rounds) (rules : List ℕ) (inside : InRound p s r rules) (due : AreDue p s r.over rules) where
+    -- what the round reached has its rank and its rule
+    reached_now : (v : ℕ) (o : Origin) → origin_at r.origins.items v ≡ Some o → ReachesNow p s r.over v o → IsOrigin p s v o
+    reached_now v o at now = record {
+      layer = now.layer;
+      stands = subst (λ k. Stands p s v now.layer k) (sym now.rank) its_stand;
+      given = record { layer = now.layer; before = r.over; stands = its_stand; lowest = record { has = now.fires; first = first } };
+    }
+      where
+        not_before : (lower : ℕ) → lower < suc r.over → reached p now.layer s lower v ≡ true → ⊥
+        not_before lower lt h = false≢true (sym now.not_yet ∙ reached_up p s layered now.layer v lower r.over (omega arith) h)
+
+        its_stand : Stands p s v now.layer (r.over + 1)
+        its_stand = subst (λ k. Stands p s v now.layer k) (one_more r.over)
+            (record { on = now.on; ranked = record { has = reached_next p s v now.layer r.over o.rule now.on now.fires; first = not_before } })
+
+        first : (lower : ℕ) → lower < o.rule → FiresNext p s v now.layer r.over lower → ⊥
+        first lower lt f =
+            let h = inside.looked now.layer v lower (due.whole now.layer v lower now.on f now.not_yet) now.on f in
+            let e : h.origin ≡ o = same_at (origin_at r.origins.items v) h.origin o h.at at in
+            let le : h.origin.rule ≤ lower = h.lower (ap (λ (x : Origin). x.rank) e ∙ now.rank) in
+            let same = ap (λ (x : Origin). x.rule) e in
+            omega arith
+
+    known_next : AreKnown p s (suc r.over) r.origins.items
+    known_next = record {
+      one_each = inside.at.known.one_each;
+      each = λ v o at le. elim (inside.each v o at) [
+        | inl early ↦ inside.at.known.each v o at early
+        | inr now ↦ reached_now v o at now
+      ];
+      whole = whole;
+    }
+      where
+        found : (m v : ℕ) → IsOnLayer p m v → reached p m s r.over v ≡ false → ReachedBy p m s (reached p m s r.over) v → IsReached r.origins.items (suc r.over) v
+        found m v on not by =
+            let f = fires_next p s v m r.over by.rule by.exists by.fires in
+            let h = inside.looked m v by.rule (due.whole m v by.rule on f not) on f in
+            record {
+              origin = h.origin;
+              at = h.at;
+              earlier = elim (inside.each v h.origin h.at) [
+                | inl early ↦ omega arith
+                | inr now ↦ (let rank = now.rank in omega arith)
+              ];
+            }
+
+        whole : (m v : ℕ) → IsOnLayer p m v → reached p m s (suc r.over) v ≡ true → IsReached r.origins.items (suc r.over) v
+        whole m v on is = elim (cases_Bool (reached p m s r.over v)) [
+          | inl y ↦ (let w = inside.at.known.whole m v on y in
+              let le = w.earlier in
+              record { origin = w.origin; at = w.at; earlier = omega arith })
+          | inr n ↦ found m v on n (reached_by p m s r.over v is)
+        ]
+
+    passed_next : HavePassed p s (suc r.over) r.passed.items
+    passed_next = record {
+      one_each = inside.at.passed.one_each;
+      within = inside.at.passed.within;
+      hold = λ layer rule lt on can j d from to.
+          let within = inside.at.passed.within rule lt in
+          holds_on p s layered settled r.over layer (rule_at p rule).var (get_or (rule_at p rule).conditions j d) on
+          ((layered.rules rule _ lt can).order j d (omega arith))
+          (inside.at.passed.hold layer rule lt on can j d from to);
+    }
+
+    -- a rule that may reach a variable in the next round is looked at then
+    due_next : AreDue p s (suc r.over) r.next.items
+    due_next = record { exist = inside.exist; whole = whole }
+      where
+        awaited : (m rule : ℕ) → rule < length p.rules → (b : Begins p s layered settled r.over m (rule_at p rule).conditions) → Contains r.next.items rule
+        awaited m rule lt b =
+            let w = known_next.whole m b.condition.var b.on b.now in
+            elim (inside.each b.condition.var w.origin w.at) [
+              | inl early ↦ absurd (false≢true (sym b.not_yet
+                  ∙ reached_in p s layered r.over r.origins.items inside.at.known m b.condition.var b.on (record { origin = w.origin; at = w.at; earlier = early })))
+              | inr now ↦ All-contains (Contains r.next.items) (asking_at r.asking b.condition.var) rule
+                  (inside.next b.condition.var w.origin w.at now.rank)
+                  (inside.at.asking.each rule b.condition.var lt (record { condition = b.condition; among = b.among; on = refl; derived = ap is_some b.on }))
+            ]
+
+        whole : (m v rule : ℕ) → IsOnLayer p m v → FiresNext p s v m (suc r.over) rule → reached p m s (suc r.over) v ≡ false → Contains r.next.items rule
+        whole m v rule on f not =
+            let its = fires_now p s v m (suc r.over) rule f in
+            elim (all_or_begins p s layered settled r.over m (rule_at p rule).conditions its.hold) [
+              | inl all ↦ absurd (false≢true (sym not ∙ reached_next p s v m r.over rule on
+                  (fires_next p s v m r.over rule f.exists (record { on = its.on; can = its.can; hold = all }))))
+              | inr b ↦ awaited m rule f.exists b
+            ]
+
+    -- so the next round begins
+    pub next_round : (r' : Rounds) → r'.over ≡ r.over + 1 → r'.origins.items ≡ r.origins.items → r'.passed.items ≡ r.passed.items → r'.asking ≡ r.asking
+        → r'.next.items ≡ [] → r.over ≤ length p.variables → InRound p s r' []
+    next_round r' over origins passed asking next few = record {
+      at = record {
+        few = rw over (omega arith);
+        known = rw (over, origins, ← one_more r.over) known_next;
+        passed = rw (over, passed, ← one_more r.over) passed_next;
+        asking = rw asking inside.at.asking;
+      };
+      each = λ v o at. inl (elim (inside.each v o (rw origins at at)) [
+        | inl early ↦ omega arith
+        | inr now ↦ (let rank = now.rank in omega arith)
+      ]);
+      looked = λ layer v rule has. absurd (contains_none rule has);
+      next = λ v o at rank. absurd (elim (inside.each v o (rw origins at at)) [
+        | inl early ↦ omega arith
+        | inr now ↦ (let its = now.rank in omega arith)
+      ]);
+      exist = rw next (All-nil (λ rule. rule < length p.rules));
+    }
+
+    pub next_due : (over : ℕ) → over ≡ r.over + 1 → AreDue p s over r.next.items
+    next_due over e = rw (e, ← one_more r.over) due_next
+
+  -- ---- no rule is left
+
+  module _ (r : Rounds) (inside : InRound p s r []) (due : AreDue p s r.over []) where
+    closed : (layer : ℕ) → IsClosed p layer s (reached p layer s r.over)
+    closed layer k d lt on can hold = elim (cases_Bool (reached p layer s r.over (get_or p.rules k d).var)) [
+      | inl y ↦ y
+      | inr n ↦ absurd (contains_none k (due.whole layer (get_or p.rules k d).var k on
+          (fires_next p s (get_or p.rules k d).var layer r.over k lt
+          (subst (λ x. Fires p layer s (reached p layer s r.over) (get_or p.rules k d).var x) (sym (get_or_default p.rules k _ d lt))
+          (record { on = refl; can = can; hold = hold }))) n))
+    ]
+
+    pub found_all : HaveOrigins p s r.origins.items
+    found_all = record {
+      one_each = inside.at.known.one_each;
+      each = λ v o at. elim (inside.each v o at) [
+        | inl early ↦ inside.at.known.each v o at early
+        | inr now ↦ absurd (contains_none o.rule (due.whole now.layer v o.rule now.on now.fires now.not_yet))
+      ];
+      whole = whole;
+    }
+      where
+        at : (v layer : ℕ) → IsOnLayer p layer v → differs p s v ≡ true → HasOrigin r.origins.items v
+        at v layer on d =
+            let w = inside.at.known.whole layer v on ((settled layer).least (reached p layer s r.over) (closed layer) v on d) in
+            (w.origin, w.at)
+
+        whole : (v : ℕ) → is_given p s v ≡ true → HasOrigin r.origins.items v
+        whole v given =
+            let both = and_parts (is_derived p v) (differs p s v) given in
+            elim (layer_cases p v) [
+              | inl b ↦ absurd (false≢true (sym (ap is_some b) ∙ both.0))
+              | inr w ↦ at v w.0 w.1 both.1
+            ]
+
+-- ---- the first round
+
+pub first_due : (p : Parts) (s : List ℕ) (over : ℕ) (rules : List ℕ) → AreAllRules p rules → AreDue p s over rules
+first_due p s over rules all = record { exist = all.exist; whole = λ layer v rule on f not. all.each rule f.exists }
+
+pub first_round : (p : Parts) (s : List ℕ) (r : Rounds) → AreBefore p r → InRound p s r []
+first_round p s r before = record {
+  at = record {
+    few = (let e = before.over in omega arith);
+    known = rw before.over (record {
+      one_each = ap length before.origins ∙ length-replicate (length p.variables) None;
+      each = λ v o at le. absurd (no_origin v o at);
+      whole = λ layer v on is. absurd (false≢true is);
+    });
+    passed = record {
+      one_each = ap length before.passed ∙ length-replicate (length p.rules) 0;
+      within = λ rule lt. (let e = none_passed rule lt in omega arith);
+      hold = λ layer rule lt on can j d from to. absurd (let e = none_passed rule lt in omega arith);
+    };
+    asking = before.asking;
+  };
+  each = λ v o at. absurd (no_origin v o at);
+  looked = λ layer v rule has. absurd (contains_none rule has);
+  next = λ v o at rank. absurd (no_origin v o at);
+  exist = rw before.next (All-nil (λ rule. rule < length p.rules));
+}
+  where
+    no_longer : (n v : ℕ) → n ≤ v → length (replicate n (let o : Option Origin = None in o)) ≤ v
+    no_longer n v ge = let e = length-replicate n (let o : Option Origin = None in o) in omega arith
+
+    nothing : (n v : ℕ) → origin_at (replicate n None) v ≡ None
+    nothing n v = elim (cases_lt v n) [
+      | inl lt ↦ get_or-replicate n v None None lt
+      | inr ge ↦ get_or_past (replicate n None) v None (no_longer n v ge)
+    ]
+
+    no_origin : (v : ℕ) (o : Origin) → origin_at r.origins.items v ≡ Some o → ⊥
+    no_origin v o at = let e : None ≡ Some o = sym (nothing (length p.variables) v) ∙ (ap (λ os. origin_at os v) (sym before.origins) ∙ at) in absurd cc
+
+    none_passed : (rule : ℕ) → rule < length p.rules → get_or r.passed.items rule 0 ≡ 0
+    none_passed rule lt = ap (λ xs. get_or xs rule 0) before.passed ∙ get_or-replicate (length p.rules) rule 0 0 lt
+
+pub first_unreached : (p : Parts) (r : Rounds) → AreBefore p r → unreached r.origins.items ≡ length p.variables
+first_unreached p r before = unreached_none (length p.variables) r.origins.items (ap length before.origins ∙ length-replicate (length p.variables) None)
+    (λ v lt. ap (λ os. origin_at os v) before.origins ∙ get_or-replicate (length p.variables) v None None lt)
+
+pub nil_of : (xs : List ℕ) → length xs ≡ 0 → xs ≡ []
+nil_of [] e = refl
+nil_of (x ∷ xs) e = absurd (omega arith)
+
+-- ---- one round after another
+
+module _ (p : Parts) (s : List ℕ) (layered : IsLayered p) (settled : IsSettled p s) (r r' : Rounds) (rules next : List ℕ)
+    (inside : InRound p s r' rules) (due : AreDue p s r.over rules) (goes : GoesOn r r') (none : r.next.items ≡ []) (some : 0 < length rules) (is : next ≡ r'.next.items)
+    (more : 0 < length rules → r.over + unreached r.origins.items ≤ length p.variables) where
+  due_now : AreDue p s r'.over rules
+  due_now = subst (λ k. AreDue p s k rules) (sym goes.over) due
+
+  -- the next round begins
+  pub begins_next : (n : Rounds) → n.over ≡ r'.over + 1 → n.origins.items ≡ r'.origins.items → n.passed.items ≡ r'.passed.items → n.asking ≡ r'.asking
+      → n.next.items ≡ [] → InRound p s n []
+  begins_next n over origins passed asking empty = next_round p s layered settled r' rules inside due_now n over origins passed asking empty
+      (let m = more some in let e = goes.over in omega arith)
+
+  pub due_then : AreDue p s (r'.over + 1) next
+  due_then = subst (λ xs. AreDue p s (r'.over + 1) xs) (sym is) (next_due p s layered settled r' rules inside due_now (r'.over + 1) refl)
+
+  pub few_then : r'.over + 1 + unreached r'.origins.items ≤ length p.variables + 1
+  few_then = let m = more some in let f = goes.fewer in let e = goes.over in omega arith
+
+  pub more_then : 0 < length next → r'.over + 1 + unreached r'.origins.items ≤ length p.variables
+  more_then lt = let m = more some in let n = ap length none in let e = goes.over in let w = ap length is in let f = goes.some (omega arith) in omega arith

@@ -1,0 +1,333 @@
+-- How a round goes on when a rule is looked at, and how it ends.
+use Rattle.std.proofs.Common.{◌≡◌, ◌≢◌, ℕ, suc, ◌<◌, ◌≤◌, ◌⊎◌, true, false, List, [], ◌∷◌, ◌++◌, length, get_or, set, Option, None, Some, refl, sym, ◌∙◌, ap, subst, inl, inr, arith}
+use Rattle.std.specs.List.{All, Contains}
+use Rattle.std.proofs.lemmas.Bool.{cases_eq, cases_lt, cases_Bool}
+use Rattle.std.proofs.lemmas.List.{get_or-set_same, get_or-set_other, length-set, append-nil}
+use Rattle.std.proofs.lemmas.List.Elements.{All-nil, All-append, All-weaker, Contains-push_cases, Contains-append_left, Contains-append_right, Contains-get_or}
+use Rattle.sas_core.specs.declared.grounded.Change.{Change}
+use Rattle.sas_core.specs.declared.parts.Fact.{Fact}
+use Rattle.sas_core.specs.declared.parts.Parts.{Parts}
+use Rattle.sas_core.specs.Changes.{rule_change}
+use Rattle.sas_core.specs.Grounded.{rule_at}
+use Rattle.sas_meaning.specs.Layers.{IsOnLayer, default_of, CanFire}
+use Rattle.sas_reasons.specs.Derivation.{reached, FiresNext}
+use Rattle.sas_reasons.proofs.Rounds.{Fires, fires_decides, reach}
+use Rattle.sas_why.specs.declared.rounds.Origin.{Origin}
+use Rattle.sas_why.specs.declared.rounds.Rounds.{Rounds}
+use Rattle.sas_why.specs.Asking.{asking_at}
+use Rattle.sas_why.specs.Rounds.{origin_at, IsOrigin, IsReached, AreKnown, IsFirstOpen, HavePassed, ReachesNow, HasLower, AreAwaited, InRound, unreached, GoesOn, origin_now, with_rule, added, Reaches, value_in_round}
+use Rattle.sas_why.proofs.Reaching.{one_layer}
+use Rattle.sas_why.proofs.Origined.{NotEarlier, with_rule_cases, unreached_fewer, unreached_same}
+
+-- what it says that a rule fires in a round
+pub fires_now : (p : Parts) (s : List ℕ) (var layer over rule : ℕ) → FiresNext p s var layer over rule
+    → Fires p layer s (reached p layer s over) var (rule_at p rule)
+fires_now p s var layer over rule f = (fires_decides p layer s (reached p layer s over) var (rule_at p rule)).0 f.fires
+
+pub fires_next : (p : Parts) (s : List ℕ) (var layer over rule : ℕ) → rule < length p.rules
+    → Fires p layer s (reached p layer s over) var (rule_at p rule) → FiresNext p s var layer over rule
+fires_next p s var layer over rule lt f = record { exists = lt; fires = (fires_decides p layer s (reached p layer s over) var (rule_at p rule)).1 f }
+
+-- a rule that fires reaches its variable
+pub reached_next : (p : Parts) (s : List ℕ) (var layer over rule : ℕ) → IsOnLayer p layer var → FiresNext p s var layer over rule
+    → reached p layer s (suc over) var ≡ true
+reached_next p s var layer over rule on f = reach p layer s over var (record { on = on; rule = rule; exists = f.exists; fires = fires_now p s var layer over rule f })
+
+some_same : (a b : Origin) → Some a ≡ Some b → a ≡ b
+some_same a b e = cc
+
+pub same_at : (o : Option Origin) (a b : Origin) → o ≡ Some a → o ≡ Some b → a ≡ b
+same_at o a b x y = some_same a b (sym x ∙ y)
+
+-- ---- a rule that doesn't fire
+
+pub looked_none : (p : Parts) (s : List ℕ) (r : Rounds) (rules : List ℕ) (rule : ℕ)
+    → ((layer var : ℕ) → IsOnLayer p layer var → FiresNext p s var layer r.over rule → ⊥)
+    → InRound p s r rules → InRound p s r (rules ++ rule ∷ [])
+looked_none p s r rules rule none inside = record {
+  at = inside.at;
+  each = inside.each;
+  looked = λ layer var k has on f. elim (Contains-push_cases rules rule k has) [
+    | inl still ↦ inside.looked layer var k still on f
+    | inr e ↦ absurd (none layer var on (subst (λ x. FiresNext p s var layer r.over x) (sym e) f))
+  ];
+  next = inside.next;
+  exist = inside.exist;
+}
+
+-- ---- more conditions are known to hold
+
+module _ (p : Parts) (s : List ℕ) (layer rule place over : ℕ) (passed : List ℕ) (lt : rule < length p.rules)
+    (on : IsOnLayer p layer (rule_at p rule).var)
+    (first : IsFirstOpen p layer s over (rule_at p rule).conditions (get_or passed rule 0) place) where
+  pub passed_set : HavePassed p s over passed → HavePassed p s over (set passed rule place)
+  passed_set had = record {
+    one_each = length-set passed rule place ∙ had.one_each;
+    within = λ k below. elim (cases_eq k rule) [
+      | inl e ↦ subst (λ n. get_or (set passed rule place) n 0 ≤ length (rule_at p n).conditions) (sym e)
+          (subst (λ n. n ≤ length (rule_at p rule).conditions) (sym here) first.within)
+      | inr ne ↦ subst (λ n. n ≤ length (rule_at p k).conditions) (sym (get_or-set_other passed rule k place 0 ne)) (had.within k below)
+    ];
+    hold = λ m k below on' can j d from to. elim (cases_eq k rule) [
+      | inr ne ↦ had.hold m k below on' can j d from (subst (λ n. j < n) (get_or-set_other passed rule k place 0 ne) to)
+      | inl e ↦ at m k e on' can j d from to
+    ];
+  }
+    where
+      here : get_or (set passed rule place) rule 0 ≡ place
+      here = get_or-set_same passed rule place 0 (omega (arith, had.one_each))
+
+      at : (m k : ℕ) → k ≡ rule → IsOnLayer p m (rule_at p k).var → CanFire p (rule_at p k) → (j : ℕ) (d : Fact) → 0 ≤ j → j < get_or (set passed rule place) k 0
+          → value_in_round p m s over (get_or (rule_at p k).conditions j d).var ≡ (get_or (rule_at p k).conditions j d).value
+      at m k e on' can j d from to = subst (λ n. value_in_round p m s over (get_or (rule_at p n).conditions j d).var ≡ (get_or (rule_at p n).conditions j d).value) (sym e)
+          (elim (cases_lt j (get_or passed rule 0)) [
+            | inl old ↦ had.hold m rule lt (subst (λ n. IsOnLayer p m (rule_at p n).var) e on') (subst (λ n. CanFire p (rule_at p n)) e can) j d from old
+            | inr new ↦ subst (λ l. value_in_round p l s over (get_or (rule_at p rule).conditions j d).var ≡ (get_or (rule_at p rule).conditions j d).value)
+                (one_layer p (rule_at p rule).var layer m on (subst (λ n. IsOnLayer p m (rule_at p n).var) e on'))
+                (first.hold j d new (subst (λ n. j < n) here (subst (λ n. j < get_or (set passed rule place) n 0) e to)))
+          ])
+
+pub passed_round : (p : Parts) (s : List ℕ) (r r' : Rounds) (rules : List ℕ) → r'.over ≡ r.over → r'.origins.items ≡ r.origins.items → r'.asking ≡ r.asking
+    → r'.next.items ≡ r.next.items → HavePassed p s r.over r'.passed.items → InRound p s r rules → InRound p s r' rules
+passed_round p s r r' rules over origins asking next passed inside = record {
+  at = record {
+    few = rw over inside.at.few;
+    known = rw (over, origins) inside.at.known;
+    passed = rw over passed;
+    asking = rw asking inside.at.asking;
+  };
+  each = rw (over, origins) inside.each;
+  looked = rw (over, origins) inside.looked;
+  next = rw (over, origins, asking, next) inside.next;
+  exist = rw next inside.exist;
+}
+
+-- ---- a rule that fires
+
+module _ (p : Parts) (s : List ℕ) (over var rule layer : ℕ) (origins : List (Option Origin)) (lt : var < length origins)
+    (on : IsOnLayer p layer var) (fires : FiresNext p s var layer over rule) where
+  abbrev its : Option Origin
+  its = origin_at origins var
+
+  abbrev after : List (Option Origin)
+  after = set origins var (with_rule over rule its)
+
+  at_var : origin_at after var ≡ with_rule over rule its
+  at_var = get_or-set_same origins var (with_rule over rule its) None lt
+
+  -- what is there is what was there, but for the variable
+  set_cases : (v : ℕ) (o : Origin) → origin_at after v ≡ Some o
+      → ((v ≡ var) × (with_rule over rule its ≡ Some o)) ⊎ ((v ≢ var) × (origin_at origins v ≡ Some o))
+  set_cases v o at = elim (cases_eq v var) [
+    | inl e ↦ inl (e, sym at_var ∙ (ap (λ n. origin_at after n) (sym e) ∙ at))
+    | inr ne ↦ inr (ne, sym (get_or-set_other origins var v (with_rule over rule its) None ne) ∙ at)
+  ]
+
+  module _ (known : AreKnown p s over origins) where
+    set_known : AreKnown p s over after
+    set_known = record { one_each = length-set origins var (with_rule over rule its) ∙ known.one_each; each = each; whole = whole }
+      where
+        each : (v : ℕ) (o : Origin) → origin_at after v ≡ Some o → o.rank ≤ over → IsOrigin p s v o
+        each v o at le = elim (set_cases v o at) [
+          | inr w ↦ known.each v o w.1 le
+          | inl w ↦ elim (with_rule_cases over rule its) [
+            | inl n ↦ absurd (let e = ap (λ (x : Origin). x.rank) (same_at (with_rule over rule its) o (origin_now over rule) w.1 n.0) in omega arith)
+            | inr st ↦ subst (λ x. IsOrigin p s x o) (sym w.0)
+                (known.each var o (st.at ∙ sym (ap Some (same_at (with_rule over rule its) o st.origin w.1 st.still))) le)
+          ]
+        ]
+
+        whole : (m v : ℕ) → IsOnLayer p m v → reached p m s over v ≡ true → IsReached after over v
+        whole m v on' is = let w = known.whole m v on' is in elim (cases_eq v var) [
+          | inr ne ↦ record { origin = w.origin; at = get_or-set_other origins var v (with_rule over rule its) None ne ∙ w.at; earlier = w.earlier }
+          | inl e ↦ (let its_at : its ≡ Some w.origin = ap (λ n. origin_at origins n) (sym e) ∙ w.at in
+              let le = w.earlier in
+              elim (with_rule_cases over rule its) [
+                | inl n ↦ absurd (let rank = (n.1.now w.origin its_at).0 in omega arith)
+                | inr st ↦ record {
+                  origin = w.origin;
+                  at = ap (λ n. origin_at after n) e ∙ (at_var ∙ (st.still ∙ ap Some (same_at its st.origin w.origin st.at its_at)));
+                  earlier = w.earlier;
+                }
+              ])
+        ]
+
+    not_yet : NotEarlier over rule its → reached p layer s over var ≡ false
+    not_yet n = elim (cases_Bool (reached p layer s over var)) [
+      | inr n' ↦ n'
+      | inl y ↦ absurd (let w = known.whole layer var on y in let le = w.earlier in let rank = (n.now w.origin w.at).0 in omega arith)
+    ]
+
+    set_each : ((v : ℕ) (o : Origin) → origin_at origins v ≡ Some o → (o.rank ≤ over) ⊎ ReachesNow p s over v o)
+        → (v : ℕ) (o : Origin) → origin_at after v ≡ Some o → (o.rank ≤ over) ⊎ ReachesNow p s over v o
+    set_each each v o at = elim (set_cases v o at) [
+      | inr w ↦ each v o w.1
+      | inl w ↦ subst (λ x. (o.rank ≤ over) ⊎ ReachesNow p s over x o) (sym w.0) (elim (with_rule_cases over rule its) [
+        | inr st ↦ each var o (st.at ∙ sym (ap Some (same_at (with_rule over rule its) o st.origin w.1 st.still)))
+        | inl n ↦ inr (subst (λ x. ReachesNow p s over var x) (same_at (with_rule over rule its) (origin_now over rule) o n.0 w.1)
+            (record { layer = layer; on = on; rank = refl; not_yet = not_yet n.1; fires = fires }))
+      ])
+    ]
+
+  set_lower : (v k : ℕ) → HasLower over origins v k → HasLower over after v k
+  set_lower v k h = elim (cases_eq v var) [
+    | inr ne ↦ record { origin = h.origin; at = get_or-set_other origins var v (with_rule over rule its) None ne ∙ h.at; lower = h.lower }
+    | inl e ↦ (let its_at : its ≡ Some h.origin = ap (λ n. origin_at origins n) (sym e) ∙ h.at in
+        elim (with_rule_cases over rule its) [
+          | inl n ↦ record {
+            origin = origin_now over rule;
+            at = ap (λ n. origin_at after n) e ∙ (at_var ∙ n.0);
+            lower = λ _. (let b = n.1.now h.origin its_at in let le = h.lower b.0 in let less : rule < h.origin.rule = b.1 in omega arith);
+          }
+          | inr st ↦ record {
+            origin = h.origin;
+            at = ap (λ n. origin_at after n) e ∙ (at_var ∙ (st.still ∙ ap Some (same_at its st.origin h.origin st.at its_at)));
+            lower = h.lower;
+          }
+        ])
+  ]
+
+  set_itself : HasLower over after var rule
+  set_itself = elim (with_rule_cases over rule its) [
+    | inl n ↦ record { origin = origin_now over rule; at = at_var ∙ n.0; lower = λ _. omega arith }
+    | inr st ↦ record { origin = st.origin; at = at_var ∙ st.still; lower = st.lower }
+  ]
+
+  module _ (asking : List (List ℕ)) (next : List ℕ) where
+    abbrev next_after : List ℕ
+    next_after = next ++ added its (asking_at asking var)
+
+    more : (xs : List ℕ) → All (Contains next) xs → All (Contains next_after) xs
+    more xs all = All-weaker (Contains next) (Contains next_after) (λ x h. Contains-append_left next (added its (asking_at asking var)) x h) xs all
+
+    set_awaited : AreAwaited over origins asking next → AreAwaited over after asking next_after
+    set_awaited awaited v o at rank = elim (set_cases v o at) [
+      | inr w ↦ more (asking_at asking v) (awaited v o w.1 rank)
+      | inl w ↦ subst (λ x. All (Contains next_after) (asking_at asking x)) (sym w.0) (elim (with_rule_cases over rule its) [
+        | inr st ↦ more (asking_at asking var) (awaited var o (st.at ∙ sym (ap Some (same_at (with_rule over rule its) o st.origin w.1 st.still))) rank)
+        | inl n ↦ now its refl n.1
+      ])
+    ]
+      where
+        now : (old : Option Origin) → its ≡ old → NotEarlier over rule its → All (Contains next_after) (asking_at asking var)
+        now None e n = λ k d lt'. Contains-append_right next (added its (asking_at asking var)) (get_or (asking_at asking var) k d)
+            (subst (λ old. Contains (added old (asking_at asking var)) (get_or (asking_at asking var) k d)) (sym e)
+            (Contains-get_or (asking_at asking var) k d lt'))
+        now (Some old) e n = more (asking_at asking var) (awaited var old e (n.now old e).0)
+
+    set_exist : (n : ℕ) → All (λ k. k < n) next → All (λ k. k < n) (asking_at asking var) → All (λ k. k < n) next_after
+    set_exist n all its_all = All-append (λ k. k < n) next (added its (asking_at asking var)) all (of its)
+      where
+        of : (old : Option Origin) → All (λ k. k < n) (added old (asking_at asking var))
+        of None = its_all
+        of (Some o) = All-nil (λ k. k < n)
+
+-- the variable of a rule that fires is reached
+pub reach_round : (p : Parts) (s : List ℕ) (r r' : Rounds) (rules : List ℕ) (layer var rule : ℕ) → var < length r.origins.items → IsOnLayer p layer var
+    → FiresNext p s var layer r.over rule → Reaches var rule r r' → InRound p s r rules → InRound p s r' (rules ++ rule ∷ [])
+reach_round p s r r' rules layer var rule lt on fires now inside = record {
+  at = record {
+    few = rw now.over inside.at.few;
+    known = rw (now.over, now.origins) (set_known p s r.over var rule layer r.origins.items lt on fires inside.at.known);
+    passed = rw (now.over, now.passed) inside.at.passed;
+    asking = rw now.asking inside.at.asking;
+  };
+  each = rw (now.over, now.origins) (set_each p s r.over var rule layer r.origins.items lt on fires inside.at.known inside.each);
+  looked = rw (now.over, now.origins) looked;
+  next = rw (now.over, now.origins, now.asking, now.next) (set_awaited p s r.over var rule layer r.origins.items lt on fires r.asking r.next.items inside.next);
+  exist = rw now.next (set_exist p s r.over var rule layer r.origins.items lt on fires r.asking r.next.items (length p.rules) inside.exist (inside.at.asking.only var));
+}
+  where
+    looked : (m v k : ℕ) → Contains (rules ++ rule ∷ []) k → IsOnLayer p m v → FiresNext p s v m r.over k
+        → HasLower r.over (set r.origins.items var (with_rule r.over rule (origin_at r.origins.items var))) v k
+    looked m v k has on' f = elim (Contains-push_cases rules rule k has) [
+      | inl still ↦ set_lower p s r.over var rule layer r.origins.items lt on fires v k (inside.looked m v k still on' f)
+      | inr e ↦ (let f' : FiresNext p s v m r.over rule = subst (λ x. FiresNext p s v m r.over x) (sym e) f in
+          let same : var ≡ v = sym (fires_now p s var layer r.over rule fires).on ∙ (fires_now p s v m r.over rule f').on in
+          subst (λ x. HasLower r.over (set r.origins.items var (with_rule r.over rule (origin_at r.origins.items var))) v x) e
+          (subst (λ x. HasLower r.over (set r.origins.items var (with_rule r.over rule (origin_at r.origins.items var))) x rule) same
+          (set_itself p s r.over var rule layer r.origins.items lt on fires)))
+    ]
+
+-- and there is something to look at next only where it was reached for the first time
+pub reach_goes_on : (var rule : ℕ) (r r' : Rounds) → var < length r.origins.items → Reaches var rule r r' → GoesOn r r'
+reach_goes_on var rule r r' lt now = at (origin_at r.origins.items var) refl
+  where
+    at : (old : Option Origin) → origin_at r.origins.items var ≡ old → GoesOn r r'
+    at None e = record {
+      over = now.over;
+      fewer = rw (now.origins, e) (let w = unreached_fewer r.origins.items var (origin_now r.over rule) lt e in omega arith);
+      some = rw (now.origins, e) (λ _. let w = unreached_fewer r.origins.items var (origin_now r.over rule) lt e in omega arith);
+    }
+    at (Some old) e = record {
+      over = now.over;
+      fewer = rw (now.origins, e) (let w = some_kept old e in omega arith);
+      some = rw (now.next, e) (λ more. absurd (let w = simp append-nil at more in omega arith));
+    }
+      where
+        some_kept : (old : Origin) → origin_at r.origins.items var ≡ Some old
+            → unreached (set r.origins.items var (with_rule r.over rule (Some old))) ≡ unreached r.origins.items
+        some_kept old e = elim (with_rule_cases r.over rule (Some old)) [
+          | inl n ↦ rw n.0 (unreached_same r.origins.items var (origin_now r.over rule) old lt e)
+          | inr st ↦ rw st.still (unreached_same r.origins.items var st.origin old lt e)
+        ]
+
+-- the conditions that are known to hold count for nothing there
+pub goes_as : (a b c : Rounds) → b.over ≡ a.over → b.origins.items ≡ a.origins.items → b.next.items ≡ a.next.items → GoesOn b c → GoesOn a c
+goes_as a b c over origins next goes = record {
+  over = goes.over ∙ over;
+  fewer = (let e = ap unreached origins in let f = goes.fewer in omega arith);
+  some = λ more. (let e = ap unreached origins in let n = ap length next in let f = goes.some (omega arith) in omega arith);
+}
+
+pub goes_on_still : (r : Rounds) → GoesOn r r
+goes_on_still r = record { over = refl; fewer = omega arith; some = λ lt. omega arith }
+
+pub goes_on_more : (a b c : Rounds) → GoesOn a b → GoesOn b c → GoesOn a c
+goes_on_more a b c x y = record {
+  over = y.over ∙ x.over;
+  fewer = (let f = x.fewer in let g = y.fewer in omega arith);
+  some = λ more. elim (cases_lt (length a.next.items) (length b.next.items)) [
+    | inl lt ↦ (let f = x.some lt in let g = y.fewer in omega arith)
+    | inr ge ↦ (let f = x.fewer in let g = y.some (omega arith) in omega arith)
+  ];
+}
+
+-- ---- which rules fire
+
+-- what a rule sets and the default of its variable
+pub sets_new : (p : Parts) (rule : ℕ) (change : Change) → change ≡ rule_change (rule_at p rule) → (rule_at p rule).new ≡ default_of p (rule_at p rule).var
+    → change.new ≡ get_or p.init change.var 0
+sets_new p rule change is e = ap (λ (x : Change). x.new) is ∙ (e ∙ ap (λ (x : Change). get_or p.init x.var 0) (sym is))
+
+-- a rule that sets the default of its variable can't
+pub sets_default : (p : Parts) (rule : ℕ) (change : Change) → change ≡ rule_change (rule_at p rule) → change.new ≡ get_or p.init change.var 0
+    → CanFire p (rule_at p rule) → ⊥
+sets_default p rule change is default can =
+    let var = ap (λ (x : Change). x.var) is in
+    let new = ap (λ (x : Change). x.new) is in
+    can (sym new ∙ (default ∙ ap (λ v. get_or p.init v 0) var))
+
+module _ (p : Parts) (s : List ℕ) (layer rule place over : ℕ) (passed : List ℕ) (lt : rule < length p.rules)
+    (on : IsOnLayer p layer (rule_at p rule).var)
+    (first : IsFirstOpen p layer s over (rule_at p rule).conditions (get_or passed rule 0) place) where
+  -- one with a condition that doesn't hold doesn't
+  pub fails_now : place < length (rule_at p rule).conditions → (m v : ℕ) → IsOnLayer p m v → FiresNext p s v m over rule → ⊥
+  fails_now below m v on' f =
+      let its = fires_now p s v m over rule f in
+      let same : m ≡ layer = one_layer p v m layer on' (subst (λ x. IsOnLayer p layer x) its.on on) in
+      let none : Fact = record { var = 0; value = 0 } in
+      first.fails none below (subst (λ l. value_in_round p l s over (get_or (rule_at p rule).conditions place none).var ≡ (get_or (rule_at p rule).conditions place none).value) same
+      (its.hold place none below))
+
+  -- and one with none does
+  pub all_hold_now : CanFire p (rule_at p rule) → HavePassed p s over passed → length (rule_at p rule).conditions ≤ place
+      → FiresNext p s (rule_at p rule).var layer over rule
+  all_hold_now can had all = fires_next p s (rule_at p rule).var layer over rule lt (record { on = refl; can = can; hold = hold })
+    where
+      hold : (j : ℕ) (d : Fact) → j < length (rule_at p rule).conditions
+          → value_in_round p layer s over (get_or (rule_at p rule).conditions j d).var ≡ (get_or (rule_at p rule).conditions j d).value
+      hold j d below = elim (cases_lt j (get_or passed rule 0)) [
+        | inl old ↦ had.hold layer rule lt on can j d (omega arith) old
+        | inr new ↦ first.hold j d new (omega arith)
+      ]

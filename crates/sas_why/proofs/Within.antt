@@ -1,0 +1,36 @@
+-- The variables of conditions, preconditions and goal facts have values in a state.
+use Rattle.std.proofs.Common.{ℕ, ◌<◌, length, sym, subst, List, [], None}
+use Rattle.std.specs.List.{All}
+use Rattle.std.proofs.lemmas.List.Elements.{All-weaker, All-from_recursion}
+use Rattle.sas_core.specs.declared.parts.Fact.{Fact}
+use Rattle.sas_core.specs.declared.parts.Rule.{Rule}
+use Rattle.sas_core.specs.declared.parts.Parts.{Parts}
+use Rattle.sas_core.specs.Variables.{FactExists, IsState}
+use Rattle.sas_core.specs.Grounded.{operator_at, rule_at}
+use Rattle.sas_core.specs.WellRanged.{WellRanged, RuleFits}
+use Rattle.sas_core.proofs.Places.{holds_at}
+use Rattle.sas_meaning.specs.Steps.{preconditions}
+use Rattle.sas_meaning.proofs.Forced.{fact_within}
+use Rattle.sas_run.proofs.Ranges.{preconditions_within}
+
+module _ (p : Parts) (ranged : WellRanged p) (s : List ℕ) (state : IsState p.variables s) where
+  -- facts that exist have variables with values
+  facts_within : (facts : List Fact) → All (FactExists p.variables) facts → All (λ (f : Fact). f.var < length s) facts
+  facts_within facts exist = All-weaker (FactExists p.variables) (λ (f : Fact). f.var < length s)
+      (λ f is. subst (λ n. f.var < n) (sym state.one_each) (fact_within p f.var f.value is)) facts exist
+
+  no_rule : Rule
+  no_rule = record { conditions = []; var = 0; old = None; new = 0 }
+
+  pub conditions_within : (rule : ℕ) → rule < length p.rules → All (λ (f : Fact). f.var < length s) (rule_at p rule).conditions
+  unfolding no_rule
+  conditions_within rule lt =
+      let fits : RuleFits p.variables (rule_at p rule) = holds_at (RuleFits p.variables) no_rule p.rules ranged.rules.each rule lt in
+      facts_within (rule_at p rule).conditions (All-from_recursion (FactExists p.variables) (rule_at p rule).conditions fits.conditions.each)
+
+  pub goal_within : All (λ (f : Fact). f.var < length s) p.goal
+  goal_within = facts_within p.goal (All-from_recursion (FactExists p.variables) p.goal ranged.goal.each)
+
+  pub preconditions_have_values : (operator : ℕ) → operator < length p.operators → All (λ (f : Fact). f.var < length s) (preconditions (operator_at p operator))
+  preconditions_have_values operator lt = subst (λ n. All (λ (f : Fact). f.var < n) (preconditions (operator_at p operator))) (sym state.one_each)
+      (preconditions_within p ranged operator lt)

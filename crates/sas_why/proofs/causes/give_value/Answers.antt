@@ -1,0 +1,24 @@
+-- The first rule tells it for all.
+use Rattle.std.proofs.Common.{sym, ◌∙◌, ap, subst}
+use Rattle.std.specs.Prelude.{◌==◌}
+use Rattle.std.specs.List.{Contains}
+use Rattle.sas_core.specs.declared.grounded.Change.{Change}
+use Rattle.sas_why.proofs.RulesOf.{of_variable, none_gives, one_gives, first_is, first_is_none}
+use Rattle.sas_why.proofs.causes.give_value.Goals as goal
+
+pub rule_change-requires : goal.rule_change-requires
+rule_change-requires g c =
+    let p = c.args.task.now in
+    (of_variable p c.args.fact.var c.in-Some.rule.now (subst (λ l. Contains l c.in-Some.rule.now) c.requires
+    (first_is c.args.rules.now c.in-Some.rule.now (sym c.in-Some.ensures.value)))).0
+
+pub returns-in-Some : goal.returns-in-Some
+returns-in-Some g c =
+    let p = c.args.task.now in
+    ap (λ n. n == c.args.fact.value) (ap (λ (x : Change). x.new) c.rule_change.ensures)
+    ∙ sym (one_gives p c.task.ensures.layered c.args.fact c.in-Some.rule.now (subst (λ l. Contains l c.in-Some.rule.now) c.requires
+    (first_is c.args.rules.now c.in-Some.rule.now (sym c.in-Some.ensures.value))))
+
+pub returns-in-None : goal.returns-in-None
+returns-in-None g c =
+    sym (none_gives c.args.task.now c.args.fact (sym c.requires ∙ first_is_none c.args.rules.now (sym c.in-None.ensures.value)))

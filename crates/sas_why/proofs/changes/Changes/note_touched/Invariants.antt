@@ -1,0 +1,10 @@
+-- The step is noted for the variables so far.
+use Rattle.std.proofs.Common.{ℕ, ◌<◌, get_or}
+use Rattle.sas_why.specs.Noting.{NotedAt, NotesSome}
+use Rattle.sas_why.proofs.changes.Changes.note_touched.Given as goal
+
+abbrev pub invariant-loop-var : goal.invariant-loop-var
+invariant-loop-var l = record {
+  some : NotesSome l.step l.state l.initial.self l.self;
+  noted : (j : ℕ) (d : ℕ) → j < l.var-index → NotedAt l.step l.state l.initial.self l.self (get_or l.touched j d);
+}

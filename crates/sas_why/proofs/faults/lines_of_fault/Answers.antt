@@ -1,0 +1,87 @@
+-- What each fault gives is known of the run.
+use Rattle.std.proofs.Common.{◌<◌, ℕ, List, length, Some, sym, ◌∙◌, ap, subst}
+use Rattle.std.specs.List.{All}
+use Rattle.std.proofs.lemmas.Result.{IfOk-weaker}
+use Rattle.sas_core.specs.Grounded.{operator_at}
+use Rattle.sas_meaning.specs.Steps.{Agree}
+use Rattle.sas_run.specs.declared.plan_check.PlanFault.{PlanFault}
+use Rattle.sas_run.specs.declared.plan_check.PlanFault.TheVariants.{Conflict}
+use Rattle.sas_reasons.specs.WhyPlan.{TellsFault}
+use Rattle.sas_why.specs.Told.{TellsOnce}
+use Rattle.sas_why.proofs.Behind.{ends, behind, operators_exist, conflict_clashes, last_is, operators_are, operators_as_many}
+use Rattle.sas_why.proofs.faults.lines_of_fault.Goals as goal
+
+pub blocked-requires : goal.blocked-requires
+blocked-requires g c =
+    let r = c.requires.retraced in
+    (g.P.Stepwise.says c.args.plan.now, r.0, behind c.args.layered.now (g.P.Stepwise.says c.args.plan.now) c.args.noted.now r.0 c.args.fault r.1 c.requires.fault)
+
+pub missed-requires : goal.missed-requires
+missed-requires g c =
+    let r = c.requires.retraced in
+    (g.P.Stepwise.says c.args.plan.now, r.0, behind c.args.layered.now (g.P.Stepwise.says c.args.plan.now) c.args.noted.now r.0 c.args.fault r.1 c.requires.fault)
+
+pub conflicting-requires-clause-state : goal.conflicting-requires-clause-state
+conflicting-requires-clause-state g c =
+    let r = c.requires.retraced in
+    let b = behind c.args.layered.now (g.P.Stepwise.says c.args.plan.now) c.args.noted.now r.0 c.args.fault r.1 c.requires.fault in
+    b.state
+
+pub conflicting-requires-clause-disagree : goal.conflicting-requires-clause-disagree
+conflicting-requires-clause-disagree g c = λ agree.
+    let p = c.args.layered.now in
+    let plan = g.P.Stepwise.says c.args.plan.now in
+    let run = c.requires.retraced.0 in
+    let r = c.requires.retraced.1 in
+    let e = ends p plan c.args.noted.now run (Conflict c.in-Conflict.step c.in-Conflict.operator) r (c.requires.fault ∙ ap (λ (f : PlanFault). Some f) c.in-Conflict.is) in
+    conflict_clashes p plan run c.in-Conflict.step c.in-Conflict.operator c.task.ensures.layered r.through e.1 e.0
+    (subst (λ (s : List ℕ). Agree s (operator_at p c.in-Conflict.operator).effects) r.last agree)
+
+pub costs-requires : goal.costs-requires
+costs-requires g c =
+    let p = c.args.layered.now in
+    let r = c.requires.retraced.1 in
+    subst (All (λ (o : ℕ). o < length p.operators)) (sym (c.as_slice.ensures.value ∙ r.operators)) (operators_exist p c.requires.retraced.0 r.through)
+
+pub returns-in-NoOperator : goal.returns-in-NoOperator
+returns-in-NoOperator g c =
+    let p = c.args.layered.now in
+    let plan = g.P.Stepwise.says c.args.plan.now in
+    IfOk-weaker c.unknown.result _ _
+    (λ lines tells run r. subst (λ (f : PlanFault). TellsOnce p plan lines (TellsFault p plan run f)) (sym c.in-NoOperator.is) (tells plan run c.step.ensures))
+    c.unknown.ensures
+
+pub returns-in-NotApplicable : goal.returns-in-NotApplicable
+returns-in-NotApplicable g c =
+    let p = c.args.layered.now in
+    let plan = g.P.Stepwise.says c.args.plan.now in
+    IfOk-weaker c.blocked.result _ _
+    (λ lines tells run r. subst (λ (f : PlanFault). TellsOnce p plan lines (TellsFault p plan run f)) (sym c.in-NotApplicable.is)
+    (tells plan run (behind p plan c.args.noted.now run c.args.fault r c.requires.fault) c.step-in-NotApplicable.ensures))
+    c.blocked.ensures
+
+pub returns-in-Conflict : goal.returns-in-Conflict
+returns-in-Conflict g c =
+    let p = c.args.layered.now in
+    let plan = g.P.Stepwise.says c.args.plan.now in
+    IfOk-weaker c.conflicting.result _ _
+    (λ lines tells run r. subst (λ (f : PlanFault). TellsOnce p plan lines (TellsFault p plan run f)) (sym c.in-Conflict.is) (tells plan run (last_is p plan c.args.noted.now run r)))
+    c.conflicting.ensures
+
+pub returns-in-GoalMissed : goal.returns-in-GoalMissed
+returns-in-GoalMissed g c =
+    let p = c.args.layered.now in
+    let plan = g.P.Stepwise.says c.args.plan.now in
+    IfOk-weaker c.missed.result _ _
+    (λ lines tells run r. subst (λ (f : PlanFault). TellsOnce p plan lines (TellsFault p plan run f)) (sym c.in-GoalMissed.is)
+    (tells plan run (behind p plan c.args.noted.now run c.args.fault r c.requires.fault)))
+    c.missed.ensures
+
+pub returns-in-CostDiffers : goal.returns-in-CostDiffers
+returns-in-CostDiffers g c =
+    let p = c.args.layered.now in
+    let plan = g.P.Stepwise.says c.args.plan.now in
+    IfOk-weaker c.costs.result _ _
+    (λ lines tells run r. subst (λ (f : PlanFault). TellsOnce p plan lines (TellsFault p plan run f)) (sym c.in-CostDiffers.is)
+    (tells plan run c.in-CostDiffers.sum (c.as_slice.ensures.value ∙ operators_are p plan c.args.noted.now run r) (operators_as_many p plan c.args.noted.now run r)))
+    c.costs.ensures

@@ -1,0 +1,14 @@
+-- The conditions so far hold.
+use Rattle.std.proofs.Common.{◌≤◌, ◌-◌, length, get_or}
+use Rattle.sas_core.specs.Grounded.{rule_at}
+use Rattle.sas_why.specs.Rounds.{HoldFrom}
+use Rattle.sas_why.proofs.rounds.Rounds.first_open.Given as goal
+
+abbrev pub invariant-loop-place : goal.invariant-loop-place
+invariant-loop-place g l = record {
+  within : l.place ≤ length (rule_at l.task l.rule).conditions;
+  hold : HoldFrom l.task l.layer l.state l.self.over (rule_at l.task l.rule).conditions (get_or l.self.passed.items l.rule 0) l.place;
+}
+
+abbrev pub decreases-loop-place : goal.decreases-loop-place
+decreases-loop-place g l = length l.conditions - l.place

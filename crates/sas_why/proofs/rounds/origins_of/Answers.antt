@@ -1,0 +1,73 @@
+-- Each round leads to the next one, and none is left when no rule is.
+use Rattle.std.proofs.Common.{◌≡◌, ℕ, ◌<◌, ◌==◌, Bool, true, false, Vec, Global, vec_len, [], length, refl, sym, ap, subst, ◌∙◌, inl, inr, arith}
+use Rattle.std.proofs.lemmas.Bool.{cases_lt, false≢true}
+use Rattle.std.proofs.lemmas.Bool.Decides.{eqb_tells}
+use Rattle.sas_why.specs.Rounds.{InRound, AreDue}
+use Rattle.sas_why.proofs.RoundEnds.{first_round, first_due, first_unreached, found_all, begins_next, due_then, few_then, more_then, nil_of}
+use Rattle.sas_why.proofs.rounds.origins_of.Goals as goal
+
+some_rule : (rules : Vec ℕ Global) (empty : Bool) → empty ≡ (vec_len rules == 0) → empty ≡ false → 0 < length rules.items
+some_rule rules empty tested is = elim (eqb_tells (vec_len rules) 0) [
+  | inl w ↦ absurd (false≢true (sym is ∙ (tested ∙ w.0)))
+  | inr w ↦ omega (arith, rules.ok.0, w.1)
+]
+
+no_rule : (rules : Vec ℕ Global) (empty : Bool) → empty ≡ (vec_len rules == 0) → empty ≡ true → rules.items ≡ []
+no_rule rules empty tested is = elim (eqb_tells (vec_len rules) 0) [
+  | inl w ↦ nil_of rules.items (omega (arith, rules.ok.0, w.1))
+  | inr w ↦ absurd (false≢true (sym w.0 ∙ (sym tested ∙ is)))
+]
+
+pub loop-rounds-init : goal.loop-rounds-init
+loop-rounds-init g c =
+    let p = c.args.task.now in
+    let r = c.in_ok-rounds.rounds in
+    let before = c.in_ok-rounds.ensures in
+    let over = before.over in
+    let all = first_unreached p r before in
+    record {
+      round = first_round p c.args.state.now r before;
+      none = before.next;
+      due = first_due p c.args.state.now r.over c.in_ok-rules.rules.items c.in_ok-rules.ensures;
+      few = omega arith;
+      more = λ _. omega arith;
+    }
+
+pub loop-rounds-smaller : goal.loop-rounds-smaller
+loop-rounds-smaller g c =
+    let some = some_rule c.loop-rounds.rules c.is_empty.result c.is_empty.ensures c.loop-rounds-test.true in
+    let goes = c.in_ok-look_at_all.ensures.goes_on in
+    let none = ap length c.loop-rounds.invariant.none in
+    let is = ap (λ v. length v.items) c.swap.ensures.x_after in
+    let fewer = goes.fewer in
+    elim (cases_lt 0 (length c.swap.new.x.items)) [
+      | inl lt ↦ (let f = goes.some (omega arith) in omega arith)
+      | inr le ↦ omega arith
+    ]
+
+pub loop-rounds-preserved : goal.loop-rounds-preserved
+loop-rounds-preserved g c =
+    let p = c.args.task.now in
+    let s = c.args.state.now in
+    let inv = c.loop-rounds.invariant in
+    let r = c.loop-rounds.rounds in
+    let r' = c.look_at_all.new.self in
+    let rules = c.loop-rounds.rules.items in
+    let some : 0 < length rules = some_rule c.loop-rounds.rules c.is_empty.result c.is_empty.ensures c.loop-rounds-test.true in
+    let inside : InRound p s r' rules = subst (λ xs. InRound p s r' xs) c.as_slice.ensures.value c.in_ok-look_at_all.ensures.looked in
+    let goes = c.in_ok-look_at_all.ensures.goes_on in
+    let is = ap (λ v. v.items) c.swap.ensures.x_after in
+    record {
+      round = begins_next p s c.task.ensures.layered c.requires.settled r r' rules c.swap.new.x.items inside inv.due goes inv.none some is inv.more
+          _ refl refl refl refl c.clear.ensures.items;
+      none = c.clear.ensures.items;
+      due = due_then p s c.task.ensures.layered c.requires.settled r r' rules c.swap.new.x.items inside inv.due goes inv.none some is inv.more;
+      few = few_then p s c.task.ensures.layered c.requires.settled r r' rules c.swap.new.x.items inside inv.due goes inv.none some is inv.more;
+      more = more_then p s c.task.ensures.layered c.requires.settled r r' rules c.swap.new.x.items inside inv.due goes inv.none some is inv.more;
+    }
+
+pub returns : goal.returns
+returns g c =
+    let empty = no_rule c.loop-rounds.rules c.is_empty.result c.is_empty.ensures c.loop-rounds-test.false in
+    found_all c.args.task.now c.args.state.now c.task.ensures.layered c.requires.settled c.loop-rounds.rounds c.loop-rounds.invariant.round
+    (subst (λ xs. AreDue c.args.task.now c.args.state.now c.loop-rounds.rounds.over xs) empty c.loop-rounds.invariant.due)

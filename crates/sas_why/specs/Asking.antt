@@ -1,0 +1,40 @@
+-- Which rules ask for values of which derived variables.
+use Rattle.std.specs.Prelude.{◌≡◌, ℕ, ◌<◌, List, [], length, All, Contains, slice_index_or}
+use Rattle.sas_core.specs.declared.parts.Fact.{Fact}
+use Rattle.sas_core.specs.declared.parts.Parts.{Parts}
+use Rattle.sas_core.specs.Grounded.{rule_at}
+use Rattle.sas_core.specs.Variables.{IsDerived}
+use Rattle.sas_lists.specs.declared.by_key.Entry.{Entry}
+
+-- the entry of a rule under a variable
+abbrev pub asked_entry : ℕ → ℕ → Entry ℕ
+asked_entry var rule = record { key = var; item = rule }
+
+-- a condition of the rule is on this derived variable
+pub record AsksFor (p : Parts) (rule var : ℕ) : Type 0 where
+  pub condition : Fact
+  pub among : Contains (rule_at p rule).conditions condition
+  pub on : condition.var ≡ var
+  pub derived : IsDerived p.variables var
+
+-- a rule and a variable of the task
+pub record IsAsked (p : Parts) (entry : Entry ℕ) : Type 0 where
+  pub rule : entry.item < length p.rules
+  pub var : entry.key < length p.variables
+
+-- the entries of one more rule
+pub record AddsAsked (p : Parts) (rule : ℕ) (before after : List (Entry ℕ)) : Type 0 where
+  pub only : All (IsAsked p) before → All (IsAsked p) after
+  pub kept : (entry : Entry ℕ) → Contains before entry → Contains after entry
+  pub each : (var : ℕ) → AsksFor p rule var → Contains after (asked_entry var rule)
+
+-- the rules listed under a variable
+abbrev pub asking_at : List (List ℕ) → ℕ → List ℕ
+asking_at asking var = slice_index_or asking var []
+
+-- under each derived variable the rules are listed that ask for its values
+pub record IsAskingIndex (p : Parts) (asking : List (List ℕ)) : Type 0 where
+  pub one_each : length asking ≡ length p.variables
+  pub only : (var : ℕ) → All (λ rule. rule < length p.rules) (asking_at asking var)
+  pub each : (rule var : ℕ) → rule < length p.rules → AsksFor p rule var
+      → Contains (asking_at asking var) rule

@@ -1,0 +1,89 @@
+-- What is noted of each step of a plan.
+use Rattle.std.specs.Prelude.{◌≡◌, ◌≢◌, ◌⊎◌, ℕ, ◌+◌, ◌<◌, if◌then◌else◌, List, length, All, Contains, slice_index, Option, Some, None}
+use Rattle.sas_core.specs.declared.parts.Fact.{Fact}
+use Rattle.sas_core.specs.declared.parts.Parts.{Parts}
+use Rattle.sas_core.specs.Variables.{IsDerived}
+use Rattle.sas_meaning.specs.declared.touched.Touched.{Touched}
+use Rattle.sas_run.specs.Plans.{IsChosen}
+use Rattle.sas_run.specs.Running.{IsLaterIfAny}
+use Rattle.sas_run.specs.Courses.{UnderWay, next_name, GoesOnBy}
+use Rattle.sas_run.specs.Walking.{HasFactOn}
+use Rattle.sas_why.specs.declared.changes.Changes.{Changes}
+use Rattle.sas_why.specs.declared.retraced.Other.{Other}
+use Rattle.sas_why.specs.declared.second_pass.Notes.{Notes}
+
+-- ---- since when variables have their values
+
+-- there is a place for each of this many variables
+pub record HavePlaces (variables : ℕ) (changes : Changes) : Type 0 where
+  pub values : length changes.values.items ≡ variables
+  pub since : length changes.since.items ≡ variables
+
+-- the values of the state s, which no step has changed
+pub record AreFirstChanges (s : List ℕ) (changes : Changes) : Type 0 where
+  pub values : changes.values.items ≡ s
+  pub one_each : length changes.since.items ≡ length s
+  pub since : (var : ℕ) → slice_index changes.since.items var ≡ 0
+
+-- the variable has its value in the state s, and the step is noted for it exactly if that is
+-- another one than before
+pub record NotedAt (step : ℕ) (s : List ℕ) (old new : Changes) (var : ℕ) : Type 0 where
+  pub value : slice_index new.values.items var ≡ slice_index s var
+  pub changed : slice_index old.values.items var ≢ slice_index s var
+      → slice_index new.since.items var ≡ step
+  pub unchanged : slice_index old.values.items var ≡ slice_index s var
+      → slice_index new.since.items var ≡ slice_index old.since.items var
+
+-- the variable is as it was
+pub record LeftAt (old new : Changes) (var : ℕ) : Type 0 where
+  pub value : slice_index new.values.items var ≡ slice_index old.values.items var
+  pub since : slice_index new.since.items var ≡ slice_index old.since.items var
+
+-- for some variables it is noted so, and the others are as they were
+pub record NotesSome (step : ℕ) (s : List ℕ) (old new : Changes) : Type 0 where
+  pub places : HavePlaces (length s) new
+  pub each : (var : ℕ) → NotedAt step s old new var ⊎ LeftAt old new var
+
+-- so it is noted for each variable
+pub record NotesChanges (step : ℕ) (s : List ℕ) (old new : Changes) : Type 0 where
+  pub places : HavePlaces (length s) new
+  pub each : (var : ℕ) → var < length s → NotedAt step s old new var
+
+-- ---- which variables a step may have changed
+
+-- the derived variables, each at least once
+pub record AreDerived (p : Parts) (variables : List ℕ) : Type 0 where
+  pub only : All (IsDerived p.variables) variables
+  pub each : (var : ℕ) → IsDerived p.variables var → Contains variables var
+
+-- where any derived variable may have changed, all of them; else those on the list
+abbrev pub looked_at : List ℕ → Touched → List ℕ
+looked_at derived touched = if touched.any then derived else touched.vars.items
+
+-- these facts and variables exist, and each variable whose value in the state s isn't the one before
+-- is one of these, or of one of these facts
+pub record CoverChanges (before s : List ℕ) (gone : List Fact) (touched : List ℕ) : Type 0 where
+  pub facts : All (λ (f : Fact). f.var < length s) gone
+  pub variables : All (λ (var : ℕ). var < length s) touched
+  pub each : (var : ℕ) → (slice_index s var ≡ slice_index before var)
+      ⊎ (HasFactOn gone var ⊎ Contains touched var)
+
+-- ---- which other operator a step may mean
+
+-- what is noted once the next step goes on by this operator: what was noted before, or else the
+-- lowest operator above it that the step may mean, if there is one
+abbrev pub AddsOther : UnderWay → ℕ → Option Other → Option Other → Type 0
+AddsOther course operator (Some other) noted = noted ≡ Some other
+AddsOther course operator None None = IsLaterIfAny course.task course.state operator None
+AddsOther course operator None (Some other) = (other.step ≡ length course.operators + 1)
+    × IsLaterIfAny course.task course.state operator (Some other.operator)
+
+-- ---- both
+
+-- the next step was made, and noted
+pub record NotesStep (old : UnderWay) (notes : Notes) (new : UnderWay) (notes' : Notes) : Type 0 where
+  pub operator : ℕ
+  pub chosen : IsChosen old.task old.state (next_name old) operator
+  pub goes : GoesOnBy old operator new
+  pub other : AddsOther old operator notes.other notes'.other
+  pub changes : NotesChanges (length old.operators + 1) new.state notes.changes notes'.changes

@@ -1,0 +1,6 @@
+-- The labels of plans that a test gives.
+use Rattle.std.specs.Prelude.{ℕ, List, map}
+use Rattle.test_requests.specs.declared.plan_list.GivenPlan.{GivenPlan}
+
+abbrev pub labels_of : List GivenPlan → List (List ℕ)
+labels_of plans = map (λ (plan : GivenPlan). plan.label.now) plans

@@ -1,0 +1,162 @@
+// Plans of a task, as a test gives them to `judge`: a list, which notes what is opened of it.
+ghost use Rattle.std.specs.Prelude.{◌↔◌, All, IsTrue};
+ghost use Rattle.sas_plans.specs.Inputs.{IsLabel};
+ghost use Rattle.test_requests.specs.Labels.{labels_of};
+
+use sas_plans::PlanInputs;
+use std::alloc::{AllocError, Global};
+use std::cell::Cell;
+use std::io;
+use std::io::Read;
+use test_words::{ToldReader, cut};
+
+/// A plan: its label, and what its device returns. That is these bytes, and then what the device is told, as `ToldReader`
+/// describes. A plan can't be opened that is told `?` alone.
+#[derive(Clone, Copy)]
+pub struct GivenPlan<'a> {
+    pub label: &'a [u8],
+    pub front: &'a [u8],
+    pub told: &'a [u8],
+}
+
+/// A task, and plans of it.
+#[derive(Drop)]
+pub struct Given<'a> {
+    pub task: &'a [u8],
+    pub plans: Vec<GivenPlan<'a>>,
+}
+
+/// Returns what some bytes give: plans, a `|` and a task. Between plans stands `&`, and each is its label, `:` and what its
+/// device is told. There are none where there are no bytes.
+pub fn given_in(alloc: Global, bytes: &[u8]) -> Result<Given<'_>, AllocError> {
+    let (words, task) = cut(bytes, b'|');
+    let mut plans = Vec::new(alloc);
+    if words.is_empty() {
+        return Ok(Given { task, plans });
+    }
+    for word in words.split(|&byte| byte == b'&') {
+        let (label, told) = cut(word, b':');
+        plans.push(GivenPlan {
+            label,
+            front: &[],
+            told,
+        })?;
+    }
+    Ok(Given { task, plans })
+}
+
+/// Returns whether none of the labels has a line end.
+pub fn are_labels(plans: &[GivenPlan<'_>]) -> bool
+    ensures { IsTrue result → All IsLabel (labels_of plans.now) }
+{
+    plans.iter().all(|plan| is_label(plan.label))
+}
+
+/// Returns whether the label has no line end.
+fn is_label(label: &[u8]) -> bool
+    ensures { IsTrue result ↔ IsLabel label.now }
+{
+    label.iter().all(|byte| *byte != b'\n' && *byte != b'\r')
+}
+
+/// What a list and its devices note: how many plans were opened, or couldn't be; whether one was opened before its turn, or read
+/// when it was another one's; and the longest buffer that was lent.
+#[derive(Drop)]
+pub struct Notes {
+    pub opened: Cell<usize>,
+    pub mixed: Cell<bool>,
+    pub longest: Cell<usize>,
+}
+
+impl Notes {
+    /// Returns notes without anything so far.
+    pub fn new() -> Notes {
+        Notes {
+            opened: Cell::new(0),
+            mixed: Cell::new(false),
+            longest: Cell::new(0),
+        }
+    }
+
+    /// Notes that the plan with this number is to be opened.
+    fn note_open(&self, number: usize) {
+        let opened = self.opened.get();
+        if opened != number {
+            self.mixed.set(true);
+        }
+        self.opened.set(opened.saturating_add(1));
+    }
+
+    /// Notes that the plan with this number is read into a buffer of this length.
+    fn note_read(&self, number: usize, length: usize) {
+        if self.opened.get() != number.saturating_add(1) {
+            self.mixed.set(true);
+        }
+        self.longest.set(self.longest.get().max(length));
+    }
+
+    /// Returns whether so many plans were opened, each in its turn.
+    pub fn are_opened(&self, count: usize) -> bool {
+        self.opened.get() == count && !self.mixed.get()
+    }
+}
+
+/// One of the plans, while it is read.
+#[derive(Drop)]
+pub struct PlanDevice<'a> {
+    number: usize,
+    front: &'a [u8],
+    rest: ToldReader<'a>,
+    notes: &'a Notes,
+}
+
+impl<'a> Read for PlanDevice<'a> {
+    fn read(&mut self, buf: &mut [u8]) -> io::Result<usize> {
+        self.notes.note_read(self.number, buf.len());
+        if self.front.is_empty() {
+            return self.rest.read(buf);
+        }
+        self.front.read(buf)
+    }
+}
+
+/// Plans that are opened one after another.
+#[derive(Clone, Copy)]
+pub struct PlanList<'a> {
+    pub plans: &'a [GivenPlan<'a>],
+    pub notes: &'a Notes,
+}
+
+impl<'a> PlanInputs for PlanList<'a> {
+    ghost use Rattle.std.specs.Prelude.{None};
+    ghost use Rattle.test_requests.specs.Labels.{labels_of};
+
+    type Input = PlanDevice<'a>;
+
+    ghost labels = { λ list. labels_of list.plans.now };
+
+    // What a device is told isn't what it returns.
+    ghost bytes = { λ list number. None };
+
+    fn count(&self) -> usize {
+        self.plans.len()
+    }
+
+    fn label(&self, number: usize) -> &[u8] {
+        self.plans[number].label
+    }
+
+    fn open(&mut self, number: usize) -> Option<PlanDevice<'a>> {
+        self.notes.note_open(number);
+        let plan = self.plans[number];
+        if plan.told == b"?".as_slice() {
+            return None;
+        }
+        Some(PlanDevice {
+            number,
+            front: plan.front,
+            rest: ToldReader::new(plan.told),
+            notes: self.notes,
+        })
+    }
+}
