@@ -23,6 +23,7 @@ import os
 import re
 import shlex
 import shutil
+import signal
 import subprocess
 import sys
 import tempfile
@@ -46,7 +47,9 @@ FUSES, DOORWAY, LAMPS = "examples/fuses", "examples/doorway", "examples/lamps"
 GUARD, AROUND = b"\xa5", 32
 # the most that memory may grow over many plans, in kB
 MOST_MORE = 256
-MANY, IN_THREADS, SECONDS = 100_000, 4000, 300
+MANY, IN_THREADS = 100_000, 4000
+# how long a command may take, and all tests together
+SECONDS, LONGEST = 300, 3000
 UNDEFINED = {"malloc", "realloc", "free", "memcpy", "memmove", "memset"}
 C_WARNINGS = ("-Wall", "-Wextra", "-pedantic", "-Werror")
 LANGUAGES_OF_C = (("c", "-std=c99", ("gcc", "clang")), ("cpp", "-std=c++17", ("g++", "clang++")))
@@ -56,6 +59,12 @@ class Held(ctypes.Structure):
     """What is called sas_task in sas.h."""
 
     _fields_ = [("is_there", ctypes.c_uint8), ("at", ctypes.c_void_p)]
+
+
+class Guarded(ctypes.Structure):
+    """The same between other bytes."""
+
+    _fields_ = [("before", ctypes.c_uint64), ("held", Held), ("behind", ctypes.c_uint64)]
 
 
 class Library:
@@ -245,10 +254,11 @@ def wrong_rooms(library, name, given, answer, held=None):
 
 def held_tests(_, library, __):
     """Yields what may come of a task that is held. They could show one that is held though it was refused or let go, one that is read
-    over another and isn't taken, and one that is spoiled by a plan."""
+    over another and isn't taken, one that is spoiled by a plan, and one that takes more bytes than the header says."""
     fuses, doorway = read(f"{FUSES}.sas"), read(f"{DOORWAY}.sas")
     plan, other = read(f"{FUSES}.plan"), read(f"{DOORWAY}.plan")
-    held, none = Held(), [NO_TASK]
+    guarded, none = Guarded(LIMIT, Held(), LIMIT), [NO_TASK]
+    held = guarded.held
 
     def number(*given, room=128):
         return library.call("sas_task_plan" if len(given) == 1 else "sas_task_read", [held, given[-1]], room)[0]
@@ -274,6 +284,8 @@ def held_tests(_, library, __):
         came = calls()
         yield f"a task that is held: {name}", [] if came == due else [f"{came}, not {due}"]
         free()
+    around = [guarded.before, guarded.behind]
+    yield "the bytes around a task that is held", [] if around == [LIMIT] * 2 else [f"{around}"]
 
 
 def python_tests(_, library, folder):
@@ -353,7 +365,7 @@ def call_over(library, front, block, length):
     with tempfile.TemporaryFile() as file:
         file.write(front + block)
         file.flush()
-        at = calls.mmap(None, whole, mmap.PROT_READ, mmap.MAP_PRIVATE | mmap.MAP_ANONYMOUS | mmap.MAP_NORESERVE, -1, 0)
+        at = calls.mmap(None, whole, mmap.PROT_READ, mmap.MAP_PRIVATE | mmap.MAP_ANONYMOUS, -1, 0)
         for place, size, start in ((0, len(front), 0), *((it, len(block), len(front)) for it in range(len(front), whole, len(block)))):
             fixed = calls.mmap(at + place, size, mmap.PROT_READ, mmap.MAP_SHARED | 0x10, file.fileno(), start)
             assert fixed == at + place
@@ -563,14 +575,15 @@ IN_ORDER = ("plan", "plan_why", "trace", "check", "check_why", "mutex", "mutex_w
 
 
 def lines_of_wrappers(sas, task, plan):
-    """Returns what library.cpp and library.rs print of a layered task and of a plan."""
+    """Returns what library.cpp and library.rs print of a task and of a plan. What is None is no answer, as no task is held."""
     said = b"".join(answer_lines(it, asked(sas, it, *inputs_of(it, task, plan))) for it in IN_ORDER)
     said += answer_lines("empty", sas.plan(b"", b""))
-    held, layered, refused = (sas.plan(task, plan), sas.check(task), sas.check(plan))
+    came, refused = sas.check(task), sas.check(plan)
+    held = sas.plan(task, plan) if came[0] else None
     moved = [("moved from", None), ("moved to", held)]
     parts = {
-        "cpp": [("none", None), ("read", layered), ("held", held), *moved, ("read", layered), *moved, ("read", refused), ("refused", None)],
-        "rs": [("held", held), ("elsewhere", held), ("read", refused)],
+        "cpp": [("none", None), ("read", came), ("held", held), *moved, ("read", came), *moved, ("read", refused), ("refused", None)],
+        "rs": [("held", held), ("elsewhere", held), ("read", refused)] if held else [("read", came), ("read", refused)],
     }
     return {name: said + b"".join(answer_lines(*it) for it in lines) for name, lines in parts.items()}
 
@@ -587,24 +600,26 @@ def built_wrapper(language, library, folder):
 
 
 def wrapper_tests(_, library, folder):
-    """Yields all calls of the wrappers in C++ and Rust. They could show a call that asks another request or exchanges its inputs, and a
-    task that is let go of twice, or never is."""
-    paths = [os.path.join(TOP, f"{DOORWAY}.sas"), os.path.join(TOP, f"{FUSES}.plan")]
-    lines = lines_of_wrappers(library.sas, *map(read, paths))
+    """Yields all calls of the wrappers in C++ and Rust, over a task that is layered and one that isn't. They could show a call that asks
+    another request or exchanges its inputs, and a task that is let go of twice, or never is."""
     for language, compiler in (("cpp", "g++"), ("rs", "rustc")):
-        if compilers(compiler):
-            path = built_wrapper(language, library.folder, folder)
-            ran, due = ended(path, *paths), (0, lines[language], b"")
+        path = built_wrapper(language, library.folder, folder) if compilers(compiler) else None
+        for name in (DOORWAY, LAMPS) if path else ():
+            files = [os.path.join(TOP, f"{name}.sas"), os.path.join(TOP, f"{FUSES}.plan")]
+            due = 0, lines_of_wrappers(library.sas, *map(read, files))[language], b""
+            ran = ended(path, *files)
             got = ran.returncode, ran.stdout, ran.stderr
-            yield f"library.{language}", [] if got == due else [f"{got}, not {due}"]
+            yield f"library.{language}, {name}", [] if got == due else [f"{got}, not {due}"]
             if compilers("valgrind"):
-                ran = watched(path, *paths)
-                yield f"valgrind library.{language}", [] if ran.returncode == 0 and not ran.stderr else [f"{ran}"]
+                ran = watched(path, *files)
+                yield f"valgrind library.{language}, {name}", [] if ran.returncode == 0 and not ran.stderr else [f"{ran}"]
 
 
 def watched(*command):
     """Returns how a command ends under valgrind: with status 9 and on standard error where it loses memory, or uses it wrongly."""
-    return ended("valgrind", "-q", "--leak-check=full", "--show-leak-kinds=definite,indirect,possible", "--error-exitcode=9", *command)
+    kinds = "definite,indirect"
+    words = ["--leak-check=full", f"--show-leak-kinds={kinds}", f"--errors-for-leak-kinds={kinds}", "--error-exitcode=9"]
+    return ended("valgrind", "-q", *words, *command)
 
 
 def stub_library(library, folder):
@@ -664,7 +679,9 @@ def refused_code_tests(_, library, folder):
         yield f"Rust, a task that is {name}", [] if found == [error] else [f"{found}, {ran.stderr.decode()[:300]}"]
 
 
-LANGUAGES = {"C": ("c", "cc"), "CPP": ("cpp", "g++"), "PYTHON": ("python", "python3"), "RUST": ("rust", "rustc")}
+# the pages about languages: what their programs are marked as, and what runs or compiles them
+PAGES = {"C": ("c", "cc"), "CPP": ("cpp", "g++"), "PYTHON": ("python", "python3"), "RUST": ("rust", "rustc")}
+# the ends of the names of their programs
 SUFFIXES = {"c": ".c", "cpp": ".cpp", "python": ".py", "rust": ".rs"}
 
 
@@ -672,7 +689,7 @@ def shown(page):
     """Returns the program that a page about a language shows, and its commands, each with what it prints."""
     with open(os.path.join(TOP, "docs", f"{page}.md"), encoding="utf-8") as file:
         text = file.read()
-    language = LANGUAGES[page][0]
+    language = PAGES[page][0]
     program = re.search(rf"```{language}\n(.*?)```", text, re.DOTALL)[1]
     blocks = re.findall(r"```console\n(.*?)```", text, re.DOTALL)
     return program, [part.partition("\n")[::2] for block in blocks for part in re.split(r"^\$ ", block, flags=re.MULTILINE)[1:]]
@@ -684,7 +701,7 @@ def page_tests(_, library, folder):
     os.mkdir(place)
     shutil.copytree(os.path.join(TOP, "examples"), os.path.join(place, "examples"))
     shutil.copytree(library.folder, os.path.join(place, "library/out"))
-    for page, (language, compiler) in LANGUAGES.items():
+    for page, (language, compiler) in PAGES.items():
         if not compilers(compiler):
             continue
         program, commands = shown(page)
@@ -716,6 +733,8 @@ TESTS = (
 
 
 def main(program, folder):
+    # a call that doesn't end would hold the whole gate up
+    signal.alarm(LONGEST)
     library = Library(os.path.abspath(folder))
     names, wrong = [], []
     for make in TESTS:
