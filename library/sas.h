@@ -69,7 +69,7 @@ typedef struct sas_task {
 } sas_task;
 
 /* What a `sas_task` begins as: it holds none. */
-#define SAS_TASK_NONE {0, 0}
+#define SAS_TASK_NONE {0, NULL}
 
 /* Reads a task and answers as `sas_check`. Exactly at SAS_YES the task is held from then on; at each other number none
    is. What was held before is let go, whatever the number. */
