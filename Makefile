@@ -1,16 +1,17 @@
 # make        proves what the program needs and builds it: the executable is ./sas. A line for each crate; build.log has the rest
 # make test   the whole gate: every proof from nothing, the edits that must fail, and the cases over the programs that the
 #             gate built; the last line is 'N passed, M failed', and the exit status is 0 exactly if M is 0
+# make lib    proves what the library needs and builds it, with $CC or cc, into library/out/; docs/LIBRARY.md says what is there
 # make bench  measures ./sas over inputs of a fiftieth of the size, in a minute; docs/BENCHMARK.md says how to measure in full
 # make clean  removes what was built, and the inputs of `make bench`
 #
-# `rt`, the command of the toolchain, has to be on the PATH, and python3; `make test` wants a C compiler, $CC or cc, too. JOBS is
-# how many crates are begun at a time. One that waits for others counts too, so it is more than there are processors; each that is
-# proved takes one to four GB.
+# `rt`, the command of the toolchain, has to be on the PATH, and python3; `make lib` and `make test` want a C compiler, $CC or cc, too.
+# The tests of the library use what is there of gcc, g++, clang, clang++, rustc, nm and valgrind. JOBS is how many crates are begun at
+# a time. One that waits for others counts too, so it is more than there are processors; each that is proved takes one to four GB.
 
 JOBS ?= $(shell expr $(shell nproc) + 4)
 
-.PHONY: program test bench clean
+.PHONY: program test lib bench clean
 
 program:
 	@python3 build.py $(JOBS)
@@ -18,9 +19,12 @@ program:
 test:
 	@python3 cases/gate.py
 
+lib:
+	@python3 library/build.py
+
 bench:
 	@test -x sas || { echo "there is no ./sas yet; make builds it"; exit 1; }
 	@python3 bench/run.py ./sas bench/out --scale 0.02 --rounds 3
 
 clean:
-	rm -rf crates/*/out bench/out sas build.log
+	rm -rf crates/*/out bench/out library/out sas build.log

@@ -2,9 +2,9 @@
 """Runs every check of the repository: the gate of the toolchain, then the cases over what it built.
 
 `rt ci` proves and builds everything from nothing and tries each edit that must fail. Then docs/READING.md is held against the
-definitions, the commands that documents show are run, each allocation is refused in turn, the calls of the libraries are made, and
-the program is run. The last line is 'N passed, M failed' of all together, and the exit status is 0 exactly if M is 0. A command that
-doesn't end as its own last line says counts as one failure.
+definitions, the commands that documents show are run, each allocation is refused in turn, the calls of the crates are made, the
+program is run, and the library is built and called. The last line is 'N passed, M failed' of all together, and the exit status is 0
+exactly if M is 0. A command that doesn't end as its own last line says counts as one failure.
 """
 import os
 import re
@@ -21,6 +21,7 @@ CASES = [
     ["cases/memory.py", "sas", *PROGRAMS],
     ["cases/calls.py", *PROGRAMS],
     ["cases/run.py", "sas"],
+    ["cases/library.py", "sas", "library/out"],
 ]
 
 
@@ -43,6 +44,8 @@ def main():
     parts = [counts(["rt", "ci"])]
     if os.path.isfile("crates/sas/out/sas"):
         shutil.copy("crates/sas/out/sas", "sas")
+    # where it isn't built its tests end without a last line, which counts as a failure
+    subprocess.run([sys.executable, "library/build.py"], check=False)
     parts += [counts([sys.executable, *command]) for command in CASES]
     passed, failed = map(sum, zip(*parts))
     print(f"{passed} passed, {failed} failed")

@@ -377,4 +377,5 @@ def main():
     report.end(cases, wrong)
 
 
-main()
+if __name__ == "__main__":
+    main()

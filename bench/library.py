@@ -1,0 +1,49 @@
+#!/usr/bin/env python3
+"""Times a plan of a task that the library holds, beside reading the task, and beside `sas_plan`, which reads both.
+
+    bench/library.py TASK PLAN [--library FOLDER] [--count N] [--rounds R]
+
+FOLDER is what `make lib` makes, library/out. A small program in C is built over it, with $CC or cc (library.c). Of R rounds the best
+time counts; in each the task is read once and its plan is asked about N times. Times are in microseconds.
+"""
+import argparse
+import os
+import shlex
+import subprocess
+import sys
+import tempfile
+
+import machine
+
+HERE = os.path.dirname(os.path.abspath(__file__))
+
+
+def built(library, folder):
+    """Returns the program that measures, built in a folder."""
+    path = os.path.join(folder, "measure")
+    command = [*shlex.split(os.environ.get("CC") or "cc"), "-O2", "-I", library, os.path.join(HERE, "library.c")]
+    subprocess.run([*command, os.path.join(library, "libsas.a"), "-o", path], check=True)
+    return path
+
+
+def main():
+    words = argparse.ArgumentParser(description=__doc__, formatter_class=argparse.RawDescriptionHelpFormatter)
+    words.add_argument("task")
+    words.add_argument("plan")
+    words.add_argument("--library", metavar="FOLDER", default=os.path.join(os.path.dirname(HERE), "library/out"))
+    words.add_argument("--count", type=int, default=1000, metavar="N")
+    words.add_argument("--rounds", type=int, default=10, metavar="R")
+    given = words.parse_args()
+    with tempfile.TemporaryDirectory() as folder:
+        command = [built(given.library, folder), given.task, given.plan, str(given.count), str(given.rounds)]
+        ran = subprocess.run(command, stdout=subprocess.PIPE, check=False, encoding="utf-8")
+    if ran.returncode:
+        sys.exit("the task is refused, or the answers differ")
+    read, held, both, said = ran.stdout.rstrip("\n").split(" ", 3)
+    for line in machine.header(os.path.join(given.library, "libsas.so"), None):
+        print(line)
+    print(machine.table_head(["Task", "Plan", "Answer", "Read", "A plan of it", "`sas_plan`"]))
+    print(machine.row([os.path.basename(given.task), os.path.basename(given.plan), said, read, held, both]))
+
+
+main()

@@ -1,0 +1,749 @@
+#!/usr/bin/env python3
+"""Tests the library: what a program in C, C++, Python or Rust gets of it.
+
+    python3 cases/library.py SAS LIBRARY
+
+SAS is the program, and LIBRARY the folder that library/build.py made. Each function of this script that makes tests says which
+mistake they could show that no proof does: the proofs know neither the header nor the wrappers, and no pointer of a caller's.
+
+library.c, library.cpp and library.rs make calls from these languages, library_stub.c stands in for the library. The compilers are
+$CC or cc, and of gcc, clang, g++, clang++ and rustc those that are there; `valgrind` and `nm` are used where they are. What isn't
+there is told in a line that begins with `without`.
+
+Each test that fails has a line, and the last line is 'N passed, M failed'. The exit status is 0 where none failed.
+"""
+import array
+import contextlib
+import ctypes
+import functools
+import glob
+import importlib.util
+import mmap
+import os
+import re
+import shlex
+import shutil
+import signal
+import subprocess
+import sys
+import tempfile
+from concurrent.futures import ThreadPoolExecutor
+
+import report
+import run
+from axioms import text_of
+from large import plan_text, wide_plans, wide_task
+from texts import TOP, as_bytes, changed_lines, table
+
+YES, NO, ROOM_TOO_SHORT, OUT_OF_MEMORY, INPUT_TOO_LONG, NO_TASK = range(6)
+LIMIT = 4_294_967_296
+# the words of a case of run.py that say more than what is asked
+LIMITED = ("memory", "stack", "file", "open", "closed", "output_to", "streamed", "told", "input_ends")
+OVER_BOTH, OVER_PLAN, OVER_TASK = ("plan", "plan_why", "trace"), ("steps",), ("check", "check_why", "mutex", "mutex_why", "show", "print")
+REQUESTS = (*OVER_BOTH, *OVER_PLAN, *OVER_TASK)
+# a task and a plan that solves it, a group that isn't exclusive, and a task that isn't layered
+FUSES, DOORWAY, LAMPS = "examples/fuses", "examples/doorway", "examples/lamps"
+# what stands around a room, and how often
+GUARD, AROUND = b"\xa5", 32
+# the most that memory may grow over many plans, in kB
+MOST_MORE = 256
+MANY, IN_THREADS = 100_000, 4000
+# how long a command may take, and all tests together
+SECONDS, LONGEST = 300, 3000
+UNDEFINED = {"malloc", "realloc", "free", "memcpy", "memmove", "memset"}
+C_WARNINGS = ("-Wall", "-Wextra", "-pedantic", "-Werror")
+LANGUAGES_OF_C = (("c", "-std=c99", ("gcc", "clang")), ("cpp", "-std=c++17", ("g++", "clang++")))
+
+
+class Held(ctypes.Structure):
+    """What is called sas_task in sas.h."""
+
+    _fields_ = [("is_there", ctypes.c_uint8), ("at", ctypes.c_void_p)]
+
+
+class Guarded(ctypes.Structure):
+    """The same between other bytes."""
+
+    _fields_ = [("before", ctypes.c_uint64), ("held", Held), ("behind", ctypes.c_uint64)]
+
+
+class Library:
+    """The library in a folder: its wrapper in Python as `sas`, and its calls as they are."""
+
+    def __init__(self, folder):
+        self.folder = folder
+        self.calls = ctypes.CDLL(os.path.join(folder, "libsas.so"))
+        self.calls.sas_task_free.restype = None
+        self.sas = module_of(os.path.join(folder, "sas.py"))
+
+    def call(self, name, given, length):
+        """Makes a call with a room of so many bytes, between others that nothing may change. Returns its number, what it tells of
+        the size, what is in the room then, and whether the bytes around it are as before."""
+        around = GUARD * AROUND
+        memory = ctypes.create_string_buffer(around + GUARD * length + around, length + 2 * AROUND)
+        size = ctypes.c_size_t(LIMIT + length)
+        inputs = [part for it in given for part in raw(it)]
+        room = ctypes.byref(memory, AROUND)
+        number = getattr(self.calls, name)(*inputs, room, ctypes.c_size_t(length), ctypes.byref(size))
+        held = memory.raw
+        is_kept = held.startswith(around) and held.endswith(around) and len(held) == length + 2 * AROUND
+        return number, size.value, held[AROUND : AROUND + length], is_kept
+
+
+def raw(given):
+    """Returns an input as a call is given it: what is held by its address, bytes by theirs and their length."""
+    if isinstance(given, Held):
+        return [ctypes.byref(given)]
+    return [ctypes.c_char_p(given), ctypes.c_size_t(len(given))]
+
+
+def module_of(path):
+    """Returns the module that is in a file."""
+    about = importlib.util.spec_from_file_location("sas", path)
+    module = importlib.util.module_from_spec(about)
+    about.loader.exec_module(module)
+    return module
+
+
+def read(name):
+    """Returns what a file holds, by its path from the top of the repository."""
+    with open(os.path.join(TOP, name), "rb") as file:
+        return file.read()
+
+
+def inputs_of(request, task, plan):
+    """Returns the files that a request is given, of these two."""
+    return [plan] if request in OVER_PLAN else [task] if request in OVER_TASK else [task, plan]
+
+
+def differs(got, due):
+    """Returns what is wrong with an answer: whether it is yes, and its text."""
+    return [] if got == due else [f"{got[0]}, {got[1][:200]!r}, not {due[0]}, {due[1][:200]!r}"]
+
+
+def asked(sas, request, *files):
+    """Returns the answer of the wrapper in Python to a request."""
+    return getattr(sas, "print_task" if request == "print" else request)(*files)
+
+
+def told(program, request, *files):
+    """Returns the answer of the program to the same request."""
+    word, *flag = request.split("_")
+    with tempfile.TemporaryDirectory() as folder:
+        paths = [os.path.join(folder, name) for name, _ in zip("ab", files)]
+        for path, held in zip(paths, files):
+            with open(path, "wb") as file:
+                file.write(held)
+        ran = subprocess.run([program, word, *("--why" for _ in flag), *paths], capture_output=True, check=False, timeout=SECONDS)
+    assert ran.returncode in (0, 1) and not ran.stderr, ran
+    return ran.returncode == 0, ran.stdout
+
+
+def same_as_case(sas, case):
+    """Returns what is wrong with the answer to a case of run.py; None where it is none of a request over whole files."""
+    request, *words = case["words"] or ["steps", "-"]
+    if case["status"] > 1 or case.get("error") or any(word in case for word in LIMITED):
+        return None
+    files = [word for word in words if word != "--why"]
+    request += "_why" if "--why" in words and request in ("plan", "check", "mutex") else ""
+    if request not in (*REQUESTS, "plans") or any(word.startswith("-") and word != "-" for word in files):
+        return None
+    try:
+        held = [file_of(case, word) for word in files]
+    except (KeyError, OSError):
+        return None
+    due = case["status"] == 0, as_bytes(case["output"])
+    if request == "plans":
+        return differs(lines_of_plans(sas, files[1:], *held), due)
+    return differs(asked(sas, request, *held), due) + (same_of_held(sas, *held, due) if request == "plan" else [])
+
+
+def file_of(case, word):
+    """Returns the file that a word of a case names."""
+    if word == "-":
+        return as_bytes(case.get("input", ""))
+    return as_bytes(case["files"][word]) if "files" in case else read(word)
+
+
+def same_of_held(sas, task, plan, due):
+    """Returns what is wrong with the answer about a plan of a task that is held."""
+    try:
+        with sas.Task(task) as held:
+            return [f"held: {it}" for it in differs(held.plan(plan), due)]
+    except sas.Refused as refusal:
+        return [f"held: {it}" for it in differs((False, refusal.text), due)]
+
+
+def lines_of_plans(sas, labels, task, *plans):
+    """Returns what `plans` says of these plans, by one task that is held. The summary rests on the answers alone."""
+    try:
+        with sas.Task(task) as held:
+            answers = [held.plan(plan) for plan in plans]
+    except sas.Refused as refusal:
+        return False, refusal.text
+    lines = [as_bytes(label) + b": " + text for label, (_, text) in zip(labels, answers)]
+    valid = [(int(text.split()[-1]), label) for label, (is_valid, text) in zip(labels, answers) if is_valid]
+    summary = f"{len(plans)} plans, {len(valid)} valid"
+    if valid:
+        summary += ", best cost %d: %s" % min(valid, key=lambda it: it[0])
+    return len(valid) == len(plans), b"".join([*lines, as_bytes(summary), b"\n"])
+
+
+def case_tests(_, library, folder):
+    """Yields each case of run.py that asks about whole files, but for the largest: the answer is the text and the status of the
+    program. Plans are asked about with their task held, too. They could show a call that answers another request, inputs that are
+    exchanged, and a plan for which those before it count."""
+    files = (*run.whole_cases(), *run.line_cases(), *run.plan_cases(folder), *run.group_cases())
+    plans = (*run.verdict_cases(), *run.why_cases(), *run.trace_cases(), *run.plans_cases())
+    made = (*run.cut_cases(), *run.family_cases(), *table("program.json"))
+    for case in (*files, *map(run.with_why, files), *plans, *made):
+        wrong = same_as_case(library.sas, case) if "output" in case else None
+        if wrong is not None:
+            yield case["name"], wrong
+
+
+def program_tests(program, library, _):
+    """Yields files about which the program itself is asked, with reasons too: the answers are the same. They could show the same."""
+    minimal, valid = read("cases/tasks/minimal.sas"), b"; cost = 0 (unit cost)\n"
+    tasks = [read(task["file"]) for task in table("tasks.json")] + [as_bytes(made["task"]) for made in table("groups.json")]
+    tasks += [as_bytes(changed["task"]) for changed in changed_lines() if len(as_bytes(changed["task"])) < 10_000]
+    asks = [(request, task) for task in dict.fromkeys(tasks) for request in ("check_why", "mutex_why")]
+    asks += [("plan_why", minimal, as_bytes(made["plan"])) for made in table("plans.json")]
+    for name in ("blocks-4-0", "doorway", "elevator", "fuses"):
+        files = read(f"examples/{name}.sas"), read(f"examples/{name}.plan")
+        asks += [(request, *inputs_of(request, *files)) for request in REQUESTS]
+    asks += [(request, *inputs_of(request, b"", b"")) for request in REQUESTS]
+    asks += [(request, minimal, b"") for request in OVER_BOTH] + [(request, b"", valid) for request in OVER_BOTH]
+    with ThreadPoolExecutor(2) as pool:
+        answers = pool.map(lambda it: told(program, *it), asks)
+        for (request, *files), due in zip(asks, answers):
+            yield f"{request}, as the program, {files[-1][:40]!r}", differs(asked(library.sas, request, *files), due)
+
+
+def room_tests(_, library, __):
+    """Yields each call with rooms of each length up to a little more than it needs. They could show a byte that is written behind the
+    room, or in front of it, a length that is told otherwise than it is, and a room that is just long enough and isn't taken so."""
+    fuses, broken = (read(f"{FUSES}.sas"), read(f"{FUSES}.plan")), (read(f"{DOORWAY}.sas"), read(f"{FUSES}.plan"))
+    refused = read(f"{LAMPS}.sas"), b"(take f1)\n"
+    for request in REQUESTS:
+        for task, plan in (fuses, broken, refused):
+            given = inputs_of(request, task, plan)
+            answer = asked(library.sas, request, *given)
+            yield f"{request}, each room", wrong_rooms(library, f"sas_{request}", lambda given=given: given, answer)
+    for task, plan in (fuses, broken, refused):
+        held = Held()
+        yield "task_read, each room", wrong_rooms(library, "sas_task_read", lambda: [held, task], library.sas.check(task), held)
+        library.call("sas_task_read", [held, fuses[0]], 128)
+        yield "task_plan, each room", wrong_rooms(library, "sas_task_plan", lambda: [held, plan], library.sas.plan(fuses[0], plan))
+        library.calls.sas_task_free(ctypes.byref(held))
+
+
+def wrong_rooms(library, name, given, answer, held=None):
+    """Returns what is wrong with a call in rooms of each length, of which this is the answer. What is read into `held` is there
+    exactly at the number 0."""
+    is_yes, text = answer
+    for length in range(len(text) + 3):
+        number, size, room, is_kept = library.call(name, given(), length)
+        due = ROOM_TOO_SHORT if length < len(text) else YES if is_yes else NO
+        fits = number == ROOM_TOO_SHORT or room.startswith(text)
+        holds = held is None or bool(held.is_there) == (number == YES)
+        if (number, size) != (due, len(text)) or not (is_kept and fits and holds):
+            return [f"{length} bytes: number {number}, size {size}, {room[:80]!r}, around it {is_kept}, held rightly {holds}"]
+    return []
+
+
+def held_tests(_, library, __):
+    """Yields what may come of a task that is held. They could show one that is held though it was refused or let go, one that is read
+    over another and isn't taken, one that is spoiled by a plan, and one that takes more bytes than the header says."""
+    fuses, doorway = read(f"{FUSES}.sas"), read(f"{DOORWAY}.sas")
+    plan, other = read(f"{FUSES}.plan"), read(f"{DOORWAY}.plan")
+    guarded, none = Guarded(LIMIT, Held(), LIMIT), [NO_TASK]
+    held = guarded.held
+
+    def number(*given, room=128):
+        return library.call("sas_task_plan" if len(given) == 1 else "sas_task_read", [held, given[-1]], room)[0]
+
+    def free():
+        library.calls.sas_task_free(ctypes.byref(held))
+        return bool(held.is_there)
+
+    for name, calls, due in (
+        ("none at first", lambda: [number(plan)], none),
+        ("none let go", lambda: [free(), number(plan)], [False, *none]),
+        ("held", lambda: [number("read", fuses), number(plan), number(other), number(plan)], [YES, YES, NO, YES]),
+        ("let go", lambda: [number("read", fuses), free(), number(plan), free()], [YES, False, *none, False]),
+        ("another over it", lambda: [number("read", fuses), number("read", doorway), number(other), number(plan)], [YES, YES, YES, NO]),
+        ("no task over it", lambda: [number("read", fuses), number("read", plan), number(plan)], [YES, NO, *none]),
+        ("not layered", lambda: [number("read", fuses), number("read", read(f"{LAMPS}.sas")), number(plan)], [YES, NO, *none]),
+        ("nothing over it", lambda: [number("read", fuses), number("read", b""), number(plan)], [YES, NO, *none]),
+        ("no room", lambda: [number("read", fuses), number("read", fuses, room=12), number(plan)], [YES, ROOM_TOO_SHORT, *none]),
+        ("just room", lambda: [number("read", fuses, room=13), number(plan)], [YES, YES]),
+        ("no room for a plan", lambda: [number("read", fuses), number(plan, room=3), number(plan)], [YES, ROOM_TOO_SHORT, YES]),
+        ("plans that are refused", lambda: [number("read", fuses), number(b""), number(b"\xff\n"), number(plan)], [YES, NO, NO, YES]),
+    ):
+        came = calls()
+        yield f"a task that is held: {name}", [] if came == due else [f"{came}, not {due}"]
+        free()
+    around = [guarded.before, guarded.behind]
+    yield "the bytes around a task that is held", [] if around == [LIMIT] * 2 else [f"{around}"]
+
+
+def python_tests(_, library, folder):
+    """Yields what the wrapper in Python says of inputs of other types, of tasks that are refused and of those that are let go. They
+    could show bytes that aren't those of the caller, and an answer where there is none."""
+    sas, task, plan = library.sas, read(f"{FUSES}.sas"), read(f"{FUSES}.plan")
+    due = sas.plan(task, plan)
+    path = os.path.join(folder, "task")
+    with open(path, "wb+") as file:
+        file.write(task)
+        file.flush()
+        with mmap.mmap(file.fileno(), 0) as writable, mmap.mmap(file.fileno(), 0, access=mmap.ACCESS_READ) as readable:
+            for name, view in (
+                ("bytearray", bytearray(task)),
+                ("memoryview", memoryview(task)),
+                ("a part", memoryview(bytearray(b"x" + task + b"x"))[1:-1]),
+                ("array", array.array("B", task)),
+                ("mmap", writable),
+                ("mmap that is read-only", readable),
+            ):
+                with sas.Task(view) as held:
+                    answers = sas.plan(view, bytearray(plan)), held.plan(memoryview(plan))
+                yield f"Python, {name}", [it for answer in answers for it in differs(answer, due)]
+    empty = sas.plan(b"", b"")
+    yield "Python, nothing", [it for view in (bytearray(), memoryview(b"")) for it in differs(sas.plan(view, view), empty)]
+    for name, exception, call in (
+        ("a text", TypeError, lambda: sas.check(task.decode())),
+        ("each second byte", TypeError, lambda: sas.check(memoryview(task)[::2])),
+        ("a task that is refused", sas.Refused, lambda: sas.Task(plan)),
+        ("a task that isn't layered", sas.Refused, lambda: sas.Task(read(f"{LAMPS}.sas"))),
+        ("a task that was closed", sas.NoTask, lambda: closed(sas, task).plan(plan)),
+    ):
+        yield f"Python, {name}", [] if raised(call) is exception else [f"{raised(call)}"]
+    with contextlib.suppress(sas.Refused):
+        closed(sas, task).close()
+    with ThreadPoolExecutor(4) as pool, sas.Task(task) as held:
+        answers = list(pool.map(held.plan, [plan] * 1000))
+    yield "Python, one task in four threads", [it for answer in answers for it in differs(answer, due)][:1]
+
+
+def closed(sas, task):
+    """Returns a task that was held and isn't."""
+    held = sas.Task(task)
+    held.close()
+    return held
+
+
+def raised(call):
+    """Returns the type of the exception that a call ends with; None where it has none."""
+    try:
+        call()
+    except Exception as exception:  # pylint: disable=broad-except
+        return type(exception)
+    return None
+
+
+def longest_tests(_, library, __):
+    """Yields a front of a task that is a byte longer than may be read, of operators of which each is the same memory. It could show an
+    input that goes past the limit and isn't taken so."""
+    lines = read("cases/tasks/minimal.sas").splitlines(keepends=True)[:22]
+    block, page = 1 << 20, mmap.PAGESIZE
+    operator = b"begin_operator\n%s\n0\n0\n1\nend_operator\n"
+    operator %= b"a" * ((1 << 16) - len(operator) + 2)
+    front = b"".join([*lines, b"%d\n" % (LIMIT // len(operator) + 1)])
+    lines[11] = lines[11][:-1] + b"a" * (page - len(front)) + b"\n"
+    front = b"".join([*lines, b"%d\n" % (LIMIT // len(operator) + 1)])
+    number = call_over(library, front, operator * (block // len(operator)), LIMIT + 1)
+    yield "a byte more than may be read", [] if number == INPUT_TOO_LONG else [f"number {number}"]
+
+
+def call_over(library, front, block, length):
+    """Returns the number of sas_show of so many bytes: a page, and over and over the same block of memory."""
+    calls = ctypes.CDLL(None)
+    calls.mmap.restype = ctypes.c_void_p
+    calls.mmap.argtypes = [ctypes.c_void_p, ctypes.c_size_t, *[ctypes.c_int] * 3, ctypes.c_long]
+    whole = len(front) + (length // len(block) + 1) * len(block)
+    with tempfile.TemporaryFile() as file:
+        file.write(front + block)
+        file.flush()
+        at = calls.mmap(None, whole, mmap.PROT_READ, mmap.MAP_PRIVATE | mmap.MAP_ANONYMOUS, -1, 0)
+        for place, size, start in ((0, len(front), 0), *((it, len(block), len(front)) for it in range(len(front), whole, len(block)))):
+            fixed = calls.mmap(at + place, size, mmap.PROT_READ, mmap.MAP_SHARED | 0x10, file.fileno(), start)
+            assert fixed == at + place
+        room, size = ctypes.create_string_buffer(4096), ctypes.c_size_t()
+        given = ctypes.c_void_p(at), ctypes.c_size_t(length), room, ctypes.c_size_t(len(room)), ctypes.byref(size)
+        number = library.calls.sas_show(*given)
+        calls.munmap(ctypes.c_void_p(at), ctypes.c_size_t(whole))
+    return number
+
+
+@functools.lru_cache(None)
+def is_there(name):
+    """Whether a tool is there. Where it isn't, that is told once."""
+    if not shutil.which(name):
+        print(f"without {name}, which isn't there")
+    return bool(shutil.which(name))
+
+
+def compilers(*names):
+    """Returns those of these tools that are there."""
+    return [name for name in names if is_there(name)]
+
+
+def c_compiler():
+    """Returns the words of the C compiler."""
+    return shlex.split(os.environ.get("CC") or "cc")
+
+
+def ended(*command, **more):
+    """Runs a command, and returns how it ended."""
+    return subprocess.run(command, capture_output=True, check=False, timeout=SECONDS, **more)
+
+
+def failed(*command, **more):
+    """Runs a command that is to say nothing, and returns what is wrong with it."""
+    ran = ended(*command, **more)
+    said = (ran.stdout + ran.stderr).decode(errors="replace")
+    return [f"status {ran.returncode}: {said[:500]}"] if ran.returncode or said else []
+
+
+KINDS = {"Global": None, "&[u8]": "const uint8_t *, size_t", "&mut [u8]": "uint8_t *, size_t", "&mut usize": "size_t *"}
+KINDS["&mut SasTask"] = "sas_task *"
+
+
+def exports():
+    """Returns the calls of the library as its crate has them: the declaration of each by its name."""
+    found = {}
+    for path in glob.glob(os.path.join(TOP, "crates/sas_c/src/*.rt")):
+        with open(path, encoding="utf-8") as file:
+            code = file.read()
+        for name, given, answer in re.findall(r'pub extern "C" fn (\w+)\((.*?),?\s*\)(?: -> (\w+))?', code, re.DOTALL):
+            kinds = [part.split(":", 1)[1].strip() for part in re.split(r",\s*", given)]
+            shapes = ", ".join(filter(None, (KINDS[kind] for kind in kinds)))
+            found[name] = f"{'uint32_t' if answer == 'u32' else 'void'} {name}({shapes});"
+    return found
+
+
+def declared(path):
+    """Returns the names of the calls that a header or a wrapper declares."""
+    with open(path, encoding="utf-8") as file:
+        return set(re.findall(r"\b(sas_\w+)\(", re.sub(r"/\*.*?\*/", "", file.read(), flags=re.DOTALL)))
+
+
+def header_tests(_, library, folder):
+    """Yields the header, by each compiler and against each call of the crate. They could show a call that the header lacks, or declares
+    otherwise than it is."""
+    found, header = exports(), os.path.join(library.folder, "sas.h")
+    names = sorted(found)
+    yield "the header has the calls of the crate", [] if declared(header) == set(names) and names else [f"{declared(header)}, {names}"]
+    listed = ", ".join(f"(call){name}" for name in names)
+    code = ["#include <sas.h>", *found.values(), "typedef void (*call)(void);", f"call calls[] = {{{listed}}};"]
+    code.append(f"int main(void) {{ sas_task none = SAS_TASK_NONE; return none.is_there || !calls[{len(names) - 1}]; }}")
+    for language, standard, made in LANGUAGES_OF_C:
+        path = os.path.join(folder, f"declared.{language}")
+        with open(path, "w", encoding="utf-8") as file:
+            file.writelines(f"{line}\n" for line in code)
+        for compiler in compilers(*made):
+            command = [compiler, standard, *C_WARNINGS, "-I", library.folder, path, "-o", f"{path}.out"]
+            for linked in ("libsas.a", "libsas.so"):
+                words = [os.path.join(library.folder, linked), f"-Wl,-rpath,{library.folder}"]
+                yield f"the header, by {compiler} with {linked}", failed(*command, *words) or failed(f"{path}.out")
+
+
+def warning_tests(_, library, __):
+    """Yields the code in C and C++ by each compiler. They could show code that a compiler warns of."""
+    for language, standard, made in LANGUAGES_OF_C:
+        sources = [f"library/examples/held.{language}"]
+        sources += ["cases/library.cpp"] if language == "cpp" else ["library/sas_memory.c", "cases/library_stub.c"]
+        for compiler in compilers(*made):
+            for source in sources:
+                command = [compiler, standard, *C_WARNINGS, "-I", library.folder, "-fsyntax-only", os.path.join(TOP, source)]
+                yield f"{source}, by {compiler}", failed(*command)
+
+
+def symbols(path, *words):
+    """Returns the symbols that `nm` prints of a library with these words: the name and the kind of each."""
+    ran = ended("nm", *words, path)
+    assert ran.returncode == 0, ran.stderr
+    lines = (line.split() for line in ran.stdout.decode().splitlines())
+    return {(parts[-1].split("@")[0], parts[-2]) for parts in lines if len(parts) > 1}
+
+
+def symbol_tests(_, library, __):
+    """Yields what the libraries want of others and show to them. They could show a call of the system that the proofs know nothing
+    of, and a name that is another's in a program that links the library."""
+    if not compilers("nm"):
+        return
+    found = symbols(os.path.join(library.folder, "libsas.a"))
+    undefined = {name for name, kind in found if kind in "Uvw"} - {name for name, kind in found if kind not in "Uvw"}
+    yield "what libsas.a wants", [] if undefined == UNDEFINED else [f"{sorted(undefined ^ UNDEFINED)} more or less"]
+    shown = {name for name, _ in symbols(os.path.join(library.folder, "libsas.so"), "-D", "--defined-only")}
+    names = declared(os.path.join(library.folder, "sas.h"))
+    yield "what libsas.so shows", [] if shown == names else [f"{sorted(shown ^ names)} more or less"]
+
+
+def built_driver(library, folder):
+    """Returns library.c, built."""
+    path = os.path.join(folder, "library")
+    source, archive = os.path.join(TOP, "cases/library.c"), os.path.join(library.folder, "libsas.a")
+    command = [*c_compiler(), "-O1", "-I", library.folder, source, archive, "-pthread", "-o", path]
+    ran = ended(*command)
+    assert ran.returncode == 0, ran.stderr
+    return path
+
+
+def several(folder):
+    """Returns the files of a task that has several of everything and of plans of it, of which the first one is valid."""
+    task = os.path.join(folder, "several.sas")
+    with open(task, "w", encoding="utf-8") as file:
+        file.write(text_of(wide_task(65)))
+    paths = []
+    for number, (names, cost, _) in enumerate(wide_plans(65)):
+        paths.append(os.path.join(folder, f"several.{number}"))
+        with open(paths[-1], "w", encoding="utf-8") as file:
+            file.write(plan_text(names, cost))
+    return task, *paths
+
+
+def driver_tests(_, library, folder):
+    """Yields each call with each of its allocations refused, very many plans of one task, and threads. They could show a call that
+    goes on without the memory that it was refused, loses some or spoils what is held; memory that grows from plan to plan; and
+    calls that share what the proofs, which know no threads, don't look at."""
+    driver = built_driver(library, folder)
+    examples = [(os.path.join(TOP, f"{it}.sas"), os.path.join(TOP, f"{FUSES}.plan")) for it in (FUSES, DOORWAY)]
+    task, *plans = several(folder)
+    for files in (*examples, *((task, plan) for plan in plans)):
+        ran = ended(driver, "refused", *files)
+        lines = dict(line.split(": ") for line in ran.stdout.decode().splitlines())
+        wrong = [f"status {ran.returncode}"] * (ran.returncode != 0)
+        for name in (*(f"sas_{request}" for request in REQUESTS), "sas_task_read", "sas_task_plan"):
+            well = re.fullmatch(r"[1-9]\d* refused, 0 wrong", lines.get(name, ""))
+            yield f"{name}, memory refused, {os.path.basename(files[1])}", wrong if well else [*wrong, f"{lines.get(name)}"]
+    for files, count in ((examples[0], MANY), ((task, plans[0]), MANY // 100)):
+        said = ended(driver, "many", *files, str(count)).stdout.decode()
+        grown = re.fullmatch(rf"{count} plans, 0 wrong, (\d+) kB more, 0 blocks left\n", said)
+        yield f"{count} plans of one task", [] if grown and int(grown[1]) <= MOST_MORE else [said]
+    for files in (*examples, (task, plans[0])):
+        count = IN_THREADS if files in examples else IN_THREADS // 10
+        said = ended(driver, "threads", *files, str(count)).stdout.decode()
+        yield f"{count} plans in each of four threads", [] if said == f"{count} plans in each of 4 threads, 0 wrong\n" else [said]
+
+
+def built_examples(library, folder):
+    """Yields the commands of the examples of the library whose compiler is there, each built."""
+    examples, flags = os.path.join(TOP, "library/examples"), ["-O2", "-I", library.folder]
+    archive = os.path.join(library.folder, "libsas.a")
+    yield "held.py", [sys.executable, os.path.join(examples, "held.py")]
+    for source, compiler, words in (
+        ("held.c", c_compiler(), [*flags, archive]),
+        ("held.cpp", ["g++"], ["-std=c++17", *flags, archive]),
+        ("held.rs", ["rustc"], ["--edition", "2021", "-O", "-L", library.folder]),
+    ):
+        if compilers(compiler[0]):
+            path = os.path.join(folder, source.replace(".", "_"))
+            wrong = failed(*compiler, os.path.join(examples, source), *words, "-o", path)
+            assert not wrong, wrong
+            yield source, [path]
+
+
+def example_tests(program, library, folder):
+    """Yields the examples, each over plans of which some are valid, over a task that is refused, and without a file: they print what
+    `plans` prints in front of its summary. They could show a wrapper that doesn't do what the examples say."""
+    env = {**os.environ, "PYTHONPATH": library.folder}
+    plans = [os.path.join(TOP, f"{it}.plan") for it in (FUSES, DOORWAY, FUSES)]
+    fuses, lamps = os.path.join(TOP, f"{FUSES}.sas"), os.path.join(TOP, f"{LAMPS}.sas")
+    for name, command in built_examples(library, folder):
+        for words, lines in (([fuses, *plans], 3), ([fuses, plans[0]], 1), ([lamps, *plans], 1)):
+            ran, due = ended(*command, *words, env=env), ended(program, "plans", *words)
+            answer = due.returncode, b"".join(due.stdout.splitlines(keepends=True)[:lines]), b""
+            got = ran.returncode, ran.stdout, ran.stderr
+            yield f"{name} {' '.join(words)}", [] if got == answer else [f"{got}, not {answer}"]
+        for words in (["none", plans[0]], [fuses, plans[0], "none"]):
+            ran = ended(*command, *words, env=env)
+            yield f"{name} {' '.join(words)}", [] if ran.returncode == 3 and ran.stderr else [f"{ran}"]
+        if name == "held.c" and compilers("valgrind"):
+            ran = watched(*command, fuses, *plans)
+            yield "valgrind held.c", [] if ran.returncode == 1 and not ran.stderr else [f"{ran}"]
+
+
+def answer_lines(name, answer):
+    """Returns what library.cpp and library.rs print of an answer, or of none."""
+    return f"{name} {0 if answer[0] else 1}\n".encode() + answer[1] if answer else f"{name} no task\n".encode()
+
+
+# the requests in the order in which library.cpp and library.rs make them
+IN_ORDER = ("plan", "plan_why", "trace", "check", "check_why", "mutex", "mutex_why", "show", "print", "steps")
+
+
+def lines_of_wrappers(sas, task, plan):
+    """Returns what library.cpp and library.rs print of a task and of a plan. What is None is no answer, as no task is held."""
+    said = b"".join(answer_lines(it, asked(sas, it, *inputs_of(it, task, plan))) for it in IN_ORDER)
+    said += answer_lines("empty", sas.plan(b"", b""))
+    came, refused = sas.check(task), sas.check(plan)
+    held = sas.plan(task, plan) if came[0] else None
+    moved = [("moved from", None), ("moved to", held)]
+    parts = {
+        "cpp": [("none", None), ("read", came), ("held", held), *moved, ("read", came), *moved, ("read", refused), ("refused", None)],
+        "rs": [("held", held), ("elsewhere", held), ("read", refused)] if held else [("read", came), ("read", refused)],
+    }
+    return {name: said + b"".join(answer_lines(*it) for it in lines) for name, lines in parts.items()}
+
+
+def built_wrapper(language, library, folder):
+    """Returns library.cpp or library.rs, built with the library in a folder."""
+    source, path = os.path.join(TOP, f"cases/library.{language}"), os.path.join(folder, f"library_{language}")
+    command = ["rustc", "--edition", "2021", "-D", "warnings", source, "-L", library]
+    if language == "cpp":
+        command = ["g++", "-std=c++17", "-I", os.path.join(TOP, "library"), source, os.path.join(library, "libsas.a")]
+    wrong = failed(*command, "-o", path)
+    assert not wrong, wrong
+    return path
+
+
+def wrapper_tests(_, library, folder):
+    """Yields all calls of the wrappers in C++ and Rust, over a task that is layered and one that isn't. They could show a call that asks
+    another request or exchanges its inputs, and a task that is let go of twice, or never is."""
+    for language, compiler in (("cpp", "g++"), ("rs", "rustc")):
+        path = built_wrapper(language, library.folder, folder) if compilers(compiler) else None
+        for name in (DOORWAY, LAMPS) if path else ():
+            files = [os.path.join(TOP, f"{name}.sas"), os.path.join(TOP, f"{FUSES}.plan")]
+            due = 0, lines_of_wrappers(library.sas, *map(read, files))[language], b""
+            ran = ended(path, *files)
+            got = ran.returncode, ran.stdout, ran.stderr
+            yield f"library.{language}, {name}", [] if got == due else [f"{got}, not {due}"]
+            if compilers("valgrind"):
+                ran = watched(path, *files)
+                yield f"valgrind library.{language}, {name}", [] if ran.returncode == 0 and not ran.stderr else [f"{ran}"]
+
+
+def watched(*command):
+    """Returns how a command ends under valgrind: with status 9 and on standard error where it loses memory, or uses it wrongly."""
+    kinds = "definite,indirect"
+    words = ["--leak-check=full", f"--show-leak-kinds={kinds}", f"--errors-for-leak-kinds={kinds}", "--error-exitcode=9"]
+    return ended("valgrind", "-q", *words, *command)
+
+
+def stub_library(library, folder):
+    """Returns the folder of a library that only returns a number."""
+    flags = ["-I", library.folder, os.path.join(TOP, "cases/library_stub.c")]
+    commands = (
+        [*c_compiler(), "-fPIC", "-c", *flags, "-o", f"{folder}/stub.o"],
+        ["ar", "rcs", f"{folder}/libsas.a", f"{folder}/stub.o"],
+        [*c_compiler(), "-shared", f"{folder}/stub.o", "-o", f"{folder}/libsas.so"],
+    )
+    for command in commands:
+        wrong = failed(*command)
+        assert not wrong, wrong
+    return folder
+
+
+def number_tests(_, library, folder):
+    """Yields the calls of the wrappers over a library that only returns a number. They could show a number that is taken for
+    another."""
+    stub = stub_library(library, folder)
+    for language, compiler in (("cpp", "g++"), ("rs", "rustc")):
+        path = built_wrapper(language, stub, folder) if compilers(compiler) else None
+        for number, word in ((OUT_OF_MEMORY, "out of memory"), (INPUT_TOO_LONG, "input too long"), (NO_TASK, "no task")):
+            # no call of the wrapper in Rust can come to that one
+            if path and not (language == "rs" and number == NO_TASK):
+                ran = ended(path, *[os.path.join(TOP, f"{FUSES}.sas")] * 2, env={**os.environ, "STUB": str(number)})
+                lines = ran.stdout.decode().splitlines()
+                others = [line for line in lines if not line.endswith(f" {word}")]
+                yield f"library.{language}, number {number}", others if len(lines) > len(IN_ORDER) else [f"{ran}"]
+    os.environ["LIBSAS"] = os.path.join(stub, "libsas.so")
+    sas = module_of(os.path.join(library.folder, "sas.py"))
+    del os.environ["LIBSAS"]
+    for number, exception in ((OUT_OF_MEMORY, MemoryError), (INPUT_TOO_LONG, sas.InputTooLong), (NO_TASK, sas.NoTask)):
+        # the library that is loaded sees no change that Python alone makes of its environment
+        ctypes.CDLL(None).setenv(b"STUB", str(number).encode(), 1)
+        came = [raised(lambda it=it: asked(sas, it, *inputs_of(it, b"", b""))) for it in IN_ORDER] + [raised(lambda: sas.Task(b""))]
+        yield f"sas.py, number {number}", [] if set(came) == {exception} else [f"{came}"]
+
+
+def refused_code_tests(_, library, folder):
+    """Yields code in Rust that a compiler has to refuse. They could show a task that two threads may ask at once, or two that let go
+    of the same one."""
+    if not compilers("rustc"):
+        return
+    held = "let mut held = sas::Task::read(b\"\").unwrap();"
+    for name, code, error in (
+        ("asked by two threads", "fn shared<T: Sync>() {} shared::<sas::Task>();", "E0277"),
+        ("copied", f"{held} let other = held.clone(); drop(other);", "E0599"),
+        ("used after it was let go", f"{held} drop(held); let _ = held.plan(b\"\");", "E0382"),
+    ):
+        path = os.path.join(folder, "refused.rs")
+        module = os.path.join(TOP, "library/rust/sas.rs")
+        with open(path, "w", encoding="utf-8") as file:
+            file.write(f'#[allow(dead_code)]\n#[path = "{module}"]\nmod sas;\nfn main() {{ {code} }}\n')
+        ran = ended("rustc", "--edition", "2021", "-L", library.folder, path, "-o", f"{path}.out")
+        found = re.findall(r"^error\[(E\d+)\]", ran.stderr.decode(), re.MULTILINE)
+        yield f"Rust, a task that is {name}", [] if found == [error] else [f"{found}, {ran.stderr.decode()[:300]}"]
+
+
+# the pages about languages: what their programs are marked as, and what runs or compiles them
+PAGES = {"C": ("c", "cc"), "CPP": ("cpp", "g++"), "PYTHON": ("python", "python3"), "RUST": ("rust", "rustc")}
+# the ends of the names of their programs
+SUFFIXES = {"c": ".c", "cpp": ".cpp", "python": ".py", "rust": ".rs"}
+
+
+def shown(page):
+    """Returns the program that a page about a language shows, and its commands, each with what it prints."""
+    with open(os.path.join(TOP, "docs", f"{page}.md"), encoding="utf-8") as file:
+        text = file.read()
+    language = PAGES[page][0]
+    program = re.search(rf"```{language}\n(.*?)```", text, re.DOTALL)[1]
+    blocks = re.findall(r"```console\n(.*?)```", text, re.DOTALL)
+    return program, [part.partition("\n")[::2] for block in blocks for part in re.split(r"^\$ ", block, flags=re.MULTILINE)[1:]]
+
+
+def page_tests(_, library, folder):
+    """Yields the commands of the pages about languages, over the programs that they show. They could show a page that is wrong."""
+    place = os.path.join(folder, "pages")
+    os.mkdir(place)
+    shutil.copytree(os.path.join(TOP, "examples"), os.path.join(place, "examples"))
+    shutil.copytree(library.folder, os.path.join(place, "library/out"))
+    for page, (language, compiler) in PAGES.items():
+        if not compilers(compiler):
+            continue
+        program, commands = shown(page)
+        with open(os.path.join(place, f"judge{SUFFIXES[language]}"), "w", encoding="utf-8") as file:
+            file.write(program)
+        yield f"docs/{page}.md", [] if program and commands else ["no program, or no command"]
+        for command, output in commands:
+            ran = ended("bash", "-c", command, cwd=place)
+            yield f"docs/{page}.md: {command}", [] if (ran.stdout.decode(), ran.stderr) == (output, b"") else [f"{ran}"]
+
+
+TESTS = (
+    header_tests,
+    warning_tests,
+    symbol_tests,
+    held_tests,
+    room_tests,
+    python_tests,
+    wrapper_tests,
+    number_tests,
+    refused_code_tests,
+    example_tests,
+    page_tests,
+    driver_tests,
+    longest_tests,
+    program_tests,
+    case_tests,
+)
+
+
+def main(program, folder):
+    # a call that doesn't end would hold the whole gate up
+    signal.alarm(LONGEST)
+    library = Library(os.path.abspath(folder))
+    names, wrong = [], []
+    for make in TESTS:
+        with tempfile.TemporaryDirectory() as place:
+            for name, found in make(os.path.abspath(program), library, place):
+                names.append({"name": f"{make.__name__}: {name}"})
+                wrong.append(found)
+    report.end(names, wrong)
+
+
+if __name__ == "__main__":
+    main(*sys.argv[1:])

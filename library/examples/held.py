@@ -1,0 +1,33 @@
+"""held.py TASK PLAN..: whether each plan solves the task, which is read once. Prints the lines that `sas plans` prints of the plans.
+The exit status is 0 if all are valid, 1 if one isn't or the task is refused, 3 if there is no answer."""
+import os
+import sys
+
+import sas
+
+
+def read_file(name):
+    with open(name, "rb") as file:
+        return file.read()
+
+
+def main(task, *plans):
+    out, status = sys.stdout.buffer, 0
+    try:
+        with sas.Task(read_file(task)) as held:
+            for name in plans:
+                is_valid, text = held.plan(read_file(name))
+                out.write(os.fsencode(name) + b": " + text)
+                status = status if is_valid else 1
+    except sas.Refused as refusal:
+        out.write(refusal.text)
+        return 1
+    except (OSError, MemoryError, sas.InputTooLong) as fault:
+        print(f"held: {fault}", file=sys.stderr)
+        return 3
+    return status
+
+
+if len(sys.argv) < 3:
+    sys.exit(__doc__)
+sys.exit(main(*sys.argv[1:]))
