@@ -5,6 +5,7 @@ pub mod PlanVerdicts
 pub mod NameHashing
 pub mod NameKeys
 pub mod NamesFrom
+pub mod Alike
 pub mod Ranges
 pub mod Missed
 pub mod Giving

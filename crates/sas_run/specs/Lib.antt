@@ -4,6 +4,7 @@ pub mod Verdicts
 pub mod Laws
 pub mod Names
 pub mod NameHash
+pub mod NameDigest
 pub mod NameTable
 pub mod StepNames
 pub mod Chains

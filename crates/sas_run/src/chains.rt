@@ -55,10 +55,11 @@ impl Chains {
         Ok(firsts)
     }
 
-    /// Returns for each operator of one of the names the next one of the same name. It takes no memory.
-    pub fn next(&self) -> &[Option<u32>]
-        ensures { result.now ≡ self.now.next.items }
+    /// Returns for each operator of one of the names the next one of the same name, and lets all else go.
+    pub fn into_next(self) -> Vec<Option<u32>>
+        ensures { result ≡ self.next }
     {
-        self.next.as_slice()
+        let Chains { next, .. } = self;
+        next
     }
 }

@@ -42,7 +42,7 @@ impl<'t, 'p, E: Settle<T> + Drop, T: Grounded, P: Stepwise> Model for Course<'t,
     } };
 
     ghost invariant = { λ c. IsUnderWay E.ready E.follows c.layered.now (P.says c.plan.now).steps
-        c.walker c.operators.firsts.items c.operators.chains.next.items c.walk };
+        c.walker c.operators.firsts.items c.operators.next.items c.walk };
 }
 
 impl<'t, 'p, E: Settle<T> + Drop, T: Grounded, P: Stepwise> Course<'t, 'p, E, T, P> {

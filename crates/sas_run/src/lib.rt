@@ -3,8 +3,11 @@
 
 mod chains;
 mod course;
+mod digest;
+mod held;
 mod holding;
 mod laws;
+mod looking_up;
 mod name_key;
 mod names;
 mod plan_check;
@@ -16,6 +19,7 @@ mod walk;
 mod walker;
 
 pub use course::Course;
+pub use held::Held;
 pub use laws::verdict_laws;
 pub use plan_check::{PlanFault, Valid, check_once};
 pub use runner::{Choice, Runner};

@@ -1,47 +1,72 @@
 // The operators of a task by their names.
-ghost use Rattle.std.specs.Prelude.{◌≡◌, ℕ, IfOk, OnOk};
-ghost use Rattle.indexmap.specs.IndexMap.{get_by};
+ghost use Rattle.std.specs.Prelude.{◌≡◌, ◌+◌, ◌<◌, ℕ, List, length, nat_eq, IfOk, OnOk};
+ghost use Rattle.indexmap.specs.IndexMap.{get};
 ghost use Rattle.sas_core.specs.declared.parts.Parts.{Parts};
-ghost use Rattle.sas_run.specs.NameTable.{AreNames, Puts, is_called};
+ghost use Rattle.sas_run.specs.NameDigest.{digest_of};
+ghost use Rattle.sas_run.specs.NameTable.{AreAlikeFrom, AreNames, AreNamesFrom, IsAlike, IsNextAlike, PutsDigest};
 ghost use Rattle.sas_run.specs.Names.{IsNextNamed};
 ghost use Rattle.sas_run.specs.Chains.{IsChain};
 
-use crate::name_key::NameKey;
+use crate::digest::digest;
+use crate::runner::next_in;
 use indexmap::IndexMap;
 use sas_core::Grounded;
 use sas_meaning::Layered;
 use std::alloc::{AllocError, Global};
 use std::marker::Model;
 
-/// For each name the lowest operator of it, and for each operator the next one of the same name.
+/// The operators of a task by their names. The map's keys are digests, so no name is stored twice, and none is borrowed: an operator
+/// whose name has the digest that is asked for is looked at in the task.
 #[derive(Drop)]
-pub struct Names<'a> {
-    first: IndexMap<NameKey<'a>, u32>,
+pub struct Names {
+    /// For each digest of a name, the lowest operator whose name has it.
+    first: IndexMap<u64, u32>,
+    /// For each operator, the next one whose name has the same digest.
+    alike: Vec<Option<u32>>,
+    /// For each operator, the next one of the same name.
     next: Vec<Option<u32>>,
 }
 
-impl<'a> Names<'a> {
+impl Names {
     /// Returns the names of the task's operators. It goes from the last operator to the first, so that the lowest operator of
-    /// each name is inserted last.
-    pub fn new<T: Grounded>(alloc: Global, task: &'a Layered<T>) -> Result<Names<'a>, AllocError>
+    /// each name is put last.
+    pub fn new<T: Grounded>(alloc: Global, task: &Layered<T>) -> Result<Names, AllocError>
         ensures { IfOk result (λ names. AreNames task.now names) }
     {
         let operators = task.operators();
-        let mut first = IndexMap::with_capacity(alloc, operators as usize)?;
-        let mut next = vec![in alloc; None; operators as usize]?;
+        let mut names = Names {
+            first: IndexMap::with_capacity(alloc, operators as usize)?,
+            alike: vec![in alloc; None; operators as usize]?,
+            next: vec![in alloc; None; operators as usize]?,
+        };
         let mut operator = operators;
         while operator > 0 {
             operator -= 1;
-            next[operator as usize] = put(&mut first, task.name(operator), operator)?;
+            names.add(task, operator)?;
         }
-        Ok(Names { first, next })
+        Ok(names)
     }
 
-    /// Returns the lowest operator of this name, if there is one. It takes no memory.
-    pub fn first(&self, name: &[u8]) -> Option<u32>
-        ensures { (p : Parts) → AreNames p self.now → IsNextNamed p name.now 0 result }
+    /// Adds the operator, where those behind it were added.
+    fn add<T: Grounded>(&mut self, task: &Layered<T>, operator: u32) -> Result<(), AllocError>
+        requires exists { operator < length task.now.operators }
+        requires behind { AreNamesFrom task.now (operator + 1) self.old }
+        ensures { OnOk result (AreNamesFrom task.now operator self.new) }
     {
-        self.first.get(NameKey { bytes: name }).copied()
+        let name = task.name(operator);
+        let had = put(&mut self.first, digest(name), operator)?;
+        self.next[operator as usize] = named_from(task, self.alike.as_slice(), name, had);
+        self.alike[operator as usize] = had;
+        Ok(())
+    }
+
+    /// Returns the lowest operator of this name in the task that these names are of, if there is one. It takes no memory.
+    pub fn first<T: Grounded>(&self, task: &Layered<T>, name: &[u8]) -> Option<u32>
+        requires { AreNames task.now self.now }
+        ensures { IsNextNamed task.now name.now 0 result }
+    {
+        let first = self.first.get(&digest(name)).copied();
+        named_from(task, self.alike.as_slice(), name, first)
     }
 
     /// Returns for each operator the next one of the same name. It takes no memory.
@@ -50,16 +75,24 @@ impl<'a> Names<'a> {
     {
         self.next.as_slice()
     }
+
+    /// Returns for each operator the next one of the same name, and lets all else go.
+    pub fn into_next(self) -> Vec<Option<u32>>
+        ensures { result ≡ self.next }
+    {
+        let Names { next, .. } = self;
+        next
+    }
 }
 
 /// A task, and the names of its operators. In a contract its value is the parts that the task represents.
 #[derive(Drop)]
-pub struct NamedTask<'n, 'a, T: Grounded> {
-    pub task: &'a Layered<T>,
-    pub names: &'n Names<'a>,
+pub struct NamedTask<'n, T: Grounded> {
+    pub task: &'n Layered<T>,
+    pub names: &'n Names,
 }
 
-impl<'n, 'a, T: Grounded> Model for NamedTask<'n, 'a, T> {
+impl<'n, T: Grounded> Model for NamedTask<'n, T> {
     ghost use Rattle.sas_core.specs.declared.parts.Parts.{Parts};
     ghost use Rattle.sas_run.specs.NameTable.{AreNames};
 
@@ -70,17 +103,67 @@ impl<'n, 'a, T: Grounded> Model for NamedTask<'n, 'a, T> {
     ghost invariant = { λ n. AreNames n.task.now n.names.now };
 }
 
-/// Maps the name to this operator, and returns the operator to which it was mapped before, if any.
-fn put<'a>(
-    first: &mut IndexMap<NameKey<'a>, u32>,
-    name: &'a [u8],
+impl<'n, T: Grounded> NamedTask<'n, T> {
+    /// Returns the lowest operator of this name, if there is one. It takes no memory.
+    pub fn first(&self, name: &[u8]) -> Option<u32>
+        ensures { IsNextNamed self.now name.now 0 result }
+    {
+        self.names.first(self.task, name)
+    }
+}
+
+/// Maps the digest to this operator, and returns the operator to which it was mapped before, if any.
+fn put(
+    first: &mut IndexMap<u64, u32>,
+    digest: u64,
     operator: u32,
 ) -> Result<Option<u32>, AllocError>
-    ensures had { IfOk result (λ had. had ≡ get_by (is_called name.now) first.old) }
-    ensures has { OnOk result (Puts name.now operator first.old first.new) }
+    ensures had { IfOk result (λ had. had ≡ get nat_eq first.old digest) }
+    ensures has { OnOk result (PutsDigest digest operator first.old first.new) }
 {
-    match first.insert(NameKey { bytes: name }, operator) {
+    match first.insert(digest, operator) {
         Ok(had) => Ok(had),
         Err(_) => Err(AllocError),
     }
+}
+
+/// Returns the first operator of the name, of this one and those behind it, if there is one. `first` is the first one whose name has the
+/// digest of this name. `alike` has for each of them the next one.
+fn named_from<T: Grounded>(
+    task: &Layered<T>,
+    alike: &[Option<u32>],
+    name: &[u8],
+    first: Option<u32>,
+) -> Option<u32>
+    requires { (from : ℕ) × IsNextAlike task.now (digest_of name.now) from first
+        × AreAlikeFrom task.now from alike.now }
+    ensures { (from : ℕ) → IsNextAlike task.now (digest_of name.now) from first
+        → IsNextNamed task.now name.now from result }
+{
+    match first {
+        Some(first) => first_named(task, alike, name, first),
+        None => None,
+    }
+}
+
+/// Returns the first operator of the name, of this one and those behind it whose names have the digest of this name. `alike` has for
+/// each of them the next one. It is mostly the first: few names have the digest of another one.
+fn first_named<T: Grounded>(
+    task: &Layered<T>,
+    alike: &[Option<u32>],
+    name: &[u8],
+    first: u32,
+) -> Option<u32>
+    requires first { IsAlike task.now (digest_of name.now) first }
+    requires alike { AreAlikeFrom task.now first alike.now }
+    ensures { IsNextNamed task.now name.now first result }
+{
+    let mut next = Some(first);
+    while let Some(operator) = next {
+        if task.name(operator) == name {
+            return Some(operator);
+        }
+        next = next_in(alike, operator);
+    }
+    None
 }

@@ -11,6 +11,7 @@ ghost use Rattle.sas_run.specs.Verdicts.{IsFaultOf};
 ghost use Rattle.sas_run.specs.Running.{GoesOn, StopsAt, GoesThrough};
 ghost use Rattle.sas_run.specs.Walking.{IsPrepared};
 
+use crate::looking_up::first_operators;
 use crate::names::NamedTask;
 use crate::runner::Runner;
 use crate::step_operators::StepOperators;
@@ -77,18 +78,34 @@ impl<'a, E: Settle<T> + Drop, T: Grounded> Runner<'a, E, T> {
             task: self.layered,
             names: &self.names,
         };
-        let firsts = first_operators(alloc, &named, plan)?;
-        let found = Found {
-            firsts: firsts.as_slice(),
-            nexts: self.names.next(),
-        };
-        check_found(alloc, self.layered, &mut self.walker, plan, found)
+        check_named(alloc, &named, &mut self.walker, plan)
     }
 }
 
-/// Checks whether the plan of the task is valid, as `Runner::check_plan` does, with an evaluator that is ready for the task.
-/// It looks up the operators' names among those of the plan's steps, and not the other way round. So it is for one plan, of
-/// fewer steps than the task has operators. All memory is asked for before the first step.
+/// Checks whether the plan is valid, by the names of the task's operators.
+pub fn check_named<E: Settle<T> + Drop, T: Grounded, P: Stepwise>(
+    alloc: Global,
+    named: &NamedTask<'_, T>,
+    walker: &mut Walker<E>,
+    plan: &P,
+) -> Result<Valid, PlanFault>
+    requires { IsPrepared E.ready named.now walker.old }
+    ensures prepared { IsPrepared E.ready named.now walker.new }
+    ensures valid { IfOk result (λ v. IsValid named.now (P.says plan.now) v.operators.items) }
+    ensures cost { IfOk result (λ v. v.cost ≡ (P.says plan.now).cost) }
+    ensures fault { IfErr result (λ f. f ≢ PlanFault.Memory
+        → IsFaultOf named.now (P.says plan.now) f) }
+{
+    let firsts = first_operators(alloc, named, plan)?;
+    let found = Found {
+        firsts: firsts.as_slice(),
+        nexts: named.names.next(),
+    };
+    check_found(alloc, named.task, walker, plan, found)
+}
+
+/// Checks whether the plan of the task is valid, as `Runner::check_plan` does, with an evaluator that is ready for the task. It keeps
+/// nothing of the task, so it is for one plan. All memory is asked for before the first step.
 pub fn check_once<E: Settle<T> + Drop, T: Grounded, P: Stepwise>(
     alloc: Global,
     layered: &Layered<T>,
@@ -159,46 +176,6 @@ fn judge<E: Settle<T> + Drop, T: Grounded, P: Stepwise>(
 {
     go_through(layered, walker, plan, found, walk)?;
     judge_last(layered, walk, plan.cost())
-}
-
-/// Returns, for each step up to the first one whose name no operator has, the lowest operator of its name. A name that
-/// comes several times in a row is looked up once. All names are looked up before the first step, since each look-up
-/// waits for memory that is read in no order. So the look-ups of several steps wait at the same time.
-fn first_operators<T: Grounded, P: Stepwise>(
-    alloc: Global,
-    named: &NamedTask<'_, '_, T>,
-    plan: &P,
-) -> Result<Vec<u32>, AllocError>
-    ensures { IfOk result (λ firsts. AreFirsts named.now (P.says plan.now).steps firsts.items) }
-{
-    let mut firsts = Vec::with_capacity(alloc, plan.steps())?;
-    for _step in 0..plan.steps() {
-        match next_first(named, plan, firsts.as_slice()) {
-            Some(first) => firsts.push(first).unwrap(),
-            None => return Ok(firsts),
-        }
-    }
-    Ok(firsts)
-}
-
-/// Returns the lowest operator of the name of the next step, if there is one. `firsts` are those of the steps before it.
-fn next_first<T: Grounded, P: Stepwise>(
-    named: &NamedTask<'_, '_, T>,
-    plan: &P,
-    firsts: &[u32],
-) -> Option<u32>
-    requires step { length firsts.now < length (P.says plan.now).steps }
-    requires firsts { HaveFirsts named.now (P.says plan.now).steps firsts.now }
-    ensures { IsNextNamed named.now
-        (slice_index_or (P.says plan.now).steps (length firsts.now) []) 0 result }
-{
-    let step = firsts.len();
-    let name = plan.step(step);
-    if step > 0 && plan.step(step - 1) == name {
-        Some(firsts[step - 1])
-    } else {
-        named.names.first(name)
-    }
 }
 
 /// Makes the plan's steps in turn, where it is found what their names mean. Adds their operators, for which there is room.

@@ -34,7 +34,7 @@ pub enum Choice {
 #[derive(Drop)]
 pub struct Runner<'a, E: Settle<T> + Drop, T: Grounded = Task> {
     pub(crate) layered: &'a Layered<T>,
-    pub(crate) names: Names<'a>,
+    pub(crate) names: Names,
     pub(crate) walker: Walker<E>,
 }
 
@@ -110,7 +110,7 @@ impl<'a, E: Settle<T> + Drop, T: Grounded> Runner<'a, E, T> {
     pub(crate) fn look_up(&self, name: &[u8]) -> Option<u32>
         ensures { IsNextNamed self.now name.now 0 result }
     {
-        self.names.first(name)
+        self.names.first(self.layered, name)
     }
 
     /// Returns the first operator that is applicable, of this one and those behind it that have its name. It takes no memory.
@@ -210,7 +210,7 @@ pub fn later_applicable<T: Grounded>(
 }
 
 /// Returns what the list has for the operator.
-fn next_in(nexts: &[Option<u32>], operator: u32) -> Option<u32>
+pub fn next_in(nexts: &[Option<u32>], operator: u32) -> Option<u32>
     ensures { result ≡ slice_index_or nexts.now operator None }
 {
     match nexts.get(operator as usize) {

@@ -4,34 +4,75 @@ ghost use Rattle.sas_run.specs.Chains.{HaveChains};
 ghost use Rattle.sas_run.specs.Names.{AreFirsts};
 
 use crate::chains::Chains;
+use crate::looking_up::first_operators;
+use crate::names::{NamedTask, Names};
 use crate::step_names::StepNames;
 use sas_core::{Grounded, Stepwise};
 use sas_meaning::Layered;
 use std::alloc::{AllocError, Global};
 
-/// The operators that the steps of one plan may mean. The operators' names are looked up among those of the plan's
-/// steps, and not the other way round.
+/// The operators that the steps of one plan may mean.
 #[derive(Drop)]
 pub struct StepOperators {
-    chains: Chains,
     firsts: Vec<u32>,
+    next: Vec<Option<u32>>,
 }
 
 impl StepOperators {
-    /// Returns the operators that the steps of the plan may mean.
+    /// Returns the operators that the steps of the plan may mean. For a plan of half as many steps as there are operators or more, a
+    /// map of all operators' names is faster than one of the steps' names.
     pub fn new<T: Grounded, P: Stepwise>(
         alloc: Global,
         layered: &Layered<T>,
         plan: &P,
     ) -> Result<StepOperators, AllocError>
         ensures firsts { IfOk result (λ o. AreFirsts layered.now (P.says plan.now).steps o.firsts.items) }
-        ensures chains { IfOk result (λ o.
-            HaveChains layered.now o.firsts.items o.chains.next.items) }
+        ensures chains { IfOk result (λ o. HaveChains layered.now o.firsts.items o.next.items) }
+    {
+        if plan.steps() < layered.operators() as usize / 2 {
+            StepOperators::by_step_names(alloc, layered, plan)
+        } else {
+            StepOperators::by_operator_names(alloc, layered, plan)
+        }
+    }
+
+    /// Looks up the operators' names among those of the plan's steps.
+    fn by_step_names<T: Grounded, P: Stepwise>(
+        alloc: Global,
+        layered: &Layered<T>,
+        plan: &P,
+    ) -> Result<StepOperators, AllocError>
+        ensures firsts { IfOk result (λ o. AreFirsts layered.now (P.says plan.now).steps o.firsts.items) }
+        ensures chains { IfOk result (λ o. HaveChains layered.now o.firsts.items o.next.items) }
     {
         let names = StepNames::new(alloc, plan)?;
         let chains = Chains::new(alloc, layered, &names)?;
         let firsts = chains.firsts(alloc, names.of_steps())?;
-        Ok(StepOperators { chains, firsts })
+        Ok(StepOperators {
+            firsts,
+            next: chains.into_next(),
+        })
+    }
+
+    /// Looks up the names of the plan's steps among those of the operators.
+    fn by_operator_names<T: Grounded, P: Stepwise>(
+        alloc: Global,
+        layered: &Layered<T>,
+        plan: &P,
+    ) -> Result<StepOperators, AllocError>
+        ensures firsts { IfOk result (λ o. AreFirsts layered.now (P.says plan.now).steps o.firsts.items) }
+        ensures chains { IfOk result (λ o. HaveChains layered.now o.firsts.items o.next.items) }
+    {
+        let names = Names::new(alloc, layered)?;
+        let named = NamedTask {
+            task: layered,
+            names: &names,
+        };
+        let firsts = first_operators(alloc, &named, plan)?;
+        Ok(StepOperators {
+            firsts,
+            next: names.into_next(),
+        })
     }
 
     /// Returns the lowest operators of the steps' names, up to the first name that no operator has. It takes no
@@ -44,8 +85,8 @@ impl StepOperators {
 
     /// Returns for each operator of the name of one of these the next one of its name. It takes no memory.
     pub fn nexts(&self) -> &[Option<u32>]
-        ensures { result.now ≡ self.now.chains.next.items }
+        ensures { result.now ≡ self.now.next.items }
     {
-        self.chains.next()
+        self.next.as_slice()
     }
 }

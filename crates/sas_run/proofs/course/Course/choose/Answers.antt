@@ -19,7 +19,7 @@ returns-in-Some-clause-stops g c =
     let lt : n < length found = search rules in
     let is : c.in-Some.first.now ≡ get_or found n 0 = search rules in
     let made : c.len-made.result + 1 ≡ n + 1 = search rules in
-    let named : (operator_at p c.in-Some.first.now).name ≡ name = ap (λ k. (operator_at p k).name) is ∙ name_is g.E.Settle.ready g.E.Settle.follows p plan c.self.inside.walker found c.self.inside.operators.chains.next.items walk c.self.invariant lt in
+    let named : (operator_at p c.in-Some.first.now).name ≡ name = ap (λ k. (operator_at p k).name) is ∙ name_is g.E.Settle.ready g.E.Settle.follows p plan c.self.inside.walker found c.self.inside.operators.next.items walk c.self.invariant lt in
     subst (λ v. IfErr c.choose.result (StopsAt v.task v.state (next_name v) (length v.operators + 1))) c.self.view_is
     (subst (λ k. IfErr c.choose.result (StopsAt p walk.state name k)) made
     (subst (λ its. IfErr c.choose.result (StopsAt p walk.state its (c.len-made.result + 1))) named c.choose.ensures.err))
@@ -36,5 +36,5 @@ returns-in-None-clause-stops g c =
     let left : n < length plan.steps = rw (← c.self.view_is) at c.requires.left in
     subst (λ v. (c.len-made.result + 1 ≡ length v.operators + 1) × ((operator : ℕ) → IsNamed v.task (next_name v) operator → ⊥)) c.self.view_is (
       ap (λ k. k + 1) made,
-      nobody g.E.Settle.ready g.E.Settle.follows p plan c.self.inside.walker found c.self.inside.operators.chains.next.items walk c.self.invariant left late,
+      nobody g.E.Settle.ready g.E.Settle.follows p plan c.self.inside.walker found c.self.inside.operators.next.items walk c.self.invariant left late,
     )

@@ -1,8 +1,13 @@
--- What the map gives for the name is the lowest operator of it.
-use Rattle.std.proofs.Common.{sym, subst, ◌∙◌}
-use Rattle.sas_run.specs.Names.{IsNextNamed}
+-- What the map gives for the digest is the first operator whose name has it.
+use Rattle.std.proofs.Common.{◌≡◌, nat_eq, sym, ap, subst, ◌∙◌}
+use Rattle.indexmap.specs.IndexMap.{get}
+use Rattle.sas_run.specs.NameDigest.{digest_of}
+use Rattle.sas_run.specs.NameTable.{IsNextAlike}
 use Rattle.sas_run.proofs.names.Names.first.Goals as goal
 
 pub returns : goal.returns
-returns c = λ p are.
-    subst (IsNextNamed p c.args.name.now 0) (sym (c.copied.ensures ∙ c.get.ensures.value)) (are.first c.args.name.now)
+returns g c =
+    let p = c.args.task.now in
+    let digest = digest_of c.args.name.now in
+    let first = c.copied-first.ensures ∙ c.get.ensures.value ∙ ap (get nat_eq c.args.self.now.first) c.digest.ensures in
+    c.named_from.ensures 0 (subst (IsNextAlike p digest 0) (sym first) (c.requires.lowest digest))

@@ -2,7 +2,7 @@
 use Rattle.std.proofs.Common.{◌≡◌, ◌≤◌, length}
 use Rattle.std.specs.Prelude.{vec_capacity}
 use Rattle.sas_run.specs.Names.{HaveFirsts}
-use Rattle.sas_run.proofs.plan_check.first_operators.Given as goal
+use Rattle.sas_run.proofs.looking_up.first_operators.Given as goal
 
 abbrev pub invariant-loop-step : goal.invariant-loop-step
 invariant-loop-step g l = record {

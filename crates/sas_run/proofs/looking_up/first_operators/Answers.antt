@@ -1,5 +1,5 @@
 use Rattle.std.proofs.Common.{rules}
-use Rattle.sas_run.proofs.plan_check.first_operators.Goals as goal
+use Rattle.sas_run.proofs.looking_up.first_operators.Goals as goal
 
 pub loop-step-preserved : goal.loop-step-preserved
 loop-step-preserved g c = search rules
