@@ -1,10 +1,10 @@
 //! A task that a program in C holds between two calls.
 #![tactic(auto)]
 
-pub mod box_pointer;
+mod box_pointer;
 mod prepared;
 mod sas_task;
-pub mod task_pointer;
+mod task_pointer;
 
 pub use prepared::Prepared;
 pub use sas_task::SasTask;

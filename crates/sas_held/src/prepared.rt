@@ -1,9 +1,10 @@
 // What is kept of a task.
+use sas_axioms::Worklist;
 use sas_flat::FlatTask;
-use sas_meaning::Layered;
+use sas_run::Held;
 
-/// A layered task that is ready for plans.
+/// A layered task with all that its plans need.
 #[derive(Drop)]
 pub struct Prepared {
-    pub layered: Layered<FlatTask>,
+    pub held: Held<Worklist, FlatTask>,
 }

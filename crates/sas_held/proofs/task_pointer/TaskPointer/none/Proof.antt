@@ -1,40 +1,28 @@
 -- `none`.
-use Rattle.std.proofs.Common.{◌≡◌, List, [], ◌∷◌, ◌++◌, refl, lit<}
+use Rattle.std.proofs.Common.{◌≡◌, [], ◌∷◌, refl, lit<}
 use mir.Syntax.{Fn}
-use mir.Val.{Val, vptr}
-use base.Logic.{SProp, emp, never, fst∗}
-use base.Fml.{Fml, ftrue, fex}
-use prog.Wp.{Env, WpFn}
+use mir.Val.{Val}
+use base.Logic.{SProp, emp}
+use base.Fml.{ftrue}
+use prog.Wp.{Env}
 use contract.Monad.{fact, fact_i}
 use contract.Running.{tables}
-use types.Logic.{sem}
-use types.Kit.{‵, raw, ◌⊛◌, prop, ◌$◌, ◌∵◌, !, qed, by, move, keep, drop, use0, split, regoal, rewrite, fsplit, fjoin, fpick, fpack}
-use types.Part.{whole, sub, agg}
-use types.Run.{stop, fld, lit, of_opd, no_more, and_then, returns, enter}
-use types.ByLocal.{alloc_all, pass_all, free_all, look_at, get, get_in, sets, env}
-use denote.RattleType.{RattleType, owns}
-use denote.Memory.{lone}
-use denote.RawPtr.{Ptr, block_ptr, null_ptr, ptr_val, in_a_block}
-use denote.Param.{layout}
-use denote.Signature.{types_at}
-use denote.Steps.{nothing, heard}
+use types.Kit.{‵, raw, ◌⊛◌, ◌$◌, ◌∵◌, !, qed, by, move, keep, use0, split, fjoin}
+use types.Part.{agg}
+use types.Run.{lit, no_more, and_then, returns, enter}
+use types.ByLocal.{alloc_all, pass_all, free_all, look_at, sets, env}
+use denote.RattleType.{RattleType}
+use denote.RawPtr.{Ptr, null_ptr}
+use denote.Steps.{nothing}
 use denote.Triple.Entry.{alive}
-use denote.Triple.Walked.{Stays, stay_dropped, walk_of, Goes-dropped}
-use mir.Raw.{raw as bare}
-use Rattle.core.proofs.alloc.Calls.{Goes-blank}
-use Rattle.core.proofs.cell.Inside.{Good, one}
-use Rattle.std_alloc.proofs.ResultValues.{and_tt}
+use denote.Triple.Walked.{Stays, walk_of}
 use Rattle.std.proofs.raw_atomic.Walks.{proved_at, leaves}
-use Rattle.std.specs.Prelude.{Option, Some, None, IsSome}
-use Rattle.std.specs.declared.alloc.Global.{Global}
+use Rattle.std.specs.Prelude.{None}
 use Rattle.std.specs.contracts.alloc.Global as heap
 use Rattle.std.proofs.alloc.Global.TheLaws as heap_laws
-use Rattle.std.specs.contracts.impls.GlobalAllocator.TheImpl.{ghosts}
-use Rattle.std_alloc.specs.Box.Ownership.{box_owns}
 use Rattle.sas_held.specs.contracts.prepared.Prepared as prepared
 use Rattle.sas_held.specs.contracts.task_pointer.TaskPointer as task_pointer
-use Rattle.sas_held.specs.TaskPointers.{owns_task}
-use Rattle.sas_held.proofs.Values.{both, BoxPointer, pointer_good, pointer_out, pointer_in, one_val, one_own, one_told, one_made, ptr_typed, slot_at, by_option}
+use Rattle.sas_held.proofs.Values.{one_val, one_own, one_made}
 use Rattle.sas_held.specs.contracts.task_pointer.TaskPointer.none.{ended, clauses}
 use Rattle.sas_held.specs.contracts.task_pointer.TaskPointer.none.Key.{name as #self}
 use Rattle.sas_held.proofs.task_pointer.TaskPointer.none.Statement.{statement}
