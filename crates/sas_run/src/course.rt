@@ -1,11 +1,12 @@
 // Plans under way.
-ghost use Rattle.std.specs.Prelude.{◌≡◌, ◌+◌, ◌<◌, length, IfOk, IfErr};
+ghost use Rattle.std.specs.Prelude.{◌≡◌, ◌+◌, ◌<◌, ℕ, List, length, IfOk, IfErr, OnOk};
 ghost use Rattle.sas_core.specs.Variables.{IsState};
-ghost use Rattle.sas_run.specs.Plans.{IsChosen};
+ghost use Rattle.sas_run.specs.Plans.{IsChosen, IsValid};
+ghost use Rattle.sas_run.specs.Verdicts.{IsFaultOf};
 ghost use Rattle.sas_run.specs.Running.{StopsAt, IsLaterIfAny, IsJudged};
 ghost use Rattle.sas_run.specs.Courses.{SetsOut, Continues, next_name};
 
-use crate::plan_check::PlanFault;
+use crate::plan_check::{Found, PlanFault, judge};
 use crate::runner::later_applicable;
 use crate::step_operators::StepOperators;
 use crate::walk::{NextStep, Walk, choose, judge_last, make};
@@ -157,6 +158,30 @@ impl<'t, 'p, E: Settle<T> + Drop, T: Grounded, P: Stepwise> Course<'t, 'p, E, T,
     {
         go_back(self.layered, &mut self.walker, &mut self.walk.state);
         self.walk.operators.clear();
+    }
+
+    /// Judges the plan from its beginning, as `check_once` does, and goes back there. It takes no memory.
+    pub fn check(&mut self) -> Result<(), PlanFault>
+        requires { SetsOut self.old.task self.old.plan self.old }
+        ensures valid { OnOk result ((operators : List ℕ)
+            × IsValid self.old.task self.old.plan operators) }
+        ensures fault { IfErr result (IsFaultOf self.old.task self.old.plan) }
+        ensures back { SetsOut self.old.task self.old.plan self.new }
+    {
+        let found = Found {
+            firsts: self.operators.firsts(),
+            nexts: self.operators.nexts(),
+        };
+        let verdict = judge(
+            self.layered,
+            &mut self.walker,
+            self.plan,
+            found,
+            &mut self.walk,
+        );
+        go_back(self.layered, &mut self.walker, &mut self.walk.state);
+        self.walk.operators.clear();
+        verdict
     }
 
     /// Judges the plan, of which all steps were made: whether its goal holds, and its cost is the sum of the

@@ -57,11 +57,11 @@ impl From<AllocError> for PlanFault {
 
 /// What the names of a plan's steps mean.
 #[derive(Clone, Copy)]
-struct Found<'f> {
+pub struct Found<'f> {
     /// The lowest operators of the steps.
-    firsts: &'f [u32],
+    pub firsts: &'f [u32],
     /// For each operator of the name of one of these, the next one of its name.
-    nexts: &'f [Option<u32>],
+    pub nexts: &'f [Option<u32>],
 }
 
 impl<'a, E: Settle<T> + Drop, T: Grounded> Runner<'a, E, T> {
@@ -156,7 +156,7 @@ fn check_found<E: Settle<T> + Drop, T: Grounded, P: Stepwise>(
 
 /// Checks whether the plan is valid, where it is found what the names of its steps mean. Adds the plan's operators, for
 /// which there is room. Without an allocator it can ask for no memory.
-fn judge<E: Settle<T> + Drop, T: Grounded, P: Stepwise>(
+pub fn judge<E: Settle<T> + Drop, T: Grounded, P: Stepwise>(
     layered: &Layered<T>,
     walker: &mut Walker<E>,
     plan: &P,
@@ -173,6 +173,8 @@ fn judge<E: Settle<T> + Drop, T: Grounded, P: Stepwise>(
     ensures prepared { IsPrepared E.ready layered.now walker.new }
     ensures valid { OnOk result (IsValid layered.now (P.says plan.now) walk.new.operators.items) }
     ensures fault { IfErr result (IsFaultOf layered.now (P.says plan.now)) }
+    ensures state { IsState layered.now.variables walk.new.state }
+    ensures room { vec_capacity walk.old.operators ≤ vec_capacity walk.new.operators }
 {
     go_through(layered, walker, plan, found, walk)?;
     judge_last(layered, walk, plan.cost())
@@ -196,6 +198,8 @@ fn go_through<E: Settle<T> + Drop, T: Grounded, P: Stepwise>(
     ensures prepared { IsPrepared E.ready layered.now walker.new }
     ensures goes { GoesThrough layered.now walk.old.state (P.says plan.now).steps
         walk.new.operators.items walk.new.state result }
+    ensures state { IsState layered.now.variables walk.new.state }
+    ensures room { vec_capacity walk.old.operators ≤ vec_capacity walk.new.operators }
 {
     for before in 0..found.firsts.len() {
         let next = NextStep {
@@ -232,6 +236,7 @@ fn go_on<E: Settle<T> + Drop, T: Grounded>(
         (operator_at layered.now next.first).name operator state.new) }
     ensures err { IfErr result (λ fault. StopsAt layered.now state.old
         (operator_at layered.now next.first).name next.number fault) }
+    ensures state { IsState layered.now.variables state.new }
 {
     let operator = choose(layered, nexts, state, next)?;
     make(layered, walker, operator, next.number, state)?;

@@ -12,7 +12,7 @@ loop-next-preserved g c =
     let operator = c.in-Some.operator in
     let looked : LookedTo p name c.args.first (Some operator) = rw c.in-Some.is at c.loop-next.invariant.looked in
     let other : (operator_at p operator).name ≢ name = λ same.
-        true≢false (sym ((bytes_decides c.name.result.now name).1 (c.name.ensures ∙ same)) ∙ sym c.eq.ensures ∙ c.if-eq.false) in
+    true≢false (sym ((bytes_decides c.name.result.now name).1 (c.name.ensures ∙ same)) ∙ sym c.eq.ensures ∙ c.if-eq.false) in
     record {
       looked = look_goes_on p name c.args.first operator looked c.args.alike.now c.next_in-next.result c.requires.alike c.next_in-next.ensures other;
     }

@@ -55,6 +55,7 @@ loop-before-preserved g c =
       exist = rw items (All-push (λ (o : ℕ). o < length p.operators) c.loop-before.walk.operators.items c.in_ok-operator.operator exist on.chosen.of_name.exists);
       one_each = rw items (let len = length-append c.loop-before.walk.operators.items (c.in_ok-operator.operator ∷ []) in let one = inv.one_each in omega arith);
       room = search rules;
+      kept = let before = inv.kept in search rules;
     }
 
 -- Behind the steps that were looked up stands one whose name no operator has.

@@ -16,4 +16,5 @@ invariant-loop-before g l = record {
   exist : All (λ (o : ℕ). o < length l.layered.operators) l.walk.operators.items;
   one_each : length l.walk.operators.items ≡ l.before;
   room : length (g.P.Stepwise.says l.plan).steps ≤ vec_capacity l.walk.operators;
+  kept : vec_capacity l.fn.walk.operators ≤ vec_capacity l.walk.operators;
 }

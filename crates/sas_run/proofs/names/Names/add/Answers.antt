@@ -13,8 +13,7 @@ named_from-requires g c =
     let p = c.args.task.now in
     let from = c.args.operator + 1 in
     let name = c.name-name.result.now in
-    let had = c.in_ok-had.ensures.had ∙ ap (get nat_eq c.args.self.now.first) c.digest.ensures in
-    (
+    let had = c.in_ok-had.ensures.had ∙ ap (get nat_eq c.args.self.now.first) c.digest.ensures in (
       from,
       subst (IsNextAlike p (digest_of name) from) (sym had) (c.requires.behind.lowest (digest_of name)),
       subst (AreAlikeFrom p from) (sym c.as_slice.ensures.value) c.requires.behind.alike,
@@ -30,6 +29,6 @@ returns g c =
     let before = c.in_ok-had.ensures.had ∙ ap (get nat_eq old.first) c.digest.ensures in
     let puts = subst (λ d. PutsDigest d operator old.first c.put.new.first) own c.in_ok-had.ensures.has in
     let named = subst (λ (name : List ℕ). IsNextNamed p name (operator + 1) c.named_from.result) c.name-name.ensures
-        (c.named_from.ensures (operator + 1)
-        (subst (IsNextAlike p (digest_of c.name-name.result.now) (operator + 1)) (sym before) (c.requires.behind.lowest (digest_of c.name-name.result.now)))) in
+    (c.named_from.ensures (operator + 1)
+    (subst (IsNextAlike p (digest_of c.name-name.result.now) (operator + 1)) (sym before) (c.requires.behind.lowest (digest_of c.name-name.result.now)))) in
     names_step p operator old _ c.in_ok-had.had c.named_from.result c.requires.exists c.requires.behind had puts named refl refl
