@@ -13,7 +13,7 @@ use sas_flat::{FlatPlan, FlatTask};
 use sas_lines::{push_line, push_number};
 use sas_meaning::Layered;
 use sas_output::{Status, Told};
-use sas_run::{PlanFault, Runner, Valid, check_once};
+use sas_run::{Held, PlanFault, Valid, check_once};
 use std::alloc::{AllocError, Global};
 
 /// Returns the answer about whether the plan is valid.
@@ -30,16 +30,16 @@ pub fn verdict_answer(
     }
 }
 
-/// Returns the answer about whether the plan is valid, as `verdict_answer` does, by a runner that serves many plans of the task.
+/// Returns the answer about whether the plan is valid, as `verdict_answer` does, for a task that is held for many plans.
 pub fn answer_by(
     alloc: Global,
-    runner: &mut Runner<'_, Worklist, FlatTask>,
+    held: &mut Held<Worklist, FlatTask>,
     plan: &FlatPlan,
 ) -> Result<Told, AllocError>
-    ensures answer { IfOk result (λ a. VerdictAnswer runner.old plan.now (output_told a)) }
-    ensures same { runner.new ≡ runner.old }
+    ensures answer { IfOk result (λ a. VerdictAnswer held.old plan.now (output_told a)) }
+    ensures same { held.new ≡ held.old }
 {
-    match runner.check_plan(alloc, plan) {
+    match held.check_plan(alloc, plan) {
         Ok(_) => accept_plan(alloc, plan),
         Err(fault) => refuse_plan(alloc, plan.cost(), fault),
     }
@@ -55,8 +55,7 @@ pub fn accept_plan(alloc: Global, plan: &FlatPlan) -> Result<Told, AllocError>
     })
 }
 
-/// Checks whether the plan is valid, with an evaluator that counts open conditions. For a plan of half as many steps as there are
-/// operators or more, a map of all operators' names is faster than one of the steps' names.
+/// Checks whether the plan is valid, with an evaluator that counts open conditions.
 fn check_plan(
     alloc: Global,
     layered: &Layered<FlatTask>,
@@ -68,15 +67,7 @@ fn check_plan(
     let Ok(worklist) = Worklist::new(alloc, layered) else {
         return Err(PlanFault::Memory);
     };
-    if plan.steps() < layered.operators() as usize / 2 {
-        return check_once(alloc, layered, worklist, plan);
-    }
-    let Ok(mut runner) = Runner::new(alloc, layered, worklist) else {
-        return Err(PlanFault::Memory);
-    };
-    let verdict = runner.check_plan(alloc, plan);
-    drop(runner);
-    verdict
+    check_once(alloc, layered, worklist, plan)
 }
 
 /// Returns the answer about a plan with this cost and this fault. For `Memory` it returns an `Err`.

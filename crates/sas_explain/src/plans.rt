@@ -1,18 +1,19 @@
 // Whether a plan is valid, and why it isn't.
 ghost use Rattle.std.specs.Prelude.{◌≡◌, Some, IfOk};
+ghost use Rattle.sas_run.specs.Courses.{SetsOut};
 ghost use Rattle.sas_run.specs.Verdicts.{IsFaultOf};
 ghost use Rattle.sas_explain.specs.Verdict.{WhyVerdict, ReasonsFit, output_of_plan};
 ghost use Rattle.sas_explain.specs.Judgement.{IsJudgement, IsAccepted};
 ghost use Rattle.sas_why.specs.Retracing.{IsRetraced};
 
 use crate::explained::Explained;
-use sas_answers::{accept_plan, refuse_plan, verdict_answer};
+use sas_answers::{accept_plan, refuse_plan};
 use sas_axioms::Worklist;
 use sas_core::Stepwise;
 use sas_flat::{FlatPlan, FlatTask};
 use sas_meaning::Layered;
-use sas_output::{Status, Told};
-use sas_run::PlanFault;
+use sas_output::Told;
+use sas_run::{Course, PlanFault};
 use sas_why::{Line, Retraced, reasons, retrace};
 use std::alloc::{AllocError, Global};
 
@@ -65,34 +66,38 @@ pub fn explain_plan(
     }
 }
 
-/// Judges the plan, and returns the reasons where it isn't valid.
+/// Judges the plan, and returns the reasons where it isn't valid. The names of its steps are looked up once for both passes.
 fn judge(alloc: Global, task: &Layered<FlatTask>, plan: &FlatPlan) -> Result<Judgement, AllocError>
     ensures { IfOk result (IsJudgement task.now plan.now) }
 {
-    let verdict = verdict_answer(alloc, task, plan)?;
-    if verdict.status == Status::Yes {
-        return Ok(Judgement::Valid(verdict));
+    let worklist = Worklist::new(alloc, task)?;
+    let mut course = Course::new(alloc, task, worklist, plan)?;
+    match course.check() {
+        Ok(()) => {
+            drop(course);
+            accept(alloc, plan)
+        }
+        Err(_) => explain_course(alloc, task, plan, course),
     }
-    drop(verdict);
-    let noted = second_pass(alloc, task, plan)?;
+}
+
+/// Goes through the steps of the plan by its course once more, and returns the reasons for its fault.
+fn explain_course(
+    alloc: Global,
+    task: &Layered<FlatTask>,
+    plan: &FlatPlan,
+    course: Course<'_, '_, Worklist, FlatTask, FlatPlan>,
+) -> Result<Judgement, AllocError>
+    requires { SetsOut task.now plan.now course }
+    ensures { IfOk result (IsJudgement task.now plan.now) }
+{
+    let noted = retrace(alloc, task, plan, course)?;
     let judgement = match noted.fault {
         Some(fault) => explain_fault(alloc, task, plan, &noted, fault),
         None => accept(alloc, plan),
     };
     drop(noted);
     judgement
-}
-
-/// Goes through the steps of the plan once more, and notes what its reasons need.
-fn second_pass(
-    alloc: Global,
-    task: &Layered<FlatTask>,
-    plan: &FlatPlan,
-) -> Result<Retraced, AllocError>
-    ensures { IfOk result (λ noted. IsRetraced task.now plan.now noted) }
-{
-    let worklist = Worklist::new(alloc, task)?;
-    retrace(alloc, task, worklist, plan)
 }
 
 /// Returns that the plan is valid.

@@ -1,3 +1,4 @@
+mod Placed
 pub mod Putting
 pub mod Sent
 mod WordLines

@@ -1,3 +1,4 @@
 pub mod Ending
 pub mod Pieces
+pub mod Placing
 pub mod Words

@@ -3,6 +3,7 @@
 
 mod ending;
 mod pieces;
+mod placing;
 mod told;
 mod words;
 

@@ -1,9 +1,12 @@
 // A text that is written in pieces.
-ghost use Rattle.std.specs.Prelude.{◌≡◌, ◌<◌, ◌≤◌, ◌+◌, ◌↔◌, [], ◌∷◌, ◌++◌, length, false};
-ghost use Rattle.std.specs.Prelude.{IfOk, IfErr, IsErr, IsTrue, OnOk, flat_map};
+ghost use Rattle.std.specs.Prelude.{◌≡◌, ◌↔◌, [], ◌∷◌, ◌++◌, false};
+ghost use Rattle.std.specs.Prelude.{IfOk, IfErr, IsErr, IsTrue, IsFalse, OnOk, flat_map};
 ghost use Rattle.std.specs.Io.KnownBytes.{Appends};
 ghost use Rattle.sas_output.specs.Pieces.{Breaks, CountsOn, PutsOrBreaks};
+ghost use Rattle.sas_output.specs.Words.{words_line};
 
+use crate::placing::{place, place_line};
+use crate::words::Words;
 use sas_lines::{Short, Watched, write_out};
 use std::alloc::{AllocError, Global};
 use std::io::Write;
@@ -13,24 +16,25 @@ use std::marker::Model;
 const PIECE: usize = 65_536;
 
 /// A text that is written in pieces: the bytes of it that are held back, and how many bytes were written before them. Only
-/// `new` asks for memory.
+/// `new` asks for memory. The bytes that are held stand first in the piece, up to `end`. What stands behind them means
+/// nothing.
 #[derive(Drop)]
 pub struct Pieces {
     piece: Vec<u8>,
+    end: usize,
     written: usize,
 }
 
 impl Model for Pieces {
-    ghost use Rattle.std.specs.Prelude.{◌≤◌};
-    ghost use Rattle.std.specs.Vec.{vec_capacity, vec_len};
+    ghost use Rattle.std.specs.Prelude.{◌≡◌, ◌≤◌, length, take};
     ghost use Rattle.sas_output.specs.Pieces.{Piece};
 
     ghost Value = { Piece };
 
-    ghost view = { λ p. record { held = p.piece.items; written = p.written } };
+    ghost view = { λ p. record { held = take p.end p.piece.items; written = p.written } };
 
-    // Holding a byte asks for no memory.
-    ghost invariant = { λ p. (vec_len p.piece ≤ 65536) × (65536 ≤ vec_capacity p.piece) };
+    // The piece is as long as it was made, so that holding a byte asks for no memory.
+    ghost invariant = { λ p. (length p.piece.items ≡ 65536) × (p.end ≤ 65536) };
 }
 
 impl Pieces {
@@ -39,7 +43,8 @@ impl Pieces {
         ensures { IfOk result (λ p. p ≡ record { held = []; written = 0 }) }
     {
         Ok(Pieces {
-            piece: Vec::with_capacity(alloc, PIECE)?,
+            piece: vec![in alloc; 0; PIECE]?,
+            end: 0,
             written: 0,
         })
     }
@@ -53,13 +58,11 @@ impl Pieces {
             bytes.now result }
         ensures note { IsErr result ↔ IsTrue out.new.failed }
     {
-        if bytes.len() <= PIECE - self.piece.len() {
-            self.hold(bytes);
+        if self.hold(bytes) {
             return Ok(());
         }
         self.flush(out)?;
-        if bytes.len() <= PIECE {
-            self.hold(bytes);
+        if self.hold(bytes) {
             return Ok(());
         }
         self.pass(out, bytes)
@@ -88,35 +91,41 @@ impl Pieces {
         ensures empty { OnOk result (self.new.held ≡ []) }
         ensures note { IsErr result ↔ IsTrue out.new.failed }
     {
-        self.written = send(self.written, out, self.piece.as_slice())?;
-        self.piece.clear();
+        self.written = send(self.written, out, &self.piece.as_slice()[..self.end])?;
+        self.end = 0;
         Ok(())
     }
 
-    /// Holds the bytes, for which there is room.
-    fn hold(&mut self, bytes: &[u8])
-        requires { length self.old.held + length bytes.now ≤ 65536 }
-        ensures held { self.new.held ≡ self.old.held ++ bytes.now }
+    /// Holds the bytes, if there is room for them. Returns whether there is.
+    fn hold(&mut self, bytes: &[u8]) -> bool
+        ensures yes { IsTrue result → self.new.held ≡ self.old.held ++ bytes.now }
+        ensures no { IsFalse result → self.new ≡ self.old }
         ensures written { self.new.written ≡ self.old.written }
     {
-        self.piece.extend_from_slice(bytes).unwrap();
+        match place(self.piece.as_mut_slice(), self.end, bytes) {
+            Some(end) => {
+                self.end = end;
+                true
+            }
+            None => false,
+        }
     }
 
-    /// Returns whether there is room for a space and the bytes behind what is held.
-    pub(crate) fn has_room_behind_space(&self, bytes: &[u8]) -> bool
-        ensures { IsTrue result → length self.now.held + length bytes.now < 65536 }
-    {
-        bytes.len() < PIECE - self.piece.len()
-    }
-
-    /// Holds a space and the bytes, for which there is room.
-    pub(crate) fn hold_behind_space(&mut self, bytes: &[u8])
-        requires { length self.old.held + length bytes.now < 65536 }
-        ensures held { self.new.held ≡ self.old.held ++ 32 ∷ bytes.now }
+    /// Holds the line and its end, LF, if there is room for them. Returns whether there is.
+    #[inline(always)]
+    pub(crate) fn hold_line(&mut self, line: Words<'_>) -> bool
+        ensures yes { IsTrue result
+            → self.new.held ≡ self.old.held ++ words_line line.entry ++ 10 ∷ [] }
+        ensures no { IsFalse result → self.new ≡ self.old }
         ensures written { self.new.written ≡ self.old.written }
     {
-        self.piece.push(b' ').unwrap();
-        self.piece.extend_from_slice(bytes).unwrap();
+        match place_line(self.piece.as_mut_slice(), self.end, line) {
+            Some(end) => {
+                self.end = end;
+                true
+            }
+            None => false,
+        }
     }
 
     /// Writes the bytes, with nothing held before them.

@@ -28,7 +28,7 @@ pub enum Indent {
 
 impl Indent {
     /// Returns the spaces.
-    fn spaces(self) -> &'static [u8]
+    pub(crate) fn spaces(self) -> &'static [u8]
         ensures { result.now ≡ replicate (spaces_of self) 32 }
     {
         match self {
@@ -49,11 +49,26 @@ pub struct Words<'w> {
 
 impl Pieces {
     /// Adds the line and its end, LF, to the text. Not to be called after a failure.
+    #[inline(always)]
     pub fn push_line<W: Write>(
         &mut self,
         out: &mut Watched<W>,
         line: Words<'_>,
     ) -> Result<(), Short>
+        requires { out.old.failed ≡ false }
+        ensures puts { PutsOrBreaks (W.contents out.old.device) (W.contents out.new.device)
+            self.old self.new
+            (words_line line.entry ++ 10 ∷ []) result }
+        ensures note { IsErr result ↔ IsTrue out.new.failed }
+    {
+        if self.hold_line(line) {
+            return Ok(());
+        }
+        self.push_words(out, line)
+    }
+
+    /// Adds the line and its end, one word after another. This is the slow way, for a line at the end of a piece.
+    fn push_words<W: Write>(&mut self, out: &mut Watched<W>, line: Words<'_>) -> Result<(), Short>
         requires { out.old.failed ≡ false }
         ensures puts { PutsOrBreaks (W.contents out.old.device) (W.contents out.new.device)
             self.old self.new
@@ -94,7 +109,7 @@ impl Pieces {
         }
     }
 
-    /// Adds a space and the number. Most numbers have one digit.
+    /// Adds a space and the number.
     fn push_number<W: Write>(&mut self, out: &mut Watched<W>, number: u64) -> Result<(), Short>
         requires { out.old.failed ≡ false }
         ensures puts { PutsOrBreaks (W.contents out.old.device) (W.contents out.new.device)
@@ -102,10 +117,6 @@ impl Pieces {
             (32 ∷ decimal number) result }
         ensures note { IsErr result ↔ IsTrue out.new.failed }
     {
-        if number < 10 {
-            let digit = [b'0' + number as u8];
-            return self.push_behind_space(out, &digit);
-        }
         let mut buffer = Buffer::new();
         let digits = buffer.format(number).as_bytes();
         self.push_behind_space(out, digits)
@@ -123,10 +134,6 @@ impl Pieces {
             (32 ∷ bytes.now) result }
         ensures note { IsErr result ↔ IsTrue out.new.failed }
     {
-        if self.has_room_behind_space(bytes) {
-            self.hold_behind_space(bytes);
-            return Ok(());
-        }
         let parts: [&[u8]; 2] = [b" ", bytes];
         self.push_all(out, &parts)
     }

@@ -1,7 +1,7 @@
 // The second pass over a plan.
 ghost use Rattle.std.specs.Prelude.{◌≡◌, ◌+◌, ◌<◌, length, IfOk, IfErr, OnOk, OnErr};
 ghost use Rattle.sas_reasons.specs.Runs.{Run};
-ghost use Rattle.sas_run.specs.Courses.{next_name};
+ghost use Rattle.sas_run.specs.Courses.{SetsOut, next_name};
 ghost use Rattle.sas_run.specs.Plans.{IsChosen};
 ghost use Rattle.sas_run.specs.Running.{StopsAt};
 ghost use Rattle.sas_why.specs.Noting.{HavePlaces, AreDerived, AddsOther, NotesStep};
@@ -23,18 +23,17 @@ pub struct Notes {
     pub other: Option<Other>,
 }
 
-/// Goes through the plan's steps once more, up to its fault, and notes since when each variable has its value, and
-/// which other operator a step may mean. All memory is asked for before the first step.
+/// Goes through the steps of the plan by its course, which is at its start, up to the plan's fault, and notes since when each variable
+/// has its value, and which other operator a step may mean. All memory is asked for before the first step.
 pub fn retrace<E: Settle<T> + Drop, T: Grounded, P: Stepwise>(
     alloc: Global,
     layered: &Layered<T>,
-    evaluator: E,
     plan: &P,
+    mut course: Course<'_, '_, E, T, P>,
 ) -> Result<Retraced, AllocError>
-    requires { E.ready evaluator layered.now }
+    requires { SetsOut layered.now (P.says plan.now) course }
     ensures { IfOk result (IsRetraced layered.now (P.says plan.now)) }
 {
-    let mut course = Course::new(alloc, layered, evaluator, plan)?;
     let mut notes = Notes {
         changes: Changes::new(alloc, course.state())?,
         other: None,

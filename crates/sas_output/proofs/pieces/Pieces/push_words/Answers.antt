@@ -3,7 +3,7 @@ use Rattle.std.proofs.lemmas.Result.{err_from_is_err_and}
 use Rattle.sas_output.specs.Words.{spaces_of}
 use Rattle.sas_output.proofs.Putting.{breaks_with_more, puts_then, puts_then_breaks, puts_then_either}
 use Rattle.sas_output.proofs.WordLines.{line_is, breaks_as, puts_as}
-use Rattle.sas_output.proofs.pieces.Pieces.push_line.Goals as goal
+use Rattle.sas_output.proofs.pieces.Pieces.push_words.Goals as goal
 
 pub returns-in_err-push-clause-puts : goal.returns-in_err-push-clause-puts
 returns-in_err-push-clause-puts g c =

@@ -1,0 +1,11 @@
+use Rattle.std.proofs.Common.{◌≡◌, take, length, flat_map}
+use Rattle.sas_output.specs.Placing.{Places}
+use Rattle.sas_output.specs.Words.{behind_space}
+use Rattle.sas_output.proofs.placing.place_rest.Given as goal
+
+-- the words so far were placed
+abbrev pub invariant-loop-word : goal.invariant-loop-word
+invariant-loop-word l = record {
+  length : length l.piece ≡ length l.fn.piece;
+  places : Places l.fn.piece l.piece l.at (flat_map behind_space (take l.word-index l.words)) l.end;
+}

@@ -1,0 +1,13 @@
+-- Bytes that are placed into others, over what stands there.
+use Rattle.std.specs.Prelude.{◌≡◌, ℕ, ◌≤◌, List, ◌++◌, length, take, Option, MatchOption}
+
+-- The first bytes, up to `at`, stay, these stand behind them, and end here.
+pub record Places (old new : List ℕ) (at : ℕ) (bytes : List ℕ) (end : ℕ) : Type 0 where
+  pub front : take end new ≡ take at old ++ bytes
+  pub within : end ≤ length new
+
+-- What a call returns that places these bytes, or lacks the room for them. The first bytes stay in
+-- either case.
+abbrev pub PlacesOrLeaves : List ℕ → List ℕ → ℕ → List ℕ → Option ℕ → Type 0
+PlacesOrLeaves old new at bytes result =
+    MatchOption result (take at new ≡ take at old) (λ end. Places old new at bytes end)
