@@ -4,6 +4,7 @@ mod Tallying
 mod PlanVerdicts
 mod SaidPlans
 mod TaskAnswers
+mod Opened
 mod JudgeLaws
 mod LastBytes
 mod PlanLines

@@ -44,7 +44,7 @@ read_verdict p c plan v reads (output, answer, line, cost) =
 
 -- ---- a plan file that is refused
 
-refused_status : (name : List ℕ) (f : Fault) (o : Output) → refusal name f ≡ Some o → o.status ≡ No
+pub refused_status : (name : List ℕ) (f : Fault) (o : Output) → refusal name f ≡ Some o → o.status ≡ No
 refused_status name f o is = (worded (word_of f.kind) (refusal_line name f.line) o is).status
 
 no_cost : (c : List ℕ) (s : Status) (cost : Option ℕ) → s ≡ No → cost ≡ None → HasCost c s cost

@@ -8,5 +8,6 @@ pub mod Inputs
 pub mod PlansHeadline
 pub mod TraceOut
 pub mod Laws
+pub mod Opened
 pub mod Judging
 pub mod TraceSteps

@@ -9,19 +9,18 @@ ghost use Rattle.sas_plans.specs.Judged.{JudgeOut};
 ghost use Rattle.sas_plans.specs.PlansHeadline.{PlansHeadline};
 ghost use Rattle.sas_plans.specs.Judging.{AnswersPlans, JudgesPlans, answer_told};
 
+use crate::held::hold;
 use crate::inputs::{JudgeFault, PlanInputs};
 use crate::telling::tell_plans;
 use sas_answers::refuse_layers;
-use sas_axioms::Worklist;
 use sas_flat::FlatTask;
 use sas_lines::Watched;
 use sas_meaning::Layered;
 use sas_output::{Status, Told, ToolFault};
 use sas_reader::{Fault, Kind};
 use sas_requests::refuse_file;
-use sas_run::Runner;
 use sas_task_reader::read_flat_task;
-use std::alloc::{AllocError, Global};
+use std::alloc::Global;
 use std::io::{Read, Write};
 
 /// Judges many plans of one task, and answers with a line for each, its label in front, and a line behind them that says how
@@ -108,11 +107,7 @@ fn answer_about<T: Read, S: PlanInputs>(
         Err(fault) => return refuse_task(alloc, fault),
     };
     match Layered::new(alloc, read) {
-        Ok(layered) => {
-            let told = judge_plans(alloc, &layered, plans);
-            drop(layered);
-            told
-        }
+        Ok(layered) => judge_plans(alloc, layered, plans),
         Err((task, fault)) => {
             drop(task);
             Ok(refuse_layers(alloc, fault)?)
@@ -133,41 +128,24 @@ fn refuse_task(alloc: Global, fault: Fault) -> Result<Told, JudgeFault>
     }
 }
 
-/// Returns the answer about the plans of a layered task. One runner serves them all.
+/// Returns the answer about the plans of a layered task, which is held for them all.
 fn judge_plans<S: PlanInputs>(
     alloc: Global,
-    layered: &Layered<FlatTask>,
+    layered: Layered<FlatTask>,
     plans: &mut S,
 ) -> Result<Told, JudgeFault>
-    ensures judges { JudgesPlans layered.now (S.bytes plans.old) (S.labels plans.old) (answer_told result) }
+    ensures judges { JudgesPlans layered (S.bytes plans.old) (S.labels plans.old) (answer_told result) }
     ensures labels { S.labels plans.new ≡ S.labels plans.old }
 {
-    let mut runner = runner_for(alloc, layered)?;
+    let mut held = hold(alloc, layered)?;
     let mut text = Vec::new(alloc);
-    let status = tell_plans(alloc, &mut runner, plans, &mut text);
-    drop(runner);
+    let status = tell_plans(alloc, &mut held, plans, &mut text);
+    drop(held);
     match status {
         Ok(status) => Ok(Told { text, status }),
         Err(fault) => {
             drop(text);
             Err(fault)
-        }
-    }
-}
-
-/// Returns a runner for the task.
-fn runner_for<'a>(
-    alloc: Global,
-    layered: &'a Layered<FlatTask>,
-) -> Result<Runner<'a, Worklist, FlatTask>, AllocError>
-    ensures { IfOk result (λ r. r ≡ layered.now) }
-{
-    let worklist = Worklist::new(alloc, layered)?;
-    match Runner::new(alloc, layered, worklist) {
-        Ok(runner) => Ok(runner),
-        Err((worklist, error)) => {
-            drop(worklist);
-            Err(error)
         }
     }
 }

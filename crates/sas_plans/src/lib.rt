@@ -1,6 +1,7 @@
 //! The requests about what plans do: many plans of one task, and the trace of a plan.
 #![tactic(auto)]
 
+mod held;
 mod inputs;
 mod judging;
 mod laws;
@@ -9,6 +10,7 @@ mod telling;
 mod tracing;
 mod verdicts;
 
+pub use held::{Opening, judge_bytes, open_task};
 pub use inputs::{InputFault, JudgeFault, PlanInputs};
 pub use judging::judge;
 pub use laws::{judge_laws, trace_output_laws};

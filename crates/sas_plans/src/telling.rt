@@ -11,22 +11,22 @@ use sas_axioms::Worklist;
 use sas_flat::FlatTask;
 use sas_lines::push_number;
 use sas_output::Status;
-use sas_run::Runner;
+use sas_run::Held;
 use std::alloc::{AllocError, Global};
 
 /// Adds a line for each plan, and the last line. Returns whether all plans are valid.
 pub fn tell_plans<S: PlanInputs>(
     alloc: Global,
-    runner: &mut Runner<'_, Worklist, FlatTask>,
+    held: &mut Held<Worklist, FlatTask>,
     plans: &mut S,
     text: &mut Vec<u8>,
 ) -> Result<Status, JudgeFault>
     requires { text.old.items ≡ [] }
-    ensures tells { JudgesPlans runner.old (S.bytes plans.old) (S.labels plans.old)
+    ensures tells { JudgesPlans held.old (S.bytes plans.old) (S.labels plans.old)
         (answer_of text.new.items result) }
     ensures labels { S.labels plans.new ≡ S.labels plans.old }
 {
-    let tally = match tell_each(alloc, runner, plans, text) {
+    let tally = match tell_each(alloc, held, plans, text) {
         Ok(tally) => tally,
         Err(fault) => return Err(fault),
     };
@@ -41,19 +41,19 @@ pub fn tell_plans<S: PlanInputs>(
 /// Adds a line for each plan, and returns how many are valid, and the best of these.
 fn tell_each<S: PlanInputs>(
     alloc: Global,
-    runner: &mut Runner<'_, Worklist, FlatTask>,
+    held: &mut Held<Worklist, FlatTask>,
     plans: &mut S,
     text: &mut Vec<u8>,
 ) -> Result<Tally, JudgeFault>
     requires { text.old.items ≡ [] }
-    ensures ok { IfOk result (AreTold runner.old (S.bytes plans.old) (S.labels plans.old)
+    ensures ok { IfOk result (AreTold held.old (S.bytes plans.old) (S.labels plans.old)
         (length (S.labels plans.old)) text.new.items) }
-    ensures err { IfErr result (IsOneUnsaid runner.old (S.bytes plans.old) (length (S.labels plans.old))) }
+    ensures err { IfErr result (IsOneUnsaid held.old (S.bytes plans.old) (length (S.labels plans.old))) }
     ensures labels { S.labels plans.new ≡ S.labels plans.old }
 {
     let mut tally = Tally::new();
     for number in 0..plans.count() {
-        match tell_plan(alloc, runner, plans, number, text) {
+        match tell_plan(alloc, held, plans, number, text) {
             Ok(cost) => tally.add(number, cost),
             Err(fault) => return Err(fault),
         }
@@ -64,23 +64,23 @@ fn tell_each<S: PlanInputs>(
 /// Adds the line of the plan with this number, and returns its cost if it is valid.
 fn tell_plan<S: PlanInputs>(
     alloc: Global,
-    runner: &mut Runner<'_, Worklist, FlatTask>,
+    held: &mut Held<Worklist, FlatTask>,
     plans: &mut S,
     number: usize,
     text: &mut Vec<u8>,
 ) -> Result<Option<u64>, JudgeFault>
     requires { number < length (S.labels plans.old) }
     ensures ok { IfOk result (λ cost. (judged : Judged)
-        × IsSaid runner.old (S.bytes plans.old number)
+        × IsSaid held.old (S.bytes plans.old number)
         (slice_index_or (S.labels plans.old) number []) judged
         × (text.new.items ≡ text.old.items ++ labelled judged)
         × (judged.cost ≡ cost)) }
-    ensures err { IfErr result (IsUnsaid runner.old (S.bytes plans.old number)) }
-    ensures same { runner.new ≡ runner.old }
+    ensures err { IfErr result (IsUnsaid held.old (S.bytes plans.old number)) }
+    ensures same { held.new ≡ held.old }
     ensures labels { S.labels plans.new ≡ S.labels plans.old }
     ensures later { (k : ℕ) → number < k → S.bytes plans.new k ≡ S.bytes plans.old k }
 {
-    let verdict = match judge_plan(alloc, runner, plans, number) {
+    let verdict = match judge_plan(alloc, held, plans, number) {
         Ok(verdict) => verdict,
         Err(fault) => return Err(fault),
     };

@@ -14,7 +14,7 @@ use sas_output::{Status, ToolFault};
 use sas_plan_file::read_flat_plan;
 use sas_reader::{Fault, Kind};
 use sas_requests::refuse_file;
-use sas_run::Runner;
+use sas_run::Held;
 use std::alloc::{AllocError, Global};
 use std::io::Read;
 
@@ -28,14 +28,14 @@ pub struct Verdict {
 /// Opens the plan with this number, reads it, and returns the verdict on it. The input is let go.
 pub fn judge_plan<S: PlanInputs>(
     alloc: Global,
-    runner: &mut Runner<'_, Worklist, FlatTask>,
+    held: &mut Held<Worklist, FlatTask>,
     plans: &mut S,
     number: usize,
 ) -> Result<Verdict, JudgeFault>
     requires { number < length (S.labels plans.old) }
-    ensures judges { Judges runner.old (S.bytes plans.old number) (tool_result result) }
+    ensures judges { Judges held.old (S.bytes plans.old number) (tool_result result) }
     ensures task { IsErrOf result (JudgeFault.Tool ToolFault.Read) → ⊥ }
-    ensures same { runner.new ≡ runner.old }
+    ensures same { held.new ≡ held.old }
     ensures labels { S.labels plans.new ≡ S.labels plans.old }
     ensures later { (k : ℕ) → number < k → S.bytes plans.new k ≡ S.bytes plans.old k }
 {
@@ -45,7 +45,7 @@ pub fn judge_plan<S: PlanInputs>(
             fault: InputFault::NotOpened,
         });
     };
-    match judge_input(alloc, runner, input) {
+    match judge_input(alloc, held, input) {
         Ok(verdict) => Ok(verdict),
         Err(fault) => Err(fault_of_plan(number, fault)),
     }
@@ -73,14 +73,14 @@ fn fault_of_plan(number: usize, fault: ToolFault) -> JudgeFault
 /// Reads a plan, and returns the verdict on it. The input is let go.
 fn judge_input<P: Read + Drop>(
     alloc: Global,
-    runner: &mut Runner<'_, Worklist, FlatTask>,
+    held: &mut Held<Worklist, FlatTask>,
     input: P,
 ) -> Result<Verdict, ToolFault>
-    ensures judges { Judges runner.old (P.remaining input) result }
-    ensures same { runner.new ≡ runner.old }
+    ensures judges { Judges held.old (P.remaining input) result }
+    ensures same { held.new ≡ held.old }
 {
     let mut plan = Watched::new(input);
-    let verdict = judge_device(alloc, runner, &mut plan);
+    let verdict = judge_device(alloc, held, &mut plan);
     drop(plan);
     verdict
 }
@@ -88,15 +88,15 @@ fn judge_input<P: Read + Drop>(
 /// Reads a plan from a device, and returns the verdict on it. A plan file that is refused has a verdict, too.
 fn judge_device<P: Read>(
     alloc: Global,
-    runner: &mut Runner<'_, Worklist, FlatTask>,
+    held: &mut Held<Worklist, FlatTask>,
     plan: &mut Watched<P>,
 ) -> Result<Verdict, ToolFault>
     requires { plan.old.failed ≡ false }
-    ensures judges { Judges runner.old (P.remaining plan.old.device) result }
-    ensures same { runner.new ≡ runner.old }
+    ensures judges { Judges held.old (P.remaining plan.old.device) result }
+    ensures same { held.new ≡ held.old }
 {
     match read_flat_plan(alloc, plan) {
-        Ok(read) => Ok(verdict_by(alloc, runner, &read)?),
+        Ok(read) => Ok(verdict_by(alloc, held, &read)?),
         Err(fault) => refuse_plan(alloc, fault),
     }
 }
@@ -119,13 +119,13 @@ fn refuse_plan(alloc: Global, fault: Fault) -> Result<Verdict, ToolFault>
 /// Returns the verdict on a plan that was read.
 fn verdict_by(
     alloc: Global,
-    runner: &mut Runner<'_, Worklist, FlatTask>,
+    held: &mut Held<Worklist, FlatTask>,
     plan: &FlatPlan,
 ) -> Result<Verdict, AllocError>
-    ensures verdict { IfOk result (λ v. TellsPlan runner.old plan.now v) }
-    ensures same { runner.new ≡ runner.old }
+    ensures verdict { IfOk result (λ v. TellsPlan held.old plan.now v) }
+    ensures same { held.new ≡ held.old }
 {
-    let told = answer_by(alloc, runner, plan)?;
+    let told = answer_by(alloc, held, plan)?;
     let cost = match told.status {
         Status::Yes => Some(plan.cost()),
         Status::No => None,

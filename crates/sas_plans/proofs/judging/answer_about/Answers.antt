@@ -1,3 +1,6 @@
+use Rattle.sas_reader.specs.Devices.{ValueOf}
+use Rattle.sas_reader.proofs.Known.{known_answer}
+use Rattle.sas_task_format.specs.TaskFormat.{task_format}
 use Rattle.sas_plans.proofs.TaskAnswers.{answers_refused, answers_layered, answers_unlayered}
 use Rattle.sas_plans.proofs.judging.answer_about.Goals as goal
 
@@ -7,8 +10,12 @@ returns-in-Err-clause-answers g c =
 
 pub returns-in-Ok-new-clause-answers : goal.returns-in-Ok-new-clause-answers
 returns-in-Ok-new-clause-answers g c =
-    answers_layered g.T.Read.remaining _ _ _ _ c.in-Ok.read c.in-Ok.ensures _ (rw c.in-Ok-new.ensures.task at c.in-Ok-new.ensures.layered) (rw c.in-Ok-new.ensures.task at c.judge_plans-told.ensures.judges)
+    answers_layered g.T.Read.remaining _ _ _ _ c.in-Ok.read c.in-Ok.ensures _ (rw c.in-Ok-new.ensures.task at c.in-Ok-new.ensures.layered) (rw c.in-Ok-new.ensures.task at c.judge_plans.ensures.judges)
 
 pub returns-in_ok-refuse_layers-in-Err-new-clause-answers : goal.returns-in_ok-refuse_layers-in-Err-new-clause-answers
 returns-in_ok-refuse_layers-in-Err-new-clause-answers g c =
     answers_unlayered g.T.Read.remaining _ _ _ _ c.in-Ok.read c.in-Ok.ensures c.in-Err-new.fault c.in_ok-refuse_layers-in-Err-new.field-0 c.in-Err-new.ensures.first c.in_ok-refuse_layers-in-Err-new.ensures
+
+pub returns-in-Ok-new-clause-waits : goal.returns-in-Ok-new-clause-waits
+returns-in-Ok-new-clause-waits g c = λ b known none.
+    absurd (none (c.in-Ok.read, known_answer g.T.Read.remaining task_format (ValueOf task_format) c.args.task.now c.read_flat_task.new.reader c.in-Ok.read b c.in-Ok.ensures known, rw c.in-Ok-new.ensures.task at c.in-Ok-new.ensures.layered))

@@ -4,14 +4,14 @@ use Rattle.sas_plans.proofs.telling.tell_each.Goals as goal
 
 pub add-requires : goal.add-requires
 add-requires g c =
-    let few = valid_few c.args.runner.now (g.S.PlanInputs.bytes c.args.plans.now) (g.S.PlanInputs.labels c.args.plans.now) c.loop-number.number c.loop-number.text.items c.loop-number.tally c.loop-number.invariant.told in
+    let few = valid_few c.args.held.now (g.S.PlanInputs.bytes c.args.plans.now) (g.S.PlanInputs.labels c.args.plans.now) c.loop-number.number c.loop-number.text.items c.loop-number.tally c.loop-number.invariant.told in
     omega (arith, few)
 
 pub returns-in-Err-clause-err : goal.returns-in-Err-clause-err
 returns-in-Err-clause-err g c = (
   c.loop-number.number,
   omega (arith, c.loop-number.invariant.end),
-  unsaid_same c.loop-number.runner c.args.runner.now _ _ c.in-Err.fault c.loop-number.invariant.task (c.loop-number.invariant.later c.loop-number.number (omega arith)) c.in-Err.ensures.err,
+  unsaid_same c.loop-number.held c.args.held.now _ _ c.in-Err.fault c.loop-number.invariant.task (c.loop-number.invariant.later c.loop-number.number (omega arith)) c.in-Err.ensures.err,
 )
 
 pub loop-number-preserved : goal.loop-number-preserved
@@ -24,7 +24,7 @@ loop-number-preserved g c =
       end = before.end;
       later = λ k less. c.in-Ok.ensures.later k (omega arith) ∙ before.later k (omega arith);
       told =
-          told_more c.args.runner.now (g.S.PlanInputs.bytes c.args.plans.now) (g.S.PlanInputs.labels c.args.plans.now) c.loop-number.number _ _ c.loop-number.tally _ said.0 before.told
-          (said_same c.loop-number.runner c.args.runner.now _ _ _ _ said.0 before.task (before.later c.loop-number.number (omega arith)) (ap (λ (l : List (List ℕ)). get_or l c.loop-number.number []) before.labels) said.1)
+          told_more c.args.held.now (g.S.PlanInputs.bytes c.args.plans.now) (g.S.PlanInputs.labels c.args.plans.now) c.loop-number.number _ _ c.loop-number.tally _ said.0 before.told
+          (said_same c.loop-number.held c.args.held.now _ _ _ _ said.0 before.task (before.later c.loop-number.number (omega arith)) (ap (λ (l : List (List ℕ)). get_or l c.loop-number.number []) before.labels) said.1)
           said.2 (λ all h place. c.add.ensures all said.0 h place said.3);
     }

@@ -4,9 +4,9 @@ use Rattle.sas_plans.proofs.telling.tell_each.Given as goal
 
 abbrev pub invariant-loop-number : goal.invariant-loop-number
 invariant-loop-number g l = record {
-  task : l.runner ≡ l.fn.runner;
+  task : l.held ≡ l.fn.held;
   labels : g.S.PlanInputs.labels l.plans ≡ g.S.PlanInputs.labels l.fn.plans;
   end : l.number-end ≡ length (g.S.PlanInputs.labels l.fn.plans);
   later : (k : ℕ) → l.number ≤ k → g.S.PlanInputs.bytes l.plans k ≡ g.S.PlanInputs.bytes l.fn.plans k;
-  told : AreTold l.fn.runner (g.S.PlanInputs.bytes l.fn.plans) (g.S.PlanInputs.labels l.fn.plans) l.number l.text.items l.tally;
+  told : AreTold l.fn.held (g.S.PlanInputs.bytes l.fn.plans) (g.S.PlanInputs.labels l.fn.plans) l.number l.text.items l.tally;
 }

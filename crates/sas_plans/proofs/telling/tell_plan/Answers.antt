@@ -3,7 +3,7 @@ use Rattle.sas_plans.proofs.SaidPlans.{said_of, said_text, unsaid}
 use Rattle.sas_plans.proofs.telling.tell_plan.Goals as goal
 
 pub returns-clause-ok : goal.returns-clause-ok
-returns-clause-ok g c = (_, said_of c.args.runner.now _ _ c.in-Ok.verdict c.in-Ok.ensures.judges, said_text _ _ _ _ _ _ c.in-Ok.verdict.cost c.in_ok-pushed.ensures (c.label.ensures ∙ ap (λ (l : List (List ℕ)). get_or l c.args.number []) c.in-Ok.ensures.labels) c.as_slice.ensures.value, refl)
+returns-clause-ok g c = (_, said_of c.args.held.now _ _ c.in-Ok.verdict c.in-Ok.ensures.judges, said_text _ _ _ _ _ _ c.in-Ok.verdict.cost c.in_ok-pushed.ensures (c.label.ensures ∙ ap (λ (l : List (List ℕ)). get_or l c.args.number []) c.in-Ok.ensures.labels) c.as_slice.ensures.value, refl)
 
 pub returns-in-Err-clause-err : goal.returns-in-Err-clause-err
-returns-in-Err-clause-err g c = unsaid c.args.runner.now _ c.in-Err.fault c.in-Err.ensures.judges c.in-Err.ensures.task
+returns-in-Err-clause-err g c = unsaid c.args.held.now _ c.in-Err.fault c.in-Err.ensures.judges c.in-Err.ensures.task

@@ -1,0 +1,81 @@
+// A task that is read once from bytes in memory, and then asked about plans in memory.
+ghost use Rattle.std.specs.Prelude.{◌≡◌, Some, None, IfOk, IsErrOf};
+ghost use Rattle.sas_answers.specs.Answers.{VerdictAnswer};
+ghost use Rattle.sas_output.specs.Ending.{output_told};
+ghost use Rattle.sas_requests.specs.Output.{CheckOut, VerdictOut};
+ghost use Rattle.sas_plans.specs.Opened.{Opens};
+
+use sas_answers::{answer_by, refuse_layers};
+use sas_axioms::Worklist;
+use sas_flat::FlatTask;
+use sas_lines::Watched;
+use sas_meaning::Layered;
+use sas_output::{Told, ToolFault};
+use sas_plan_file::read_flat_plan;
+use sas_requests::refuse_file;
+use sas_run::Held;
+use sas_task_reader::read_flat_task;
+use std::alloc::{AllocError, Global};
+
+/// What comes of opening a task.
+#[derive(Drop)]
+pub enum Opening {
+    /// The task, which is layered.
+    Ready(Held<Worklist, FlatTask>),
+    /// Why there is none, as `check` prints it.
+    Refused(Told),
+}
+
+/// Reads a task from these bytes, for plans to come.
+pub fn open_task(alloc: Global, bytes: &[u8]) -> Result<Opening, ToolFault>
+    ensures opens { IfOk result (Opens bytes.now) }
+    ensures long { IsErrOf result ToolFault.TooLong → CheckOut bytes.now None }
+{
+    let mut device = Watched::new(bytes);
+    let read = match read_flat_task(alloc, &mut device) {
+        Ok(read) => read,
+        Err(fault) => {
+            return match refuse_file(alloc, "task", fault) {
+                Ok(told) => Ok(Opening::Refused(told)),
+                Err(why) => Err(why),
+            };
+        }
+    };
+    match Layered::new(alloc, read) {
+        Ok(layered) => Ok(Opening::Ready(hold(alloc, layered)?)),
+        Err((task, fault)) => {
+            drop(task);
+            Ok(Opening::Refused(refuse_layers(alloc, fault)?))
+        }
+    }
+}
+
+/// Reads a plan from these bytes, and returns the answer to whether it solves the task. A plan file that is refused has an
+/// answer, too. Nothing of a plan is left for the next.
+pub fn judge_bytes(
+    alloc: Global,
+    held: &mut Held<Worklist, FlatTask>,
+    plan: &[u8],
+) -> Result<Told, ToolFault>
+    ensures verdict { IfOk result (λ told.
+        VerdictOut VerdictAnswer held.old plan.now (Some (output_told told))) }
+    ensures long { IsErrOf result ToolFault.TooLong → VerdictOut VerdictAnswer held.old plan.now None }
+    ensures same { held.new ≡ held.old }
+{
+    let mut device = Watched::new(plan);
+    match read_flat_plan(alloc, &mut device) {
+        Ok(read) => Ok(answer_by(alloc, held, &read)?),
+        Err(fault) => refuse_file(alloc, "plan", fault),
+    }
+}
+
+/// Holds the task for many plans, with an evaluator that counts open conditions.
+pub fn hold(
+    alloc: Global,
+    layered: Layered<FlatTask>,
+) -> Result<Held<Worklist, FlatTask>, AllocError>
+    ensures { IfOk result (λ h. h ≡ layered) }
+{
+    let worklist = Worklist::new(alloc, &layered)?;
+    Held::new(alloc, layered, worklist)
+}
