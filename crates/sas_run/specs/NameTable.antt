@@ -51,6 +51,20 @@ pub record AreNamesFrom (p : Parts) (from : ℕ) (names : Names) : Type 0 where
 abbrev pub AreNames : Parts → Names → Type 0
 AreNames p names = AreNamesFrom p 0 names
 
+-- The names of the operators from this place on. `tells` gives for each name the lowest of them that
+-- has it, or nothing; the table holds, for each of them, the next one of its name.
+pub record AreMappedFrom (p : Parts) (from : ℕ) (tells : List ℕ → Option ℕ)
+    (table : List (Option ℕ)) : Type 0 where
+  pub one_each : length table ≡ length p.operators
+  pub lowest : (name : List ℕ) → IsNextNamed p name from (tells name)
+  pub next : (operator : ℕ) → from ≤ operator → operator < length p.operators
+      → IsNextNamed p (operator_at p operator).name (operator + 1)
+      (slice_index_or table operator None)
+
+-- what a map tells of each name
+abbrev pub told_by : {S : Type 0} → IndexMap NameKey ℕ S → List ℕ → Option ℕ
+told_by first name = get_by (is_called name) first
+
 -- the new map holds this operator for the digest, and for each other one what the old one holds
 abbrev pub PutsDigest : {S : Type 0} → ℕ → ℕ → IndexMap ℕ ℕ S → IndexMap ℕ ℕ S → Type 0
 PutsDigest digest operator old new = (other : ℕ) → get nat_eq new other

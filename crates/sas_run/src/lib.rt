@@ -9,6 +9,7 @@ mod holding;
 mod laws;
 mod looking_up;
 mod name_key;
+mod name_map;
 mod names;
 mod plan_check;
 mod runner;

@@ -8,6 +8,7 @@ ghost use Rattle.sas_run.specs.Names.{IsNextNamed};
 ghost use Rattle.sas_run.specs.Chains.{IsChain};
 
 use crate::digest::digest;
+use crate::looking_up::FirstNamed;
 use crate::runner::next_in;
 use indexmap::IndexMap;
 use sas_core::Grounded;
@@ -15,8 +16,8 @@ use sas_meaning::Layered;
 use std::alloc::{AllocError, Global};
 use std::marker::Model;
 
-/// The operators of a task by their names. The map's keys are digests, so no name is stored twice, and none is borrowed: an operator
-/// whose name has the digest that is asked for is looked at in the task.
+/// The operators of a task by their names, to be kept beside the task. The map's keys are digests, so no name is stored twice, and none
+/// is borrowed: an operator whose name has the digest that is asked for is looked at in the task.
 #[derive(Drop)]
 pub struct Names {
     /// For each digest of a name, the lowest operator whose name has it.
@@ -75,14 +76,6 @@ impl Names {
     {
         self.next.as_slice()
     }
-
-    /// Returns for each operator the next one of the same name, and lets all else go.
-    pub fn into_next(self) -> Vec<Option<u32>>
-        ensures { result ≡ self.next }
-    {
-        let Names { next, .. } = self;
-        next
-    }
 }
 
 /// A task, and the names of its operators. In a contract its value is the parts that the task represents.
@@ -103,11 +96,10 @@ impl<'n, T: Grounded> Model for NamedTask<'n, T> {
     ghost invariant = { λ n. AreNames n.task.now n.names.now };
 }
 
-impl<'n, T: Grounded> NamedTask<'n, T> {
-    /// Returns the lowest operator of this name, if there is one. It takes no memory.
-    pub fn first(&self, name: &[u8]) -> Option<u32>
-        ensures { IsNextNamed self.now name.now 0 result }
-    {
+impl<'n, T: Grounded> FirstNamed for NamedTask<'n, T> {
+    ghost parts = { λ n. n };
+
+    fn first(&self, name: &[u8]) -> Option<u32> {
         self.names.first(self.task, name)
     }
 }

@@ -5,7 +5,7 @@ ghost use Rattle.sas_run.specs.Names.{AreFirsts};
 
 use crate::chains::Chains;
 use crate::looking_up::first_operators;
-use crate::names::{NamedTask, Names};
+use crate::name_map::NameMap;
 use crate::step_names::StepNames;
 use sas_core::{Grounded, Stepwise};
 use sas_meaning::Layered;
@@ -63,15 +63,11 @@ impl StepOperators {
         ensures firsts { IfOk result (λ o. AreFirsts layered.now (P.says plan.now).steps o.firsts.items) }
         ensures chains { IfOk result (λ o. HaveChains layered.now o.firsts.items o.next.items) }
     {
-        let names = Names::new(alloc, layered)?;
-        let named = NamedTask {
-            task: layered,
-            names: &names,
-        };
-        let firsts = first_operators(alloc, &named, plan)?;
+        let map = NameMap::new(alloc, layered)?;
+        let firsts = first_operators(alloc, &map, plan)?;
         Ok(StepOperators {
             firsts,
-            next: names.into_next(),
+            next: map.into_next(),
         })
     }
 

@@ -7,6 +7,6 @@ use Rattle.sas_run.proofs.looking_up.first_operators.Given as goal
 abbrev pub invariant-loop-step : goal.invariant-loop-step
 invariant-loop-step g l = record {
   one_each : length l.firsts.items ≡ l._step;
-  each : HaveFirsts l.named (g.P.Stepwise.says l.plan).steps l.firsts.items;
+  each : HaveFirsts (g.N.FirstNamed.parts l.named) (g.P.Stepwise.says l.plan).steps l.firsts.items;
   room : length (g.P.Stepwise.says l.plan).steps ≤ vec_capacity l.firsts;
 }
