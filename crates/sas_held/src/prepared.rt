@@ -1,10 +1,32 @@
 // What is kept of a task.
+ghost use Rattle.std.specs.Prelude.{◌≡◌, IfSome};
+
 use sas_axioms::Worklist;
 use sas_flat::FlatTask;
 use sas_run::Held;
+use std::alloc::Global;
 
 /// A layered task with all that its plans need.
 #[derive(Drop)]
 pub struct Prepared {
     pub held: Held<Worklist, FlatTask>,
+}
+
+impl Prepared {
+    /// Puts the task into a box. Returns `None` where memory is refused, and the task is let go then.
+    pub fn boxed(alloc: Global, held: Held<Worklist, FlatTask>) -> Option<Box<Prepared>>
+        ensures { IfSome result (λ b. b.value ≡ record { held = held }) }
+    {
+        in_box(alloc, Prepared { held })
+    }
+}
+
+/// Puts the value into a box. This is generic, since `Box::new` of a type of as many parts as `Prepared` has takes the prover too long.
+fn in_box<T: Drop>(alloc: Global, value: T) -> Option<Box<T>>
+    ensures { IfSome result (λ b. b.value ≡ value) }
+{
+    match Box::new(alloc, value) {
+        Ok(value) => Some(value),
+        Err(_) => None,
+    }
 }

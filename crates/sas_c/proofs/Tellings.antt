@@ -1,0 +1,160 @@
+-- What is told follows from how a run ended.
+use Rattle.std.proofs.Common.{◌≡◌, ℕ, ◌<◌, List, [], ◌++◌, length, take, codes, arith, refl, sym, ap, subst, ◌∙◌, Option, Some, None, Result, Ok, Err}
+use Rattle.std.specs.Io.KnownBytes.{Appends}
+use Rattle.sas_core.specs.declared.parts.Parts.{Parts}
+use Rattle.sas_meaning.specs.Layers.{IsLayered}
+use Rattle.sas_meaning.proofs.LayerChecksAreRules.{checks_are_rules}
+use Rattle.sas_reader.specs.Format.{ReadsAs}
+use Rattle.sas_reader.specs.Limit.{most_bytes}
+use Rattle.sas_task_format.specs.TaskFormat.{task_format}
+use Rattle.sas_output.specs.declared.ending.Status.{Status}
+use Rattle.sas_output.specs.declared.ending.Status.TheVariants.{Yes, No}
+use Rattle.sas_output.specs.declared.ending.ToolFault.{ToolFault}
+use Rattle.sas_output.specs.declared.ending.ToolFault.TheVariants.{Memory, Read, TooLong, Write}
+use Rattle.sas_output.specs.declared.told.Told.{Told}
+use Rattle.sas_output.specs.Ending.{Output, Ends, output_told}
+use Rattle.sas_answers.specs.Answers.{layers_verdict}
+use Rattle.sas_core.specs.PlanParts.{PlanParts}
+use Rattle.sas_requests.specs.declared.Request.{Request}
+use Rattle.sas_requests.specs.Headline.{Headline}
+use Rattle.sas_requests.specs.Output.{CheckOut, PlanOutBy}
+use Rattle.sas_requests.proofs.Headlines.{TellsValid, headline_of}
+use Rattle.sas_plans.specs.declared.held.Opening.{Opening}
+use Rattle.sas_plans.specs.declared.held.Opening.TheVariants.{Ready, Refused}
+use Rattle.sas_plans.specs.Opened.{Opens}
+use Rattle.sas_c.specs.Telling.{Tells, TellsHeadline, number_of_fault, number_of_status}
+
+same_number : (s t : Status) → number_of_status s ≡ number_of_status t → s ≡ t
+same_number Yes Yes e = refl
+same_number No No e = refl
+same_number Yes No e = absurd (omega arith)
+same_number No Yes e = absurd (omega arith)
+
+low_number : (s : Status) → number_of_status s < 2
+low_number Yes = omega arith
+low_number No = omega arith
+
+-- ---- a text
+
+module _ (text : List ℕ) (status : Status) (room : List ℕ) (size : ℕ) (long : size ≡ length text) where
+  abbrev TellsText : ℕ → Type 0
+  TellsText number = Tells (λ (o : Option Output). o ≡ Some (record { text = text; status = status })) room size number
+
+  -- that was copied is told
+  pub tells_copied : (number : ℕ) → number ≡ number_of_status status → take (length text) room ≡ text → TellsText number
+  tells_copied number is copied =
+      let low = low_number status in record {
+        told = λ s e. (record { text = text; status = status }, refl, same_number status s (sym is ∙ e), long, subst (λ (n : ℕ). take n room ≡ text) (sym long) copied);
+        longer = λ e. absurd (omega arith);
+        none = λ e. absurd (omega arith);
+        known = omega arith;
+      }
+
+  -- and so is one that was too long for that
+  pub tells_longer : length room < length text → TellsText 2
+  tells_longer longer = record {
+    told = λ s e. let low = low_number s in absurd (omega arith);
+    longer = λ e. (record { text = text; status = status }, refl, long, omega arith);
+    none = λ e. absurd (omega arith);
+    known = omega arith;
+  }
+
+-- ---- an end without one
+
+module _ (Out : Option Output → Type 0) (room : List ℕ) (size : ℕ) where
+  tells_too_long : Out None → Tells Out room size 4
+  tells_too_long none = record {
+    told = λ s e. let low = low_number s in absurd (omega arith);
+    longer = λ e. absurd (omega arith);
+    none = λ e. none;
+    known = omega arith;
+  }
+
+  tells_nothing : Tells Out room size 3
+  tells_nothing = record {
+    told = λ s e. let low = low_number s in absurd (omega arith);
+    longer = λ e. absurd (omega arith);
+    none = λ e. absurd (omega arith);
+    known = omega arith;
+  }
+
+  by_fault : (why : ToolFault) → (why ≡ TooLong → Out None) → Tells Out room size (number_of_fault why)
+  by_fault TooLong long = tells_too_long (long refl)
+  by_fault Memory long = tells_nothing
+  by_fault Read long = tells_nothing
+  by_fault (Write written) long = tells_nothing
+
+  pub tells_fault : (why : ToolFault) (number : ℕ) → number ≡ number_of_fault why → (why ≡ TooLong → Out None) → Tells Out room size number
+  tells_fault why number is long = subst (λ (n : ℕ). Tells Out room size n) (sym is) (by_fault why long)
+
+  pub ends_fault : (Sent : List ℕ → Type 0) (why : ToolFault) (number : ℕ) → number ≡ number_of_fault why → Ends Out Sent (Err why) → Tells Out room size number
+  ends_fault Sent why number is ends = tells_fault why number is (λ long. subst (λ (w : ToolFault). Ends Out Sent (Err w)) long ends)
+
+-- ---- what is told of one output is told of another that follows from it
+
+module _ (A B : Option Output → Type 0) (to : (o : Option Output) → A o → B o) (room : List ℕ) (size number : ℕ) where
+  pub tells_by : Tells A room size number → Tells B room size number
+  tells_by t = record {
+    told = λ status is. let x = t.told status is in (x.0, to (Some x.0) x.1, x.2, x.3, x.4);
+    longer = λ is. let x = t.longer is in (x.0, to (Some x.0) x.1, x.2, x.3);
+    none = λ is. to None (t.none is);
+    known = t.known;
+  }
+
+-- what is told of a text is told of the same text
+pub tells_same : (text other : List ℕ) (status : Status) (room : List ℕ) (size number : ℕ) → text ≡ other
+    → Tells (λ o. o ≡ Some (record { text = text; status = status })) room size number → Tells (λ o. o ≡ Some (record { text = other; status = status })) room size number
+tells_same text other status room size number same t = subst (λ (xs : List ℕ). Tells (λ (o : Option Output). o ≡ Some (record { text = xs; status = status })) room size number) same t
+
+-- what is known to be the output is told
+pub tells_output : (Out : Option Output → Type 0) (o : Output) → Out (Some o) → (room : List ℕ) (size number : ℕ) → Tells (λ x. x ≡ Some o) room size number → Tells Out room size number
+tells_output Out o is room size number t = tells_by (λ x. x ≡ Some o) Out (λ x e. subst Out (sym e) is) room size number t
+
+-- what a writer into empty memory was given is told
+pub tells_ended : (Out : Option Output → Type 0) (was items text : List ℕ) (status : Status) (room : List ℕ) (size number : ℕ) → was ≡ [] → text ≡ items
+    → Ends Out (Appends (Some was) (Some items)) (Ok status) → Tells (λ o. o ≡ Some (record { text = text; status = status })) room size number → Tells Out room size number
+tells_ended Out was items text status room size number empty same ends t =
+    let all : text ≡ (ends.0).text = same ∙ ends.3 ∙ ap (λ (xs : List ℕ). xs ++ (ends.0).text) empty in
+    let out : Some (record { text = text; status = status }) ≡ Some ends.0 = λ i. Some (record { text = all i; status = ends.2 i }) in
+    tells_by (λ o. o ≡ Some (record { text = text; status = status })) Out (λ o e. subst Out (sym (e ∙ out)) ends.1) room size number t
+
+-- what is told of what was asked is told of the same request and bytes
+pub asked_told : (F : Request → List ℕ → List ℕ → Option Output → Type 0) (asked request : Request) (task b plan c room : List ℕ) (size number : ℕ)
+    → asked ≡ request → task ≡ b → plan ≡ c → Tells (F asked task plan) room size number → Tells (F request b c) room size number
+asked_told F asked request task b plan c room size number is same_task same_plan t =
+    subst (λ (r : Request). Tells (F r b c) room size number) is
+    (subst (λ (xs : List ℕ). Tells (F asked xs c) room size number) same_task (subst (λ (xs : List ℕ). Tells (F asked task xs) room size number) same_plan t))
+
+-- ---- whether a plan solves a task
+
+pub headline_told : (Verdict : Parts → PlanParts → Output → Type 0) → TellsValid Verdict → (b c room : List ℕ) (size number : ℕ) → Tells (PlanOutBy Verdict b c) room size number → TellsHeadline b c room size number
+headline_told Verdict tells b c room size number t = λ status is.
+    let x = t.told status is in
+    subst (λ (text : List ℕ). Headline b c (λ line. text ≡ line) status) (sym x.4) (headline_of Verdict tells b c x.0 x.1 (Some []) (Some (x.0).text) [] status refl (sym x.2) refl)
+
+-- ---- a task that was opened
+
+-- a fault is never told as yes
+pub fault_number : (why : ToolFault) (number : ℕ) → number ≡ number_of_fault why → number ≡ 0 → ⊥
+fault_number TooLong number is zero = omega arith
+fault_number Memory number is zero = omega arith
+fault_number Read number is zero = omega arith
+fault_number (Write written) number is zero = omega arith
+
+-- what isn't yes is never told as yes
+pub never_yes : (o : Output) (room : List ℕ) (size number : ℕ) → o.status ≡ No → Tells (λ x. x ≡ Some o) room size number → number ≡ 0 → ⊥
+never_yes o room size number refused t zero =
+    let x = t.told Yes zero in
+    let same : x.0 ≡ o = cc in
+    let wrong : number_of_status No ≡ number_of_status Yes = ap number_of_status (sym refused ∙ ap (λ (y : Output). y.status) (sym same) ∙ x.2) in
+    omega arith
+
+-- a layered task is told as one
+pub layered_out : (p : Parts) (b : List ℕ) → ReadsAs task_format most_bytes b (Ok p) → IsLayered p → (o : Option Output) → o ≡ layers_verdict None → CheckOut b o
+layered_out p b reads layered o is = (Ok p, reads, (record { text = codes "task layered\n"; status = Yes }, ap layers_verdict ((checks_are_rules p).1 layered), is))
+
+pub opens_ready : (b : List ℕ) (opening : Opening) (p : Parts) → opening ≡ Ready p → Opens b opening → ReadsAs task_format most_bytes b (Ok p) × IsLayered p
+opens_ready b opening p is opens = subst (Opens b) is opens
+
+pub opens_refused : (b : List ℕ) (opening : Opening) (told : Told) → opening ≡ Refused told → Opens b opening → CheckOut b (Some (output_told told)) × (told.status ≡ No)
+opens_refused b opening told is opens = subst (Opens b) is opens

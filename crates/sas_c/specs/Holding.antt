@@ -1,0 +1,13 @@
+-- What is held of a task that was read.
+use Rattle.std.specs.Prelude.{List, ℕ, Option, Some, None, Ok}
+use Rattle.sas_meaning.specs.Layers.{IsLayered}
+use Rattle.sas_reader.specs.Format.{ReadsAs}
+use Rattle.sas_reader.specs.Limit.{most_bytes}
+use Rattle.sas_task_format.specs.TaskFormat.{task_format}
+use Rattle.sas_held.specs.declared.prepared.Prepared.{Prepared}
+
+-- a task is held, the one that the bytes are a text of, and it is layered
+abbrev pub Holds : List ℕ → Option Prepared → Type 0
+Holds b None = ⊥
+Holds b (Some prepared) =
+    ReadsAs task_format most_bytes b (Ok prepared.held) × IsLayered prepared.held

@@ -1,0 +1,44 @@
+-- What a call of the library says: a number, and an answer in the caller's memory.
+use Rattle.std.specs.Prelude.{◌≡◌, ℕ, ◌<◌, List, length, take, Option, Some, None}
+use Rattle.sas_output.specs.declared.ending.Status.{Status}
+use Rattle.sas_output.specs.declared.ending.Status.TheVariants.{Yes, No}
+use Rattle.sas_output.specs.declared.ending.ToolFault.{ToolFault}
+use Rattle.sas_output.specs.declared.ending.ToolFault.TheVariants.{Memory, Read, TooLong, Write}
+use Rattle.sas_output.specs.Ending.{Output}
+use Rattle.sas_requests.specs.Headline.{Headline}
+
+-- the number of an answer that is told
+abbrev pub number_of_status : Status → ℕ
+number_of_status Yes = 0
+number_of_status No = 1
+
+-- the number of a run that ended without an answer; of bytes in memory no read or write fails
+abbrev pub number_of_fault : ToolFault → ℕ
+number_of_fault TooLong = 4
+number_of_fault Memory = 3
+number_of_fault Read = 3
+number_of_fault (Write written) = 3
+
+-- What a call tells by its number, by `size`, and by what `room`, the caller's memory for the
+-- answer, holds then. `Out` is asked which output is the right one, or whether there is none.
+pub record Tells (Out : Option Output → Type 0) (room : List ℕ) (size number : ℕ) : Type 0 where
+  -- 0 and 1: the output's text stands at the front of the room, and the number is its status
+  pub told : (status : Status) → number ≡ number_of_status status → (output : Output)
+      × Out (Some output)
+      × (output.status ≡ status)
+      × (size ≡ length output.text)
+      × (take size room ≡ output.text)
+  -- 2: it is longer than the room, and its length is told
+  pub longer : number ≡ 2 → (output : Output)
+      × Out (Some output)
+      × (size ≡ length output.text)
+      × (length room < size)
+  -- 4: there is none, as an input is too long; and 3, that memory was refused, says nothing
+  pub none : number ≡ 4 → Out None
+  pub known : number < 5
+
+-- Where an answer is told about the bytes b of the task and c of the plan, `plan valid` stands in
+-- the room exactly if the plan solves the task at the cost that is told, and exactly then it is yes.
+abbrev pub TellsHeadline : List ℕ → List ℕ → List ℕ → ℕ → ℕ → Type 0
+TellsHeadline b c room size number = (status : Status) → number ≡ number_of_status status
+    → Headline b c (λ line. take size room ≡ line) status

@@ -1,0 +1,83 @@
+// How a request about bytes in memory is answered.
+ghost use Rattle.std.specs.Prelude.{◌≡◌};
+ghost use Rattle.sas_requests.specs.Output.{Out};
+ghost use Rattle.sas_requests.specs.Why.{OutWhy};
+ghost use Rattle.sas_plans.specs.TraceOut.{TraceOut};
+ghost use Rattle.sas_c.specs.Telling.{Tells};
+
+use crate::numbers::number_without;
+use crate::telling::tell;
+use sas_lines::Watched;
+use sas_plans::trace;
+use sas_requests::{Request, explain, run};
+use std::alloc::Global;
+
+/// A request about these bytes. An input that the request doesn't read has none.
+#[derive(Clone, Copy)]
+pub struct Asked<'b> {
+    pub request: Request,
+    pub task: &'b [u8],
+    pub plan: &'b [u8],
+}
+
+impl<'b> Asked<'b> {
+    /// Asks this about these bytes.
+    pub fn new(request: Request, task: &'b [u8], plan: &'b [u8]) -> Asked<'b>
+        ensures request { result.request ≡ request }
+        ensures task { result.task.now ≡ task.now }
+        ensures plan { result.plan.now ≡ plan.now }
+    {
+        Asked {
+            request,
+            task,
+            plan,
+        }
+    }
+}
+
+/// Tells the answer to the request.
+pub fn answer(alloc: Global, asked: Asked<'_>, room: &mut [u8], size: &mut usize) -> u32
+    ensures { Tells (Out asked.entry.request asked.entry.task.now asked.entry.plan.now)
+        room.new size.new result }
+{
+    let mut task = Watched::new(asked.task);
+    let mut plan = Watched::new(asked.plan);
+    let mut text = Watched::new(Vec::new(alloc));
+    match run(alloc, asked.request, &mut task, &mut plan, &mut text) {
+        Ok(status) => tell(text.into_device().as_slice(), status, room, size),
+        Err(fault) => number_without(fault),
+    }
+}
+
+/// Tells the answer to the request, with the reasons for a no.
+pub fn answer_why(alloc: Global, asked: Asked<'_>, room: &mut [u8], size: &mut usize) -> u32
+    ensures { Tells (OutWhy asked.entry.request asked.entry.task.now asked.entry.plan.now)
+        room.new size.new result }
+{
+    let mut task = Watched::new(asked.task);
+    let mut plan = Watched::new(asked.plan);
+    let mut text = Watched::new(Vec::new(alloc));
+    match explain(alloc, asked.request, &mut task, &mut plan, &mut text) {
+        Ok(status) => tell(text.into_device().as_slice(), status, room, size),
+        Err(fault) => number_without(fault),
+    }
+}
+
+/// Tells the answer about the plan, behind its trace.
+pub fn answer_trace(
+    alloc: Global,
+    task: &[u8],
+    plan: &[u8],
+    room: &mut [u8],
+    size: &mut usize,
+) -> u32
+    ensures { Tells (TraceOut task.now plan.now) room.new size.new result }
+{
+    let mut task = Watched::new(task);
+    let mut plan = Watched::new(plan);
+    let mut text = Watched::new(Vec::new(alloc));
+    match trace(alloc, &mut task, &mut plan, &mut text) {
+        Ok(status) => tell(text.into_device().as_slice(), status, room, size),
+        Err(fault) => number_without(fault),
+    }
+}

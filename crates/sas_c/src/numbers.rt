@@ -1,0 +1,41 @@
+// How an answer is told as a number.
+ghost use Rattle.std.specs.Prelude.{◌≡◌};
+ghost use Rattle.sas_c.specs.Telling.{number_of_fault, number_of_status};
+
+use sas_output::{Status, ToolFault};
+
+/// The answer is told, and is yes.
+pub const YES: u32 = 0;
+/// The answer is told, and is no, or a file is refused.
+pub const NO: u32 = 1;
+/// The answer is longer than the caller's memory for it. How long it is, is told.
+pub const ROOM_TOO_SHORT: u32 = 2;
+/// Memory was refused.
+pub const OUT_OF_MEMORY: u32 = 3;
+/// An input is longer than the most bytes that are read.
+pub const INPUT_TOO_LONG: u32 = 4;
+/// No task is held.
+pub const NO_TASK: u32 = 5;
+
+/// Returns the number of a status.
+pub fn number_of(status: Status) -> u32
+    ensures { result ≡ number_of_status status }
+{
+    match status {
+        Status::Yes => YES,
+        Status::No => NO,
+    }
+}
+
+/// Returns the number of a run that ended without an answer. Bytes in memory are read and written without a failure, so
+/// without memory is the only other end.
+pub fn number_without(fault: ToolFault) -> u32
+    ensures { result ≡ number_of_fault fault }
+{
+    match fault {
+        ToolFault::TooLong => INPUT_TOO_LONG,
+        ToolFault::Memory => OUT_OF_MEMORY,
+        ToolFault::Read => OUT_OF_MEMORY,
+        ToolFault::Write { .. } => OUT_OF_MEMORY,
+    }
+}

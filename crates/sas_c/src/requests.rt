@@ -1,0 +1,121 @@
+// The calls of the library about a task, a plan, or both. Each takes an input as a pointer that isn't null and a length, and writes the
+// answer to the front of `room`, and its length in bytes to `size`.
+ghost use Rattle.std.specs.Prelude.{[]};
+ghost use Rattle.sas_requests.specs.Output.{ShowOut, PrintOut, StepsOut, CheckOut, MutexOut, PlanOut};
+ghost use Rattle.sas_requests.specs.Why.{OutWhy, WhyPlanOut};
+ghost use Rattle.sas_plans.specs.TraceOut.{TraceOut};
+ghost use Rattle.sas_c.specs.Telling.{Tells, TellsHeadline};
+
+use crate::answering::{Asked, answer, answer_trace, answer_why};
+use sas_requests::Request;
+use std::alloc::Global;
+
+/// Answers whether the plan solves the task.
+#[unsafe(no_mangle)]
+pub extern "C" fn sas_plan(
+    alloc: Global,
+    task: &[u8],
+    plan: &[u8],
+    room: &mut [u8],
+    size: &mut usize,
+) -> u32
+    ensures tells { Tells (PlanOut task.now plan.now) room.new size.new result }
+    ensures headline { TellsHeadline task.now plan.now room.new size.new result }
+{
+    answer(alloc, Asked::new(Request::Plan, task, plan), room, size)
+}
+
+/// Answers whether the task is layered.
+#[unsafe(no_mangle)]
+pub extern "C" fn sas_check(alloc: Global, task: &[u8], room: &mut [u8], size: &mut usize) -> u32
+    ensures { Tells (CheckOut task.now) room.new size.new result }
+{
+    answer(alloc, Asked::new(Request::Check, task, b""), room, size)
+}
+
+/// Answers which mutex groups of the task are exclusive.
+#[unsafe(no_mangle)]
+pub extern "C" fn sas_mutex(alloc: Global, task: &[u8], room: &mut [u8], size: &mut usize) -> u32
+    ensures { Tells (MutexOut task.now) room.new size.new result }
+{
+    answer(alloc, Asked::new(Request::Mutex, task, b""), room, size)
+}
+
+/// Answers with the summary of the task.
+#[unsafe(no_mangle)]
+pub extern "C" fn sas_show(alloc: Global, task: &[u8], room: &mut [u8], size: &mut usize) -> u32
+    ensures { Tells (ShowOut task.now) room.new size.new result }
+{
+    answer(alloc, Asked::new(Request::Show, task, b""), room, size)
+}
+
+/// Answers with the task, printed again.
+#[unsafe(no_mangle)]
+pub extern "C" fn sas_print(alloc: Global, task: &[u8], room: &mut [u8], size: &mut usize) -> u32
+    ensures { Tells (PrintOut task.now) room.new size.new result }
+{
+    answer(alloc, Asked::new(Request::Print, task, b""), room, size)
+}
+
+/// Answers with the steps of the plan and its cost, printed again.
+#[unsafe(no_mangle)]
+pub extern "C" fn sas_steps(alloc: Global, plan: &[u8], room: &mut [u8], size: &mut usize) -> u32
+    ensures { Tells (StepsOut plan.now) room.new size.new result }
+{
+    answer(alloc, Asked::new(Request::Steps, b"", plan), room, size)
+}
+
+/// Answers whether the plan solves the task, with the reasons for a no.
+#[unsafe(no_mangle)]
+pub extern "C" fn sas_plan_why(
+    alloc: Global,
+    task: &[u8],
+    plan: &[u8],
+    room: &mut [u8],
+    size: &mut usize,
+) -> u32
+    ensures tells { Tells (WhyPlanOut task.now plan.now) room.new size.new result }
+    ensures headline { TellsHeadline task.now plan.now room.new size.new result }
+{
+    answer_why(alloc, Asked::new(Request::Plan, task, plan), room, size)
+}
+
+/// Answers whether the task is layered, with the reasons for a no.
+#[unsafe(no_mangle)]
+pub extern "C" fn sas_check_why(
+    alloc: Global,
+    task: &[u8],
+    room: &mut [u8],
+    size: &mut usize,
+) -> u32
+    ensures { Tells (OutWhy Request.Check task.now []) room.new size.new result }
+{
+    answer_why(alloc, Asked::new(Request::Check, task, b""), room, size)
+}
+
+/// Answers which mutex groups of the task are exclusive, with the reasons for a no.
+#[unsafe(no_mangle)]
+pub extern "C" fn sas_mutex_why(
+    alloc: Global,
+    task: &[u8],
+    room: &mut [u8],
+    size: &mut usize,
+) -> u32
+    ensures { Tells (OutWhy Request.Mutex task.now []) room.new size.new result }
+{
+    answer_why(alloc, Asked::new(Request::Mutex, task, b""), room, size)
+}
+
+/// Answers whether the plan solves the task, with what its steps do in front.
+#[unsafe(no_mangle)]
+pub extern "C" fn sas_trace(
+    alloc: Global,
+    task: &[u8],
+    plan: &[u8],
+    room: &mut [u8],
+    size: &mut usize,
+) -> u32
+    ensures { Tells (TraceOut task.now plan.now) room.new size.new result }
+{
+    answer_trace(alloc, task, plan, room, size)
+}

@@ -1,0 +1,128 @@
+// A task that is read once, for many plans.
+ghost use Rattle.std.specs.Prelude.{◌≡◌, Some, None, IfSome, IsFalse, IsNone, IsTrue};
+ghost use Rattle.sas_answers.specs.Answers.{VerdictAnswer, layers_verdict};
+ghost use Rattle.sas_requests.specs.Output.{CheckOut, VerdictOut};
+ghost use Rattle.sas_c.specs.Telling.{Tells};
+ghost use Rattle.sas_c.specs.Holding.{Holds};
+
+use crate::numbers::{NO_TASK, OUT_OF_MEMORY, YES, number_without};
+use crate::telling::{tell, tell_told};
+use sas_axioms::Worklist;
+use sas_flat::FlatTask;
+use sas_held::{Prepared, SasTask};
+use sas_output::Status;
+use sas_plans::{Opening, judge_bytes, open_task};
+use sas_run::Held;
+use std::alloc::Global;
+
+/// Reads a task, and holds it if it is layered, in place of what was held before. Answers as `sas_check` does. Where the number
+/// isn't `YES`, no task is held then.
+#[unsafe(no_mangle)]
+pub extern "C" fn sas_task_read(
+    alloc: Global,
+    task: &mut SasTask,
+    bytes: &[u8],
+    room: &mut [u8],
+    size: &mut usize,
+) -> u32
+    ensures tells { Tells (CheckOut bytes.now) room.new size.new result }
+    ensures held { result ≡ 0 → Holds bytes.now task.new.pointer.task }
+    ensures none { (result ≡ 0 → ⊥) → task.new.pointer.task ≡ None }
+{
+    let before = task.take(alloc);
+    drop(before);
+    match open_task(alloc, bytes) {
+        Ok(Opening::Ready(held)) => hold(alloc, task, held, room, size),
+        Ok(Opening::Refused(told)) => tell_told(told, room, size),
+        Err(fault) => number_without(fault),
+    }
+}
+
+/// Answers whether the plan solves the task that is held. It stays held.
+#[unsafe(no_mangle)]
+pub extern "C" fn sas_task_plan(
+    alloc: Global,
+    task: &mut SasTask,
+    plan: &[u8],
+    room: &mut [u8],
+    size: &mut usize,
+) -> u32
+    ensures tells { IfSome task.old.pointer.task (λ prepared.
+        Tells (VerdictOut VerdictAnswer prepared.held plan.now) room.new size.new result) }
+    ensures same { task.new.pointer.task ≡ task.old.pointer.task }
+    ensures none { IsNone task.old.pointer.task → result ≡ 5 }
+{
+    match task.take(alloc) {
+        Some(mut prepared) => {
+            let number = judge(alloc, &mut prepared, plan, room, size);
+            task.put(prepared);
+            number
+        }
+        None => NO_TASK,
+    }
+}
+
+/// Lets the task go that is held, if there is one.
+#[unsafe(no_mangle)]
+pub extern "C" fn sas_task_free(alloc: Global, task: &mut SasTask)
+    ensures { task.new.pointer.task ≡ None }
+{
+    drop(task.take(alloc));
+}
+
+/// Tells that the task is layered, and holds it.
+fn hold(
+    alloc: Global,
+    task: &mut SasTask,
+    held: Held<Worklist, FlatTask>,
+    room: &mut [u8],
+    size: &mut usize,
+) -> u32
+    requires { task.old.pointer.task ≡ None }
+    ensures tells { Tells (λ output. output ≡ layers_verdict None) room.new size.new result }
+    ensures held { result ≡ 0 → task.new.pointer.task ≡ Some (record { held = held }) }
+    ensures none { (result ≡ 0 → ⊥) → task.new.pointer.task ≡ None }
+{
+    let number = tell(b"task layered\n", Status::Yes, room, size);
+    if number != YES {
+        drop(held);
+        return number;
+    }
+    if keep(alloc, task, held) {
+        YES
+    } else {
+        OUT_OF_MEMORY
+    }
+}
+
+/// Holds the task, and returns whether there was memory for that.
+fn keep(alloc: Global, task: &mut SasTask, held: Held<Worklist, FlatTask>) -> bool
+    requires { task.old.pointer.task ≡ None }
+    ensures yes { IsTrue result → task.new.pointer.task ≡ Some (record { held = held }) }
+    ensures no { IsFalse result → task.new.pointer.task ≡ None }
+{
+    match Prepared::boxed(alloc, held) {
+        Some(prepared) => {
+            task.put(prepared);
+            true
+        }
+        None => false,
+    }
+}
+
+/// Tells whether the plan solves the task.
+fn judge(
+    alloc: Global,
+    prepared: &mut Prepared,
+    plan: &[u8],
+    room: &mut [u8],
+    size: &mut usize,
+) -> u32
+    ensures tells { Tells (VerdictOut VerdictAnswer prepared.old.held plan.now) room.new size.new result }
+    ensures same { prepared.new ≡ prepared.old }
+{
+    match judge_bytes(alloc, &mut prepared.held, plan) {
+        Ok(told) => tell_told(told, room, size),
+        Err(fault) => number_without(fault),
+    }
+}

@@ -1,0 +1,43 @@
+// How an answer goes into the caller's memory.
+ghost use Rattle.std.specs.Prelude.{◌≡◌, ◌<◌, length, take, IsTrue, IsFalse, Some};
+ghost use Rattle.sas_output.specs.Ending.{output_told};
+ghost use Rattle.sas_c.specs.Telling.{Tells};
+
+use crate::numbers::{ROOM_TOO_SHORT, number_of};
+use sas_output::{Status, Told};
+
+/// Tells an answer with this text and this status. Returns the status as a number, or that the text is longer than the room.
+pub fn tell(text: &[u8], status: Status, room: &mut [u8], size: &mut usize) -> u32
+    ensures { Tells (λ output. output ≡ Some (record { text = text.now; status = status }))
+        room.new size.new result }
+{
+    if copy(text, room, size) {
+        number_of(status)
+    } else {
+        ROOM_TOO_SHORT
+    }
+}
+
+/// Tells an answer that is at hand, and lets it go.
+pub fn tell_told(told: Told, room: &mut [u8], size: &mut usize) -> u32
+    ensures { Tells (λ output. output ≡ Some (output_told told)) room.new size.new result }
+{
+    let number = tell(told.text.as_slice(), told.status, room, size);
+    drop(told);
+    number
+}
+
+/// Copies the text to the front of the room, if it fits. Its length is told either way.
+fn copy(text: &[u8], room: &mut [u8], size: &mut usize) -> bool
+    ensures size { size.new ≡ length text.now }
+    ensures same { length room.new ≡ length room.old }
+    ensures copied { IsTrue result → take (length text.now) room.new ≡ text.now }
+    ensures longer { IsFalse result → length room.old < length text.now }
+{
+    *size = text.len();
+    if text.len() > room.len() {
+        return false;
+    }
+    room[..text.len()].copy_from_slice(text);
+    true
+}
