@@ -11,7 +11,7 @@ mod plan_writer;
 mod step_names;
 
 pub use laws::plan_laws;
-pub use plan::{read_flat_plan, read_plan, read_plan_text};
+pub use plan::{flat_plan_of, read_flat_plan, read_plan, read_plan_text};
 pub use plan_machine::PlanMachine;
 pub use plan_reader::PlanReader;
 pub use plan_writer::encode_plan;

@@ -1,6 +1,8 @@
 // Plan files: read from a device.
-ghost use Rattle.std.specs.Prelude.{◌≡◌, false};
+ghost use Rattle.std.specs.Prelude.{◌≡◌, ◌≢◌, false, Ok, Err, IfOk, IfErr};
 ghost use Rattle.sas_reader.specs.Devices.{ReadsAll, ValueOf, TextOf};
+ghost use Rattle.sas_reader.specs.Format.{ReadsAs};
+ghost use Rattle.sas_reader.specs.Limit.{most_bytes};
 ghost use Rattle.sas_plan_file.specs.PlanFormat.{plan_format};
 
 use crate::plan_machine::PlanMachine;
@@ -8,7 +10,7 @@ use crate::plan_text::PlanText;
 use sas_core::Plan;
 use sas_flat::FlatPlan;
 use sas_lines::Watched;
-use sas_reader::{Fault, LIMIT, read_all, read_all_large};
+use sas_reader::{Fault, Kind, LIMIT, Reader, read_all, read_all_large};
 use std::alloc::Global;
 use std::io::Read;
 
@@ -32,6 +34,17 @@ pub fn read_flat_plan<R: Read>(alloc: Global, reader: &mut Watched<R>) -> Result
 {
     let machine = read_all_large(alloc, PlanMachine::new_flat(alloc), LIMIT, reader)?;
     Ok(machine.into_flat_plan())
+}
+
+/// Reads a plan from bytes that are all at hand, as `read_flat_plan` does from a device. It takes no memory for pieces of them.
+pub fn flat_plan_of(alloc: Global, bytes: &[u8]) -> Result<FlatPlan, Fault>
+    ensures read { IfOk result (λ plan. ReadsAs plan_format most_bytes bytes.now (Ok plan)) }
+    ensures fault { IfErr result (λ f. f.kind ≢ Kind.Memory
+        → ReadsAs plan_format most_bytes bytes.now (Err f)) }
+{
+    let mut reader = Reader::new(alloc, PlanMachine::new_flat(alloc), LIMIT);
+    reader.feed(bytes)?;
+    Ok(reader.finish()?.into_flat_plan())
 }
 
 /// Reads a plan from a device as `read_plan` does, in pieces of at most 65,536 bytes, and returns its text: its lines, each

@@ -1,11 +1,13 @@
 -- A task file that is refused as it is opened, and a plan file as it is judged, by what was read of known bytes.
-use Rattle.std.proofs.Common.{◌≡◌, ℕ, List, codes, Option, Some, None, Result, Ok, Err}
+use Rattle.std.proofs.Common.{◌≡◌, ◌≢◌, ℕ, List, codes, Option, Some, None, Result, Ok, Err}
 use Rattle.std.specs.Prelude.{IfOk}
 use Rattle.sas_core.specs.declared.parts.Parts.{Parts}
 use Rattle.sas_lines.specs.Device.{Device}
 use Rattle.sas_reader.specs.declared.fault.Fault.{Fault}
 use Rattle.sas_reader.specs.declared.fault.Kind.TheVariants as kinds
 use Rattle.sas_reader.specs.Devices.{ValueOf, ReadsAll}
+use Rattle.sas_reader.specs.Format.{ReadsAs}
+use Rattle.sas_reader.specs.Limit.{most_bytes}
 use Rattle.sas_reader.proofs.Known.{known_fault}
 use Rattle.sas_plan_file.specs.PlanFormat.{plan_format}
 use Rattle.sas_task_format.specs.TaskFormat.{task_format}
@@ -28,10 +30,10 @@ module _ {D : Type 0} (left : D → Option (List ℕ)) (old new : Device D) (b :
     pub opens_long : f.kind ≡ kinds.TooLong → CheckOut b None
     opens_long long = file_too_long task_format (codes "task") CheckAnswer b f long (known_fault left task_format (ValueOf task_format) old new f b h known)
 
-  module _ (p : Parts) (f : Fault) (h : ReadsAll left plan_format (ValueOf plan_format) old new (Err f)) where
-    pub judged_refused : (r : Result Told ToolFault) → IfOk r (λ told. refusal (codes "plan") f ≡ Some (output_told told)) → IfOk r (λ told. VerdictOut VerdictAnswer p b (Some (output_told told)))
-    judged_refused (Ok told) is = file_refused plan_format (codes "plan") (VerdictAnswer p) b f (output_told told) is (known_fault left plan_format (ValueOf plan_format) old new f b h known)
-    judged_refused (Err why) is = tt
+module _ (b : List ℕ) (p : Parts) (f : Fault) (fault : f.kind ≢ kinds.Memory → ReadsAs plan_format most_bytes b (Err f)) where
+  pub judged_refused : (r : Result Told ToolFault) → IfOk r (λ told. refusal (codes "plan") f ≡ Some (output_told told)) → IfOk r (λ told. VerdictOut VerdictAnswer p b (Some (output_told told)))
+  judged_refused (Ok told) is = file_refused plan_format (codes "plan") (VerdictAnswer p) b f (output_told told) is (λ memory read. fault memory)
+  judged_refused (Err why) is = tt
 
-    pub judged_long : f.kind ≡ kinds.TooLong → VerdictOut VerdictAnswer p b None
-    judged_long long = file_too_long plan_format (codes "plan") (VerdictAnswer p) b f long (known_fault left plan_format (ValueOf plan_format) old new f b h known)
+  pub judged_long : f.kind ≡ kinds.TooLong → VerdictOut VerdictAnswer p b None
+  judged_long long = file_too_long plan_format (codes "plan") (VerdictAnswer p) b f long (λ memory read. fault memory)

@@ -11,7 +11,7 @@ use sas_flat::FlatTask;
 use sas_lines::Watched;
 use sas_meaning::Layered;
 use sas_output::{Told, ToolFault};
-use sas_plan_file::read_flat_plan;
+use sas_plan_file::flat_plan_of;
 use sas_requests::refuse_file;
 use sas_run::Held;
 use sas_task_reader::read_flat_task;
@@ -62,8 +62,7 @@ pub fn judge_bytes(
     ensures long { IsErrOf result ToolFault.TooLong → VerdictOut VerdictAnswer held.old plan.now None }
     ensures same { held.new ≡ held.old }
 {
-    let mut device = Watched::new(plan);
-    match read_flat_plan(alloc, &mut device) {
+    match flat_plan_of(alloc, plan) {
         Ok(read) => Ok(answer_by(alloc, held, &read)?),
         Err(fault) => refuse_file(alloc, "plan", fault),
     }
