@@ -29,11 +29,11 @@ impl Change {
 /// A grounded task. Everything that interprets a task reads it through these calls. The parts of a task file that the task
 /// represents are the value `says`. Variables, operators, effects, rules and groups are named by their place, from 0 on.
 pub trait Grounded {
-    ghost use Rattle.std.specs.Prelude.{◌≡◌, ◌<◌, length, slice_index};
+    ghost use Rattle.std.specs.Prelude.{◌≡◌, ◌<◌, length, slice_index, IfSome};
     ghost use Rattle.sas_core.specs.declared.parts.Parts.{Parts};
     ghost use Rattle.sas_core.specs.Grounded.{operator_at, effect_at, rule_at};
     ghost use Rattle.sas_core.specs.Grounded.{group_at};
-    ghost use Rattle.sas_core.specs.Changes.{effect_change, rule_change};
+    ghost use Rattle.sas_core.specs.Changes.{effect_change, plain_effects, rule_change};
     ghost use Rattle.sas_core.specs.Tasks.{cost_of};
     ghost use Rattle.sas_core.specs.Variables.{range_of, layer_of};
     ghost use Rattle.sas_core.specs.WellRanged.{WellRanged};
@@ -120,6 +120,17 @@ pub trait Grounded {
         requires effect { effect < length (operator_at (says self.now) operator).effects }
         ensures { result
             ≡ effect_change (effect_at (operator_at (says self.now) operator) effect) };
+
+    /// Returns what the operator's effects change, in order, if none of them has a condition and a task stores the changes one after
+    /// another. A step is made faster by them. A task need not have them: the calls above say the same.
+    fn plain_changes(&self, operator: u32) -> Option<&[Change]>
+        requires { operator < length (says self.now).operators }
+        ensures { IfSome result (λ changes.
+            (operator_at (says self.now) operator).effects ≡ plain_effects changes.now) }
+    {
+        let _operator = operator;
+        None
+    }
 
     /// Returns the conditions of the rule.
     fn rule_conditions(&self, rule: u32) -> &[Fact]

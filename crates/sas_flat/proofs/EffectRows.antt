@@ -1,13 +1,15 @@
 -- Effects in columns: the effect at a place, one effect more, and fewer.
 use Rattle.std.proofs.Common.{◌≡◌, ℕ, zero, suc, ◌+◌, ◌-◌, ◌<◌, ◌≤◌, List, [], ◌∷◌, ◌++◌, length, take, replicate, get_or, Result, Ok, Err, OnErr, refl, sym, ap, ◌∙◌, arith, append-nil, append_assoc, length-append}
-use Rattle.std.proofs.lemmas.List.{length-take-le, length-replicate, get_or-take, get_or-append-add}
+use Rattle.std.specs.Prelude.{slice_range, drop}
+use Rattle.std.proofs.lemmas.List.{length-take-le, length-replicate, get_or-take, get_or-append-add, take-append-drop, take-map}
 use Rattle.std.proofs.Math.ListN.{get_or-append}
-use Rattle.std.proofs.Math.Seq.{get_or-append_seam}
+use Rattle.std.proofs.Math.Seq.{get_or-append_seam, drop-append_seam}
 use Rattle.sas_core.specs.declared.grounded.Change.{Change}
 use Rattle.sas_core.specs.declared.parts.Fact.{Fact}
 use Rattle.sas_core.specs.declared.parts.Effect.{Effect}
 use Rattle.sas_lists.specs.Table.{table}
-use Rattle.sas_flat.specs.Effects.{effect, plain_effects, change_in, effects_of, effect_in}
+use Rattle.sas_core.specs.Changes.{plain_effect, plain_effects}
+use Rattle.sas_flat.specs.Effects.{effect, change_in, effects_of, effect_in}
 use Rattle.sas_lists.proofs.Tables.{length-table, table_same, table_none, table_more, table_append, get_or-table, take-table}
 
 pub no_effect : (cs : List Change) (ds : List (List Fact)) → cs ≡ [] → effects_of cs ds ≡ []
@@ -77,6 +79,22 @@ plain_more more cs ds fits =
     ∙ sym (effects_filled (cs ++ more) all (length more))
     ∙ plain_behind more cs all (filled_length cs ds k fits refl)
     ∙ ap (λ l. l ++ plain_effects more) (effects_filled cs ds k)
+
+-- effects of which none has conditions, nor one behind them
+pub plain_range : (cs : List Change) (ds : List (List Fact)) (start end : ℕ) → length ds ≤ start → start ≤ length cs
+    → slice_range (effects_of cs ds) start end ≡ plain_effects (slice_range cs start end)
+plain_range cs ds start end none fits =
+    let front = take start cs in
+    let behind = drop start cs in
+    let many : length front ≡ start = length-take-le start cs fits in
+    let split : effects_of cs ds ≡ effects_of front ds ++ plain_effects behind =
+        ap (λ l. effects_of l ds) (sym (take-append-drop start cs)) ∙ plain_more behind front ds (omega (arith, none, many)) in
+    let count : length (effects_of front ds) ≡ start = length-table (length front) _ ∙ many in
+    let rest : drop start (effects_of cs ds) ≡ plain_effects behind =
+        ap (λ l. drop start l) split
+        ∙ ap (λ n. drop n (effects_of front ds ++ plain_effects behind)) (sym count)
+        ∙ drop-append_seam (effects_of front ds) (plain_effects behind) in
+    ap (λ l. take (end - start) l) rest ∙ take-map plain_effect (end - start) behind
 
 -- one effect more, where a list of conditions stands at its place
 pub filled_more : (cs : List Change) (ds : List (List Fact)) (k : ℕ) (c : Change) (d : List Fact) → length ds ≤ length cs → k ≡ length cs - length ds

@@ -1,5 +1,5 @@
 -- Effects in columns: what each changes, and its conditions.
-use Rattle.std.specs.Prelude.{ℕ, List, [], length, map, slice_index_or, None}
+use Rattle.std.specs.Prelude.{ℕ, List, [], length, slice_index_or, None}
 use Rattle.sas_core.specs.declared.grounded.Change.{Change}
 use Rattle.sas_core.specs.declared.parts.Fact.{Fact}
 use Rattle.sas_core.specs.declared.parts.Effect.{Effect}
@@ -8,14 +8,6 @@ use Rattle.sas_lists.specs.Table.{table}
 -- the effect with this change and these conditions
 abbrev pub effect : Change → List Fact → Effect
 effect c conditions = record { conditions = conditions; var = c.var; old = c.old; new = c.new }
-
--- the effect that makes this change, without conditions
-abbrev pub plain_effect : Change → Effect
-plain_effect change = effect change []
-
--- the effects that make these changes without conditions
-abbrev pub plain_effects : List Change → List Effect
-plain_effects changes = map plain_effect changes
 
 -- the change at this place; behind the last change, one that sets variable 0 to value 0
 abbrev pub change_in : List Change → ℕ → Change

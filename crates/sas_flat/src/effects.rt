@@ -1,8 +1,9 @@
 // Effects in a few blocks of memory.
-ghost use Rattle.std.specs.Prelude.{◌≡◌, ◌<◌, ◌≤◌, [], ◌∷◌, ◌++◌, length, take, OnOk, OnErr};
+ghost use Rattle.std.specs.Prelude.{◌≡◌, ◌<◌, ◌≤◌, [], ◌∷◌, ◌++◌, length, take, slice_range, IfSome, OnOk, OnErr};
 ghost use Rattle.sas_core.specs.Grounded as grounded;
 ghost use Rattle.sas_core.specs.Changes as changes;
-ghost use Rattle.sas_flat.specs.Effects.{effect, plain_effects, effect_in};
+ghost use Rattle.sas_core.specs.Changes.{plain_effects};
+ghost use Rattle.sas_flat.specs.Effects.{effect, effect_in};
 
 use sas_core::{Change, Fact};
 use sas_lists::Lists;
@@ -66,6 +67,21 @@ impl Effects {
             self.conditions.get(index)
         } else {
             &[]
+        }
+    }
+
+    /// Returns what the effects of these places change, if none of them, nor of those behind them, has a condition.
+    #[inline(always)]
+    pub(crate) fn plain(&self, start: usize, end: usize) -> Option<&[Change]>
+        requires order { start ≤ end }
+        requires end { end ≤ length self.now }
+        ensures { IfSome result (λ changes.
+            slice_range self.now start end ≡ plain_effects changes.now) }
+    {
+        if start < self.conditions.len() {
+            None
+        } else {
+            Some(&self.changes.as_slice()[start..end])
         }
     }
 

@@ -1,8 +1,9 @@
 // Operators in a few blocks of memory.
-ghost use Rattle.std.specs.Prelude.{◌≡◌, ◌<◌, ◌≤◌, [], ◌∷◌, ◌++◌, length, take, OnOk, OnErr};
+ghost use Rattle.std.specs.Prelude.{◌≡◌, ◌<◌, ◌≤◌, [], ◌∷◌, ◌++◌, length, take, IfSome, OnOk, OnErr};
 ghost use Rattle.sas_core.specs.Grounded as grounded;
 ghost use Rattle.sas_core.specs.Changes as changes;
-ghost use Rattle.sas_flat.specs.Effects.{effect_in, plain_effects};
+ghost use Rattle.sas_core.specs.Changes.{plain_effects};
+ghost use Rattle.sas_flat.specs.Effects.{effect_in};
 ghost use Rattle.sas_flat.specs.Growing.{Kept};
 ghost use Rattle.sas_lists.specs.Lists.{start_of};
 ghost use Rattle.sas_flat.specs.Operators.{operator, operator_in, name_ends, prevail_ends, effect_ends, end_head};
@@ -235,6 +236,18 @@ impl Operators {
         self.columns
             .effects
             .change(self.columns.before(operator).effects + effect)
+    }
+
+    /// Returns what the operator's effects change, if none of them, nor of those of the operators behind it, has a condition.
+    #[inline(always)]
+    pub(crate) fn plain_changes(&self, operator: usize) -> Option<&[Change]>
+        requires { operator < length self.now }
+        ensures { IfSome result (λ changes.
+            (operator_in self.now operator).effects ≡ plain_effects changes.now) }
+    {
+        let start = self.columns.before(operator).effects;
+        let end = self.columns.heads[operator].effects;
+        self.columns.effects.plain(start, end)
     }
 
     /// Returns the conditions of the operator's effect.

@@ -128,6 +128,10 @@ impl Grounded for FlatTask {
             .change(operator as usize, effect as usize)
     }
 
+    fn plain_changes(&self, operator: u32) -> Option<&[Change]> {
+        self.columns.operators.plain_changes(operator as usize)
+    }
+
     fn rule_conditions(&self, rule: u32) -> &[Fact] {
         self.columns.rules.conditions(rule as usize)
     }

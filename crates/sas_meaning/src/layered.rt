@@ -166,6 +166,10 @@ impl<T: Grounded> Grounded for Layered<T> {
         self.task.effect_change(operator, effect)
     }
 
+    fn plain_changes(&self, operator: u32) -> Option<&[Change]> {
+        self.task.plain_changes(operator)
+    }
+
     fn rule_conditions(&self, rule: u32) -> &[Fact] {
         self.task.rule_conditions(rule)
     }

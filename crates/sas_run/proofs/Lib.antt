@@ -10,6 +10,7 @@ pub mod Ranges
 pub mod Missed
 pub mod Giving
 pub mod Gone
+pub mod PlainSteps
 pub mod NamedAlike
 pub mod Going
 pub mod PlanStates

@@ -10,5 +10,6 @@ pub mod StepNames
 pub mod Chains
 pub mod Running
 pub mod Given
+pub mod PlainSteps
 pub mod Walking
 pub mod Courses

@@ -6,7 +6,7 @@ ghost use Rattle.sas_run.specs.Verdicts.{IsFaultOf};
 ghost use Rattle.sas_run.specs.Running.{StopsAt, IsLaterIfAny, IsJudged};
 ghost use Rattle.sas_run.specs.Courses.{SetsOut, Continues, next_name};
 
-use crate::plan_check::{Found, PlanFault, judge};
+use crate::plan_check::{PlanFault, judge};
 use crate::runner::later_applicable;
 use crate::step_operators::StepOperators;
 use crate::walk::{NextStep, Walk, choose, judge_last, make};
@@ -168,10 +168,7 @@ impl<'t, 'p, E: Settle<T> + Drop, T: Grounded, P: Stepwise> Course<'t, 'p, E, T,
         ensures fault { IfErr result (IsFaultOf self.old.task self.old.plan) }
         ensures back { SetsOut self.old.task self.old.plan self.new }
     {
-        let found = Found {
-            firsts: self.operators.firsts(),
-            nexts: self.operators.nexts(),
-        };
+        let found = self.operators.found();
         let verdict = judge(
             self.layered,
             &mut self.walker,

@@ -11,6 +11,7 @@ mod looking_up;
 mod name_key;
 mod name_map;
 mod names;
+mod plain_steps;
 mod plan_check;
 mod runner;
 mod step_names;

@@ -122,15 +122,11 @@ pub fn check_once<E: Settle<T> + Drop, T: Grounded, P: Stepwise>(
         return Err(PlanFault::Memory);
     };
     let operators = StepOperators::new(alloc, layered, plan)?;
-    let found = Found {
-        firsts: operators.firsts(),
-        nexts: operators.nexts(),
-    };
-    check_found(alloc, layered, &mut walker, plan, found)
+    check_found(alloc, layered, &mut walker, plan, operators.found())
 }
 
 /// Checks whether the plan is valid, where it is found what the names of its steps mean.
-fn check_found<E: Settle<T> + Drop, T: Grounded, P: Stepwise>(
+pub fn check_found<E: Settle<T> + Drop, T: Grounded, P: Stepwise>(
     alloc: Global,
     layered: &Layered<T>,
     walker: &mut Walker<E>,
@@ -218,6 +214,7 @@ fn go_through<E: Settle<T> + Drop, T: Grounded, P: Stepwise>(
 }
 
 /// Makes the next step, from the state that the evaluator settled last, and returns its operator.
+#[inline(always)]
 fn go_on<E: Settle<T> + Drop, T: Grounded>(
     layered: &Layered<T>,
     walker: &mut Walker<E>,

@@ -11,6 +11,7 @@ ghost use Rattle.sas_run.specs.Running.{IsChoice, IsFirstChosen, IsLaterIfAny, I
 
 use crate::holding::first_missed;
 use crate::names::Names;
+use crate::plain_steps::old_values_hold;
 use crate::steps::{StepFault, missed_precondition};
 use crate::walker::{Walker, initial_of, step_on, walker_for};
 use sas_core::{Grounded, Task};
@@ -156,19 +157,26 @@ impl<'a, E: Settle<T> + Drop, T: Grounded> Runner<'a, E, T> {
 }
 
 /// Returns whether the operator's preconditions hold.
+#[inline(always)]
 fn is_applicable<T: Grounded>(task: &Layered<T>, state: &State, operator: u32) -> bool
     requires operator { operator < length task.now.operators }
     requires state { IsState task.now.variables state.now }
     ensures { IsTrue result ↔ IsApplicable state.now (operator_at task.now operator) }
 {
-    match missed_precondition(task, operator, state) {
-        Some(_) => false,
-        None => true,
-    }
+    let Some(changes) = task.plain_changes(operator) else {
+        return match missed_precondition(task, operator, state) {
+            Some(_) => false,
+            None => true,
+        };
+    };
+    // By its contract the task is well ranged and layered.
+    let _ = task.task();
+    state.holds_all(task.prevail(operator)) && old_values_hold(state, changes)
 }
 
 /// Returns the first operator that is applicable, of this one and those behind it that have its name. `nexts` has for each of
 /// them the next one.
+#[inline(always)]
 pub fn first_applicable<T: Grounded>(
     task: &Layered<T>,
     nexts: &[Option<u32>],

@@ -6,6 +6,7 @@ ghost use Rattle.sas_run.specs.Names.{AreFirsts};
 use crate::chains::Chains;
 use crate::looking_up::first_operators;
 use crate::name_map::NameMap;
+use crate::plan_check::Found;
 use crate::step_names::StepNames;
 use sas_core::{Grounded, Stepwise};
 use sas_meaning::Layered;
@@ -29,10 +30,10 @@ impl StepOperators {
         ensures firsts { IfOk result (λ o. AreFirsts layered.now (P.says plan.now).steps o.firsts.items) }
         ensures chains { IfOk result (λ o. HaveChains layered.now o.firsts.items o.next.items) }
     {
-        if plan.steps() < layered.operators() as usize / 2 {
-            StepOperators::by_step_names(alloc, layered, plan)
-        } else {
+        if is_long(layered, plan) {
             StepOperators::by_operator_names(alloc, layered, plan)
+        } else {
+            StepOperators::by_step_names(alloc, layered, plan)
         }
     }
 
@@ -55,7 +56,7 @@ impl StepOperators {
     }
 
     /// Looks up the names of the plan's steps among those of the operators.
-    fn by_operator_names<T: Grounded, P: Stepwise>(
+    pub fn by_operator_names<T: Grounded, P: Stepwise>(
         alloc: Global,
         layered: &Layered<T>,
         plan: &P,
@@ -79,10 +80,27 @@ impl StepOperators {
         self.firsts.as_slice()
     }
 
+    /// Returns what the names of the steps mean. It takes no memory.
+    pub fn found(&self) -> Found<'_>
+        ensures firsts { result.firsts.now ≡ self.now.firsts.items }
+        ensures nexts { result.nexts.now ≡ self.now.next.items }
+    {
+        Found {
+            firsts: self.firsts.as_slice(),
+            nexts: self.next.as_slice(),
+        }
+    }
+
     /// Returns for each operator of the name of one of these the next one of its name. It takes no memory.
     pub fn nexts(&self) -> &[Option<u32>]
         ensures { result.now ≡ self.now.next.items }
     {
         self.next.as_slice()
     }
+}
+
+/// Returns whether the plan has half as many steps as the task has operators, or more. Then a map of all operators' names takes no
+/// longer than the steps do.
+pub fn is_long<T: Grounded, P: Stepwise>(layered: &Layered<T>, plan: &P) -> bool {
+    plan.steps() >= layered.operators() as usize / 2
 }

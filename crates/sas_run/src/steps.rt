@@ -1,13 +1,14 @@
 // One step: from a state by an operator to the next state, before it is settled.
 ghost use Rattle.std.specs.Prelude.{◌≡◌, ℕ, ◌<◌, ◌≤◌, [], length, IsTrue, IsFalse, IfSome, IfNone, OnOk, OnErr};
-ghost use Rattle.std.specs.Prelude.{slice_index, slice_set, vec_capacity};
+ghost use Rattle.std.specs.Prelude.{slice_index, vec_capacity};
 ghost use Rattle.sas_core.specs.Grounded.{operator_at};
 ghost use Rattle.sas_core.specs.Variables.{IsState};
 ghost use Rattle.sas_meaning.specs.Following.{HaveGone};
 ghost use Rattle.sas_run.specs.Plans.{IsApplicable};
 ghost use Rattle.sas_run.specs.Running.{IsFirstConflict, IsStepFault, Applies};
-ghost use Rattle.sas_run.specs.Given.{IsClean, IsGiven, IsGivenTo, value_after, GivesValue, GivesOther, Replaces};
+ghost use Rattle.sas_run.specs.Given.{IsClean, IsGiven, IsGivenTo, value_after, GivesValue, GivesOther};
 
+use crate::plain_steps::{make_changes, plain_step, replace};
 use sas_core::{Fact, Grounded, Items};
 use sas_meaning::{Layered, Preconditions, State};
 
@@ -45,7 +46,37 @@ pub fn missed_precondition<T: Grounded>(
 /// Applies the effects that fire to the state, where the preconditions hold. If two of these effects conflict, leaves the
 /// state and `gone` as they were, and returns the fault. `given` is used meanwhile, and holds no value in the end. `gone` then
 /// holds the facts that the effects took away.
+#[inline(always)]
 pub fn apply<T: Grounded>(
+    task: &Layered<T>,
+    operator: u32,
+    given: &mut Items<Option<u32>>,
+    gone: &mut Vec<Fact>,
+    state: &mut State,
+) -> Result<(), StepFault>
+    requires operator { operator < length task.now.operators }
+    requires state { IsState task.now.variables state.old }
+    requires applicable { IsApplicable state.old (operator_at task.now operator) }
+    requires clean { IsClean task.now given.old }
+    requires room { length (operator_at task.now operator).effects ≤ vec_capacity gone.old }
+    ensures applies { Applies task.now state.old operator state.new result }
+    ensures gone { OnOk result (HaveGone task.now gone.new.items state.old state.new) }
+    ensures same { OnErr result (gone.new ≡ gone.old) }
+    ensures clean { IsClean task.now given.new }
+    ensures room { vec_capacity gone.old ≤ vec_capacity gone.new }
+{
+    match plain_step(task, operator) {
+        Some(changes) => {
+            gone.clear();
+            make_changes(task, operator, changes, gone, state);
+            Ok(())
+        }
+        None => apply_given(task, operator, given, gone, state),
+    }
+}
+
+/// Applies the effects as `apply` does, whatever they are: notes what each of them gives, and then writes that into the state.
+fn apply_given<T: Grounded>(
     task: &Layered<T>,
     operator: u32,
     given: &mut Items<Option<u32>>,
@@ -160,21 +191,5 @@ fn write_given<T: Grounded>(
             replace(Fact { var, value }, gone, state);
             given.set(var as usize, None);
         }
-    }
-}
-
-/// Puts the fact into the state. If another one on its variable held, adds that one to `gone`, for which there is room.
-fn replace(fact: Fact, gone: &mut Vec<Fact>, state: &mut State)
-    requires exists { fact.var < length state.old }
-    requires room { length gone.old.items < vec_capacity gone.old }
-    ensures state { state.new ≡ slice_set state.old fact.var fact.value }
-    ensures gone { Replaces state.old fact gone.old.items gone.new.items }
-    ensures room { vec_capacity gone.old ≤ vec_capacity gone.new }
-{
-    let before = state.value(fact.var);
-    if before != fact.value {
-        let var = fact.var;
-        gone.push(Fact { var, value: before }).unwrap();
-        state.set(fact);
     }
 }

@@ -54,6 +54,7 @@ pub struct NextStep {
 
 /// Returns the operator that the next step means in the state. `nexts` has for each operator of its name the next
 /// one.
+#[inline(always)]
 pub fn choose<T: Grounded>(
     layered: &Layered<T>,
     nexts: &[Option<u32>],
@@ -77,6 +78,7 @@ pub fn choose<T: Grounded>(
 /// Makes the step of this number by its operator, which is applicable, from the state that the evaluator settled
 /// last. The walker then tells what the step changed. If the operator has no step, leaves the state as it was, and the walker
 /// tells what it told before.
+#[inline(always)]
 pub fn make<E: Settle<T> + Drop, T: Grounded>(
     layered: &Layered<T>,
     walker: &mut Walker<E>,

@@ -161,6 +161,7 @@ pub fn step_on<E: Settle<T> + Drop, T: Grounded>(
 /// Makes the step as `step_on` does, from the state that the evaluator settled last. What the step doesn't change is not
 /// settled anew, as far as the evaluator goes on from there. The walker then tells what the step changed. If there is no step,
 /// it tells what it told before.
+#[inline(always)]
 pub fn go_on_from<E: Settle<T> + Drop, T: Grounded>(
     layered: &Layered<T>,
     walker: &mut Walker<E>,

@@ -1,5 +1,5 @@
 -- All words and the rest are in both parts.
-use Rattle.std.proofs.Common.{◌≡◌, ℕ, ◌/◌, List, length, take, drop, ap, ◌∙◌, sym}
+use Rattle.std.proofs.Common.{◌≡◌, ap, ◌∙◌}
 use Rattle.std.proofs.lemmas.List.{take_all}
 use Rattle.std.specs.Prelude.{bit_xor}
 use Rattle.sas_run.specs.NameDigest.{digest_of, first_words, rest_of, rest_word, sum_with, mix_with, sum_of, mix_of}

@@ -1,8 +1,8 @@
 -- An operator that has another name is passed over.
-use Rattle.std.proofs.Common.{◌≡◌, ◌≢◌, get_or, None, Some, sym, ap, subst, ◌∙◌, true≢false, rules}
+use Rattle.std.proofs.Common.{◌≢◌, Some, sym, ◌∙◌, true≢false}
 use Rattle.std.specs.Cmp.Lexicographic.{bytes_decides}
 use Rattle.sas_core.specs.Grounded.{operator_at}
-use Rattle.sas_run.proofs.Alike.{LookedTo, look_goes_on, less_left, found_named}
+use Rattle.sas_run.proofs.Alike.{LookedTo, look_goes_on}
 use Rattle.sas_run.proofs.names.first_named.Goals as goal
 
 pub loop-next-preserved : goal.loop-next-preserved

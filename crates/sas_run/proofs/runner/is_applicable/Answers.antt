@@ -1,5 +1,51 @@
-use Rattle.std.proofs.Common.{rules}
+-- The prevail conditions, and the old values that effects without conditions require, are all preconditions.
+use Rattle.std.proofs.Common.{◌≡◌, Bool, true, false, ◌<◌, length, sym, subst, refl}
+use Rattle.std.specs.List.{All}
+use Rattle.std.specs.Prelude.{slice_index}
+use Rattle.sas_core.specs.declared.grounded.Change.{Change}
+use Rattle.sas_core.specs.declared.parts.Fact.{Fact}
+use Rattle.sas_core.specs.Grounded.{operator_at}
+use Rattle.sas_meaning.specs.States.{AllHold}
+use Rattle.sas_run.proofs.Ranges.{preconditions_within}
+use Rattle.sas_run.proofs.PlainSteps.{changes_within, met, prevail_met, olds_met, prevail_within}
 use Rattle.sas_run.proofs.runner.is_applicable.Goals as goal
 
-pub returns-in-Some : goal.returns-in-Some
-returns-in-Some g c = search rules
+must_be : (b : Bool) → (b ≡ false → ⊥) → b ≡ true
+must_be true not = refl
+must_be false not = absurd (not refl)
+
+pub holds_all-requires : goal.holds_all-requires
+holds_all-requires g c =
+    let p = c.args.task.now in
+    let o = operator_at p c.args.operator in
+    subst (λ n. All (λ (f : Fact). f.var < n) c.prevail.result.now) (sym c.requires.state.one_each)
+    (subst (All (λ (f : Fact). f.var < length p.variables)) (sym c.prevail.ensures)
+    (prevail_within c.args.state.now o c.in-Some.changes.now c.in-Some.ensures (length p.variables)
+    (preconditions_within p c.task.ensures.well_ranged c.args.operator c.requires.operator)))
+
+pub old_values_hold-requires : goal.old_values_hold-requires
+old_values_hold-requires g c =
+    let p = c.args.task.now in
+    subst (λ n. All (λ (x : Change). x.var < n) c.in-Some.changes.now) (sym c.requires.state.one_each)
+    (changes_within p c.args.operator c.requires.operator c.in-Some.changes.now c.in-Some.ensures c.task.ensures.well_ranged)
+
+pub returns-then-holds_all : goal.returns-then-holds_all
+returns-then-holds_all g c =
+    let p = c.args.task.now in
+    let o = operator_at p c.args.operator in
+    let s = c.args.state.now in
+    let hold : AllHold (slice_index s) o.prevail = subst (AllHold (slice_index s)) c.prevail.ensures (c.holds_all.ensures.0 c.if-holds_all.true) in (
+      (λ yes. met s o c.in-Some.changes.now c.in-Some.ensures hold (c.old_values_hold.ensures.yes yes)),
+      (λ can. must_be c.old_values_hold.result
+          (λ no. c.old_values_hold.ensures.no no (olds_met s o c.in-Some.changes.now c.in-Some.ensures can))),
+    )
+
+pub returns-else-holds_all : goal.returns-else-holds_all
+returns-else-holds_all g c =
+    let p = c.args.task.now in
+    let o = operator_at p c.args.operator in
+    let s = c.args.state.now in (
+      (λ yes. (let no = c.if-holds_all.false in absurd cc)),
+      (λ can. c.holds_all.ensures.1 (subst (AllHold (slice_index s)) (sym c.prevail.ensures)
+          (prevail_met s o c.in-Some.changes.now c.in-Some.ensures can))),
+    )

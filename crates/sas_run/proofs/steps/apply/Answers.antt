@@ -1,14 +1,9 @@
--- All that the effects give is written.
-use Rattle.std.proofs.Common.{rules}
+-- Changes that are made one after another are what the effects do.
 use Rattle.sas_core.specs.Grounded.{operator_at}
-use Rattle.sas_run.proofs.Giving.{applied}
+use Rattle.sas_run.proofs.PlainSteps.{applied_plainly}
 use Rattle.sas_run.proofs.steps.apply.Goals as goal
 
-pub returns-clause-applies : goal.returns-clause-applies
-returns-clause-applies g c =
-    let p = c.args.task.now in
-    applied p c.args.state.now (operator_at p c.args.operator) c.give_effects.new.given c.write_given.new.state
-    c.requires.applicable c.in_default.ensures.none c.write_given.ensures.state c.write_given.ensures.written
-
-pub take_back-requires-clause-given_to : goal.take_back-requires-clause-given_to
-take_back-requires-clause-given_to g c = search rules
+pub returns-in-Some-clause-applies : goal.returns-in-Some-clause-applies
+returns-in-Some-clause-applies g c =
+    applied_plainly c.args.task.now c.args.state.now (operator_at c.args.task.now c.args.operator) c.in-Some.changes.now
+    c.make_changes.new.gone.items c.make_changes.new.state c.requires.applicable c.in-Some.ensures c.make_changes.ensures.made

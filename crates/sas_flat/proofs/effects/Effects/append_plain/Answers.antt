@@ -1,5 +1,5 @@
 use Rattle.std.proofs.Common.{◌++◌, ap, ◌∙◌}
-use Rattle.sas_flat.specs.Effects.{plain_effects}
+use Rattle.sas_core.specs.Changes.{plain_effects}
 use Rattle.sas_flat.proofs.EffectRows.{plain_more}
 use Rattle.sas_flat.proofs.effects.Effects.append_plain.Goals as goal
 

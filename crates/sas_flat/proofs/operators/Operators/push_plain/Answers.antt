@@ -1,5 +1,5 @@
 use Rattle.std.proofs.Common.{◌∷◌, [], ◌++◌, ap, ◌∙◌}
-use Rattle.sas_flat.specs.Effects.{plain_effects}
+use Rattle.sas_core.specs.Changes.{plain_effects}
 use Rattle.sas_flat.specs.Operators.{operator}
 use Rattle.sas_flat.proofs.FoundOperators.{still_aligned, one_more}
 use Rattle.sas_flat.proofs.operators.Operators.push_plain.Goals as goal

@@ -1,5 +1,5 @@
 -- The operator comes first of its digest and of its name, and each behind it is followed as before.
-use Rattle.std.proofs.Common.{◌≡◌, ℕ, ◌+◌, List, nat_eq, Option, refl, sym, ap, subst, ◌∙◌}
+use Rattle.std.proofs.Common.{◌≡◌, ℕ, ◌+◌, List, nat_eq, refl, sym, ap, subst, ◌∙◌}
 use Rattle.indexmap.specs.IndexMap.{get}
 use Rattle.sas_core.specs.Grounded.{operator_at}
 use Rattle.sas_run.specs.NameDigest.{digest_of}

@@ -1,5 +1,5 @@
 -- What the map gives for the digest is the first operator whose name has it.
-use Rattle.std.proofs.Common.{◌≡◌, nat_eq, sym, ap, subst, ◌∙◌}
+use Rattle.std.proofs.Common.{nat_eq, sym, ap, subst, ◌∙◌}
 use Rattle.indexmap.specs.IndexMap.{get}
 use Rattle.sas_run.specs.NameDigest.{digest_of}
 use Rattle.sas_run.specs.NameTable.{IsNextAlike}

@@ -1,5 +1,5 @@
 -- The chains are those of the first operators that were found.
-use Rattle.std.proofs.Common.{ℕ, List, Option, sym, subst}
+use Rattle.std.proofs.Common.{ℕ, Option, sym, subst}
 use Rattle.std.specs.Global.{Vec}
 use Rattle.sas_run.specs.Chains.{HaveChains}
 use Rattle.sas_run.proofs.FoundSteps.{have_chains}

@@ -1,0 +1,250 @@
+-- What changes that are on different variables do, one after another.
+use Rattle.std.proofs.Common.{◌≡◌, ◌≢◌, ℕ, ◌+◌, ◌<◌, ◌≤◌, List, [], ◌∷◌, ◌++◌, length, get_or, set, Option, None, Some, refl, sym, ◌∙◌, ap, subst, inl, inr, arith}
+use Rattle.std.specs.Prelude.{filter_map, option_map}
+use Rattle.std.specs.List.{All, cons_option}
+use Rattle.std.proofs.lemmas.Bool.{cases_eq}
+use Rattle.std.proofs.lemmas.List.{get_or-set_same, get_or-set_other, get_or-map, length-map}
+use Rattle.std.proofs.lemmas.List.Elements.{All-nil, All-cons, All-head, All-tail, All-push, All-map, All-append, All-weaker, All-from_recursion}
+use Rattle.std.proofs.lemmas.List.Quantifiers.{all_pairs_push}
+use Rattle.sas_core.specs.declared.grounded.Change.{Change}
+use Rattle.sas_core.specs.declared.parts.Effect.{Effect}
+use Rattle.sas_core.specs.declared.parts.Fact.{Fact}
+use Rattle.sas_core.specs.declared.parts.Operator.{Operator}
+use Rattle.sas_core.specs.declared.parts.Parts.{Parts}
+use Rattle.sas_core.specs.Changes.{plain_effect, plain_effects}
+use Rattle.sas_core.specs.Grounded.{operator_at}
+use Rattle.sas_core.specs.Variables.{HasValue, IsState}
+use Rattle.sas_core.specs.WellRanged.{EffectFits, WellRanged}
+use Rattle.sas_meaning.specs.Following.{HaveGone}
+use Rattle.sas_meaning.specs.Layers.{IsBasic, IsLayered}
+use Rattle.sas_meaning.specs.States.{Holds, AllHold}
+use Rattle.sas_meaning.specs.Steps.{preconditions, old_fact, Fires}
+use Rattle.sas_meaning.proofs.Forced.{fact_within, state_set}
+use Rattle.sas_run.specs.Given.{Replaces}
+use Rattle.sas_run.specs.PlainSteps.{AreApart, AreMade, IsPlainStep, OldHolds}
+use Rattle.sas_run.specs.Running.{IsApplied}
+use Rattle.sas_run.proofs.Ranges.{no_effect, operator_fits}
+use Rattle.sas_run.proofs.NextStates.{effects_basic}
+use Rattle.sas_run.proofs.Gone.{gone_few, all_before, all_last}
+
+-- what stands behind the last change
+abbrev pub no_change : Change
+no_change = record { var = 0; old = None; new = 0 }
+
+-- none of the first n changes is on the variable
+abbrev pub Untouched : List Change → ℕ → ℕ → Type 0
+Untouched changes n var = (k : ℕ) (d : Change) → k < n → (get_or changes k d).var ≢ var
+
+-- the first n changes are made in s, which gives s'
+pub record MadeSoFar (p : Parts) (s : List ℕ) (changes : List Change) (n : ℕ) (gone : List Fact) (s' : List ℕ) : Type 0 where
+  pub state : IsState p.variables s'
+  pub set : (k : ℕ) (d : Change) → k < n → get_or s' (get_or changes k d).var 0 ≡ (get_or changes k d).new
+  pub kept : (var : ℕ) → Untouched changes n var → get_or s' var 0 ≡ get_or s var 0
+  pub lost : HaveGone p gone s s'
+  pub among : (var : ℕ) → Untouched changes n var → All (λ (f : Fact). f.var ≢ var) gone
+  pub few : length gone ≤ n
+
+none_gone : (p : Parts) (s : List ℕ) → HaveGone p [] s s
+none_gone p s = record {
+  basic = All-nil (λ (f : Fact). IsBasic p f.var);
+  exist = All-nil (λ (f : Fact). f.var < length p.variables);
+  held = All-nil (Holds (λ v. get_or s v 0));
+  once = λ i j d lt below. absurd (omega arith);
+  others = λ var _. refl;
+}
+
+pub nothing_made : (p : Parts) (s : List ℕ) (changes : List Change) → IsState p.variables s → MadeSoFar p s changes 0 [] s
+nothing_made p s changes state = record {
+  state = state;
+  set = λ k d lt. absurd (omega arith);
+  kept = λ var _. refl;
+  lost = none_gone p s;
+  among = λ var _. All-nil (λ (f : Fact). f.var ≢ var);
+  few = omega arith;
+}
+
+pub all_made : (p : Parts) (s : List ℕ) (changes : List Change) (gone : List Fact) (s' : List ℕ) → MadeSoFar p s changes (length changes) gone s'
+    → AreMade p s changes gone s'
+all_made p s changes gone s' made = record {
+  state = made.state;
+  set = λ k d lt. made.set k d lt;
+  kept = λ var not. made.kept var (λ k d lt. not k d lt);
+  lost = made.lost;
+}
+
+-- one change more, on another variable than those before it
+module _ (p : Parts) (s s' : List ℕ) (changes : List Change) (n : ℕ) (gone : List Fact) (made : MadeSoFar p s changes n gone s') (apart : AreApart changes) (some : n < length changes)
+    (change : Change) (at : (d : Change) → get_or changes n d ≡ change) (exists : change.var < length p.variables) (fits : HasValue p.variables change.var change.new) (basic : IsBasic p change.var) where
+  fresh : Untouched changes n change.var
+  fresh k d lt same = apart k n d lt some (same ∙ ap (λ (c : Change). c.var) (sym (at d)))
+
+  in_state : change.var < length s'
+  in_state = let one_each = made.state.one_each in omega arith
+
+  others_than : All (λ (f : Fact). f.var ≢ change.var) gone
+  others_than = made.among change.var fresh
+
+  was : get_or s' change.var 0 ≡ get_or s change.var 0
+  was = made.kept change.var fresh
+
+  now_set : (k : ℕ) (d : Change) → k < n + 1 → get_or (set s' change.var change.new) (get_or changes k d).var 0 ≡ (get_or changes k d).new
+  now_set k d lt = elim (cases_eq k n) [
+    | inl e ↦ subst (λ (c : Change). get_or (set s' change.var change.new) c.var 0 ≡ c.new) (sym (ap (λ i. get_or changes i d) e ∙ at d)) (get_or-set_same s' change.var change.new 0 in_state)
+    | inr ne ↦ (let below : k < n = omega arith in get_or-set_other s' change.var (get_or changes k d).var change.new 0 (fresh k d below) ∙ made.set k d below)
+  ]
+
+  -- a variable that the changes so far and this one leave alone
+  fewer : (var : ℕ) → Untouched changes (n + 1) var → Untouched changes n var
+  fewer var not k d lt = not k d (omega arith)
+
+  another : (var : ℕ) → Untouched changes (n + 1) var → var ≢ change.var
+  another var not same = not n no_change (omega arith) (ap (λ (c : Change). c.var) (at no_change) ∙ sym same)
+
+  kept_value : get_or s' change.var 0 ≡ change.new → (var : ℕ) → get_or (set s' change.var change.new) var 0 ≡ get_or s' var 0
+  kept_value same var = elim (cases_eq var change.var) [
+    | inl e ↦ ap (λ x. get_or (set s' change.var change.new) x 0) e ∙ get_or-set_same s' change.var change.new 0 in_state ∙ sym same ∙ ap (λ x. get_or s' x 0) (sym e)
+    | inr ne ↦ get_or-set_other s' change.var var change.new 0 ne
+  ]
+
+  abbrev taken : Fact
+  taken = record { var = change.var; value = get_or s' change.var 0 }
+
+  gone_now : (gone' : List Fact) → Replaces s' (record { var = change.var; value = change.new }) gone gone' → HaveGone p gone' s (set s' change.var change.new)
+  gone_now gone' (inl same) = subst (λ g. HaveGone p g s (set s' change.var change.new)) (sym same.1) (record {
+    basic = made.lost.basic;
+    exist = made.lost.exist;
+    held = made.lost.held;
+    once = made.lost.once;
+    others = λ var not. kept_value same.0 var ∙ made.lost.others var not;
+  })
+  gone_now gone' (inr other) = subst (λ g. HaveGone p g s (set s' change.var change.new)) (sym other.1) (record {
+    basic = All-push (λ (f : Fact). IsBasic p f.var) gone taken made.lost.basic basic;
+    exist = All-push (λ (f : Fact). f.var < length p.variables) gone taken made.lost.exist exists;
+    held = All-push (Holds (λ x. get_or s x 0)) gone taken made.lost.held (sym was);
+    once = all_pairs_push (λ (f g : Fact). f.var ≢ g.var) gone taken made.lost.once (λ k d lt. others_than k d lt);
+    others = λ var not.
+        (let apart : var ≢ change.var = λ e. (all_last (λ (g : Fact). g.var ≢ var) gone taken not) (sym e) in
+        get_or-set_other s' change.var var change.new 0 apart ∙ made.lost.others var (all_before (λ (g : Fact). g.var ≢ var) gone taken not));
+  })
+
+  among_now : (gone' : List Fact) → Replaces s' (record { var = change.var; value = change.new }) gone gone' → (var : ℕ) → Untouched changes (n + 1) var → All (λ (f : Fact). f.var ≢ var) gone'
+  among_now gone' (inl same) var not = subst (All (λ (f : Fact). f.var ≢ var)) (sym same.1) (made.among var (fewer var not))
+  among_now gone' (inr other) var not = subst (All (λ (f : Fact). f.var ≢ var)) (sym other.1)
+      (All-push (λ (f : Fact). f.var ≢ var) gone taken (made.among var (fewer var not)) (λ same. another var not (sym same)))
+
+  pub one_more_made : (gone' : List Fact) → Replaces s' (record { var = change.var; value = change.new }) gone gone' → MadeSoFar p s changes (n + 1) gone' (set s' change.var change.new)
+  one_more_made gone' replaces = record {
+    state = state_set p s' change.var change.new made.state fits;
+    set = now_set;
+    kept = λ var not. get_or-set_other s' change.var var change.new 0 (another var not) ∙ made.kept var (fewer var not);
+    lost = gone_now gone' replaces;
+    among = among_now gone' replaces;
+    few = (let few = made.few in let more = gone_few s' (record { var = change.var; value = change.new }) gone gone' replaces in omega arith);
+  }
+
+-- ---- what they do is what the effects do
+
+module _ (o : Operator) (changes : List Change) (effects : o.effects ≡ plain_effects changes) where
+  -- what holds of each change as an effect holds of each effect
+  pub of_effects : (P : Effect → Type 0) → All (λ c. P (plain_effect c)) changes → All P o.effects
+  of_effects P each = subst (All P) (sym effects) (All-map P plain_effect changes each)
+
+  pub of_changes : (P : Effect → Type 0) → All P o.effects → All (λ c. P (plain_effect c)) changes
+  of_changes P each k d lt = subst P (get_or-map plain_effect changes k d no_effect lt)
+      (subst (All P) effects each k no_effect (omega (arith, lt, length-map changes plain_effect)))
+
+  pub effect_number : length o.effects ≡ length changes
+  effect_number = ap length effects ∙ length-map changes plain_effect
+
+-- they exist, and are on basic variables
+module _ (p : Parts) (operator : ℕ) (exists : operator < length p.operators) (changes : List Change) (effects : (operator_at p operator).effects ≡ plain_effects changes) where
+  pub changes_fit : WellRanged p → All (λ (c : Change). HasValue p.variables c.var c.new) changes
+  changes_fit ranged = of_changes (operator_at p operator) changes effects (λ (e : Effect). HasValue p.variables e.var e.new)
+      (All-weaker (EffectFits p.variables) (λ (e : Effect). HasValue p.variables e.var e.new) (λ e fits. fits.new) (operator_at p operator).effects
+      (All-from_recursion (EffectFits p.variables) (operator_at p operator).effects (operator_fits p ranged operator exists).effects.each))
+
+  pub changes_within : WellRanged p → All (λ (c : Change). c.var < length p.variables) changes
+  changes_within ranged = All-weaker (λ (c : Change). HasValue p.variables c.var c.new) (λ (c : Change). c.var < length p.variables)
+      (λ c fits. fact_within p c.var c.new fits) changes (changes_fit ranged)
+
+  pub changes_basic : IsLayered p → All (λ (c : Change). IsBasic p c.var) changes
+  changes_basic layered = of_changes (operator_at p operator) changes effects (λ (e : Effect). IsBasic p e.var) (effects_basic p operator layered exists)
+
+-- an effect without conditions fires
+fires : (s : List ℕ) (c : Change) → Fires s (plain_effect c)
+fires s c = All-nil (Holds (λ v. get_or s v 0))
+
+pub applied_plainly : (p : Parts) (s : List ℕ) (o : Operator) (changes : List Change) (gone : List Fact) (s' : List ℕ) → AllHold (λ v. get_or s v 0) (preconditions o)
+    → IsPlainStep o changes → AreMade p s changes gone s' → IsApplied p s o s'
+applied_plainly p s o changes gone s' applicable plain made =
+    let set_each = of_effects o changes plain.effects (λ (e : Effect). get_or s' e.var 0 ≡ e.new) made.set in
+    record {
+      applicable = applicable;
+      agree = λ k d lt j e lt' _ _ same. sym (set_each k d lt) ∙ ap (λ v. get_or s' v 0) same ∙ set_each j e lt';
+      state = made.state;
+      set = λ k d lt _. set_each k d lt;
+      kept = λ var not. made.kept var (λ k d lt. of_changes o changes plain.effects (λ (e : Effect). Fires s e → e.var ≢ var) not k d lt (fires s (get_or changes k d)));
+    }
+
+-- ---- the old values that changes require
+
+same_value : (a b : ℕ) → Some a ≡ Some b → a ≡ b
+same_value a b is = cc
+
+none_is_not : (value : ℕ) → None ≡ Some value → ⊥
+none_is_not value is = absurd cc
+
+one_old_holds : (s : List ℕ) (var : ℕ) (old : Option ℕ) (facts : List Fact) → ((value : ℕ) → old ≡ Some value → get_or s var 0 ≡ value)
+    → AllHold (λ v. get_or s v 0) facts → AllHold (λ v. get_or s v 0) (cons_option (option_map (λ (value : ℕ). record { var = var; value = value }) old) facts)
+one_old_holds s var None facts holds all = all
+one_old_holds s var (Some value) facts holds all = All-cons (Holds (λ v. get_or s v 0)) (record { var = var; value = value }) facts (holds value refl) all
+
+one_old_held : (s : List ℕ) (var : ℕ) (old : Option ℕ) (facts : List Fact) → AllHold (λ v. get_or s v 0) (cons_option (option_map (λ (value : ℕ). record { var = var; value = value }) old) facts)
+    → ((value : ℕ) → old ≡ Some value → get_or s var 0 ≡ value) × AllHold (λ v. get_or s v 0) facts
+one_old_held s var None facts all = ((λ value is. absurd (none_is_not value is)), all)
+one_old_held s var (Some old) facts all = (
+  (λ value is. All-head (Holds (λ v. get_or s v 0)) (record { var = var; value = old }) facts all ∙ same_value old value is),
+  All-tail (Holds (λ v. get_or s v 0)) (record { var = var; value = old }) facts all,
+)
+
+-- of a list in two parts
+all_front : {X : Type 0} (P : X → Type 0) (xs ys : List X) → All P (xs ++ ys) → All P xs
+all_front P [] ys h = All-nil P
+all_front P (x ∷ xs) ys h = All-cons P x xs (All-head P x (xs ++ ys) h) (all_front P xs ys (All-tail P x (xs ++ ys) h))
+
+all_behind : {X : Type 0} (P : X → Type 0) (xs ys : List X) → All P (xs ++ ys) → All P ys
+all_behind P [] ys h = h
+all_behind P (x ∷ xs) ys h = all_behind P xs ys (All-tail P x (xs ++ ys) h)
+
+-- the old values hold exactly where they do as facts
+pub olds_hold : (s : List ℕ) (changes : List Change) → All (OldHolds s) changes → AllHold (λ v. get_or s v 0) (filter_map old_fact (plain_effects changes))
+olds_hold s [] all = All-nil (Holds (λ v. get_or s v 0))
+olds_hold s (c ∷ changes) all = one_old_holds s c.var c.old (filter_map old_fact (plain_effects changes)) (All-head (OldHolds s) c changes all)
+    (olds_hold s changes (All-tail (OldHolds s) c changes all))
+
+pub olds_held : (s : List ℕ) (changes : List Change) → AllHold (λ v. get_or s v 0) (filter_map old_fact (plain_effects changes)) → All (OldHolds s) changes
+olds_held s [] all = All-nil (OldHolds s)
+olds_held s (c ∷ changes) all =
+    let both = one_old_held s c.var c.old (filter_map old_fact (plain_effects changes)) all in
+    All-cons (OldHolds s) c changes both.0 (olds_held s changes both.1)
+
+-- an operator's preconditions are its prevail conditions and these old values
+pub preconditions_are : (o : Operator) (changes : List Change) → o.effects ≡ plain_effects changes → preconditions o ≡ o.prevail ++ filter_map old_fact (plain_effects changes)
+preconditions_are o changes effects = ap (λ (es : List Effect). o.prevail ++ filter_map old_fact es) effects
+
+module _ (s : List ℕ) (o : Operator) (changes : List Change) (effects : o.effects ≡ plain_effects changes) where
+  pub met : AllHold (λ v. get_or s v 0) o.prevail → All (OldHolds s) changes → AllHold (λ v. get_or s v 0) (preconditions o)
+  met prevail olds = subst (AllHold (λ v. get_or s v 0)) (sym (preconditions_are o changes effects))
+      (All-append (Holds (λ v. get_or s v 0)) o.prevail (filter_map old_fact (plain_effects changes)) prevail (olds_hold s changes olds))
+
+  pub prevail_met : AllHold (λ v. get_or s v 0) (preconditions o) → AllHold (λ v. get_or s v 0) o.prevail
+  prevail_met all = all_front (Holds (λ v. get_or s v 0)) o.prevail (filter_map old_fact (plain_effects changes))
+      (subst (AllHold (λ v. get_or s v 0)) (preconditions_are o changes effects) all)
+
+  pub olds_met : AllHold (λ v. get_or s v 0) (preconditions o) → All (OldHolds s) changes
+  olds_met all = olds_held s changes (all_behind (Holds (λ v. get_or s v 0)) o.prevail (filter_map old_fact (plain_effects changes))
+      (subst (AllHold (λ v. get_or s v 0)) (preconditions_are o changes effects) all))
+
+  pub prevail_within : (n : ℕ) → All (λ (f : Fact). f.var < n) (preconditions o) → All (λ (f : Fact). f.var < n) o.prevail
+  prevail_within n all = all_front (λ (f : Fact). f.var < n) o.prevail (filter_map old_fact (plain_effects changes))
+      (subst (All (λ (f : Fact). f.var < n)) (preconditions_are o changes effects) all)

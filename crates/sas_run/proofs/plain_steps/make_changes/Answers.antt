@@ -1,0 +1,35 @@
+-- One change more is made.
+use Rattle.std.proofs.Common.{◌+◌, ◌<◌, length, get_or, set, sym, ap, ◌∙◌, subst, arith}
+use Rattle.std.proofs.lemmas.List.{get_or_default}
+use Rattle.sas_core.specs.declared.parts.Fact.{Fact}
+use Rattle.sas_run.specs.Given.{Replaces}
+use Rattle.sas_run.proofs.PlainSteps.{MadeSoFar, no_change, one_more_made, changes_fit, changes_within, changes_basic}
+use Rattle.sas_run.proofs.plain_steps.make_changes.Goals as goal
+
+pub replace-requires-clause-exists : goal.replace-requires-clause-exists
+replace-requires-clause-exists g c =
+    let p = c.args.task.now in
+    let n = c.loop-change.change-index in
+    let made = c.loop-change.invariant.made in
+    let one_each = made.state.one_each in
+    let within : (get_or c.args.changes.now n no_change).var < length p.variables = changes_within p c.args.operator c.requires.operator c.args.changes.now c.requires.plain.effects c.task.ensures.well_ranged n no_change c.loop-change-test.true in
+    subst (λ (f : Fact). f.var < length c.loop-change.state) (sym c.fact.ensures) (omega (arith, within, one_each))
+
+pub loop-change-preserved : goal.loop-change-preserved
+loop-change-preserved g c =
+    let p = c.args.task.now in
+    let changes = c.args.changes.now in
+    let n = c.loop-change.change-index in
+    let change = get_or changes n no_change in
+    let some = c.loop-change-test.true in
+    let effects = c.requires.plain.effects in
+    let more = one_more_made p c.args.state.now c.loop-change.state changes n c.loop-change.gone.items c.loop-change.invariant.made c.requires.plain.apart some change (λ d. get_or_default changes n d no_change some)
+    (changes_within p c.args.operator c.requires.operator changes effects c.task.ensures.well_ranged n no_change some)
+    (changes_fit p c.args.operator c.requires.operator changes effects c.task.ensures.well_ranged n no_change some)
+    (changes_basic p c.args.operator c.requires.operator changes effects c.task.ensures.layered n no_change some)
+    c.replace.new.gone.items (subst (λ f. Replaces c.loop-change.state f c.loop-change.gone.items c.replace.new.gone.items) c.fact.ensures c.replace.ensures.gone) in
+    let now = c.replace.ensures.state ∙ ap (λ (f : Fact). set c.loop-change.state f.var f.value) c.fact.ensures in
+    record {
+      made = subst (MadeSoFar p c.args.state.now changes (n + 1) c.replace.new.gone.items) (sym now) more;
+      room = (let before = c.loop-change.invariant.room in let after = c.replace.ensures.room in omega arith);
+    }

@@ -1,0 +1,8 @@
+-- The old values that the changes so far require hold.
+use Rattle.std.proofs.Common.{ℕ, ◌<◌, get_or}
+use Rattle.sas_core.specs.declared.grounded.Change.{Change}
+use Rattle.sas_run.specs.PlainSteps.{OldHolds}
+use Rattle.sas_run.proofs.plain_steps.old_values_hold.Given as goal
+
+abbrev pub invariant-loop-change : goal.invariant-loop-change
+invariant-loop-change l = (k : ℕ) (d : Change) → k < l.change-index → OldHolds l.state (get_or l.changes k d)

@@ -1,0 +1,14 @@
+-- All that the effects give is written.
+use Rattle.std.proofs.Common.{rules}
+use Rattle.sas_core.specs.Grounded.{operator_at}
+use Rattle.sas_run.proofs.Giving.{applied}
+use Rattle.sas_run.proofs.steps.apply_given.Goals as goal
+
+pub returns-clause-applies : goal.returns-clause-applies
+returns-clause-applies g c =
+    let p = c.args.task.now in
+    applied p c.args.state.now (operator_at p c.args.operator) c.give_effects.new.given c.write_given.new.state
+    c.requires.applicable c.in_default.ensures.none c.write_given.ensures.state c.write_given.ensures.written
+
+pub take_back-requires-clause-given_to : goal.take_back-requires-clause-given_to
+take_back-requires-clause-given_to g c = search rules
