@@ -1,6 +1,5 @@
-use Rattle.std.proofs.Common.{◌≡◌, ◌≤◌, length, sym, ap, ◌∙◌, arith, subst}
+use Rattle.std.proofs.Common.{◌≤◌, length, sym, ap, ◌∙◌, arith}
 use Rattle.std.specs.Prelude.{slice_range}
-use Rattle.sas_core.specs.Changes.{plain_effects}
 use Rattle.sas_flat.proofs.EffectRows.{effect_count, plain_range}
 use Rattle.sas_flat.proofs.effects.Effects.plain.Goals as goal
 

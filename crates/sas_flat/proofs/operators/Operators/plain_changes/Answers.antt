@@ -1,9 +1,9 @@
-use Rattle.std.proofs.Common.{◌≡◌, sym, ap, subst, ◌∙◌, arith}
-use Rattle.std.specs.Prelude.{slice_range, IfSome}
+use Rattle.std.proofs.Common.{◌≡◌, List, sym, ap, subst, ◌∙◌, arith}
+use Rattle.std.specs.Prelude.{slice_index, slice_range, IfSome}
+use Rattle.sas_flat.specs.Operators.{effect_ends}
 use Rattle.sas_core.specs.Changes.{plain_effects}
 use Rattle.sas_core.specs.declared.parts.Operator.{Operator}
 use Rattle.sas_core.specs.declared.parts.Effect.{Effect}
-use Rattle.std.specs.List.{List}
 use Rattle.sas_flat.specs.declared.operators.Head.{Head}
 use Rattle.sas_flat.proofs.FoundOperators.{as_many, found, end_is, ordered, within}
 use Rattle.sas_flat.proofs.operators.Operators.plain_changes.Goals as goal
@@ -27,6 +27,6 @@ returns c =
     let end = end_is columns c.args.self.now c.self.view_is c.args.operator c.requires (λ (h : Head). h.effects) c.index.result.now c.index.ensures in
     let range =
         are
-        ∙ ap (λ n. slice_range columns.effects n _) (sym c.before-start.ensures.effects)
+        ∙ ap (λ n. slice_range columns.effects n (slice_index (effect_ends columns.heads.items) c.args.operator)) (sym c.before-start.ensures.effects)
         ∙ ap (λ n. slice_range columns.effects c.before-start.result.effects n) end in
     subst (λ (effects : List Effect). IfSome c.plain.result (λ changes. effects ≡ plain_effects changes.now)) (sym range) c.plain.ensures
