@@ -23,7 +23,7 @@ use Rattle.sas_task_judge.specs.TaskJudge.{state_at, state_of, KnownTo, LeadsOn,
 use Rattle.sas_core.specs.declared.parts.Effect.{Effect}
 use Rattle.sas_lines.specs.FirstLines.{LineStandsFirst}
 use Rattle.sas_core.specs.declared.grounded.Change.{Change}
-use Rattle.sas_flat.specs.Effects.{plain_effect}
+use Rattle.sas_core.specs.Changes.{plain_effect}
 use Rattle.sas_task_line.specs.Ahead.{SpellsAhead}
 use Rattle.sas_task_line.specs.TaskRanges.{change_in, effect_in_ranges}
 use Rattle.sas_task_line.specs.TaskLine.{IsOfLine}

@@ -17,7 +17,7 @@ use Rattle.sas_task_format.proofs.TaskPlain.{Sayable, plain-line}
 use Rattle.sas_core.specs.declared.grounded.Change.{Change}
 use Rattle.sas_task_line.proofs.Digits.{digit_is, digit_more, digits_more}
 use Rattle.sas_task_line.specs.Ahead.{SpellsAhead, LineAhead, NumberAhead, SignedAhead, ChangeAhead}
-use Rattle.sas_flat.specs.Effects.{plain_effect}
+use Rattle.sas_core.specs.Changes.{plain_effect}
 
 -- ---- a line and its LF
 

@@ -7,7 +7,7 @@ use Rattle.sas_core.specs.declared.grounded.Change.{Change}
 use Rattle.sas_lines.specs.Lines.{text}
 use Rattle.sas_reader.specs.System.{IsPlain}
 use Rattle.sas_task_format.specs.TaskFormat.{TaskLine, name, number, fact, effect, line, TaskLineFits}
-use Rattle.sas_flat.specs.Effects.{plain_effect}
+use Rattle.sas_core.specs.Changes.{plain_effect}
 use Rattle.sas_task_line.specs.Sections.{spelled}
 use Rattle.sas_task_line.specs.TaskRanges.{fact_in_ranges, effect_in_ranges}
 

@@ -5,7 +5,7 @@ ghost use Rattle.std.specs.Fmt.{decimal};
 ghost use Rattle.sas_core.specs.Names.{IsName};
 ghost use Rattle.sas_task_format.specs.TaskFormat as format;
 ghost use Rattle.sas_task_line.specs.Ahead.{SpellsAhead, LineAhead, NumberAhead, SignedAhead, ChangeAhead};
-ghost use Rattle.sas_flat.specs.Effects.{plain_effect};
+ghost use Rattle.sas_core.specs.Changes.{plain_effect};
 
 use memchr::memchr2;
 use sas_core::{Change, Fact};

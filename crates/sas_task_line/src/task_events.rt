@@ -1,6 +1,6 @@
 // What a line of a task file holds.
 ghost use Rattle.std.specs.Prelude.{◌≡◌};
-ghost use Rattle.sas_flat.specs.Effects.{plain_effect};
+ghost use Rattle.sas_core.specs.Changes.{plain_effect};
 
 use sas_core::{Change, Effect, Fact, Items};
 use std::alloc::Global;
