@@ -100,6 +100,41 @@ fn place_long(piece: &mut [u8], at: usize, number: u64) -> Option<usize>
     place_behind_space(piece, at, digits)
 }
 
+/// Places a space and the number likewise, which has at most four digits.
+#[inline(always)]
+fn place_small(piece: &mut [u8], at: usize, number: u64) -> Option<usize>
+    requires at { at ≤ length piece.old }
+    requires small { number < 10000 }
+    ensures length { length piece.new ≡ length piece.old }
+    ensures places { PlacesOrLeaves piece.old piece.new at (32 ∷ decimal number) result }
+{
+    if number < 100 {
+        return place_short(piece, at, number);
+    }
+    let Some(behind_hundreds) = place_short(piece, at, number / 100) else {
+        return None;
+    };
+    place_pair(piece, behind_hundreds, number % 100)
+}
+
+/// Places a space and the number likewise, which has five to eight digits.
+fn place_middle(piece: &mut [u8], at: usize, number: u64) -> Option<usize>
+    requires at { at ≤ length piece.old }
+    requires large { 10000 ≤ number }
+    requires small { number < 100000000 }
+    ensures length { length piece.new ≡ length piece.old }
+    ensures places { PlacesOrLeaves piece.old piece.new at (32 ∷ decimal number) result }
+{
+    let hundreds = number / 100;
+    let Some(behind_ten_thousands) = place_small(piece, at, hundreds / 100) else {
+        return None;
+    };
+    let Some(behind_hundreds) = place_pair(piece, behind_ten_thousands, hundreds % 100) else {
+        return None;
+    };
+    place_pair(piece, behind_hundreds, number % 100)
+}
+
 /// Places a space and the number likewise. Most numbers have at most four digits, and these are written at once.
 #[inline(always)]
 fn place_number(piece: &mut [u8], at: usize, number: u64) -> Option<usize>
@@ -107,16 +142,13 @@ fn place_number(piece: &mut [u8], at: usize, number: u64) -> Option<usize>
     ensures length { length piece.new ≡ length piece.old }
     ensures places { PlacesOrLeaves piece.old piece.new at (32 ∷ decimal number) result }
 {
-    if number < 100 {
-        return place_short(piece, at, number);
+    if number < 10_000 {
+        return place_small(piece, at, number);
     }
-    if number >= 10_000 {
-        return place_long(piece, at, number);
+    if number < 100_000_000 {
+        return place_middle(piece, at, number);
     }
-    let Some(behind_hundreds) = place_short(piece, at, number / 100) else {
-        return None;
-    };
-    place_pair(piece, behind_hundreds, number % 100)
+    place_long(piece, at, number)
 }
 
 /// Places a space and the word likewise.

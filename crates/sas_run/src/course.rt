@@ -80,6 +80,13 @@ impl<'t, 'p, E: Settle<T> + Drop, T: Grounded, P: Stepwise> Course<'t, 'p, E, T,
         &self.walk.state
     }
 
+    /// Returns the operators of the steps so far. It takes no memory.
+    pub fn operators(&self) -> &[u32]
+        ensures { result.now ≡ self.now.operators }
+    {
+        self.walk.operators.as_slice()
+    }
+
     /// Returns the facts that the effects of the last step took away. It takes no memory.
     pub fn gone(&self) -> &[Fact]
         ensures { result.now ≡ self.now.gone }

@@ -12,7 +12,7 @@ use Rattle.sas_meaning.specs.Reachable.{IsInitial, Reachable, Initial, Next}
 use Rattle.sas_meaning.specs.Steps.{Agree, Step}
 use Rattle.sas_run.specs.declared.plan_check.PlanFault.{PlanFault}
 use Rattle.sas_run.specs.declared.plan_check.PlanFault.TheVariants.{Memory, NoOperator, NotApplicable, Conflict, GoalMissed, CostDiffers}
-use Rattle.sas_run.specs.Courses.{UnderWay, SetsOut, next_name}
+use Rattle.sas_run.specs.Courses.{UnderWay, SetsOut, Continues, GoesOnBy, next_name}
 use Rattle.sas_run.specs.Plans.{IsChosen, GoThrough, LeadsTo, IsValid}
 use Rattle.sas_run.specs.Running.{GoesOn, StopsAt, IsJudged}
 use Rattle.sas_run.proofs.Determined.{chosen_is_one, leads_on, leads_one_way, initial_is_one}
@@ -22,7 +22,7 @@ use Rattle.sas_lines.specs.Lines.{text}
 use Rattle.sas_reasons.specs.Runs.{Run, state_at, last_state}
 use Rattle.sas_reasons.specs.WhyPlan.{steps_before}
 use Rattle.sas_reasons.proofs.Runs.{some_run}
-use Rattle.sas_trace.specs.Passes.{MakesNext, MayMakeNext, HasMade, IsWay, IsEnding, StandsAt}
+use Rattle.sas_trace.specs.Passes.{MakesNext, HasMade, IsWay, IsEnding, StandsAt}
 use Rattle.sas_trace.specs.Trace.{step_line, change_lines, step_lines}
 
 -- ---- a step that goes on
@@ -36,12 +36,12 @@ stops_not p s name step operator next (GoalMissed index) stops on = absurd stops
 stops_not p s name step operator next (CostDiffers sum) stops on = absurd stops
 stops_not p s name step operator next Memory stops on = absurd stops
 
--- is made
-pub is_made : (p : Parts) (old new : UnderWay) (result : Result ℕ PlanFault) (operator : ℕ) (next : List ℕ) → old.task ≡ p → MayMakeNext old new result
+-- is made, by its operator
+pub is_continued : (p : Parts) (old new : UnderWay) (result : Result (Unit {0}) PlanFault) (operator : ℕ) (next : List ℕ) → old.task ≡ p → Continues old operator new result
     → GoesOn p old.state (next_name old) operator next → IsOk result
-is_made p old new (Ok made) operator next task may on = search rules
-is_made p old new (Err fault) operator next task may on =
-    absurd (stops_not old.task old.state (next_name old) (length old.operators + 1) operator next fault may.1 (subst (λ q. GoesOn q old.state (next_name old) operator next) (sym task) on))
+is_continued p old new (Ok made) operator next task continues on = search rules
+is_continued p old new (Err fault) operator next task continues on =
+    absurd (stops_not old.task old.state (next_name old) (length old.operators + 1) operator next fault continues.1 (subst (λ q. GoesOn q old.state (next_name old) operator next) (sym task) on))
 
 -- ---- the first pass
 
@@ -94,7 +94,7 @@ module _ (p : Parts) (plan : PlanParts) (k : ℕ) (course : UnderWay) (has : Has
 
   -- where the next step stops, that is the fault
   pub ends_here : k < length plan.steps → (fault : PlanFault) → StopsAt course.task course.state (next_name course) (length course.operators + 1) fault
-      → IsEnding p plan (record { steps = k; fault = Some fault })
+      → IsEnding p plan (record { steps = k; fault = Some fault }) course.operators
   ends_here lt fault stops =
       let w = way (omega arith) in (
         w.0,
@@ -104,6 +104,7 @@ module _ (p : Parts) (plan : PlanParts) (k : ℕ) (course : UnderWay) (has : Has
               (take k plan.steps, drop (k + 1) plan.steps, get_or plan.steps k [], course.state, around plan.steps k [] lt, has.leads.goes, there),
           before w.0 w.1.front fault there,
         ),
+        w.2,
       )
     where
       there : StopsAt p course.state (get_or plan.steps k []) (length (take k plan.steps) + 1) fault
@@ -142,7 +143,7 @@ module _ (p : Parts) (plan : PlanParts) (k : ℕ) (course : UnderWay) (has : Has
         subst (λ (q : PlanParts). IsJudged p course.operators course.state q.cost result) has.of_plan
         (subst (λ q. IsJudged q course.operators course.state course.plan.cost result) has.task is)
 
-    pub ends_valid : IsJudged course.task course.operators course.state course.plan.cost (Ok tt) → IsEnding p plan (record { steps = k; fault = None })
+    pub ends_valid : IsJudged course.task course.operators course.state course.plan.cost (Ok tt) → IsEnding p plan (record { steps = k; fault = None }) course.operators
     ends_valid is =
         let w = way (omega arith) in (
           w.0,
@@ -151,13 +152,14 @@ module _ (p : Parts) (plan : PlanParts) (k : ℕ) (course : UnderWay) (has : Has
             subst (λ os. IsValid p plan os) (sym w.2) (judged_is_valid p plan course.operators course.state (Ok tt) leads_all (judged (Ok tt) is)),
             w.1.front ∙ whole,
           ),
+          w.2,
         )
 
     pub ends_judged : (fault : PlanFault) → IsJudged course.task course.operators course.state course.plan.cost (Err fault)
-        → IsEnding p plan (record { steps = k; fault = Some fault })
+        → IsEnding p plan (record { steps = k; fault = Some fault }) course.operators
     ends_judged fault is =
         let w = way (omega arith) in
-        (w.0, w.1, (judged_is_fault p plan course.operators course.state fault leads_all (judged (Err fault) is), before w.0 w.1.front fault (judged (Err fault) is)))
+        (w.0, w.1, (judged_is_fault p plan course.operators course.state fault leads_all (judged (Err fault) is), before w.0 w.1.front fault (judged (Err fault) is)), w.2)
       where
         before : (run : Run) → run.steps ≡ take k plan.steps → (f : PlanFault) → IsJudged p course.operators course.state plan.cost (Err f) → run.steps ≡ steps_before plan f
         before run front (NoOperator step) s = absurd s
@@ -218,32 +220,15 @@ module _ (p : Parts) (plan : PlanParts) (steps : ℕ) (run : Run) (layered : IsL
     leads_there : LeadsTo p (take k run.steps ++ get_or run.steps k [] ∷ []) (take (k + 1) run.operators) (state_at run (k + 1))
     leads_there = subst (λ names. LeadsTo p names (take (k + 1) run.operators) (state_at run (k + 1))) names_more (way.through.leads (k + 1) (omega (arith, way.made)))
 
-    -- the next step goes on
-    pub stands_goes : (operator : ℕ) × (next : List ℕ) × GoesOn p course.state (next_name course) operator next
-    stands_goes =
-        let on = leads_on p layered (take k run.steps) (get_or run.steps k []) [] (take (k + 1) run.operators) (state_at run (k + 1)) (take k run.operators) (state_at run k) leads_there leads_here in (
-          on.operator,
-          on.next,
-          subst (λ s. GoesOn p s (next_name course) on.operator on.next) (sym at.state)
-              (subst (λ its. GoesOn p (state_at run k) its on.operator on.next) (sym name_of) (record { chosen = on.chosen; step = on.step })),
-        )
-
-    module _ (operator : ℕ) (course' : UnderWay) (makes : MakesNext course operator course') where
-      on : GoesOn p (state_at run k) (get_or run.steps k []) operator course'.state
-      on = record {
-        chosen = subst (λ its. IsChosen p (state_at run k) its operator) name_of (subst (λ s. IsChosen p s (next_name course) operator) at.state
-            (subst (λ q. IsChosen q course.state (next_name course) operator) at.task makes.chosen));
-        step = subst (λ s. Step p s (operator_at p operator) course'.state) at.state (subst (λ q. Step q course.state (operator_at q operator) course'.state) at.task makes.goes.step);
-      }
-
-      -- and does what it does in the run
-      same : (take (k + 1) run.operators ≡ take k run.operators ++ operator ∷ []) × (state_at run (k + 1) ≡ course'.state)
-      same = leads_one_way p layered (take k run.steps ++ get_or run.steps k [] ∷ []) (take (k + 1) run.operators) (take k run.operators ++ operator ∷ []) (state_at run (k + 1)) course'.state
+    -- what goes on there goes on as in the run
+    module _ (operator : ℕ) (next : List ℕ) (on : GoesOn p (state_at run k) (get_or run.steps k []) operator next) where
+      same : (take (k + 1) run.operators ≡ take k run.operators ++ operator ∷ []) × (state_at run (k + 1) ≡ next)
+      same = leads_one_way p layered (take k run.steps ++ get_or run.steps k [] ∷ []) (take (k + 1) run.operators) (take k run.operators ++ operator ∷ []) (state_at run (k + 1)) next
           leads_there
           (record {
             initial = leads_here.initial;
             starts = leads_here.starts;
-            goes = goes_one_more p leads_here.initial (take k run.steps) (take k run.operators) (state_at run k) (get_or run.steps k []) operator course'.state leads_here.goes on;
+            goes = goes_one_more p leads_here.initial (take k run.steps) (take k run.operators) (state_at run k) (get_or run.steps k []) operator next leads_here.goes on;
           })
 
       same_operator : operator ≡ get_or run.operators k 0
@@ -253,18 +238,41 @@ module _ (p : Parts) (plan : PlanParts) (steps : ℕ) (run : Run) (layered : IsL
           sym (ap (λ n. get_or (take k run.operators ++ operator ∷ []) n 0) at_end ∙ get_or-append_seam (take k run.operators) operator [] 0)
           ∙ (ap (λ (os : List ℕ). get_or os k 0) (sym same.0) ∙ get_or-take (k + 1) run.operators k 0 (omega arith))
 
+    -- the next step goes on, by the operator of the run
+    pub stands_goes : (next : List ℕ) × GoesOn p course.state (next_name course) (get_or run.operators k 0) next
+    stands_goes =
+        let on = leads_on p layered (take k run.steps) (get_or run.steps k []) [] (take (k + 1) run.operators) (state_at run (k + 1)) (take k run.operators) (state_at run k) leads_there leads_here in
+        let goes : GoesOn p (state_at run k) (get_or run.steps k []) on.operator on.next = record { chosen = on.chosen; step = on.step } in (
+          on.next,
+          subst (λ s. GoesOn p s (next_name course) (get_or run.operators k 0) on.next) (sym at.state)
+              (subst (λ its. GoesOn p (state_at run k) its (get_or run.operators k 0) on.next) (sym name_of)
+              (subst (λ o. GoesOn p (state_at run k) (get_or run.steps k []) o on.next) (same_operator on.operator on.next goes) goes)),
+        )
+
+    -- and does what it does in the run
+    module _ (operator : ℕ) (course' : UnderWay) (by_run : operator ≡ get_or run.operators k 0) (goes : GoesOnBy course operator course') where
+      on : GoesOn p (state_at run k) (get_or run.steps k []) operator course'.state
+      on = record {
+        chosen = subst (λ o. IsChosen p (state_at run k) (get_or run.steps k []) o) (sym by_run) (subst (λ its. IsChosen p (state_at run k) its (get_or run.operators k 0)) name_of
+            (subst (λ s. IsChosen p s (next_name course) (get_or run.operators k 0)) at.state stands_goes.1.chosen));
+        step = subst (λ s. Step p s (operator_at p operator) course'.state) at.state (subst (λ q. Step q course.state (operator_at q operator) course'.state) at.task goes.step);
+      }
+
+      to : state_at run (k + 1) ≡ course'.state
+      to = (same operator course'.state on).1
+
       pub stands_next : (told' : List ℕ) → told' ≡ course'.state → StandsAt p plan run (k + 1) course' told'
       stands_next told' is = record {
-        task = makes.goes.task ∙ at.task;
-        of_plan = makes.goes.plan ∙ at.of_plan;
-        made = ap length makes.goes.operators ∙ length-append course.operators (operator ∷ []) ∙ ap (λ n. n + 1) at.made;
-        state = sym same.1;
-        values = is ∙ sym same.1;
+        task = goes.task ∙ at.task;
+        of_plan = goes.plan ∙ at.of_plan;
+        made = ap length goes.operators ∙ length-append course.operators (operator ∷ []) ∙ ap (λ n. n + 1) at.made;
+        state = sym to;
+        values = is ∙ sym to;
       }
 
       -- and so it is told
       pub step_text : text (step_line p (k + 1) operator ∷ change_lines p course.state course'.state) ≡ text (step_lines p run k)
       step_text =
-          ap (λ o. text (step_line p (k + 1) o ∷ change_lines p course.state course'.state)) same_operator
+          ap (λ o. text (step_line p (k + 1) o ∷ change_lines p course.state course'.state)) by_run
           ∙ (ap (λ (s : List ℕ). text (step_line p (k + 1) (get_or run.operators k 0) ∷ change_lines p s course'.state)) at.state
-          ∙ ap (λ (s : List ℕ). text (step_line p (k + 1) (get_or run.operators k 0) ∷ change_lines p (state_at run k) s)) (sym same.1))
+          ∙ ap (λ (s : List ℕ). text (step_line p (k + 1) (get_or run.operators k 0) ∷ change_lines p (state_at run k) s)) (sym to))

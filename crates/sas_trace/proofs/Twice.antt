@@ -1,5 +1,5 @@
 -- The second pass begins where the first one began, and its text is the trace.
-use Rattle.std.proofs.Common.{◌≡◌, ℕ, List, ◌++◌, refl, sym, ◌∙◌, subst}
+use Rattle.std.proofs.Common.{◌≡◌, ℕ, List, ◌++◌, length, refl, sym, ◌∙◌, subst}
 use Rattle.sas_core.specs.declared.parts.Parts.{Parts}
 use Rattle.sas_core.specs.PlanParts.{PlanParts}
 use Rattle.sas_lines.specs.Lines.{text}
@@ -20,7 +20,7 @@ pub starts_anew : (p : Parts) (plan : PlanParts) (judged : Judged) (first after 
     → (run : Run) × Judges p again.plan judged run × StandsAt p again.plan run 0 again told
 starts_anew p plan judged first after again told layered of_task w same_task same_plan sets is =
     subst (λ its. (run : Run) × Judges p its judged run × StandsAt p its run 0 again told) (sym (sets.of_plan ∙ same_plan))
-    (w.0, judges, stands_first p plan judged.steps w.0 layered judges.way again told sets' is)
+    (w.0, judges, stands_first p plan (length judged.operators.items) w.0 layered judges.goes.way again told sets' is)
   where
     judges : Judges p plan judged w.0
     judges = subst (λ q. Judges q plan judged w.0) of_task w.1
@@ -41,7 +41,7 @@ pub is_traced : (p : Parts) (plan plan' : PlanParts) (judged : Judged) (run : Ru
 is_traced p plan plan' judged run same judges =
     subst (λ its. TraceVerdict p its (written p judged run)) same (record {
       run = run;
-      through = judges.way.through;
+      through = judges.goes.way.through;
       verdict = output_told judged.verdict;
       ends = judges.ends;
       whole = refl;

@@ -47,13 +47,19 @@ abbrev pub EndsBy : Parts → PlanParts → Run → Option PlanFault → Type 0
 EndsBy p plan run (Some fault) = IsFaultOf p plan fault × (run.steps ≡ steps_before plan fault)
 EndsBy p plan run None = IsValid p plan run.operators × (run.steps ≡ plan.steps)
 
--- so many steps of the plan go through, and this is its fault, if it has one
-abbrev pub IsEnding : Parts → PlanParts → Ending → Type 0
-IsEnding p plan ending = (run : Run) × IsWay p plan ending.steps run × EndsBy p plan run ending.fault
+-- so many steps of the plan go through, by these operators, and this is its fault, if it has one
+abbrev pub IsEnding : Parts → PlanParts → Ending → List ℕ → Type 0
+IsEnding p plan ending operators = (run : Run) × IsWay p plan ending.steps run
+    × EndsBy p plan run ending.fault × (run.operators ≡ operators)
 
--- this is the way of the steps that go through, and the answer about the plan
+-- this is the way of the steps that go through, by these operators
+pub record IsWayBy (p : Parts) (plan : PlanParts) (operators : List ℕ) (run : Run) : Type 0 where
+  pub way : IsWay p plan (length operators) run
+  pub by : run.operators ≡ operators
+
+-- so it is of the operators that were noted, and this is the answer about the plan
 pub record Judges (p : Parts) (plan : PlanParts) (judged : Judged) (run : Run) : Type 0 where
-  pub way : IsWay p plan judged.steps run
+  pub goes : IsWayBy p plan judged.operators.items run
   pub ends : EndsWith p plan run (output_told judged.verdict)
 
 -- ---- the second pass

@@ -19,14 +19,14 @@ pub struct Ending {
     pub fault: Option<PlanFault>,
 }
 
-/// How many steps of a plan go through, and the answer about the plan.
+/// The operators of the steps of a plan that go through, and the answer about the plan.
 #[derive(Drop)]
 pub struct Judged {
-    pub steps: usize,
+    pub operators: Vec<u32>,
     pub verdict: Told,
 }
 
-/// Goes through the plan's steps, and returns how many go through and the answer about the plan.
+/// Goes through the plan's steps, and returns the operators of those that go through and the answer about the plan.
 pub fn judge<E: Settle<T> + Drop, T: Grounded>(
     alloc: Global,
     plan: &FlatPlan,
@@ -38,14 +38,12 @@ pub fn judge<E: Settle<T> + Drop, T: Grounded>(
     ensures of_plan { course.new.plan ≡ plan.now }
 {
     let ending = go_through(plan, course);
+    let operators = Vec::from_slice(alloc, course.operators())?;
     let verdict = match ending.fault {
         None => accept_plan(alloc, plan)?,
         Some(fault) => refuse_plan(alloc, plan.cost(), fault)?,
     };
-    Ok(Judged {
-        steps: ending.steps,
-        verdict,
-    })
+    Ok(Judged { operators, verdict })
 }
 
 /// Makes the plan's steps in turn, up to its fault.
@@ -54,7 +52,7 @@ fn go_through<E: Settle<T> + Drop, T: Grounded, P: Stepwise>(
     course: &mut Course<'_, '_, E, T, P>,
 ) -> Ending
     requires { HasMade course.old.task (P.says plan.now) 0 course.old }
-    ensures ending { IsEnding course.old.task (P.says plan.now) result }
+    ensures ending { IsEnding course.old.task (P.says plan.now) result course.new.operators }
     ensures task { course.new.task ≡ course.old.task }
     ensures of_plan { course.new.plan ≡ P.says plan.now }
 {

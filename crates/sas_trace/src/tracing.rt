@@ -5,18 +5,17 @@ ghost use Rattle.std.specs.List.{range_with_len};
 ghost use Rattle.std.specs.List.Sorted.{IsNonDecreasing};
 ghost use Rattle.sas_lines.specs.Lines.{text};
 ghost use Rattle.sas_output.specs.Pieces.{PutsOrBreaks};
-ghost use Rattle.sas_run.specs.Courses.{next_name};
+ghost use Rattle.sas_run.specs.Courses.{GoesOnBy, next_name};
 ghost use Rattle.sas_run.specs.Running.{GoesOn};
 ghost use Rattle.sas_run.specs.Walking.{TellsStep};
 ghost use Rattle.sas_reasons.specs.Runs.{Run};
 ghost use Rattle.sas_trace.specs.Changes.{CoverChanges, change_text};
-ghost use Rattle.sas_trace.specs.Passes.{MakesNext, IsWay, Judges, StandsAt};
+ghost use Rattle.sas_trace.specs.Passes.{IsWayBy, Judges, StandsAt};
 ghost use Rattle.sas_trace.specs.Trace.{initial_lines, step_line, change_lines, step_lines, run_lines};
 
 use crate::changes::list_changes;
 use crate::judging::Judged;
 use crate::lines::{push_change_line, push_initial_line, push_step_line};
-use crate::stepping::make_next;
 use sas_core::{Fact, Grounded};
 use sas_flat::{FlatPlan, FlatTask};
 use sas_lines::{Short, Watched};
@@ -25,6 +24,13 @@ use sas_output::Pieces;
 use sas_run::Course;
 use std::alloc::{AllocError, Global};
 use std::io::Write;
+
+/// A step that is made once more: its number, counted from 1, and its operator.
+#[derive(Clone, Copy)]
+pub struct Again {
+    pub step: usize,
+    pub operator: u32,
+}
 
 /// A trace that is being written. Only `new` asks for memory.
 #[derive(Drop)]
@@ -72,62 +78,66 @@ impl Tracer {
         ensures note { IsErr result ↔ IsTrue out.new.failed }
     {
         push_initial_lines(&mut self.pieces, out, task, course.state())?;
-        self.push_steps(out, task, course, judged.steps)?;
+        self.push_steps(out, task, course, judged.operators.as_slice())?;
         self.pieces.push(out, judged.verdict.text.as_slice())?;
         self.pieces.flush(out)
     }
 
-    /// Makes this many steps once more, and adds their lines to the text.
+    /// Makes the steps of these operators once more, and adds their lines to the text.
     fn push_steps<W: Write, E: Settle<FlatTask> + Drop>(
         &mut self,
         out: &mut Watched<W>,
         task: &Layered<FlatTask>,
         course: &mut Course<'_, '_, E, FlatTask, FlatPlan>,
-        steps: usize,
+        operators: &[u32],
     ) -> Result<(), Short>
         requires out { out.old.failed ≡ false }
-        requires way { (run : Run) × IsWay task.now course.old.plan steps run
+        requires way { (run : Run) × IsWayBy task.now course.old.plan operators.now run
             × StandsAt task.now course.old.plan run 0 course.old self.old.told.items }
-        ensures puts { (run : Run) → IsWay task.now course.old.plan steps run
+        ensures puts { (run : Run) → IsWayBy task.now course.old.plan operators.now run
             → StandsAt task.now course.old.plan run 0 course.old self.old.told.items
             → PutsOrBreaks (W.contents out.old.device) (W.contents out.new.device)
             self.old.pieces self.new.pieces
-            (text (flat_map (step_lines task.now run) (range_with_len 0 steps))) result }
+            (text (flat_map (step_lines task.now run) (range_with_len 0 (length operators.now)))) result }
         ensures note { IsErr result ↔ IsTrue out.new.failed }
     {
         // By its contract the task is layered, so the steps go as they went before.
         let _ = task.task();
-        for before in 0..steps {
-            self.push_step(out, task, course, before + 1)?;
+        for before in 0..operators.len() {
+            let again = Again {
+                step: before + 1,
+                operator: operators[before],
+            };
+            self.push_step(out, task, course, again)?;
         }
         Ok(())
     }
 
-    /// Makes the next step, which has this number, and adds its lines to the text.
+    /// Makes the next step once more, and adds its lines to the text.
     fn push_step<W: Write, E: Settle<FlatTask> + Drop>(
         &mut self,
         out: &mut Watched<W>,
         task: &Layered<FlatTask>,
         course: &mut Course<'_, '_, E, FlatTask, FlatPlan>,
-        step: usize,
+        again: Again,
     ) -> Result<(), Short>
         requires out { out.old.failed ≡ false }
         requires task { course.old.task ≡ task.now }
         requires left { length course.old.operators < length course.old.plan.steps }
-        requires goes { (operator : ℕ) × (next : List ℕ)
-            × GoesOn task.now course.old.state (next_name course.old) operator next }
+        requires goes { (next : List ℕ)
+            × GoesOn task.now course.old.state (next_name course.old) again.operator next }
         requires told { self.old.told.items ≡ course.old.state }
         requires fits { length course.old.state ≡ length task.now.variables }
-        ensures puts { (operator : ℕ) × MakesNext course.old operator course.new
-            × PutsOrBreaks (W.contents out.old.device) (W.contents out.new.device)
+        ensures puts { PutsOrBreaks (W.contents out.old.device) (W.contents out.new.device)
             self.old.pieces self.new.pieces
-            (text (step_line task.now step operator
+            (text (step_line task.now again.step again.operator
             ∷ change_lines task.now course.old.state course.new.state)) result }
+        ensures goes_on { GoesOnBy course.old again.operator course.new }
         ensures told { OnOk result (self.new.told.items ≡ course.new.state) }
         ensures note { IsErr result ↔ IsTrue out.new.failed }
     {
-        let operator = make_next(course).unwrap();
-        push_step_line(&mut self.pieces, out, task, step, operator)?;
+        course.go_on(again.operator).unwrap();
+        push_step_line(&mut self.pieces, out, task, again.step, again.operator)?;
         self.push_changes(out, task, course)
     }
 

@@ -1,6 +1,7 @@
 -- One step more is made, or the plan ends.
-use Rattle.std.proofs.Common.{◌≡◌, ◌<◌, length, subst, arith}
-use Rattle.sas_trace.specs.Passes.{HasMade}
+use Rattle.std.proofs.Common.{◌≡◌, ◌<◌, length, Some, sym, subst, arith}
+use Rattle.sas_run.specs.Courses.{UnderWay}
+use Rattle.sas_trace.specs.Passes.{HasMade, IsEnding}
 use Rattle.sas_trace.proofs.Passing.{made_next, ends_here, ends_valid, ends_judged}
 use Rattle.sas_trace.proofs.judging.go_through.Goals as goal
 
@@ -8,7 +9,9 @@ pub returns-in-Err-clause-ending : goal.returns-in-Err-clause-ending
 returns-in-Err-clause-ending g c =
     let plan = g.P.Stepwise.says c.args.plan.now in
     let left : c.loop-before.before < length plan.steps = omega (arith, c.loop-before-test.true, c.steps-steps.ensures) in
-    ends_here c.args.course.now.task plan c.loop-before.before c.loop-before.course c.loop-before.invariant left c.in-Err.fault c.in-Err.ensures.1
+    let fault = c.in-Err.fault in
+    subst (λ (course : UnderWay). IsEnding c.args.course.now.task plan (record { steps = c.loop-before.before; fault = Some fault }) course.operators) (sym c.in-Err.ensures.0)
+    (ends_here c.args.course.now.task plan c.loop-before.before c.loop-before.course c.loop-before.invariant left fault c.in-Err.ensures.1)
 
 pub loop-before-preserved : goal.loop-before-preserved
 loop-before-preserved g c =

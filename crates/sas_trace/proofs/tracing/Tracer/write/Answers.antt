@@ -1,5 +1,5 @@
 -- The initial lines, behind them those of the steps, and the answer.
-use Rattle.std.proofs.Common.{[], flat_map, append-nil, Err}
+use Rattle.std.proofs.Common.{[], length, flat_map, append-nil, Err}
 use Rattle.std.specs.List.{range_with_len}
 use Rattle.std.proofs.lemmas.Result.{err_from_is_err_and}
 use Rattle.sas_lines.specs.Lines.{text}
@@ -14,10 +14,10 @@ returns-in_err-push_initial_lines-clause-puts g c =
     let p = err_from_is_err_and c.from_residual.result c.from_residual.ensures.1 in
     let judged = c.args.judged.now in
     let behind = judged.verdict.text.items in
-    let steps = text (flat_map (step_lines c.args.task.now w.0) (range_with_len 0 judged.steps)) in
+    let steps = text (flat_map (step_lines c.args.task.now w.0) (range_with_len 0 (length judged.operators.items))) in
     let broken = rw c.state.ensures.now at c.in_err-push_initial_lines.ensures.puts in
     let more = breaks_with_more _ _ _ c.push_initial_lines.new.pieces _ behind _ (breaks_with_more _ _ _ c.push_initial_lines.new.pieces _ steps _ broken) in
-    (w.0, w.1, rw (p.1, p.2) (whole_puts c.args.task.now w.0 judged.steps c.args.course.now.state behind w.2.state w.1.way.made _ _ _ c.push_initial_lines.new.pieces (Err _) more))
+    (w.0, w.1, rw (p.1, p.2) (whole_puts c.args.task.now w.0 (length judged.operators.items) c.args.course.now.state behind w.2.state w.1.goes.way.made _ _ _ c.push_initial_lines.new.pieces (Err _) more))
 
 pub returns-in_err-push_steps-clause-puts : goal.returns-in_err-push_steps-clause-puts
 returns-in_err-push_steps-clause-puts g c =
@@ -27,10 +27,10 @@ returns-in_err-push_steps-clause-puts g c =
     let judged = c.args.judged.now in
     let behind = judged.verdict.text.items in
     let front = rw c.state.ensures.now at c.in_ok-push_initial_lines.ensures.puts in
-    let broken = puts_then_breaks _ _ _ _ _ _ _ _ front (c.in_err-push_steps.ensures.puts w.0 w.1.way w.2) in (
+    let broken = puts_then_breaks _ _ _ _ _ _ _ _ front ((rw c.as_slice.ensures.value at c.in_err-push_steps.ensures.puts) w.0 w.1.goes w.2) in (
       w.0,
       w.1,
-      rw (p.1, p.2) (whole_puts c.args.task.now w.0 judged.steps c.args.course.now.state behind w.2.state w.1.way.made _ _ _ c.push_steps.new.self.pieces (Err _)
+      rw (p.1, p.2) (whole_puts c.args.task.now w.0 (length judged.operators.items) c.args.course.now.state behind w.2.state w.1.goes.way.made _ _ _ c.push_steps.new.self.pieces (Err _)
           (breaks_with_more _ _ _ c.push_steps.new.self.pieces _ behind _ broken)),
     )
 
@@ -40,15 +40,15 @@ returns-in_err-push-clause-puts g c =
     let from = c.from_residual-in_err-push in
     let p = err_from_is_err_and from.result from.ensures.1 in
     let judged = c.args.judged.now in
-    let front = puts_then _ _ _ _ _ _ _ _ (rw c.state.ensures.now at c.in_ok-push_initial_lines.ensures.puts) (c.in_ok-push_steps.ensures.puts w.0 w.1.way w.2) in
-    let broken = puts_then_breaks _ _ _ _ _ _ _ _ front (rw c.as_slice.ensures.value at c.in_err-push.ensures.puts) in
-    (w.0, w.1, rw (p.1, p.2) (whole_puts c.args.task.now w.0 judged.steps c.args.course.now.state judged.verdict.text.items w.2.state w.1.way.made _ _ _ c.push.new.self (Err _) broken))
+    let front = puts_then _ _ _ _ _ _ _ _ (rw c.state.ensures.now at c.in_ok-push_initial_lines.ensures.puts) ((rw c.as_slice.ensures.value at c.in_ok-push_steps.ensures.puts) w.0 w.1.goes w.2) in
+    let broken = puts_then_breaks _ _ _ _ _ _ _ _ front (rw c.as_slice-2.ensures.value at c.in_err-push.ensures.puts) in
+    (w.0, w.1, rw (p.1, p.2) (whole_puts c.args.task.now w.0 (length judged.operators.items) c.args.course.now.state judged.verdict.text.items w.2.state w.1.goes.way.made _ _ _ c.push.new.self (Err _) broken))
 
 pub returns-clause-puts : goal.returns-clause-puts
 returns-clause-puts g c =
     let w = c.requires.way in
     let judged = c.args.judged.now in
-    let front = puts_then _ _ _ _ _ _ _ _ (rw c.state.ensures.now at c.in_ok-push_initial_lines.ensures.puts) (c.in_ok-push_steps.ensures.puts w.0 w.1.way w.2) in
-    let put = puts_then _ _ _ _ _ _ _ _ front (rw c.as_slice.ensures.value at c.in_ok-push.ensures.puts) in
+    let front = puts_then _ _ _ _ _ _ _ _ (rw c.state.ensures.now at c.in_ok-push_initial_lines.ensures.puts) ((rw c.as_slice.ensures.value at c.in_ok-push_steps.ensures.puts) w.0 w.1.goes w.2) in
+    let put = puts_then _ _ _ _ _ _ _ _ front (rw c.as_slice-2.ensures.value at c.in_ok-push.ensures.puts) in
     let flushed = puts_then_either _ _ _ _ _ _ _ [] _ put c.flush.ensures.puts in
-    (w.0, w.1, whole_puts c.args.task.now w.0 judged.steps c.args.course.now.state judged.verdict.text.items w.2.state w.1.way.made _ _ _ _ _ (rw append-nil at flushed))
+    (w.0, w.1, whole_puts c.args.task.now w.0 (length judged.operators.items) c.args.course.now.state judged.verdict.text.items w.2.state w.1.goes.way.made _ _ _ _ _ (rw append-nil at flushed))

@@ -1,9 +1,9 @@
 use Rattle.std.proofs.Common.{List, ℕ, ◌∷◌, arith, sym, ap}
 use Rattle.itoa.proofs.Decimal.{decimal_pair}
 use Rattle.sas_output.proofs.Placed.{places_as, places_then_either}
-use Rattle.sas_output.proofs.placing.place_number.Goals as goal
+use Rattle.sas_output.proofs.placing.place_small.Goals as goal
 
 pub returns-clause-places : goal.returns-clause-places
 returns-clause-places c =
     let digits = decimal_pair c.args.number (omega arith) (omega arith) in
-    places_as _ _ _ _ _ _ (ap (λ (l : List ℕ). 32 ∷ l) (sym digits)) (places_then_either _ _ _ _ _ _ _ _ c.requires c.in-Some.ensures.places c.place_pair.ensures.places)
+    places_as _ _ _ _ _ _ (ap (λ (l : List ℕ). 32 ∷ l) (sym digits)) (places_then_either _ _ _ _ _ _ _ _ c.requires.at c.in-Some.ensures.places c.place_pair.ensures.places)
