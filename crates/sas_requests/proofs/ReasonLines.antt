@@ -16,7 +16,8 @@ use Rattle.sas_reader.proofs.Plain.{plain-append, plain-decimal, plain_bytes}
 use Rattle.sas_output.specs.Words.{line}
 use Rattle.sas_run.specs.declared.plan_check.PlanFault.{PlanFault}
 use Rattle.sas_run.specs.declared.plan_check.PlanFault.TheVariants.{Memory, NoOperator, NotApplicable, Conflict, GoalMissed, CostDiffers}
-use Rattle.sas_reasons.specs.Lines.{fact_words, is_rule_line, told_once, TellsEach, places}
+use Rattle.sas_wording.specs.Facts.{fact_words}
+use Rattle.sas_reasons.specs.Lines.{is_rule_line, told_once, TellsEach, places}
 use Rattle.sas_reasons.specs.Runs.{Run, last_state}
 use Rattle.sas_reasons.specs.Derivation.{can_give}
 use Rattle.sas_reasons.specs.Cause.{fails, is_derived, asks_line, has_line, since_line, gives_line, is_given, TellsGivers, rule_asks_line, failing_lines, can_be_given, keeping_lines, missing_lines, IsCause}
