@@ -17,8 +17,10 @@ use sas_lines::{Short, Watched};
 use sas_meaning::Layered;
 use sas_output::{Indent, Pieces, Word, Words};
 use sas_why::Line;
-use sas_wording::{Deed, Start, push_count, push_deed, push_fact, push_named, push_words};
-use sas_wording::{given_by, operator_name, set_by};
+use sas_wording::{
+    Deed, Start, given_by, operator_name, push_count, push_deed, push_fact, push_named, push_words,
+    set_by,
+};
 use std::io::Write;
 
 /// What the numbers of a line mean: a task and a plan.
@@ -58,47 +60,44 @@ pub fn push_reason<W: Write>(
     let task = named.task.task();
     match line {
         Line::Step { step } => {
-            push_named(pieces, out, two(b"step"), step as u64, named.step(step))
+            push_named(
+                pieces,
+                out,
+                Start::two(b"step"),
+                step as u64,
+                named.step(step),
+            )
         }
         Line::Like { operator } => push_like(pieces, out, task, operator),
-        Line::Operator { operator } => push_count(pieces, out, two(b"operator"), operator as u64),
-        Line::Asks { fact } => push_fact(pieces, out, task, four(b"asks"), fact),
-        Line::Has { fact } => push_fact(pieces, out, task, four(b"has"), fact),
-        Line::SinceStart => push_words(pieces, out, four(b"since the start")),
+        Line::Operator { operator } => push_count(
+            pieces,
+            out,
+            Start::two(b"operator"),
+            operator as u64,
+        ),
+        Line::Asks { fact } => push_fact(pieces, out, task, Start::four(b"asks"), fact),
+        Line::Has { fact } => push_fact(pieces, out, task, Start::four(b"has"), fact),
+        Line::SinceStart => push_words(pieces, out, Start::four(b"since the start")),
         Line::SinceStep { step } => {
-            push_named(pieces, out, four(b"since step"), step as u64, named.step(step))
+            push_named(
+                pieces,
+                out,
+                Start::four(b"since step"),
+                step as u64,
+                named.step(step),
+            )
         }
         Line::Gives { rule } => push_deed(pieces, out, task, gives(task, rule)),
-        Line::NoRule => push_words(pieces, out, four(b"no rule gives it")),
+        Line::NoRule => push_words(pieces, out, Start::four(b"no rule gives it")),
         Line::RuleAsks { rule, fact } => push_deed(pieces, out, task, asks(rule, fact)),
         Line::Sets { operator, effect } => {
             push_deed(pieces, out, task, sets(task, operator, effect))
         }
-        Line::GoalFact { index } => push_count(pieces, out, two(b"goal fact"), index as u64),
+        Line::GoalFact { index } => push_count(pieces, out, Start::two(b"goal fact"), index as u64),
         Line::Metric => push_metric(pieces, out, task),
-        Line::Steps { count } => push_count(pieces, out, two(b"steps"), count as u64),
+        Line::Steps { count } => push_count(pieces, out, Start::two(b"steps"), count as u64),
         Line::CostLines { sum } => push_cost_lines(pieces, out, sum),
         Line::MayMean { step, operator } => push_may_mean(pieces, out, step, operator),
-    }
-}
-
-/// Returns that a line begins with these words, behind two spaces.
-fn two(words: &'static [u8]) -> Start
-    ensures { result ≡ record { indent = Indent.Two; words = words } }
-{
-    Start {
-        indent: Indent::Two,
-        words,
-    }
-}
-
-/// Returns that a line begins with these words, behind four spaces.
-fn four(words: &'static [u8]) -> Start
-    ensures { result ≡ record { indent = Indent.Four; words = words } }
-{
-    Start {
-        indent: Indent::Four,
-        words,
     }
 }
 
@@ -116,7 +115,13 @@ fn push_like<W: Write>(
     ensures note { IsErr result ↔ IsTrue out.new.failed }
 {
     let name = operator_name(task, operator);
-    push_named(pieces, out, two(b"like operator"), operator as u64, name)
+    push_named(
+        pieces,
+        out,
+        Start::two(b"like operator"),
+        operator as u64,
+        name,
+    )
 }
 
 /// Returns that the rule gives its fact.
@@ -124,7 +129,7 @@ fn gives(task: &FlatTask, rule: u32) -> Deed
     ensures { deed_line task.now result ≡ gives_line task.now rule }
 {
     Deed {
-        start: four(b"rule"),
+        start: Start::four(b"rule"),
         number: rule,
         verb: b"gives",
         fact: given_by(task, rule),
@@ -136,7 +141,7 @@ fn asks(rule: u32, fact: Fact) -> Deed
     ensures { (p : Parts) → deed_line p result ≡ rule_asks_line p rule fact }
 {
     Deed {
-        start: four(b"rule"),
+        start: Start::four(b"rule"),
         number: rule,
         verb: b"asks",
         fact,
@@ -149,7 +154,7 @@ fn sets(task: &FlatTask, operator: u32, effect: u32) -> Deed
         ≡ effect_line task.now (operator_at task.now operator) effect }
 {
     Deed {
-        start: four(b"effect"),
+        start: Start::four(b"effect"),
         number: effect,
         verb: b"sets",
         fact: set_by(task, operator, effect),
@@ -170,7 +175,7 @@ fn push_metric<W: Write>(
     ensures note { IsErr result ↔ IsTrue out.new.failed }
 {
     let metric = u64::from(task.metric());
-    push_count(pieces, out, two(b"metric"), metric)
+    push_count(pieces, out, Start::two(b"metric"), metric)
 }
 
 /// Adds the line of the sum of operators' cost lines.

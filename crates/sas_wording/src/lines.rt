@@ -18,6 +18,28 @@ pub struct Start {
     pub words: &'static [u8],
 }
 
+impl Start {
+    /// Returns that a line begins with these words, behind two spaces.
+    pub fn two(words: &'static [u8]) -> Start
+        ensures { result ≡ record { indent = Indent.Two; words = words.entry } }
+    {
+        Start {
+            indent: Indent::Two,
+            words,
+        }
+    }
+
+    /// Returns that a line begins with these words, behind four spaces.
+    pub fn four(words: &'static [u8]) -> Start
+        ensures { result ≡ record { indent = Indent.Four; words = words.entry } }
+    {
+        Start {
+            indent: Indent::Four,
+            words,
+        }
+    }
+}
+
 /// What a part of a task does with a fact, as `rule 3 gives ..`: the word for the part, its number, and what it does.
 #[derive(Clone, Copy, Debug)]
 pub struct Deed {
