@@ -1,5 +1,6 @@
 // The answers about a task, with the reasons why it isn't layered.
-ghost use Rattle.std.specs.Prelude.{◌≡◌, Some, IfOk};
+ghost use Rattle.std.specs.Prelude.{◌≡◌, Some, None, IfOk};
+ghost use Rattle.sas_answers.specs.Answers.{layers_verdict};
 ghost use Rattle.sas_task_reasons.specs.WhyLayers.{LayerReasonsFit, why_refusal, output_of_task};
 ghost use Rattle.sas_task_reasons.specs.WhyLayers.{WhyCheckAnswer, WhyMutexAnswer};
 
@@ -28,13 +29,20 @@ pub fn explain_check(alloc: Global, task: FlatTask) -> Result<TaskAnswer, AllocE
     match Layered::new(alloc, task) {
         Ok(layered) => {
             drop(layered);
-            Ok(TaskAnswer::Text(accept_layers(alloc)?))
+            layered_answer(alloc)
         }
         Err((task, fault)) => {
             let explained = explain_layers(alloc, task, fault)?;
             Ok(TaskAnswer::Explained(explained))
         }
     }
+}
+
+/// Returns the answer about a task that is layered.
+fn layered_answer(alloc: Global) -> Result<TaskAnswer, AllocError>
+    ensures { IfOk result (λ a. layers_verdict None ≡ Some (output_of_task a)) }
+{
+    Ok(TaskAnswer::Text(accept_layers(alloc)?))
 }
 
 /// Returns the answer about the mutex groups of a task, with the reasons where it isn't layered.
