@@ -24,7 +24,7 @@ joined_short [] = omega arith
 joined_short (word ∷ []) = omega arith
 joined_short (word ∷ next ∷ words) = omega (arith, length-append word (32 ∷ joined (next ∷ words)), joined_short (next ∷ words))
 
-two_spaces : (words : List (List ℕ)) → length (line 2 words) ≤ spread words + 2
+pub two_spaces : (words : List (List ℕ)) → length (line 2 words) ≤ spread words + 2
 two_spaces words = omega (arith, length-append (replicate 2 32) (joined words), joined_short words)
 
 four_spaces : (words : List (List ℕ)) → length (line 4 words) ≤ spread words + 4
@@ -85,7 +85,7 @@ since_line_short steps short (suc before) = omega (
 )
 
 module _ (p : Parts) (small : IsSmall p) where
-  facts_short : (var value : ℕ) → spread (fact_words p var value) ≤ 2 ^ 32 + 131
+  pub facts_short : (var value : ℕ) → spread (fact_words p var value) ≤ 2 ^ 32 + 131
   facts_short var value = omega (arith, decimal_short var, decimal_short value, small.value var value)
 
   pub like_line_short : (operator : ℕ) → length (like_line p operator) + 1 ≤ with_name

@@ -122,20 +122,19 @@ why_tells_valid = record {
 
 -- ---- a task that isn't layered
 
-refusal_of : (p : Parts) (fault : LayerFault) (plain : Option Output) (o : Output) → layers_refusal fault ≡ plain → option_map (with_reasons (layer_reasons p fault)) plain ≡ Some o → IsRefusal fault o
-refusal_of p fault None o is told = absurd (none-some o told)
-refusal_of p fault (Some plain) o is told =
-    let same : with_reasons (layer_reasons p fault) plain ≡ o = cc in
-    record {
-      plain = plain;
-      is = is;
-      status = sym (ap (λ (x : Output). x.status) same);
-      behind = text (layer_reasons p fault);
-      text = sym (ap (λ (x : Output). x.text) same);
-    }
+why_of : (p : Parts) (fault : LayerFault) (found : Option Output) (o : Output) → layers_refusal fault ≡ found → option_map (with_reasons (layer_reasons p fault)) found ≡ Some o
+    → (plain : Output) × (layers_refusal fault ≡ Some plain) × (o ≡ with_reasons (layer_reasons p fault) plain)
+why_of p fault None o is told = absurd (none-some o told)
+why_of p fault (Some plain) o is told = (plain, is, let same : with_reasons (layer_reasons p fault) plain ≡ o = cc in sym same)
+
+-- its refusal is the one without reasons, with them behind
+pub why_is : (p : Parts) (fault : LayerFault) (o : Output) → why_refusal p fault ≡ Some o → (plain : Output) × (layers_refusal fault ≡ Some plain) × (o ≡ with_reasons (layer_reasons p fault) plain)
+why_is p fault o told = why_of p fault (layers_refusal fault) o refl told
+
+refusal_is : (p : Parts) (fault : LayerFault) (o : Output) → why_refusal p fault ≡ Some o → IsRefusal fault o
+refusal_is p fault o told =
+    let (plain, is, same) = why_is p fault o told in
+    record { plain = plain; is = is; status = ap (λ (x : Output). x.status) same; behind = text (layer_reasons p fault); text = ap (λ (x : Output). x.text) same }
 
 pub why_refuses : Refuses why_refusal
-why_refuses = record {
-  some = λ p fault plain is. (_, refused_why p fault plain is);
-  told = λ p fault o told. refusal_of p fault (layers_refusal fault) o refl told;
-}
+why_refuses = record { some = λ p fault plain is. (_, refused_why p fault plain is); told = refusal_is }

@@ -26,7 +26,7 @@ returns-in-Ok-new g c =
 pub explain_refused-requires : goal.explain_refused-requires
 explain_refused-requires g c =
     let read = c.in-Ok.ensures.read in
-    layers_fit read.0 _ (rw c.in-Err-new.ensures.handed_back read.2)
+    rw c.in-Err-new.ensures.handed_back (layers_fit read.0 c.in-Ok.read read.2)
 
 pub returns-in-Err-new : goal.returns-in-Err-new
 returns-in-Err-new g c =
