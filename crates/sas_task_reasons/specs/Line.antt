@@ -1,8 +1,7 @@
 -- The bytes of lines that tell why a task isn't layered.
-use Rattle.std.specs.Prelude.{ℕ, List}
+use Rattle.std.specs.Prelude.{ℕ, List, ◌∷◌, codes}
 use Rattle.sas_core.specs.declared.parts.Parts.{Parts}
 use Rattle.sas_output.specs.Words.{line}
-use Rattle.std.specs.Prelude.{◌∷◌, codes}
 use Rattle.sas_wording.specs.Facts.{fact_words}
 use Rattle.sas_task_reasons.specs.declared.line.Line.{Line}
 use Rattle.sas_task_reasons.specs.declared.line.Line.TheVariants.{Operator, Sets, Gives, Asks}
