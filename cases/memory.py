@@ -30,6 +30,7 @@ from concurrent.futures import ThreadPoolExecutor
 import report
 from axioms import text_of
 from large import plan_text, wide_plans, wide_task
+from layers import behind_refusal
 from many import lines_of, status_of
 from reasons import reasons
 from texts import CASES, TOP, as_bytes, table
@@ -174,14 +175,17 @@ def long_plan():
 
 
 def refused_reasons(sas, folder):
-    """Yields each kind of answer to `plan --why`. It could show reasons that stop where memory is refused, or of which a part
-    is written before that."""
+    """Yields each kind of answer to `plan --why`, and why a task isn't layered. It could show reasons that stop where memory is
+    refused, or of which a part is written before that."""
     for number, (task, names, cost) in enumerate(failing_plans()):
         files = both_written(folder, f"why.{number}", task, names, cost)
         fault, behind = reasons(task, names, cost)
         yield asked(sas, ["plan", "--why", *files], 0 if fault.startswith("plan valid") else 1, told([fault, *behind]))
     for words, said in (*refusals(files[1]), ([MINIMAL, MINIMAL], "plan refused: line 1: keyword")):
-        yield asked(sas, ["plan", "--why", *words], 1, told([said]))
+        yield asked(sas, ["plan", "--why", *words], 1, told([said, *behind_refusal(said, {"file": words[0]})]))
+    for request in ("check", "mutex"):
+        said = "task refused: rule 0: layer order"
+        yield asked(sas, [request, "--why", UNLAYERED], 1, told([said, *behind_refusal(said, {"file": UNLAYERED})]))
 
 
 def refused_traces(sas, folder):

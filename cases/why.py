@@ -17,6 +17,7 @@ import random
 
 from axioms import task_of, text_of
 from following import long_runs, run_over, turning_names, turning_task
+from layers import behind_refusal
 from reasons import reasons, reasons_of
 from steps import cost_of, holds
 from texts import as_bytes, changed_lines, table
@@ -86,11 +87,12 @@ def verdict_cases():
             fault, behind = reasons(task_of(task), *plan_of(plan))
             assert f"{fault}\n" == made["output"]
         if "call" in made or " refused: " in fault:
-            yield asked(made["name"], task, plan, [fault, *behind])
+            yield asked(made["name"], task, plan, [fault, *behind, *behind_refusal(fault, task)])
 
 
 def refused_cases():
-    """Yields files that are refused, for the plan of a task or for its task: nothing is told behind that."""
+    """Yields files that are refused, for the plan of a task or for its task: nothing is told behind that, but why a task isn't
+    layered."""
     for made in table("plans.json"):
         if made["status"]:
             plan = as_bytes(made["plan"])
@@ -98,7 +100,8 @@ def refused_cases():
     for changed in changed_lines():
         if changed["fault"] or changed["layers"]:
             said = f"task refused: {changed['fault'] or changed['layers']}"
-            yield asked(changed["name"], as_bytes(changed["task"]), "", [said])
+            task = as_bytes(changed["task"])
+            yield asked(changed["name"], task, "", [said, *behind_refusal(said, task)])
 
 
 def walked_cases():

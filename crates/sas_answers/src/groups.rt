@@ -32,7 +32,7 @@ pub fn groups_answer(alloc: Global, task: FlatTask) -> Result<Told, AllocError>
 }
 
 /// Returns the answer about the mutex groups of a layered task.
-fn verdicts_answer(alloc: Global, layered: &Layered<FlatTask>) -> Result<Told, AllocError>
+pub fn verdicts_answer(alloc: Global, layered: &Layered<FlatTask>) -> Result<Told, AllocError>
     ensures { IfOk result (λ a. GroupsAnswer layered.now (output_told a)) }
 {
     let verdicts = check_groups(alloc, layered)?;

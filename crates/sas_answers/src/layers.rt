@@ -17,7 +17,7 @@ pub fn layers_answer(alloc: Global, task: FlatTask) -> Result<Told, AllocError>
     match Layered::new(alloc, task) {
         Ok(layered) => {
             drop(layered);
-            layered_answer(alloc)
+            accept_layers(alloc)
         }
         Err((task, fault)) => {
             drop(task);
@@ -27,7 +27,7 @@ pub fn layers_answer(alloc: Global, task: FlatTask) -> Result<Told, AllocError>
 }
 
 /// Returns the answer about a task that is layered.
-fn layered_answer(alloc: Global) -> Result<Told, AllocError>
+pub fn accept_layers(alloc: Global) -> Result<Told, AllocError>
     ensures { IfOk result (λ a. layers_verdict None ≡ Some (output_told a)) }
 {
     Ok(Told {

@@ -2,6 +2,7 @@
 use Rattle.std.proofs.Common.{◌≡◌, ℕ, ◌<◌, List, [], ◌++◌, length, take, codes, arith, refl, sym, ap, subst, ◌∙◌, Option, Some, None, Result, Ok, Err}
 use Rattle.std.specs.Io.KnownBytes.{Appends}
 use Rattle.sas_core.specs.declared.parts.Parts.{Parts}
+use Rattle.sas_meaning.specs.declared.layered.LayerFault.{LayerFault}
 use Rattle.sas_meaning.specs.Layers.{IsLayered}
 use Rattle.sas_meaning.proofs.LayerChecksAreRules.{checks_are_rules}
 use Rattle.sas_reader.specs.Format.{ReadsAs}
@@ -19,6 +20,7 @@ use Rattle.sas_requests.specs.declared.Request.{Request}
 use Rattle.sas_requests.specs.Headline.{Headline}
 use Rattle.sas_requests.specs.Output.{CheckOut, PlanOutBy}
 use Rattle.sas_requests.proofs.Headlines.{TellsValid, headline_of}
+use Rattle.sas_requests.proofs.PlanAnswers.{Refuses}
 use Rattle.sas_plans.specs.declared.held.Opening.{Opening}
 use Rattle.sas_plans.specs.declared.held.Opening.TheVariants.{Ready, Refused}
 use Rattle.sas_plans.specs.Opened.{Opens}
@@ -127,10 +129,10 @@ asked_told F asked request task b plan c room size number is same_task same_plan
 
 -- ---- whether a plan solves a task
 
-pub headline_told : (Verdict : Parts → PlanParts → Output → Type 0) → TellsValid Verdict → (b c room : List ℕ) (size number : ℕ) → Tells (PlanOutBy Verdict b c) room size number → TellsHeadline b c room size number
-headline_told Verdict tells b c room size number t = λ status is.
+pub headline_told : (Verdict : Parts → PlanParts → Output → Type 0) (refused : Parts → LayerFault → Option Output) → TellsValid Verdict → Refuses refused → (b c room : List ℕ) (size number : ℕ) → Tells (PlanOutBy Verdict refused b c) room size number → TellsHeadline b c room size number
+headline_told Verdict refused tells refuses b c room size number t = λ status is.
     let x = t.told status is in
-    subst (λ (text : List ℕ). Headline b c (λ line. text ≡ line) status) (sym x.4) (headline_of Verdict tells b c x.0 x.1 (Some []) (Some (x.0).text) [] status refl (sym x.2) refl)
+    subst (λ (text : List ℕ). Headline b c (λ line. text ≡ line) status) (sym x.4) (headline_of Verdict refused tells refuses b c x.0 x.1 (Some []) (Some (x.0).text) [] status refl (sym x.2) refl)
 
 -- ---- a task that was opened
 

@@ -1,4 +1,3 @@
-pub mod Deeds
 pub mod Judgement
 pub mod ReasonsText
 pub mod Verdict

@@ -25,9 +25,9 @@ use Rattle.sas_output.specs.Ending.{Output}
 use Rattle.sas_answers.specs.Answers.{VerdictAnswer, layers_refusal}
 use Rattle.sas_answers.proofs.VerdictAnswers.{one_verdict_answer, some_verdict_answer}
 use Rattle.sas_requests.specs.declared.Request.TheVariants.{Plan}
-use Rattle.sas_requests.specs.Output.{Out, VerdictOut, LayersOut, IsAnswerOrRefusal, IsLayeredText, refusal_line, word_of}
+use Rattle.sas_requests.specs.Output.{Out, VerdictOut, LayersOut, plain_refusal, IsAnswerOrRefusal, IsLayeredText, refusal_line, word_of}
 use Rattle.sas_requests.proofs.Outputs.{one_file_output, some_file_output}
-use Rattle.sas_requests.proofs.PlanAnswers.{judged_out, no_plan_output}
+use Rattle.sas_requests.proofs.PlanAnswers.{plain_refuses, judged_out, no_plan_output}
 use Rattle.sas_requests.proofs.WhyAnswers.{worded}
 use Rattle.sas_plans.specs.Judged.{Judged, HasCost, IsJudged, PlansAnswer, PlansOut, JudgedLayers, JudgedTask, JudgeOut, is_valid, labelled}
 use Rattle.sas_plans.specs.Laws.{OneJudgeOutput, SomeJudgeOutput, EachIsThatOfPlan, RefusesAsPlan, NoneJudgeIsLong}
@@ -197,7 +197,7 @@ plains_of p layered b reads (l ∷ labels) (c ∷ cs) (j ∷ all) many ((o, out,
     let here : labelled j ≡ labelled_plain (l, o) = ap (λ (x : List ℕ). x ++ codes ": " ++ j.line) label ∙ ap (λ (x : List ℕ). l ++ codes ": " ++ x) line in
     record {
       plains = o ∷ rest.plains;
-      each = (judged_out VerdictAnswer p layered b c reads (Some o) out, rest.each);
+      each = (judged_out VerdictAnswer plain_refusal p layered b c reads (Some o) out, rest.each);
       same = ap (λ (x : List ℕ). x ++ flat_map labelled all) here ∙ ap (λ (x : List ℕ). labelled_plain (l, o) ++ x) rest.same;
     }
 
@@ -209,7 +209,7 @@ each_is_that_of_plan labels b cs o many (p, reads, layered) out =
 
 -- ---- a task is refused as by `plan`
 
-refused_layers : (p : Parts) (first : Option LayerFault) (plans : List (List ℕ × List ℕ)) (c : List ℕ) (o : Option Output) → (first ≡ None → ⊥) → JudgedLayers p first plans o → LayersOut VerdictAnswer p first c o
+refused_layers : (p : Parts) (first : Option LayerFault) (plans : List (List ℕ × List ℕ)) (c : List ℕ) (o : Option Output) → (first ≡ None → ⊥) → JudgedLayers p first plans o → LayersOut VerdictAnswer plain_refusal p first c o
 refused_layers p (Some fault) plans c o other is = is
 refused_layers p None plans c o other is = absurd (other refl)
 
@@ -234,13 +234,13 @@ long_alone b cs (inr (layered, long)) = absurd (omega (arith, long))
 
 long_layers : (p : Parts) (first : Option LayerFault) → first_fault (layer_checks p) ≡ first → (labels : List (List ℕ)) (b : List ℕ) (cs : List (List ℕ)) → ReadsAs task_format most_bytes b (Ok p) → JudgedLayers p first (zip labels cs) None
     → (most_bytes < length b) ⊎ (IsLayeredText b × (d : List ℕ) × Contains cs d × (most_bytes < length d))
-long_layers p (Some fault) e labels b cs reads is = long_alone b cs (no_plan_output VerdictAnswer b [] (Ok p, reads, subst (λ (first : Option LayerFault). LayersOut VerdictAnswer p first [] None) (sym e) is))
+long_layers p (Some fault) e labels b cs reads is = long_alone b cs (no_plan_output VerdictAnswer plain_refusal plain_refuses b [] (Ok p, reads, subst (λ (first : Option LayerFault). LayersOut VerdictAnswer plain_refusal p first [] None) (sym e) is))
 long_layers p None e labels b cs reads (label, c, has, long) =
-    long_plan b c (no_plan_output VerdictAnswer b c (judged_out VerdictAnswer p ((checks_are_rules p).0 e) b c reads None long)) cs (contains_second labels cs label c has)
+    long_plan b c (no_plan_output VerdictAnswer plain_refusal plain_refuses b c (judged_out VerdictAnswer plain_refusal p ((checks_are_rules p).0 e) b c reads None long)) cs (contains_second labels cs label c has)
 
 long_task : (r : Result Parts Fault) (labels : List (List ℕ)) (b : List ℕ) (cs : List (List ℕ)) → ReadsAs task_format most_bytes b r → JudgedTask r (zip labels cs) None
     → (most_bytes < length b) ⊎ (IsLayeredText b × (d : List ℕ) × Contains cs d × (most_bytes < length d))
-long_task (Err f) labels b cs reads is = long_alone b cs (no_plan_output VerdictAnswer b [] (Err f, reads, is))
+long_task (Err f) labels b cs reads is = long_alone b cs (no_plan_output VerdictAnswer plain_refusal plain_refuses b [] (Err f, reads, is))
 long_task (Ok p) labels b cs reads is = long_layers p (first_fault (layer_checks p)) refl labels b cs reads is
 
 pub none_judge_is_long : NoneJudgeIsLong

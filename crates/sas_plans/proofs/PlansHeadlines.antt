@@ -26,9 +26,9 @@ use Rattle.sas_output.specs.Ending.{Output}
 use Rattle.sas_answers.specs.Answers.{VerdictAnswer}
 use Rattle.sas_answers.specs.PlanWords.{valid_line}
 use Rattle.sas_requests.specs.Headline.{Solves, Headline}
-use Rattle.sas_requests.specs.Output.{IsLayeredText}
+use Rattle.sas_requests.specs.Output.{IsLayeredText, plain_refusal}
 use Rattle.sas_requests.proofs.Headlines.{tells_valid, headline_of, sent_same}
-use Rattle.sas_requests.proofs.PlanAnswers.{judged_out}
+use Rattle.sas_requests.proofs.PlanAnswers.{plain_refuses, judged_out}
 use Rattle.sas_plans.specs.Inputs.{IsLabel}
 use Rattle.sas_plans.specs.Judged.{Judged, HasCost, IsJudged, PlansAnswer, JudgedLayers, JudgedTask, JudgeOut, is_valid, labelled}
 use Rattle.sas_plans.specs.Judging.{unjudged}
@@ -56,7 +56,7 @@ module _ (p : Parts) (layered : IsLayered p) (labels : List (List ℕ)) (b : Lis
   plan_told : (label c : List ℕ) (j : Judged) → IsLabel label → IsJudged p (label, c) j → PlanTold b c label j
   plan_told label c j is_label (o, out, same, line, cost) = record {
     output = o;
-    headline = headline_of VerdictAnswer tells_valid b c o (judged_out VerdictAnswer p layered b c reads (Some o) out) (Some []) (Some o.text) [] o.status refl refl refl;
+    headline = headline_of VerdictAnswer plain_refusal tells_valid plain_refuses b c o (judged_out VerdictAnswer plain_refusal p layered b c reads (Some o) out) (Some []) (Some o.text) [] o.status refl refl refl;
     line = ap (λ (x : List ℕ). x ++ codes ": " ++ j.line) same ∙ ap (λ (x : List ℕ). label ++ codes ": " ++ x) line;
     valid = status_valid c o.status j.cost cost;
     is_line = labelled_line label j is_label same (subst IsLine (sym line) (verdict_line p c o out));
@@ -132,7 +132,7 @@ module _ (labels : List (List ℕ)) (b : List ℕ) (cs : List (List ℕ)) (o : O
 
   none_solves : (c : List ℕ) (steps cost : ℕ) → Solves b c (valid_line steps cost) → ⊥
   none_solves c steps cost solves =
-      let h = headline_of VerdictAnswer tells_valid b c o (refuses_as_plan labels b cs o unlayered out c) (Some []) (Some o.text) [] o.status refl refl refl in
+      let h = headline_of VerdictAnswer plain_refusal tells_valid plain_refuses b c o (refuses_as_plan labels b cs o unlayered out c) (Some []) (Some o.text) [] o.status refl refl refl in
       let apart : No ≡ Yes = sym refused.status ∙ h.yes.1 (steps, cost, solves) in
       absurd cc
 

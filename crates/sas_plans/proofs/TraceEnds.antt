@@ -21,7 +21,7 @@ use Rattle.sas_output.specs.declared.ending.ToolFault.{ToolFault}
 use Rattle.sas_output.specs.declared.ending.ToolFault.TheVariants as tool_fault
 use Rattle.sas_output.specs.Ending.{Output, Ends, IsDecided, IsWrite}
 use Rattle.sas_answers.specs.Answers.{layers_refusal}
-use Rattle.sas_requests.specs.Output.{IsLayeredText, refusal, FileOut, VerdictOut}
+use Rattle.sas_requests.specs.Output.{IsLayeredText, refusal, FileOut, VerdictOut, plain_refusal}
 use Rattle.sas_requests.proofs.Outputs.{refused_kind, reading_of_refusal, takes_nothing}
 use Rattle.sas_requests.proofs.PlanAnswers.{NoAnswer, RefusedOut, told_fault, first_alone, second_alone, refused_out, judged_out, unlayered_out}
 use Rattle.sas_trace.specs.Traced.{TraceVerdict}
@@ -108,10 +108,10 @@ module _ (Sent : List ℕ → Type 0) where
     refused_files plan f r working read told long reads =
         let one = ends_refused left_task task_format (ValueOf task_format) (codes "task") NoAnswer old new f r read told long reads in
         record {
-          output = λ b c known known_plan. ends_by (RefusedOut b) (TraceOut b c) r (λ _. refused_out TraceVerdict b c) (one.output b known);
+          output = λ b c known known_plan. ends_by (RefusedOut b) (TraceOut b c) r (λ _. refused_out TraceVerdict plain_refusal b c) (one.output b known);
           taken = λ decided.
               let (b, consumed, ends) = one.taken decided in
-              (b, [], consumed, takes_nothing _, ends_by (RefusedOut b) (TraceOut b []) r (λ _. refused_out TraceVerdict b []) ends);
+              (b, [], consumed, takes_nothing _, ends_by (RefusedOut b) (TraceOut b []) r (λ _. refused_out TraceVerdict plain_refusal b []) ends);
           waits = λ b known none. refl;
           reads = (λ e. (first_alone new.failed plan.failed working).1 (one.reads.0 e), λ t. one.reads.1 ((first_alone new.failed plan.failed working).0 t));
         }
@@ -124,11 +124,11 @@ module _ (Sent : List ℕ → Type 0) where
       traced_files plan_old plan_new r layered one = record {
         output = λ b c known known_plan.
             let value = known_answer left_task task_format (ValueOf task_format) old new p b read known in
-            ends_by (VerdictOut TraceVerdict p c) (TraceOut b c) r (λ _. judged_out TraceVerdict p layered b c value) (one.output c known_plan);
+            ends_by (VerdictOut TraceVerdict p c) (TraceOut b c) r (λ _. judged_out TraceVerdict plain_refusal p layered b c value) (one.output c known_plan);
         taken = λ decided.
             let (b, consumed, value) = read.read in
             let (c, consumed_plan, ends) = one.taken decided in
-            (b, c, consumed.0, consumed_plan, ends_by (VerdictOut TraceVerdict p c) (TraceOut b c) r (λ _. judged_out TraceVerdict p layered b c value) ends);
+            (b, c, consumed.0, consumed_plan, ends_by (VerdictOut TraceVerdict p c) (TraceOut b c) r (λ _. judged_out TraceVerdict plain_refusal p layered b c value) ends);
         waits = λ b known none. absurd (none (p, known_answer left_task task_format (ValueOf task_format) old new p b read known, layered));
         reads = (
           λ e. (second_alone new.failed plan_new.failed (λ t. read.note.1 t)).1 (one.reads.0 e),
@@ -139,8 +139,8 @@ module _ (Sent : List ℕ → Type 0) where
       -- what was told of the layers is the output
       module _ (fault : LayerFault) (first : fault ≢ layer_fault.Memory → first_fault (layer_checks p) ≡ Some fault) where
         layers_out : (b c : List ℕ) → ValueOf task_format b p → (r : Result Status ToolFault) → Ends (λ o. o ≡ layers_refusal fault) Sent r → (IsErrOf r tool_fault.TooLong → ⊥) → Ends (TraceOut b c) Sent r
-        layers_out b c value (Ok status) (output, is, same, sent) long = (output, unlayered_out TraceVerdict p fault b c output value (first (told_fault fault output (sym is))) (sym is), same, sent)
-        layers_out b c value (Err (tool_fault.Write written)) (output, is, less, sent) long = (output, unlayered_out TraceVerdict p fault b c output value (first (told_fault fault output (sym is))) (sym is), less, sent)
+        layers_out b c value (Ok status) (output, is, same, sent) long = (output, unlayered_out TraceVerdict plain_refusal p fault b c output value (first (told_fault fault output (sym is))) (sym is), same, sent)
+        layers_out b c value (Err (tool_fault.Write written)) (output, is, less, sent) long = (output, unlayered_out TraceVerdict plain_refusal p fault b c output value (first (told_fault fault output (sym is))) (sym is), less, sent)
         layers_out b c value (Err tool_fault.TooLong) is long = absurd (long refl)
         layers_out b c value (Err tool_fault.Memory) is long = tt
         layers_out b c value (Err tool_fault.Read) is long = tt

@@ -8,8 +8,8 @@ use Rattle.sas_meaning.specs.LayerChecks.{layer_checks}
 use Rattle.sas_reader.specs.declared.fault.Fault.{Fault}
 use Rattle.sas_output.specs.Ending.{Output}
 use Rattle.sas_answers.specs.Answers.{VerdictAnswer}
-use Rattle.sas_requests.specs.Output.{IsAnswerOrRefusal, LayersOut, JudgedOut}
-use Rattle.sas_requests.proofs.PlanAnswers.{one_plan_output, some_plan_output, no_plan_output}
+use Rattle.sas_requests.specs.Output.{IsAnswerOrRefusal, LayersOut, JudgedOut, plain_refusal}
+use Rattle.sas_requests.proofs.PlanAnswers.{plain_refuses, one_plan_output, some_plan_output, no_plan_output}
 use Rattle.sas_trace.specs.Traced.{TraceVerdict}
 use Rattle.sas_trace.specs.Laws.{EndsWithVerdict, OneTrace, SomeTrace}
 use Rattle.sas_plans.specs.TraceOut.{EndsAsPlan, OneTraceOutput, SomeTraceOutput, NoneTraceIsLong}
@@ -32,11 +32,11 @@ module _ (ends : EndsWithVerdict) (p : Parts) (c : List ℕ) where
       (verdict, (verdict, told, refl), (front, whole, status))
   plan_ends (Err fault) o is = (o, is, itself o)
 
-  layers_end : (first : Option LayerFault) (o : Output) → LayersOut TraceVerdict p first c (Some o) → (plain : Output) × LayersOut VerdictAnswer p first c (Some plain) × EndsAs o plain
+  layers_end : (first : Option LayerFault) (o : Output) → LayersOut TraceVerdict plain_refusal p first c (Some o) → (plain : Output) × LayersOut VerdictAnswer plain_refusal p first c (Some plain) × EndsAs o plain
   layers_end (Some fault) o is = (o, is, itself o)
   layers_end None o (read, reads, out) = let (plain, its, as_plain) = plan_ends read o out in (plain, (read, reads, its), as_plain)
 
-judged_ends : EndsWithVerdict → (r : Result Parts Fault) (c : List ℕ) (o : Output) → JudgedOut TraceVerdict r c (Some o) → (plain : Output) × JudgedOut VerdictAnswer r c (Some plain) × EndsAs o plain
+judged_ends : EndsWithVerdict → (r : Result Parts Fault) (c : List ℕ) (o : Output) → JudgedOut TraceVerdict plain_refusal r c (Some o) → (plain : Output) × JudgedOut VerdictAnswer plain_refusal r c (Some plain) × EndsAs o plain
 judged_ends ends (Err fault) c o is = (o, is, itself o)
 judged_ends ends (Ok p) c o out = layers_end ends p c (first_fault (layer_checks p)) o out
 
@@ -48,10 +48,10 @@ ends_as_plan ends b c traced (read, reads, out) =
 -- ---- one output, always one, and none only where an input is too long
 
 pub one_trace_output : OneTrace → OneTraceOutput
-one_trace_output one b c o p = one_plan_output TraceVerdict (λ task layered plan x y. one task plan x y layered) b c o p
+one_trace_output one b c o p = one_plan_output TraceVerdict plain_refusal (λ task layered plan x y. one task plan x y layered) b c o p
 
 pub some_trace_output : SomeTrace → SomeTraceOutput
-some_trace_output some b c = some_plan_output TraceVerdict (λ p ranged layered plan none. let it = some p plan ranged layered in none it.0 it.1) b c
+some_trace_output some b c = some_plan_output TraceVerdict plain_refusal (λ p ranged layered plan none. let it = some p plan ranged layered in none it.0 it.1) b c
 
 pub long_trace_output : NoneTraceIsLong
-long_trace_output b c out = no_plan_output TraceVerdict b c out
+long_trace_output b c out = no_plan_output TraceVerdict plain_refusal plain_refuses b c out

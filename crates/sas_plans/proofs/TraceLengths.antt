@@ -30,7 +30,7 @@ use Rattle.sas_run.proofs.PlanStates.{leads_to_reachable}
 use Rattle.sas_output.specs.Ending.{Output}
 use Rattle.sas_output.specs.Words as words
 use Rattle.sas_answers.specs.PlanWords.{valid_line}
-use Rattle.sas_reasons.specs.Lines.{fact_words}
+use Rattle.sas_wording.specs.Facts.{fact_words}
 use Rattle.sas_reasons.specs.Runs.{Run, state_at, GoesThrough}
 use Rattle.sas_reasons.specs.WhyPlan.{steps_before}
 use Rattle.sas_requests.proofs.LineLengths.{spread, joined_short}

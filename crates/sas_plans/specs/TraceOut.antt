@@ -2,12 +2,12 @@
 use Rattle.std.specs.Prelude.{◌≡◌, ℕ, List, ◌++◌, Option, Some, None}
 use Rattle.sas_output.specs.Ending.{Output}
 use Rattle.sas_requests.specs.declared.Request.TheVariants.{Plan}
-use Rattle.sas_requests.specs.Output.{Out, PlanOutBy, IsLong}
+use Rattle.sas_requests.specs.Output.{Out, PlanOutBy, plain_refusal, IsLong}
 use Rattle.sas_trace.specs.Traced.{TraceVerdict}
 
 -- the output about the bytes b of the task and c of the plan
 abbrev pub TraceOut : List ℕ → List ℕ → Option Output → Type 0
-TraceOut = PlanOutBy TraceVerdict
+TraceOut = PlanOutBy TraceVerdict plain_refusal
 
 -- ---- laws
 

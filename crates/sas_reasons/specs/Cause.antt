@@ -13,7 +13,8 @@ use Rattle.sas_core.specs.Grounded.{rule_at}
 use Rattle.sas_meaning.specs.Layers.{default_of}
 use Rattle.sas_meaning.specs.Settled.{differs}
 use Rattle.sas_output.specs.Words.{line}
-use Rattle.sas_reasons.specs.Lines.{fact_words, places}
+use Rattle.sas_wording.specs.Facts.{fact_words}
+use Rattle.sas_reasons.specs.Lines.{places}
 use Rattle.sas_reasons.specs.Runs.{Run, last_state}
 use Rattle.sas_reasons.specs.Since.{IsSince}
 use Rattle.sas_reasons.specs.Derivation.{can_give, IsDerivation}

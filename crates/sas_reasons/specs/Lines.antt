@@ -1,15 +1,7 @@
 -- The lines that tell reasons.
 use Rattle.std.specs.Prelude.{◌≡◌, ℕ, ◌+◌, ◌&&◌, Bool, if◌then◌else◌, List, [], ◌∷◌, ◌++◌, length, take}
-use Rattle.std.specs.Prelude.{bytes_eq, codes, decimal}
+use Rattle.std.specs.Prelude.{bytes_eq, codes}
 use Rattle.std.specs.List.{list_any}
-use Rattle.std.specs.Option.{unwrap_or}
-use Rattle.sas_core.specs.declared.parts.Parts.{Parts}
-use Rattle.sas_core.specs.Variables.{value_name}
-
--- `VAR VALUE NAME`, where NAME is the value's name; a value that doesn't exist has none
-abbrev pub fact_words : Parts → ℕ → ℕ → List (List ℕ)
-fact_words p var value =
-    decimal var ∷ decimal value ∷ unwrap_or (value_name p.variables var value) [] ∷ []
 
 -- whether a line begins so
 abbrev pub begins : List ℕ → List ℕ → Bool

@@ -13,7 +13,8 @@ use Rattle.sas_run.specs.declared.plan_check.PlanFault.{PlanFault}
 use Rattle.sas_run.specs.declared.plan_check.PlanFault.TheVariants.{Memory, NoOperator, NotApplicable}
 use Rattle.sas_run.specs.declared.plan_check.PlanFault.TheVariants.{Conflict, GoalMissed, CostDiffers}
 use Rattle.sas_output.specs.Words.{line}
-use Rattle.sas_reasons.specs.Lines.{fact_words, told_once, TellsEach, places}
+use Rattle.sas_wording.specs.Facts.{fact_words}
+use Rattle.sas_reasons.specs.Lines.{told_once, TellsEach, places}
 use Rattle.sas_reasons.specs.Runs.{Run, last_state, GoesThrough}
 use Rattle.sas_reasons.specs.Likeness.{IsLike}
 use Rattle.sas_reasons.specs.MayMean.{HasOther, MayMean}

@@ -1,5 +1,5 @@
 -- A plan is told as valid exactly where it is.
-use Rattle.std.proofs.Common.{◌≡◌, ◌≢◌, ℕ, ◌<◌, ◌⊎◌, List, [], length, codes, get_or, arith, refl, sym, ap, subst, ◌∙◌, inl, inr, Option, Some, None, Result, Ok, Err}
+use Rattle.std.proofs.Common.{◌≡◌, ◌≢◌, ℕ, ◌<◌, ◌⊎◌, List, [], ◌∷◌, ◌++◌, length, codes, get_or, arith, refl, sym, ap, subst, ◌∙◌, inl, inr, Option, Some, None, Result, Ok, Err}
 use Rattle.std.specs.Prelude.{option_map}
 use Rattle.std.specs.Io.KnownBytes.{Appends}
 use Rattle.std.proofs.lemmas.Option.{none-some}
@@ -30,6 +30,7 @@ use Rattle.sas_output.specs.Ending.{Output}
 use Rattle.sas_requests.specs.Output.{word_of, refusal, refusal_line, IsAnswerOrRefusal, LayersOut, JudgedOut, PlanOutBy}
 use Rattle.sas_answers.specs.PlanWords.{valid_line, fault_words, invalid_line}
 use Rattle.sas_requests.proofs.Outputs.{refused_kind}
+use Rattle.sas_requests.proofs.PlanAnswers.{IsRefusal, Refuses}
 use Rattle.sas_answers.proofs.VerdictAnswers.{one_verdict_answer}
 
 -- ---- what any output about a plan says
@@ -58,14 +59,31 @@ not_same m n less same = omega arith
 task_refusal_apart : (line steps cost : ℕ) (w : List ℕ) → refusal_line (codes "task") line w ≡ valid_line steps cost → ⊥
 task_refusal_apart line steps cost w e = not_same 112 116 (omega arith) (ap (λ (t : List ℕ). get_or t 0 0) e)
 
-layers_line_apart : (steps cost : ℕ) (w : List ℕ) → layers_line w ≡ valid_line steps cost → ⊥
-layers_line_apart steps cost w e = not_same 112 116 (omega arith) (ap (λ (t : List ℕ). get_or t 0 0) e)
-
 plan_refusal_apart : (line steps cost : ℕ) (w : List ℕ) → refusal_line (codes "plan") line w ≡ valid_line steps cost → ⊥
 plan_refusal_apart line steps cost w e = not_same 114 118 (omega arith) (sym (ap (λ (t : List ℕ). get_or t 5 0) e))
 
 invalid_line_apart : (steps cost : ℕ) (w : List ℕ) → invalid_line w ≡ valid_line steps cost → ⊥
 invalid_line_apart steps cost w e = not_same 105 118 (omega arith) (sym (ap (λ (t : List ℕ). get_or t 5 0) e))
+
+-- nor is the refusal of a task for a fault of its layers, whatever stands behind
+line_begins : (words : Option (List ℕ)) (o : Output) → option_map (λ w. record { text = layers_line w; status = No }) words ≡ Some o → (get_or o.text 0 0 ≡ 116) × (o.status ≡ No)
+line_begins None o is = absurd (none-some o is)
+line_begins (Some w) o is =
+    let same : (record { text = layers_line w; status = No }) ≡ o = cc in
+    (sym (ap (λ (x : Output). get_or x.text 0 0) same), sym (ap (λ (x : Output). x.status) same))
+
+begins_same : (front behind : List ℕ) → get_or front 0 0 ≡ 116 → get_or (front ++ behind) 0 0 ≡ 116
+begins_same [] behind is = absurd (omega (arith, is))
+begins_same (b ∷ front) behind is = is
+
+refusal_other : (fault : LayerFault) (o : Output) → IsRefusal fault o → IsOther o
+refusal_other fault o r =
+    let first = line_begins (layer_words fault) r.plain r.is in
+    let begins = ap (λ (t : List ℕ). get_or t 0 0) r.text ∙ begins_same (r.plain).text r.behind first.0 in
+    record {
+      status = r.status ∙ first.1;
+      text = λ steps cost e. not_same 112 116 (omega arith) (sym begins ∙ ap (λ (t : List ℕ). get_or t 0 0) e);
+    }
 
 -- what an answer about a plan says of whether it is valid: it is that of a valid plan, or another
 -- one; and of a valid plan it is that
@@ -105,7 +123,7 @@ sent_same None new before x y e f g = absurd (none-some before e)
 sent_same (Some xs) None before x y e f g = absurd f
 sent_same (Some xs) (Some ys) before x y e f g = append_cancel_left xs x y (sym f ∙ g)
 
-module _ (Verdict : Parts → PlanParts → Output → Type 0) (tells : TellsValid Verdict) where
+module _ (Verdict : Parts → PlanParts → Output → Type 0) (refused : Parts → LayerFault → Option Output) (tells : TellsValid Verdict) (refuses : Refuses refused) where
   module _ (b c : List ℕ) (o : Output) where
     verdict_told : (p : Parts) (plan : PlanParts) → Reads task_format b p → IsLayered p → Reads plan_format c plan → Verdict p plan o → IsSolved b c o ⊎ IsOther o
     verdict_told p plan is_task layered is_plan verdict = elim (tells.told p plan o verdict) [
@@ -132,11 +150,11 @@ module _ (Verdict : Parts → PlanParts → Output → Type 0) (tells : TellsVal
     plan_told p (Err fault) is_task layered reads is =
         inr (other_words (word_of fault.kind) (refusal_line (codes "plan") fault.line) o (λ w steps cost. plan_refusal_apart fault.line steps cost w) (sym is))
 
-    layers_told : (p : Parts) (first : Option LayerFault) → Reads task_format b p → (first ≡ None → IsLayered p) → LayersOut Verdict p first c (Some o) → IsSolved b c o ⊎ IsOther o
-    layers_told p (Some fault) is_task layered is = inr (other_words (layer_words fault) layers_line o (λ w steps cost. layers_line_apart steps cost w) (sym is))
+    layers_told : (p : Parts) (first : Option LayerFault) → Reads task_format b p → (first ≡ None → IsLayered p) → LayersOut Verdict refused p first c (Some o) → IsSolved b c o ⊎ IsOther o
+    layers_told p (Some fault) is_task layered is = inr (refusal_other fault o (refuses.told p fault o (sym is)))
     layers_told p None is_task layered out = plan_told p out.0 is_task (layered refl) out.1 out.2
 
-    judged_told : (r : Result Parts Fault) → ReadsAs task_format most_bytes b r → JudgedOut Verdict r c (Some o) → IsSolved b c o ⊎ IsOther o
+    judged_told : (r : Result Parts Fault) → ReadsAs task_format most_bytes b r → JudgedOut Verdict refused r c (Some o) → IsSolved b c o ⊎ IsOther o
     judged_told (Err fault) reads is =
         inr (other_words (word_of fault.kind) (refusal_line (codes "task") fault.line) o (λ w steps cost. task_refusal_apart fault.line steps cost w) (sym is))
     judged_told (Ok p) reads out = layers_told p (first_fault (layer_checks p)) reads.0 (checks_are_rules p).0 out
@@ -148,26 +166,26 @@ module _ (Verdict : Parts → PlanParts → Output → Type 0) (tells : TellsVal
         let same : o ≡ answer = cc in
         same ∙ tells.valid s.task s.plan answer s.operators s.layered s.valid verdict
 
-    layered_answered : LayersOut Verdict s.task None c (Some o) → o ≡ valid_answer s.plan
+    layered_answered : LayersOut Verdict refused s.task None c (Some o) → o ≡ valid_answer s.plan
     layered_answered out =
         plan_answered out.0
         (text_read plan_format plan_laws_hold c s.plan out.0 s.is_plan
         (λ f e. not_long (codes "plan") f o (subst (λ (x : Result PlanParts Fault). IsAnswerOrRefusal (codes "plan") (Verdict s.task) x (Some o)) e out.2)) out.1)
         out.2
 
-    solved_answered : PlanOutBy Verdict b c (Some o) → o ≡ valid_answer s.plan
+    solved_answered : PlanOutBy Verdict refused b c (Some o) → o ≡ valid_answer s.plan
     solved_answered out =
-        let read = text_read task_format task_laws_hold b s.task out.0 s.is_task (λ f e. not_long (codes "task") f o (subst (λ (x : Result Parts Fault). JudgedOut Verdict x c (Some o)) e out.2)) out.1 in
-        let judged = subst (λ (x : Result Parts Fault). JudgedOut Verdict x c (Some o)) read out.2 in
-        layered_answered (subst (λ (first : Option LayerFault). LayersOut Verdict s.task first c (Some o)) ((checks_are_rules s.task).1 s.layered) judged)
+        let read = text_read task_format task_laws_hold b s.task out.0 s.is_task (λ f e. not_long (codes "task") f o (subst (λ (x : Result Parts Fault). JudgedOut Verdict refused x c (Some o)) e out.2)) out.1 in
+        let judged = subst (λ (x : Result Parts Fault). JudgedOut Verdict refused x c (Some o)) read out.2 in
+        layered_answered (subst (λ (first : Option LayerFault). LayersOut Verdict refused s.task first c (Some o)) ((checks_are_rules s.task).1 s.layered) judged)
 
-    solved_status : PlanOutBy Verdict b c (Some o) → o.status ≡ Yes
+    solved_status : PlanOutBy Verdict refused b c (Some o) → o.status ≡ Yes
     solved_status out = ap (λ (x : Output). x.status) (solved_answered out)
 
-    solved_text : PlanOutBy Verdict b c (Some o) → o.text ≡ line
+    solved_text : PlanOutBy Verdict refused b c (Some o) → o.text ≡ line
     solved_text out = ap (λ (x : Output). x.text) (solved_answered out) ∙ sym s.printed
 
-  module _ (b c : List ℕ) (o : Output) (out : PlanOutBy Verdict b c (Some o)) where
+  module _ (b c : List ℕ) (o : Output) (out : PlanOutBy Verdict refused b c (Some o)) where
     line_solves : (steps cost : ℕ) → o.text ≡ valid_line steps cost → IsSolved b c o ⊎ IsOther o → Solves b c (valid_line steps cost)
     line_solves steps cost e (inl solved) = subst (λ (x : List ℕ). Solves b c x) e solved.solves
     line_solves steps cost e (inr other) = absurd (other.text steps cost e)

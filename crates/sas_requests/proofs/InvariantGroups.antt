@@ -1,25 +1,21 @@
 -- A group that is reported as exclusive is an invariant of a task that the bytes are a text of.
-use Rattle.std.proofs.Common.{◌≡◌, ℕ, suc, ◌+◌, ◌<◌, ◌^◌, List, [], ◌∷◌, ◌++◌, length, get_or, drop, codes, append_assoc, refl, sym, ap, subst, ◌∙◌, arith, Option, Some, None, Result, Ok, Err, inl, inr}
-use Rattle.std.specs.Prelude.{option_map}
+use Rattle.std.proofs.Common.{◌≡◌, ℕ, suc, ◌+◌, ◌<◌, ◌^◌, List, [], ◌∷◌, ◌++◌, length, get_or, drop, codes, append_assoc, append-nil, true, ◌⊎◌, refl, sym, ap, subst, ◌∙◌, arith, Option, Some, None, Result, Ok, Err, inl, inr}
 use Rattle.std.specs.Fmt.{decimal}
 use Rattle.std.specs.List.{AllByRecursion, Contains}
 use Rattle.std.specs.Io.KnownBytes.{Appends}
-use Rattle.std.proofs.lemmas.Option.{none-some}
 use Rattle.std.proofs.lemmas.List.{append_cancel_left}
 use Rattle.std.proofs.lemmas.List.Elements.{Contains-append_cases, All-contains, All-cons, All-nil}
 use Rattle.sas_core.specs.declared.parts.Parts.{Parts}
 use Rattle.sas_core.specs.FirstFault.{first_fault}
+use Rattle.sas_core.specs.WellRanged.{WellRanged}
 use Rattle.sas_meaning.specs.declared.layered.LayerFault.{LayerFault}
-use Rattle.sas_meaning.specs.declared.layered.LayerFault.TheVariants as layer_fault
 use Rattle.sas_meaning.specs.Layers.{IsLayered}
 use Rattle.sas_meaning.specs.LayerChecks.{layer_checks}
 use Rattle.sas_meaning.proofs.LayerChecksAreRules.{checks_are_rules}
 use Rattle.sas_lines.specs.Lines.{lines, text}
-use Rattle.sas_lines.proofs.Splitting.{Plain, lines-text, lines-one}
+use Rattle.sas_lines.proofs.Splitting.{Plain, lines-text}
 use Rattle.sas_lines.proofs.Words.{same_first, NoSpace-decimal, own_decimal}
 use Rattle.sas_reader.specs.declared.fault.Fault.{Fault}
-use Rattle.sas_reader.specs.declared.fault.Kind.{Kind}
-use Rattle.sas_reader.specs.declared.fault.Kind.TheVariants as kinds
 use Rattle.sas_reader.specs.Limit.{most_bytes}
 use Rattle.sas_reader.specs.Format.{Reads, ReadsAs}
 use Rattle.sas_reader.specs.System.{IsPlain}
@@ -30,12 +26,20 @@ use Rattle.sas_groups.specs.declared.verdict.Verdict.TheVariants.{Exclusive, Der
 use Rattle.sas_mutex.proofs.JointLists.{listed_invariants}
 use Rattle.sas_requests.specs.Headline.{HasInvariant, Invariants}
 use Rattle.sas_answers.specs.GroupWords.{verdict_words, group_line, verdict_lines_from, verdict_lines}
-use Rattle.sas_answers.specs.LayerWords.{layer_words, layers_line, part_words}
+use Rattle.sas_answers.specs.LayerWords.{layer_words, layers_line}
 use Rattle.sas_answers.specs.Answers.{layers_refusal, GroupsAnswer, LayeredGroupsAnswer, MutexAnswer}
-use Rattle.sas_output.specs.declared.ending.Status.TheVariants.{No}
+use Rattle.sas_task_reasons.specs.LayerReasons.{layer_reasons}
+use Rattle.sas_task_reasons.specs.WhyLayers.{why_refusal, WhyLayeredGroups, WhyMutexAnswer}
+use Rattle.sas_reasons.proofs.Sorting.{contains_cases, contains_none}
 use Rattle.sas_output.specs.Ending.{Output}
-use Rattle.sas_requests.specs.Output.{word_of, refusal, refusal_line, IsAnswerOrRefusal, MutexOut}
+use Rattle.sas_requests.specs.Output.{word_of, refusal, refusal_line, IsAnswerOrRefusal, FileOut}
+use Rattle.sas_requests.specs.Why.{is_reason}
 use Rattle.sas_requests.proofs.Headlines.{sent_same}
+use Rattle.sas_requests.proofs.PlainNames.{plain_names}
+use Rattle.sas_requests.proofs.ReasonLines.{IsReason, AreReasons}
+use Rattle.sas_requests.proofs.LayerLines.{layer_reasons_tell}
+use Rattle.sas_requests.proofs.ToldLines.{IsTold, lines_of_first, file_words, file_plain, kind_plain, layer_told}
+use Rattle.sas_requests.proofs.WhyAnswers.{worded, why_is}
 
 -- ---- the lines of verdicts
 
@@ -101,80 +105,81 @@ line_said n place (v ∷ verdicts) few h =
 
 -- ---- a refusal has no such line
 
--- the text is one line that begins with the t of `task`
-record IsRefusal (out : List ℕ) : Type 0 where
-  pub line : List ℕ
-  pub plain : IsPlain line
-  pub first : get_or line 0 0 ≡ 116
-  pub is : out ≡ line ++ 10 ∷ []
+-- none of the text's lines says that a group is exclusive
+abbrev SaysNone : List ℕ → Type 0
+SaysNone out = (place : ℕ) → Contains (lines out) (group_line place Exclusive) → ⊥
 
-refusal_apart : (out : List ℕ) (place : ℕ) → IsRefusal out → Contains (lines out) (group_line place Exclusive) → ⊥
-refusal_apart out place r has =
-    let line = plain r.line r.plain in
-    let one : lines out ≡ r.line ∷ [] = ap lines r.is ∙ lines-one r.line line.no_end ∙ ap (λ (x : List ℕ). x ∷ []) line.no_return in
-    let same = only_item r.line (group_line place Exclusive) (subst (λ (ls : List (List ℕ)). Contains ls (group_line place Exclusive)) one has) in
-    let first : get_or r.line 0 0 ≡ get_or (group_line place Exclusive) 0 0 = ap (λ (t : List ℕ). get_or t 0 0) same in
-    omega (arith, first, r.first)
+first_apart : (words : List ℕ) (place : ℕ) → codes "task refused: " ++ words ≡ group_line place Exclusive → ⊥
+first_apart words place e = apart_at 0 (group_line place Exclusive) (codes "task refused: " ++ words) (omega arith) (sym e)
 
--- a refusal with words that are plain is such a line
-worded : (words : Option (List ℕ)) (line_of : List ℕ → List ℕ) (o : Output) → ((w : List ℕ) → words ≡ Some w → IsRefusal (line_of w))
-    → option_map (λ w. record { text = line_of w; status = No }) words ≡ Some o → IsRefusal o.text
-worded None line_of o is_refusal is = absurd (none-some o is)
-worded (Some w) line_of o is_refusal is =
-    let same : (record { text = line_of w; status = No }) ≡ o = cc in
-    subst IsRefusal (ap (λ (x : Output). x.text) same) (is_refusal w refl)
+reason_apart : (line : List ℕ) (place : ℕ) → IsReason line → line ≡ group_line place Exclusive → ⊥
+reason_apart line place reason e =
+    let tells : is_reason (group_line place Exclusive) ≡ true = subst (λ (l : List ℕ). is_reason l ≡ true) e reason.tells in
+    absurd cc
 
-kind_plain : (kind : Kind) (w : List ℕ) → word_of kind ≡ Some w → IsPlain w
-kind_plain kinds.Keyword w e = subst IsPlain (let same : codes "keyword" ≡ w = cc in same) (plain_bytes (codes "keyword") refl)
-kind_plain kinds.Name w e = subst IsPlain (let same : codes "name" ≡ w = cc in same) (plain_bytes (codes "name") refl)
-kind_plain kinds.Shape w e = subst IsPlain (let same : codes "shape" ≡ w = cc in same) (plain_bytes (codes "shape") refl)
-kind_plain kinds.Value w e = subst IsPlain (let same : codes "value" ≡ w = cc in same) (plain_bytes (codes "value") refl)
-kind_plain kinds.End w e = subst IsPlain (let same : codes "end" ≡ w = cc in same) (plain_bytes (codes "end") refl)
-kind_plain kinds.Trailing w e = subst IsPlain (let same : codes "trailing" ≡ w = cc in same) (plain_bytes (codes "trailing") refl)
-kind_plain kinds.TooLong w e = absurd (none-some w e)
-kind_plain kinds.Read w e = absurd (none-some w e)
-kind_plain kinds.Memory w e = absurd (none-some w e)
+reasons_apart : (reasons : List (List ℕ)) → AreReasons reasons → (place : ℕ) → Contains reasons (group_line place Exclusive) → ⊥
+reasons_apart [] are place has = contains_none (group_line place Exclusive) has
+reasons_apart (line ∷ reasons) are place has = elim (contains_cases line reasons (group_line place Exclusive) has) [
+  | inl here ↦ reason_apart line place are.0 here
+  | inr behind ↦ reasons_apart reasons are.1 place behind
+]
 
-file_refusal_line : (line : ℕ) (w : List ℕ) → IsPlain w → IsRefusal (refusal_line (codes "task") line w)
-file_refusal_line line w h = record {
-  line = codes "task refused: line " ++ decimal line ++ codes ": " ++ w;
-  plain =
-      plain-append (codes "task refused: line " ++ decimal line ++ codes ": ") w
-      (plain-append (codes "task refused: line " ++ decimal line) (codes ": ")
-      (plain-append (codes "task refused: line ") (decimal line) (plain_bytes (codes "task refused: line ") refl) (plain-decimal line)) (plain_bytes (codes ": ") refl))
-      h;
-  first = refl;
-  is = refl;
-}
+-- nor of a refusal, and of reasons behind it
+refusal_says_none : (words : List ℕ) (reasons : List (List ℕ)) → IsTold (codes "task refused: " ++ words) → AreReasons reasons → SaysNone (((codes "task refused: " ++ words) ++ 10 ∷ []) ++ text reasons)
+refusal_says_none words reasons told are place has =
+    let line = codes "task refused: " ++ words in
+    let among = subst (λ (ls : List (List ℕ)). Contains ls (group_line place Exclusive)) (lines_of_first line reasons told are) has in
+    elim (contains_cases line reasons (group_line place Exclusive) among) [
+      | inl here ↦ first_apart words place here
+      | inr behind ↦ reasons_apart reasons are place behind
+    ]
 
-part_plain : (part : List ℕ) (place : ℕ) (what : List ℕ) → IsPlain part → IsPlain what → IsPlain (part_words part place what)
-part_plain part place what h g =
-    plain-append (part ++ codes " " ++ decimal place ++ codes ": ") what
-    (plain-append (part ++ codes " " ++ decimal place) (codes ": ")
-    (plain-append (part ++ codes " ") (decimal place) (plain-append part (codes " ") h (plain_bytes (codes " ") refl)) (plain-decimal place)) (plain_bytes (codes ": ") refl))
-    g
+alone_says_none : (words out : List ℕ) → IsTold (codes "task refused: " ++ words) → out ≡ (codes "task refused: " ++ words) ++ 10 ∷ [] → SaysNone out
+alone_says_none words out told is = subst SaysNone (append-nil ((codes "task refused: " ++ words) ++ 10 ∷ []) ∙ sym is) (refusal_says_none words [] told tt)
 
-some_words : (x w : List ℕ) → Some x ≡ Some w → IsPlain x → IsPlain w
-some_words x w e h = subst IsPlain (let same : x ≡ w = cc in same) h
+-- the refusal of a file
+file_says_none : (fault : Fault) (o : Output) → Some o ≡ refusal (codes "task") fault → SaysNone o.text
+file_says_none fault o is =
+    let w = worded (word_of fault.kind) (refusal_line (codes "task") fault.line) o (sym is) in
+    let told : IsTold (file_words (codes "task") fault.line w.said) = record {
+      plain = file_plain (codes "task") fault.line w.said (plain_bytes (codes "task") refl) (kind_plain fault.kind w.said w.among);
+      no_reason = refl;
+    } in
+    alone_says_none (drop 14 (file_words (codes "task") fault.line w.said)) o.text told w.text
 
-layer_plain : (fault : LayerFault) (w : List ℕ) → layer_words fault ≡ Some w → IsPlain w
-layer_plain (layer_fault.EffectOnDerived operator effect) w e =
-    some_words _ w e (part_plain (codes "operator") operator (codes "effect on derived variable") (plain_bytes (codes "operator") refl) (plain_bytes (codes "effect on derived variable") refl))
-layer_plain (layer_fault.RuleOnBasic rule) w e =
-    some_words _ w e (part_plain (codes "rule") rule (codes "not on a derived variable") (plain_bytes (codes "rule") refl) (plain_bytes (codes "not on a derived variable") refl))
-layer_plain (layer_fault.OldValue rule) w e = some_words _ w e (part_plain (codes "rule") rule (codes "old value") (plain_bytes (codes "rule") refl) (plain_bytes (codes "old value") refl))
-layer_plain (layer_fault.TwoValues rule) w e = some_words _ w e (part_plain (codes "rule") rule (codes "two values") (plain_bytes (codes "rule") refl) (plain_bytes (codes "two values") refl))
-layer_plain (layer_fault.LayerOrder rule condition) w e =
-    some_words _ w e (part_plain (codes "rule") rule (codes "layer order") (plain_bytes (codes "rule") refl) (plain_bytes (codes "layer order") refl))
-layer_plain layer_fault.Memory w e = absurd (none-some w e)
+-- the refusal of a task that isn't layered, without and with reasons
+layers_say_none : (fault : LayerFault) (o : Output) → layers_refusal fault ≡ Some o → SaysNone o.text
+layers_say_none fault o is =
+    let w = worded (layer_words fault) layers_line o is in
+    alone_says_none w.said o.text (layer_told fault w.said w.among) w.text
 
-layers_refusal_line : (w : List ℕ) → IsPlain w → IsRefusal (layers_line w)
-layers_refusal_line w h = record {
-  line = codes "task refused: " ++ w;
-  plain = plain-append (codes "task refused: ") w (plain_bytes (codes "task refused: ") refl) h;
-  first = refl;
-  is = refl;
-}
+why_says_none : (p : Parts) (fault : LayerFault) (o : Output) → WellRanged p → why_refusal p fault ≡ Some o → SaysNone o.text
+why_says_none p fault o ranged told =
+    let (plain_one, is, same) = why_is p fault o told in
+    let w = worded (layer_words fault) layers_line plain_one is in
+    let reasons = layer_reasons p fault in
+    let whole : o.text ≡ layers_line w.said ++ text reasons = ap (λ (x : Output). x.text) same ∙ ap (λ (t : List ℕ). t ++ text reasons) w.text in
+    subst SaysNone (sym whole) (refusal_says_none w.said reasons (layer_told fault w.said w.among) (layer_reasons_tell p (plain_names p ranged) fault))
+
+-- ---- answers about groups
+
+-- an answer is that about the groups of a layered task, or says of no group that it is exclusive
+abbrev pub TellsGroups : (Parts → Output → Type 0) → Type 0
+TellsGroups IsAnswer = (p : Parts) (o : Output) → WellRanged p → IsAnswer p o → (IsLayered p × GroupsAnswer p o) ⊎ SaysNone o.text
+
+plain_told : (p : Parts) (first : Option LayerFault) (o : Output) → (first ≡ None → IsLayered p) → LayeredGroupsAnswer p first o → (IsLayered p × GroupsAnswer p o) ⊎ SaysNone o.text
+plain_told p (Some fault) o layered refused = inr (layers_say_none fault o refused)
+plain_told p None o layered answer = inl (layered refl, answer)
+
+pub plain_groups : TellsGroups MutexAnswer
+plain_groups p o ranged answer = plain_told p (first_fault (layer_checks p)) o (checks_are_rules p).0 answer
+
+why_told : (p : Parts) (first : Option LayerFault) (o : Output) → WellRanged p → (first ≡ None → IsLayered p) → WhyLayeredGroups p first o → (IsLayered p × GroupsAnswer p o) ⊎ SaysNone o.text
+why_told p (Some fault) o ranged layered refused = inr (why_says_none p fault o ranged refused)
+why_told p None o ranged layered answer = inl (layered refl, answer)
+
+pub why_groups : TellsGroups WhyMutexAnswer
+why_groups p o ranged answer = why_told p (first_fault (layer_checks p)) o ranged (checks_are_rules p).0 answer
 
 -- ---- what was printed of the bytes
 
@@ -195,21 +200,22 @@ module _ (b : List ℕ) (o : Output) (place : ℕ) (has : Contains (lines o.text
         invariant = listed_invariants p verdicts are place exists (ap (λ (k : ℕ). get_or verdicts k Exclusive) same ∙ said.exclusive);
       }
 
-  layers_have : (p : Parts) (first : Option LayerFault) → Reads task_format b p → (first ≡ None → IsLayered p) → LayeredGroupsAnswer p first o → HasInvariant b place
-  layers_have p (Some fault) is layered refused =
-      absurd (refusal_apart o.text place (worded (layer_words fault) layers_line o (λ w e. layers_refusal_line w (layer_plain fault w e)) refused) has)
-  layers_have p None is layered answer = groups_have p is (layered refl) answer
+  answer_has : (p : Parts) → Reads task_format b p → (IsLayered p × GroupsAnswer p o) ⊎ SaysNone o.text → HasInvariant b place
+  answer_has p is told = elim told [
+    | inl groups ↦ groups_have p is groups.0 groups.1
+    | inr none ↦ absurd (none place has)
+  ]
 
-  read_have : (r : Result Parts Fault) → ReadsAs task_format most_bytes b r → IsAnswerOrRefusal (codes "task") MutexAnswer r (Some o) → HasInvariant b place
-  read_have (Ok p) reads (answer, told, is) =
+  read_have : (IsAnswer : Parts → Output → Type 0) → TellsGroups IsAnswer → (r : Result Parts Fault) → ReadsAs task_format most_bytes b r → IsAnswerOrRefusal (codes "task") IsAnswer r (Some o) → HasInvariant b place
+  read_have IsAnswer tells (Ok p) reads (answer, told, is) =
       let same : answer ≡ o = cc in
-      layers_have p (first_fault (layer_checks p)) reads.0 (checks_are_rules p).0 (subst (MutexAnswer p) same told)
-  read_have (Err fault) reads is =
-      absurd (refusal_apart o.text place (worded (word_of fault.kind) (refusal_line (codes "task") fault.line) o (λ w e. file_refusal_line fault.line w (kind_plain fault.kind w e)) (sym is)) has)
+      answer_has p reads.0 (tells p o reads.0.good (subst (λ (x : Output). IsAnswer p x) same told))
+  read_have IsAnswer tells (Err fault) reads is = absurd (file_says_none fault o is place has)
 
-pub invariants_of : (b : List ℕ) (o : Output) → MutexOut b (Some o) → (old new : Option (List ℕ)) (before : List ℕ) → old ≡ Some before → Appends old new o.text → Invariants b (Appends old new)
-invariants_of b o out old new before known sent = record {
+pub invariants_of : (IsAnswer : Parts → Output → Type 0) → TellsGroups IsAnswer → (b : List ℕ) (o : Output) → FileOut task_format (codes "task") IsAnswer b (Some o)
+    → (old new : Option (List ℕ)) (before : List ℕ) → old ≡ Some before → Appends old new o.text → Invariants b (Appends old new)
+invariants_of IsAnswer tells b o out old new before known sent = record {
   line = λ place printed sent_too has.
       read_have b o place (subst (λ (t : List ℕ). Contains (lines t) (group_line place Exclusive)) (sent_same old new before printed o.text known sent_too sent) has)
-      out.0 out.1 out.2;
+      IsAnswer tells out.0 out.1 out.2;
 }

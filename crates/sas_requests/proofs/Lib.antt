@@ -15,5 +15,7 @@ pub mod WhyAnswers
 mod WhyLaws
 mod PlainNames
 mod ReasonLines
+mod LayerLines
+mod LayerLengths
 pub mod ToldLines
 mod SameAnswers

@@ -9,7 +9,7 @@ use Rattle.sas_core.specs.PlanParts.{PlanParts}
 use Rattle.sas_core.specs.Stepwise.{step_at}
 use Rattle.sas_lines.specs.Spelling.{joined}
 use Rattle.sas_output.specs.Words.{line}
-use Rattle.sas_reasons.specs.Lines.{fact_words}
+use Rattle.sas_wording.specs.Facts.{fact_words}
 use Rattle.sas_reasons.specs.Cause.{asks_line, has_line, since_line, gives_line, rule_asks_line}
 use Rattle.sas_reasons.specs.WhyPlan.{step_line, operator_line, like_line, effect_line, goal_line, other_line}
 use Rattle.sas_requests.proofs.Sizes.{decimal_short, IsSmall, AreShort}
@@ -24,7 +24,7 @@ joined_short [] = omega arith
 joined_short (word ∷ []) = omega arith
 joined_short (word ∷ next ∷ words) = omega (arith, length-append word (32 ∷ joined (next ∷ words)), joined_short (next ∷ words))
 
-two_spaces : (words : List (List ℕ)) → length (line 2 words) ≤ spread words + 2
+pub two_spaces : (words : List (List ℕ)) → length (line 2 words) ≤ spread words + 2
 two_spaces words = omega (arith, length-append (replicate 2 32) (joined words), joined_short words)
 
 four_spaces : (words : List (List ℕ)) → length (line 4 words) ≤ spread words + 4
@@ -85,7 +85,7 @@ since_line_short steps short (suc before) = omega (
 )
 
 module _ (p : Parts) (small : IsSmall p) where
-  facts_short : (var value : ℕ) → spread (fact_words p var value) ≤ 2 ^ 32 + 131
+  pub facts_short : (var value : ℕ) → spread (fact_words p var value) ≤ 2 ^ 32 + 131
   facts_short var value = omega (arith, decimal_short var, decimal_short value, small.value var value)
 
   pub like_line_short : (operator : ℕ) → length (like_line p operator) + 1 ≤ with_name

@@ -16,7 +16,8 @@ use Rattle.sas_reader.proofs.Plain.{plain-append, plain-decimal, plain_bytes}
 use Rattle.sas_output.specs.Words.{line}
 use Rattle.sas_run.specs.declared.plan_check.PlanFault.{PlanFault}
 use Rattle.sas_run.specs.declared.plan_check.PlanFault.TheVariants.{Memory, NoOperator, NotApplicable, Conflict, GoalMissed, CostDiffers}
-use Rattle.sas_reasons.specs.Lines.{fact_words, is_rule_line, told_once, TellsEach, places}
+use Rattle.sas_wording.specs.Facts.{fact_words}
+use Rattle.sas_reasons.specs.Lines.{is_rule_line, told_once, TellsEach, places}
 use Rattle.sas_reasons.specs.Runs.{Run, last_state}
 use Rattle.sas_reasons.specs.Derivation.{can_give}
 use Rattle.sas_reasons.specs.Cause.{fails, is_derived, asks_line, has_line, since_line, gives_line, is_given, TellsGivers, rule_asks_line, failing_lines, can_be_given, keeping_lines, missing_lines, IsCause}
@@ -34,7 +35,7 @@ AreReasons lines = AllByRecursion IsReason lines
 
 -- ---- lines of words
 
-abbrev ArePlainWords : List (List ℕ) → Type 0
+abbrev pub ArePlainWords : List (List ℕ) → Type 0
 ArePlainWords words = AllByRecursion IsPlain words
 
 plain_joined : (words : List (List ℕ)) → ArePlainWords words → IsPlain (joined words)
@@ -43,7 +44,7 @@ plain_joined (word ∷ []) h = h.0
 plain_joined (word ∷ next ∷ words) h =
     plain-append word (32 ∷ joined (next ∷ words)) h.0 (plain-append (codes " ") (joined (next ∷ words)) (plain_bytes (codes " ") refl) (plain_joined (next ∷ words) h.1))
 
-two_spaces : (words : List (List ℕ)) → ArePlainWords words → IsReason (line 2 words)
+pub two_spaces : (words : List (List ℕ)) → ArePlainWords words → IsReason (line 2 words)
 two_spaces words h = record { plain = plain-append (codes "  ") (joined words) (plain_bytes (codes "  ") refl) (plain_joined words h); tells = refl }
 
 four_spaces : (words : List (List ℕ)) → ArePlainWords words → IsReason (line 4 words)
@@ -51,7 +52,7 @@ four_spaces words h = record { plain = plain-append (codes "    ") (joined words
 
 -- ---- lists of lines
 
-both : (a b : List (List ℕ)) → AreReasons a → AreReasons b → AreReasons (a ++ b)
+pub both : (a b : List (List ℕ)) → AreReasons a → AreReasons b → AreReasons (a ++ b)
 both [] b h g = g
 both (first ∷ a) b h g = (h.0, both a b h.1 g)
 
@@ -67,7 +68,7 @@ one_of_each : {A : Type 0} (line_of : A → List ℕ) → ((item : A) → IsReas
 one_of_each line_of each [] = tt
 one_of_each line_of each (item ∷ items) = (each item, one_of_each line_of each items)
 
-one_if_any : {A : Type 0} (line_of : A → List ℕ) → ((item : A) → IsReason (line_of item)) → (found : Option A) → AreReasons (option_map_or (λ item. line_of item ∷ []) found [])
+pub one_if_any : {A : Type 0} (line_of : A → List ℕ) → ((item : A) → IsReason (line_of item)) → (found : Option A) → AreReasons (option_map_or (λ item. line_of item ∷ []) found [])
 one_if_any line_of each None = tt
 one_if_any line_of each (Some item) = (each item, tt)
 
@@ -85,7 +86,7 @@ told_reasons came (next ∷ lines) h =
 -- ---- causes
 
 module _ (p : Parts) (names : HasPlainNames p) where
-  plain_fact : (var value : ℕ) → ArePlainWords (fact_words p var value)
+  pub plain_fact : (var value : ℕ) → ArePlainWords (fact_words p var value)
   plain_fact var value = (plain-decimal var, (plain-decimal value, (names.value var value, tt)))
 
   asks : (fact : Fact) → IsReason (asks_line p fact)

@@ -16,16 +16,20 @@ use Rattle.sas_task_format.specs.TaskFormat.{task_format}
 use Rattle.sas_run.specs.declared.plan_check.PlanFault.{PlanFault}
 use Rattle.sas_output.specs.declared.ending.Status.TheVariants.{Yes, No}
 use Rattle.sas_output.specs.Ending.{Output}
-use Rattle.sas_answers.specs.Answers.{layers_verdict, LayeredGroupsAnswer, CheckAnswer, MutexAnswer, VerdictAnswer}
+use Rattle.sas_answers.specs.Answers.{layers_refusal, layers_verdict, LayeredGroupsAnswer, CheckAnswer, MutexAnswer, VerdictAnswer}
+use Rattle.sas_answers.specs.LayerWords.{layer_words, layers_line}
 use Rattle.sas_answers.specs.PlanWords.{fault_words, invalid_line}
+use Rattle.sas_task_reasons.specs.LayerReasons.{layer_reasons}
+use Rattle.sas_task_reasons.specs.WhyLayers.{why_refusal, why_verdict, WhyCheckAnswer, WhyLayeredGroups, WhyMutexAnswer}
 use Rattle.sas_explain.specs.Verdict.{WhyVerdict, Explains}
 use Rattle.sas_requests.specs.declared.Request.TheVariants.{Show, Print, Steps, Check, Plan, Mutex}
-use Rattle.sas_requests.specs.Output.{IsAnswerOrRefusal, FileOut, LayersOut, JudgedOut, ShowAnswer, PrintAnswer}
+use Rattle.sas_requests.specs.Output.{IsAnswerOrRefusal, FileOut, LayersOut, JudgedOut, plain_refusal, ShowAnswer, PrintAnswer}
 use Rattle.sas_requests.specs.Why.{without_reasons, IsSameAnswer, SameAnswer}
 use Rattle.sas_requests.proofs.PlainNames.{plain_names, plain_steps}
 use Rattle.sas_requests.proofs.ReasonLines.{why_tells}
-use Rattle.sas_requests.proofs.ToldLines.{IsToldText, stays, first_stays, AreRefusalsTold, task_refusals_told, plan_refusals_told, layers_told, groups_told, verdict_told}
-use Rattle.sas_requests.proofs.WhyAnswers.{worded}
+use Rattle.sas_requests.proofs.LayerLines.{layer_reasons_tell}
+use Rattle.sas_requests.proofs.ToldLines.{IsToldText, stays, first_stays, AreRefusalsTold, task_refusals_told, plan_refusals_told, layer_told, layers_told, groups_told, verdict_told}
+use Rattle.sas_requests.proofs.WhyAnswers.{worded, why_is}
 
 -- ---- an output is the same answer as itself
 
@@ -64,15 +68,49 @@ layers_stay None o is =
     yes_stays o (sym (ap (λ (x : Output). x.status) same))
 layers_stay (Some fault) o is = told_stays o (layers_told fault o is)
 
-check_stays : (p : Parts) (o : Output) → CheckAnswer p o → Stays o
-check_stays p o is = layers_stay (first_fault (layer_checks p)) o is
-
 groups_stay : (p : Parts) (first : Option LayerFault) (o : Output) → LayeredGroupsAnswer p first o → Stays o
 groups_stay p (Some fault) o is = told_stays o (layers_told fault o is)
 groups_stay p None o (verdicts, are, is) = told_stays o (subst IsToldText (sym (ap (λ (x : Output). x.text) is)) (groups_told verdicts))
 
-mutex_stays : (p : Parts) (o : Output) → MutexAnswer p o → Stays o
-mutex_stays p o answer = groups_stay p (first_fault (layer_checks p)) o answer
+-- ---- answers about a task
+
+-- the refusal is what is left of one with reasons
+refused_same : (p : Parts) (fault : LayerFault) (o : Output) → WellRanged p → why_refusal p fault ≡ Some o → (plain : Output) × (layers_refusal fault ≡ Some plain) × IsSameAnswer plain o
+refused_same p fault o ranged told =
+    let (plain, is, same) = why_is p fault o told in
+    let w = worded (layer_words fault) layers_line plain is in
+    let reasons = layer_reasons p fault in
+    let are = layer_reasons_tell p (plain_names p ranged) fault in
+    let left = first_stays (codes "task refused: " ++ w.said) reasons (layer_told fault w.said w.among) are in
+    let whole : o.text ≡ layers_line w.said ++ text reasons = ap (λ (x : Output). x.text) same ∙ ap (λ (t : List ℕ). t ++ text reasons) w.text in (
+      plain,
+      is,
+      record {
+        status = ap (λ (x : Output). x.status) same;
+        yes = λ is_yes. absurd (let apart : Yes ≡ No = sym is_yes ∙ w.status in cc);
+        no = λ _. ap without_reasons whole ∙ (left ∙ sym w.text);
+      },
+    )
+
+check_same : (p : Parts) (first : Option LayerFault) (o : Output) → WellRanged p → why_verdict p first ≡ Some o → (plain : Output) × (layers_verdict first ≡ Some plain) × IsSameAnswer plain o
+check_same p None o ranged is = (o, is, itself o (layers_stay None o is))
+check_same p (Some fault) o ranged is = refused_same p fault o ranged is
+
+mutex_same : (p : Parts) (first : Option LayerFault) (o : Output) → WellRanged p → WhyLayeredGroups p first o → (plain : Output) × LayeredGroupsAnswer p first plain × IsSameAnswer plain o
+mutex_same p None o ranged is = (o, is, itself o (groups_stay p None o is))
+mutex_same p (Some fault) o ranged is = refused_same p fault o ranged is
+
+-- the answer with reasons about each task is the same as one without them
+abbrev SameOfTasks : (Parts → Output → Type 0) → (Parts → Output → Type 0) → Type 0
+SameOfTasks IsAnswer Why = (p : Parts) (o : Output) → WellRanged p → Why p o → (plain : Output) × IsAnswer p plain × IsSameAnswer plain o
+
+task_same : (IsAnswer Why : Parts → Output → Type 0) → SameOfTasks IsAnswer Why → (b : List ℕ) (r : Result Parts Fault) (o : Output) → ReadsAs task_format most_bytes b r
+    → IsAnswerOrRefusal (codes "task") Why r (Some o) → (plain : Output) × IsAnswerOrRefusal (codes "task") IsAnswer r (Some plain) × IsSameAnswer plain o
+task_same IsAnswer Why each b (Ok p) o reads (answer, told, is) =
+    let same : answer ≡ o = cc in
+    let it = each p o reads.0.good (subst (λ (x : Output). Why p x) same told) in
+    (it.0, (it.0, it.1, refl), it.2)
+task_same IsAnswer Why each b (Err fault) o reads is = (o, is, itself o (told_stays o (task_refusals_told fault o is)))
 
 -- ---- answers about a plan
 
@@ -101,11 +139,11 @@ module _ (c : List ℕ) (p : Parts) (ranged : WellRanged p) where
       (it.0, (it.0, it.1, refl), it.2)
   plan_same (Err fault) o reads is = (o, is, itself o (told_stays o (plan_refusals_told fault o is)))
 
-  layers_same : (first : Option LayerFault) (o : Output) → LayersOut WhyVerdict p first c (Some o) → (plain : Output) × LayersOut VerdictAnswer p first c (Some plain) × IsSameAnswer plain o
-  layers_same (Some fault) o is = (o, is, itself o (told_stays o (layers_told fault o (sym is))))
+  layers_same : (first : Option LayerFault) (o : Output) → LayersOut WhyVerdict why_refusal p first c (Some o) → (plain : Output) × LayersOut VerdictAnswer plain_refusal p first c (Some plain) × IsSameAnswer plain o
+  layers_same (Some fault) o is = let it = refused_same p fault o ranged (sym is) in (it.0, sym it.1, it.2)
   layers_same None o out = let it = plan_same out.0 o out.1 out.2 in (it.0, (out.0, out.1, it.1), it.2)
 
-judged_same : (b c : List ℕ) (r : Result Parts Fault) (o : Output) → ReadsAs task_format most_bytes b r → JudgedOut WhyVerdict r c (Some o) → (plain : Output) × JudgedOut VerdictAnswer r c (Some plain) × IsSameAnswer plain o
+judged_same : (b c : List ℕ) (r : Result Parts Fault) (o : Output) → ReadsAs task_format most_bytes b r → JudgedOut WhyVerdict why_refusal r c (Some o) → (plain : Output) × JudgedOut VerdictAnswer plain_refusal r c (Some plain) × IsSameAnswer plain o
 judged_same b c (Err fault) o reads is = (o, is, itself o (told_stays o (task_refusals_told fault o is)))
 judged_same b c (Ok p) o reads out = layers_same c p reads.0.good (first_fault (layer_checks p)) o out
 
@@ -115,6 +153,10 @@ pub same_answer : SameAnswer
 same_answer Show b c why out = (why, out, itself why (file_stays task_format (codes "task") ShowAnswer task_refusals_told show_stays b why out))
 same_answer Print b c why out = (why, out, itself why (file_stays task_format (codes "task") (PrintAnswer task_format) task_refusals_told (print_stays task_format) b why out))
 same_answer Steps b c why out = (why, out, itself why (file_stays plan_format (codes "plan") (PrintAnswer plan_format) plan_refusals_told (print_stays plan_format) c why out))
-same_answer Check b c why out = (why, out, itself why (file_stays task_format (codes "task") CheckAnswer task_refusals_told check_stays b why out))
+same_answer Check b c why out =
+    let it = task_same CheckAnswer WhyCheckAnswer (λ p o ranged is. check_same p (first_fault (layer_checks p)) o ranged is) b out.0 why out.1 out.2 in
+    (it.0, (out.0, out.1, it.1), it.2)
 same_answer Plan b c why out = let it = judged_same b c out.0 why out.1 out.2 in (it.0, (out.0, out.1, it.1), it.2)
-same_answer Mutex b c why out = (why, out, itself why (file_stays task_format (codes "task") MutexAnswer task_refusals_told mutex_stays b why out))
+same_answer Mutex b c why out =
+    let it = task_same MutexAnswer WhyMutexAnswer (λ p o ranged is. mutex_same p (first_fault (layer_checks p)) o ranged is) b out.0 why out.1 out.2 in
+    (it.0, (out.0, out.1, it.1), it.2)

@@ -6,7 +6,7 @@ use Rattle.std.proofs.lemmas.Option.{none-some}
 use Rattle.std.proofs.lemmas.List.{append-nil}
 use Rattle.sas_meaning.specs.declared.layered.LayerFault.{LayerFault}
 use Rattle.sas_meaning.specs.declared.layered.LayerFault.TheVariants as layer_fault
-use Rattle.sas_lines.specs.Lines.{text}
+use Rattle.sas_lines.specs.Lines.{text, lines}
 use Rattle.sas_lines.proofs.Splitting.{Plain, lines-text}
 use Rattle.sas_reader.specs.declared.fault.Fault.{Fault}
 use Rattle.sas_reader.specs.declared.fault.Kind.{Kind}
@@ -71,10 +71,14 @@ stays bytes t =
     ∙ (ap (λ (ls : List (List ℕ)). text (filter (λ line. not (is_reason line)) ls)) are
     ∙ (ap (λ (ls : List (List ℕ)). text ls) (all_kept t.told t.each) ∙ sym t.whole))
 
--- and of a line with reasons behind it the line stays
+-- the lines of one with reasons behind it
+pub lines_of_first : (line : List ℕ) (reasons : List (List ℕ)) → IsTold line → AreReasons reasons → lines ((line ++ 10 ∷ []) ++ text reasons) ≡ line ∷ reasons
+lines_of_first line reasons told are = lines-text (line ∷ reasons) (plain_told line told, all_map IsReason Plain plain_reason reasons are)
+
+-- and of these the first one stays
 pub first_stays : (line : List ℕ) (reasons : List (List ℕ)) → IsTold line → AreReasons reasons → without_reasons ((line ++ 10 ∷ []) ++ text reasons) ≡ line ++ 10 ∷ []
 first_stays line reasons told are =
-    let read = lines-text (line ∷ reasons) (plain_told line told, all_map IsReason Plain plain_reason reasons are) in
+    let read = lines_of_first line reasons told are in
     let one = kept_first line reasons told ∙ ap (λ (x : List (List ℕ)). line ∷ x) (none_kept reasons are) in
     ap (λ (ls : List (List ℕ)). text (filter (λ l. not (is_reason l)) ls)) read
     ∙ (ap (λ (ls : List (List ℕ)). text ls) one ∙ append-nil (line ++ 10 ∷ []))
@@ -150,11 +154,17 @@ layer_plain (layer_fault.TwoValues rule) w e = rule_plain rule (codes "two value
 layer_plain (layer_fault.LayerOrder rule condition) w e = rule_plain rule (codes "layer order") w (plain_bytes (codes "layer order") refl) e
 layer_plain layer_fault.Memory w e = absurd (none-some w e)
 
+-- such a refusal, without the end of its line
+pub layer_told : (fault : LayerFault) (w : List ℕ) → layer_words fault ≡ Some w → IsTold (codes "task refused: " ++ w)
+layer_told fault w e = record {
+  plain = plain-append (codes "task refused: ") w (plain_bytes (codes "task refused: ") refl) (layer_plain fault w e);
+  no_reason = refl;
+}
+
 pub layers_told : (fault : LayerFault) (o : Output) → layers_refusal fault ≡ Some o → IsToldText o.text
 layers_told fault o is =
     let w = worded (layer_words fault) layers_line o is in
-    let all = plain-append (codes "task refused: ") w.said (plain_bytes (codes "task refused: ") refl) (layer_plain fault w.said w.among) in
-    told_line (codes "task refused: " ++ w.said) o.text (record { plain = all; no_reason = refl }) w.text
+    told_line (codes "task refused: " ++ w.said) o.text (layer_told fault w.said w.among) w.text
 
 -- ---- verdicts on groups
 

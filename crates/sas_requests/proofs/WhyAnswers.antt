@@ -1,10 +1,12 @@
--- What is said of a plan with reasons: one thing, and always something; and that it is valid exactly where it is.
+-- What is said of a plan with reasons: one thing, and always something; and that it is valid exactly where it is. And what is said
+-- of a task that isn't layered.
 use Rattle.std.proofs.Common.{◌≡◌, ℕ, ◌<◌, List, ◌++◌, get_or, refl, sym, ap, subst, ◌∙◌, inl, inr, Some, None, Option, arith}
 use Rattle.std.specs.Prelude.{option_map}
 use Rattle.std.proofs.lemmas.Option.{none-some}
 use Rattle.sas_core.specs.declared.parts.Parts.{Parts}
 use Rattle.sas_core.specs.PlanParts.{PlanParts}
 use Rattle.sas_lines.specs.Lines.{text}
+use Rattle.sas_meaning.specs.declared.layered.LayerFault.{LayerFault}
 use Rattle.sas_meaning.specs.Layers.{IsLayered}
 use Rattle.sas_run.specs.declared.plan_check.PlanFault.{PlanFault}
 use Rattle.sas_run.specs.declared.plan_check.PlanFault.TheVariants.{Memory, NoOperator, NotApplicable, Conflict, GoalMissed, CostDiffers}
@@ -13,12 +15,15 @@ use Rattle.sas_run.proofs.PlanVerdicts.{some_verdict, valid_has_no_fault, fault_
 use Rattle.sas_output.specs.declared.ending.Status.{Status}
 use Rattle.sas_output.specs.declared.ending.Status.TheVariants.{No}
 use Rattle.sas_output.specs.Ending.{Output}
-use Rattle.sas_answers.specs.Answers.{valid_answer, invalid_answer}
+use Rattle.sas_answers.specs.Answers.{layers_refusal, valid_answer, invalid_answer}
 use Rattle.sas_answers.specs.PlanWords.{valid_line, fault_words, invalid_line}
+use Rattle.sas_task_reasons.specs.LayerReasons.{layer_reasons}
+use Rattle.sas_task_reasons.specs.WhyLayers.{with_reasons, why_refusal}
+use Rattle.sas_task_reasons.proofs.TaskAnswers.{refused_why}
 use Rattle.sas_reasons.proofs.WhyPlan.{one_why, some_why}
 use Rattle.sas_explain.specs.Verdict.{WhyVerdict, Explains}
 use Rattle.sas_requests.proofs.Headlines.{TellsValid}
-use Rattle.sas_requests.proofs.PlanAnswers.{OneVerdictAnswer, SomeVerdictAnswer}
+use Rattle.sas_requests.proofs.PlanAnswers.{OneVerdictAnswer, SomeVerdictAnswer, IsRefusal, Refuses}
 
 -- ---- words on a line
 
@@ -114,3 +119,22 @@ why_tells_valid = record {
   ];
   valid = λ p plan o operators layered valid verdict. one_why_verdict p layered plan o (valid_answer plan) verdict (inl ((operators, valid), refl));
 }
+
+-- ---- a task that isn't layered
+
+why_of : (p : Parts) (fault : LayerFault) (found : Option Output) (o : Output) → layers_refusal fault ≡ found → option_map (with_reasons (layer_reasons p fault)) found ≡ Some o
+    → (plain : Output) × (layers_refusal fault ≡ Some plain) × (o ≡ with_reasons (layer_reasons p fault) plain)
+why_of p fault None o is told = absurd (none-some o told)
+why_of p fault (Some plain) o is told = (plain, is, let same : with_reasons (layer_reasons p fault) plain ≡ o = cc in sym same)
+
+-- its refusal is the one without reasons, with them behind
+pub why_is : (p : Parts) (fault : LayerFault) (o : Output) → why_refusal p fault ≡ Some o → (plain : Output) × (layers_refusal fault ≡ Some plain) × (o ≡ with_reasons (layer_reasons p fault) plain)
+why_is p fault o told = why_of p fault (layers_refusal fault) o refl told
+
+refusal_is : (p : Parts) (fault : LayerFault) (o : Output) → why_refusal p fault ≡ Some o → IsRefusal fault o
+refusal_is p fault o told =
+    let (plain, is, same) = why_is p fault o told in
+    record { plain = plain; is = is; status = ap (λ (x : Output). x.status) same; behind = text (layer_reasons p fault); text = ap (λ (x : Output). x.text) same }
+
+pub why_refuses : Refuses why_refusal
+why_refuses = record { some = λ p fault plain is. (_, refused_why p fault plain is); told = refusal_is }

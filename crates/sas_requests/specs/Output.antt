@@ -92,25 +92,31 @@ module _ (Verdict : Parts → PlanParts → Output → Type 0) where
   abbrev pub VerdictOut : Parts → List ℕ → Option Output → Type 0
   VerdictOut p = FileOut plan_format (codes "plan") (Verdict p)
 
-  -- the output about the plan's bytes for a task, by the first fault of its layers if they have one:
-  -- the task is refused for it, and only the plan of a layered task is judged
-  abbrev pub LayersOut : Parts → Option LayerFault → List ℕ → Option Output → Type 0
-  LayersOut p (Some fault) c output = output ≡ layers_refusal fault
-  LayersOut p None c output = VerdictOut p c output
+  -- `refused` is the refusal of a task for a fault of its layers.
+  module _ (refused : Parts → LayerFault → Option Output) where
+    -- the output about the plan's bytes for a task, by the first fault of its layers if they have
+    -- one: the task is refused for it, and only the plan of a layered task is judged
+    abbrev pub LayersOut : Parts → Option LayerFault → List ℕ → Option Output → Type 0
+    LayersOut p (Some fault) c output = output ≡ refused p fault
+    LayersOut p None c output = VerdictOut p c output
 
-  -- the output about the plan's bytes for what the task's bytes are read as
-  abbrev pub JudgedOut : Result Parts Fault → List ℕ → Option Output → Type 0
-  JudgedOut (Err fault) c output = output ≡ refusal (codes "task") fault
-  JudgedOut (Ok p) c output = LayersOut p (first_fault (layer_checks p)) c output
+    -- the output about the plan's bytes for what the task's bytes are read as
+    abbrev pub JudgedOut : Result Parts Fault → List ℕ → Option Output → Type 0
+    JudgedOut (Err fault) c output = output ≡ refusal (codes "task") fault
+    JudgedOut (Ok p) c output = LayersOut p (first_fault (layer_checks p)) c output
 
-  -- the output about the bytes b of the task and c of the plan
-  abbrev pub PlanOutBy : List ℕ → List ℕ → Option Output → Type 0
-  PlanOutBy b c output =
-      (read : Result Parts Fault) × ReadsAs task_format most_bytes b read × JudgedOut read c output
+    -- the output about the bytes b of the task and c of the plan
+    abbrev pub PlanOutBy : List ℕ → List ℕ → Option Output → Type 0
+    PlanOutBy b c output =
+        (read : Result Parts Fault) × ReadsAs task_format most_bytes b read × JudgedOut read c output
+
+-- the refusal of a task without reasons
+abbrev pub plain_refusal : Parts → LayerFault → Option Output
+plain_refusal p fault = layers_refusal fault
 
 -- the output of `plan` about the bytes b of the task and c of the plan
 abbrev pub PlanOut : List ℕ → List ℕ → Option Output → Type 0
-PlanOut = PlanOutBy VerdictAnswer
+PlanOut = PlanOutBy VerdictAnswer plain_refusal
 
 -- the output for the bytes b of the task and c of the plan, or none if the file that decides it is
 -- too long

@@ -4,24 +4,34 @@ use Rattle.sas_lines.specs.Lines.{text, lines}
 use Rattle.sas_output.specs.declared.ending.Status.TheVariants.{Yes, No}
 use Rattle.sas_output.specs.Ending.{Output}
 use Rattle.sas_reasons.specs.Lines.{begins}
+use Rattle.sas_task_format.specs.TaskFormat.{task_format}
+use Rattle.sas_task_reasons.specs.WhyLayers.{why_refusal, WhyCheckAnswer, WhyMutexAnswer}
 use Rattle.sas_explain.specs.Verdict.{WhyVerdict}
 use Rattle.sas_requests.specs.declared.Request.{Request}
 use Rattle.sas_requests.specs.declared.Request.TheVariants.{Show, Print, Steps, Check, Plan, Mutex}
-use Rattle.sas_requests.specs.Output.{Out, ShowOut, PrintOut, StepsOut, CheckOut, MutexOut, PlanOutBy, IsLong}
+use Rattle.sas_requests.specs.Output.{Out, ShowOut, PrintOut, StepsOut, FileOut, PlanOutBy, IsLong}
 
--- the output with reasons about the bytes b of the task and c of the plan
+-- the output of `check`, `mutex` and `plan` with reasons, about the bytes b of the task and c of the
+-- plan
+abbrev pub WhyCheckOut : List ℕ → Option Output → Type 0
+WhyCheckOut = FileOut task_format (codes "task") WhyCheckAnswer
+
+abbrev pub WhyMutexOut : List ℕ → Option Output → Type 0
+WhyMutexOut = FileOut task_format (codes "task") WhyMutexAnswer
+
 abbrev pub WhyPlanOut : List ℕ → List ℕ → Option Output → Type 0
-WhyPlanOut = PlanOutBy WhyVerdict
+WhyPlanOut = PlanOutBy WhyVerdict why_refusal
 
 -- The output with reasons for the bytes b of the task and c of the plan, or none if the file that
--- decides it is too long. Reasons are told of plans; all else is answered as without them.
+-- decides it is too long. Reasons are told of plans, and of tasks that aren't layered; all else is
+-- answered as without them.
 abbrev pub OutWhy : Request → List ℕ → List ℕ → Option Output → Type 0
 OutWhy Show b c output = ShowOut b output
 OutWhy Print b c output = PrintOut b output
 OutWhy Steps b c output = StepsOut c output
-OutWhy Check b c output = CheckOut b output
+OutWhy Check b c output = WhyCheckOut b output
 OutWhy Plan b c output = WhyPlanOut b c output
-OutWhy Mutex b c output = MutexOut b output
+OutWhy Mutex b c output = WhyMutexOut b output
 
 -- ---- the same answer
 

@@ -18,6 +18,7 @@ use sas_plan_file::read_plan_text;
 use sas_reader::{Fault, Kind};
 use sas_summary::Summary;
 use sas_task_reader::{read_flat_task, read_outline, read_task_text};
+use sas_task_reasons::ExplainedTask;
 use std::alloc::Global;
 use std::io::{Read, Write};
 
@@ -30,6 +31,8 @@ pub enum Answer {
     Summary(Summary),
     /// Why a plan isn't valid, which is put together only as it goes out. Its status is `No`.
     Explained(Explained),
+    /// Why a task isn't layered, which is put together only as it goes out. Its status is `No`.
+    Refused(ExplainedTask),
 }
 
 /// Returns the answer to the request about the inputs.
@@ -84,6 +87,7 @@ pub fn write_answer<W: Write>(
         Answer::Text(told) => told.write(out),
         Answer::Summary(summary) => summary.write(alloc, out),
         Answer::Explained(explained) => explained.write(alloc, out),
+        Answer::Refused(refused) => refused.write(alloc, out),
     }
 }
 

@@ -44,7 +44,7 @@ pub fn plan_answer<T: Read, P: Read>(
 }
 
 /// Returns the refusal of a task for a fault of its layers, in a run that can end otherwise.
-pub fn refuse_task(alloc: Global, fault: LayerFault) -> Result<Answer, ToolFault>
+fn refuse_task(alloc: Global, fault: LayerFault) -> Result<Answer, ToolFault>
     ensures ok { IfOk result (λ a. layers_refusal fault ≡ Some (output_of a)) }
     ensures err { IfErr result (λ e. e ≡ ToolFault.Memory) }
 {

@@ -1,24 +1,26 @@
-// Why a plan doesn't solve a task. What is told of a task or a plan that is refused is what is told without reasons.
+// Why a task isn't layered, and why a plan doesn't solve a task. What is told of a file that is refused, and of mutex groups, is
+// what is told without reasons.
 ghost use Rattle.std.specs.Prelude.{◌≡◌, ◌↔◌, ◌||◌, ℕ, List, false, Some};
-ghost use Rattle.std.specs.Prelude.{IfErr, IsErrOf, IsFalse, IsTrue};
+ghost use Rattle.std.specs.Prelude.{IfErr, IfOk, IsErrOf, IsFalse, IsTrue};
 ghost use Rattle.std.specs.Io.KnownBytes.{Consumes};
 ghost use Rattle.sas_explain.specs.Verdict.{WhyVerdict};
 ghost use Rattle.sas_output.specs.Ending.{IsDecided, IsWrite};
 ghost use Rattle.sas_reader.specs.Devices.{ValueOf};
 ghost use Rattle.sas_task_format.specs.TaskFormat.{task_format};
-ghost use Rattle.sas_requests.specs.Answering.{Answers, AnswersFile, AnswersFiles};
+ghost use Rattle.sas_task_reasons.specs.WhyLayers.{LayerReasonsFit, why_refusal, output_of_task};
+ghost use Rattle.sas_requests.specs.Answering.{Answers, AnswersFile, AnswersFiles, output_of};
 ghost use Rattle.sas_requests.specs.Output.{VerdictOut, AreInputs, IsLayeredText, reads_plan, reads_task};
-ghost use Rattle.sas_requests.specs.Why.{OutWhy, WhyPlanOut};
+ghost use Rattle.sas_requests.specs.Why.{OutWhy, WhyCheckOut, WhyMutexOut, WhyPlanOut};
 
 use crate::answers::{Answer, answer_to, refuse};
-use crate::plans::refuse_task;
 use crate::{Request, ToolFault};
 use sas_explain::{PlanAnswer, explain_plan};
 use sas_flat::FlatTask;
 use sas_lines::Watched;
-use sas_meaning::Layered;
+use sas_meaning::{LayerFault, Layered};
 use sas_plan_file::read_flat_plan;
 use sas_task_reader::read_flat_task;
+use sas_task_reasons::{TaskAnswer, explain_check, explain_groups, explain_layers};
 use std::alloc::Global;
 use std::io::Read;
 
@@ -51,8 +53,42 @@ pub fn explanation_to<T: Read, P: Read>(
         Request::Show => answer_to(alloc, Request::Show, task, plan),
         Request::Print => answer_to(alloc, Request::Print, task, plan),
         Request::Steps => answer_to(alloc, Request::Steps, task, plan),
-        Request::Check => answer_to(alloc, Request::Check, task, plan),
-        Request::Mutex => answer_to(alloc, Request::Mutex, task, plan),
+        Request::Check => check_explanation(alloc, task),
+        Request::Mutex => mutex_explanation(alloc, task),
+    }
+}
+
+/// Returns the answer to whether a task is layered, with the reasons where it isn't.
+fn check_explanation<R: Read>(alloc: Global, reader: &mut Watched<R>) -> Result<Answer, ToolFault>
+    requires { reader.old.failed ≡ false }
+    ensures { AnswersFile R.remaining WhyCheckOut reader.old reader.new result }
+{
+    let task = match read_flat_task(alloc, reader) {
+        Ok(task) => task,
+        Err(fault) => return refuse(alloc, "task", fault),
+    };
+    Ok(answer_of(explain_check(alloc, task)?))
+}
+
+/// Returns the answer to which mutex groups of a task are exclusive, with the reasons where the task isn't layered.
+fn mutex_explanation<R: Read>(alloc: Global, reader: &mut Watched<R>) -> Result<Answer, ToolFault>
+    requires { reader.old.failed ≡ false }
+    ensures { AnswersFile R.remaining WhyMutexOut reader.old reader.new result }
+{
+    let task = match read_flat_task(alloc, reader) {
+        Ok(task) => task,
+        Err(fault) => return refuse(alloc, "task", fault),
+    };
+    Ok(answer_of(explain_groups(alloc, task)?))
+}
+
+/// Returns the answer about a task as one to a request.
+fn answer_of(answer: TaskAnswer) -> Answer
+    ensures { output_of result ≡ output_of_task answer }
+{
+    match answer {
+        TaskAnswer::Text(told) => Answer::Text(told),
+        TaskAnswer::Explained(explained) => Answer::Refused(explained),
     }
 }
 
@@ -74,11 +110,17 @@ fn plan_explanation<T: Read, P: Read>(
     };
     match Layered::new(alloc, read) {
         Ok(layered) => explain_judged(alloc, layered, plan),
-        Err((task, fault)) => {
-            drop(task);
-            refuse_task(alloc, fault)
-        }
+        Err((task, fault)) => explain_refused(alloc, task, fault),
     }
+}
+
+/// Returns the refusal of a task for a fault of its layers, with the reasons, in a run that can end otherwise.
+fn explain_refused(alloc: Global, task: FlatTask, fault: LayerFault) -> Result<Answer, ToolFault>
+    requires { LayerReasonsFit task }
+    ensures ok { IfOk result (λ a. why_refusal task fault ≡ Some (output_of a)) }
+    ensures err { IfErr result (λ e. e ≡ ToolFault.Memory) }
+{
+    Ok(Answer::Refused(explain_layers(alloc, task, fault)?))
 }
 
 /// Returns the answer about a plan of a layered task that was read, with the reasons where the plan isn't valid.

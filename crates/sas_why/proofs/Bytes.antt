@@ -9,7 +9,8 @@ use Rattle.sas_lines.specs.Parts.{parts}
 use Rattle.sas_lines.specs.Spelling.{joined}
 use Rattle.sas_lines.proofs.Words.{NoSpace, words-first, same_first, NoSpace-decimal, own_decimal}
 use Rattle.sas_output.specs.Words.{line}
-use Rattle.sas_reasons.specs.Lines.{fact_words, is_rule_line}
+use Rattle.sas_wording.specs.Facts.{fact_words}
+use Rattle.sas_reasons.specs.Lines.{is_rule_line}
 use Rattle.sas_reasons.specs.Cause.{gives_line, rule_asks_line}
 
 -- a line of a rule: its number, and more

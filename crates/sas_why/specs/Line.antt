@@ -5,7 +5,7 @@ use Rattle.sas_core.specs.PlanParts.{PlanParts}
 use Rattle.sas_core.specs.Stepwise.{step_at}
 use Rattle.sas_core.specs.Grounded.{operator_at}
 use Rattle.sas_output.specs.Words.{line}
-use Rattle.sas_reasons.specs.Lines.{fact_words}
+use Rattle.sas_wording.specs.Facts.{fact_words}
 use Rattle.sas_reasons.specs.Cause.{asks_line, gives_line, rule_asks_line}
 use Rattle.sas_reasons.specs.WhyPlan.{step_line, operator_line, like_line, effect_line, goal_line, other_line}
 use Rattle.sas_why.specs.declared.line.Line.{Line}

@@ -1,10 +1,11 @@
 use Rattle.std.proofs.Common.{[]}
-use Rattle.sas_answers.specs.Answers.{VerdictAnswer}
+use Rattle.sas_answers.specs.Answers.{MutexAnswer, VerdictAnswer}
 use Rattle.sas_requests.specs.Answering.{output_of}
-use Rattle.sas_requests.specs.Output.{Out}
+use Rattle.sas_requests.specs.Output.{Out, plain_refusal}
 use Rattle.sas_requests.proofs.Endings.{ends_as, ends_well}
 use Rattle.sas_requests.proofs.Headlines.{tells_valid, headline_of}
-use Rattle.sas_requests.proofs.InvariantGroups.{invariants_of}
+use Rattle.sas_requests.proofs.InvariantGroups.{plain_groups, invariants_of}
+use Rattle.sas_requests.proofs.PlanAnswers.{plain_refuses}
 use Rattle.sas_requests.proofs.run.Goals as goal
 
 pub returns-clause-output : goal.returns-clause-output
@@ -20,10 +21,10 @@ pub returns-clause-headline : goal.returns-clause-headline
 returns-clause-headline g c =
     ends_well (output_of c.in_ok-answer.answer) _ _ _ c.write_answer.ensures.ends (λ status same sent. λ plan b c' before known_b known_c known.
     let answer = c.in_ok-answer.ensures.output b c' (λ _. known_b, λ _. known_c) in
-    headline_of VerdictAnswer tells_valid b c' (output_of c.in_ok-answer.answer) (rw plan at answer) _ _ before status known same sent)
+    headline_of VerdictAnswer plain_refusal tells_valid plain_refuses b c' (output_of c.in_ok-answer.answer) (rw plan at answer) _ _ before status known same sent)
 
 pub returns-clause-invariants : goal.returns-clause-invariants
 returns-clause-invariants g c =
     ends_well (output_of c.in_ok-answer.answer) _ _ _ c.write_answer.ensures.ends (λ status same sent. λ mutex b before known_b known.
     let answer = c.in_ok-answer.ensures.output b [] (rw mutex (λ _. known_b, λ e. absurd cc)) in
-    invariants_of b (output_of c.in_ok-answer.answer) (rw mutex at answer) _ _ before known sent)
+    invariants_of MutexAnswer plain_groups b (output_of c.in_ok-answer.answer) (rw mutex at answer) _ _ before known sent)

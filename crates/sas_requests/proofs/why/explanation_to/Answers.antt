@@ -1,4 +1,5 @@
-use Rattle.std.proofs.Common.{refl}
+use Rattle.std.proofs.Common.{[], refl}
+use Rattle.sas_requests.proofs.Outputs.{takes_nothing}
 use Rattle.sas_requests.proofs.why.explanation_to.Goals as goal
 
 pub returns-in-Plan-clause-output : goal.returns-in-Plan-clause-output
@@ -14,8 +15,12 @@ returns-in-Print-clause-output g c = λ b c' inputs. rw c.in-Print.is (c.answer_
 pub returns-in-Steps-clause-output : goal.returns-in-Steps-clause-output
 returns-in-Steps-clause-output g c = λ b c' inputs. rw c.in-Steps.is (c.answer_to-in-Steps.ensures.output b c' (rw c.in-Steps.is at inputs))
 
-pub returns-in-Check-clause-output : goal.returns-in-Check-clause-output
-returns-in-Check-clause-output g c = λ b c' inputs. rw c.in-Check.is (c.answer_to-in-Check.ensures.output b c' (rw c.in-Check.is at inputs))
+pub returns-in-Check-clause-taken : goal.returns-in-Check-clause-taken
+returns-in-Check-clause-taken g c = λ decided.
+    let (bytes, consumed, is) = c.check_explanation.ensures.taken decided in
+    (bytes, [], consumed, takes_nothing _, rw c.in-Check.is is)
 
-pub returns-in-Mutex-clause-output : goal.returns-in-Mutex-clause-output
-returns-in-Mutex-clause-output g c = λ b c' inputs. rw c.in-Mutex.is (c.answer_to-in-Mutex.ensures.output b c' (rw c.in-Mutex.is at inputs))
+pub returns-in-Mutex-clause-taken : goal.returns-in-Mutex-clause-taken
+returns-in-Mutex-clause-taken g c = λ decided.
+    let (bytes, consumed, is) = c.mutex_explanation.ensures.taken decided in
+    (bytes, [], consumed, takes_nothing _, rw c.in-Mutex.is is)

@@ -1,0 +1,111 @@
+"""Why a task isn't layered, computed from its file: the lines that `--why` prints behind the refusal. Two spaces stand in front of
+each. A task here is as in axioms.py; `fact` in a line represents `VARIABLE VALUE NAME`, with the name of the value.
+
+    effect on derived variable    operator I NAME, effect E sets fact, on layer L: E is the operator's first such effect
+    not on a derived variable     rule I gives fact
+    old value                     rule I gives fact, from fact, default fact
+    two values                    rule I gives fact, rule J gives fact: J is the first rule that gives the variable another value
+                                  which isn't its default
+    layer order                   rule I gives fact, on layer L, condition C asks fact, on layer M: C is the first condition that isn't
+                                  on a lower layer, or on the same one and no default
+"""
+import re
+
+from axioms import spoiled_tasks, task_of, value_name
+from texts import as_bytes
+
+REFUSED = "task refused: "
+# the words for each fault of a rule
+WORDS = {
+    "RuleOnBasic": "not on a derived variable",
+    "OldValue": "old value",
+    "TwoValues": "two values",
+    "LayerOrder": "layer order",
+}
+
+
+def fact_said(task, var, value):
+    """Returns the words for a fact."""
+    return f"{var} {value} {value_name(task, var, value)}"
+
+
+def rule_said(task, place):
+    """Returns the line of a rule."""
+    _, var, _, new = task["rules"][place]
+    return f"  rule {place} gives {fact_said(task, var, new)}"
+
+
+def looks_down(task, var, on, value):
+    """Returns whether a condition of a rule for this variable looks down."""
+    here, there = task["layers"][var], task["layers"][on]
+    return there is None or there < here or there == here and value != task["defaults"][on]
+
+
+def operator_reasons(task, place):
+    """Returns the lines for an operator with an effect on a derived variable."""
+    name, _, effects, _ = task["operators"][place]
+    effect, var, new = next((at, var, new) for at, (_, var, _, new) in enumerate(effects) if task["layers"][var] is not None)
+    return [f"  operator {place} {name}", f"  effect {effect} sets {fact_said(task, var, new)}", f"  on layer {task['layers'][var]}"]
+
+
+def rule_reasons(task, place, what):
+    """Returns the lines for a rule with this fault."""
+    facts, var, old, new = task["rules"][place]
+    default, said = task["defaults"][var], rule_said(task, place)
+    if what == "not on a derived variable":
+        return [said]
+    if what == "old value":
+        return [said, f"  from {fact_said(task, var, old)}", f"  default {fact_said(task, var, default)}"]
+    if what == "two values":
+        given = (at for at, (_, its, _, other) in enumerate(task["rules"]) if its == var and other not in (default, new))
+        return [said, rule_said(task, next(given))]
+    condition, (on, value) = next((at, fact) for at, fact in enumerate(facts) if not looks_down(task, var, *fact))
+    return [
+        said,
+        f"  on layer {task['layers'][var]}",
+        f"  condition {condition} asks {fact_said(task, on, value)}",
+        f"  on layer {task['layers'][on]}",
+    ]
+
+
+def layer_reasons(task, fault):
+    """Returns the lines for this fault of a task's layers, in words."""
+    part, what = fault.split(": ")
+    kind, place = part.split(" ")
+    return operator_reasons(task, int(place)) if kind == "operator" else rule_reasons(task, int(place), what)
+
+
+def behind_refusal(said, text):
+    """Returns the lines behind this line about the file of a task: none, unless it says that the task isn't layered."""
+    fault = said.removeprefix(REFUSED)
+    if fault == said or not fault.startswith(("operator ", "rule ")):
+        return []
+    return layer_reasons(task_of(as_bytes(text).decode("latin-1")), fault)
+
+
+def with_reasons(output, text):
+    """Returns the output about the file of a task with the lines behind it."""
+    said = as_bytes(output)
+    lines = behind_refusal(said.decode("latin-1").removesuffix("\n"), text)
+    return said + "".join(f"{line}\n" for line in lines).encode("latin-1")
+
+
+def fault_said(fault):
+    """Returns a fault of axioms.py in words."""
+    name, rule = re.match(r"(\w+) \{ rule: (\d+)", fault).groups()
+    return f"rule {rule}: {WORDS[name]}"
+
+
+def layer_cases():
+    """Yields tasks made at random whose rules were changed, with `--why`. They could show a wrong definition of the reasons, in a case
+    that no one thought of."""
+    for number, made in enumerate(spoiled_tasks()):
+        if made["fault"] is None:
+            continue
+        said = f"{REFUSED}{fault_said(made['fault'])}\n"
+        answer = {"files": {"t.sas": made["task"], "p.txt": ""}, "status": 1}
+        for words in (["check", "t.sas"], ["mutex", "t.sas"], ["plan", "t.sas", "p.txt"]):
+            name = f"spoiled task {number}, {words[0]}"
+            yield {"name": name, "words": words, "output": said, **answer}
+            why = with_reasons(said, made["task"])
+            yield {"name": f"{name} --why", "words": [*words, "--why"], "output": why, **answer}

@@ -1,0 +1,92 @@
+-- The other giver of a rule's variable, where a rule before it has another new value.
+use Rattle.std.proofs.Common.{◌≡◌, ◌≢◌, ℕ, ◌<◌, ◌≤◌, ◌==◌, Bool, true, false, cond, List, [], length, take, get_or, refl, sym, ap, ◌∙◌, inl, inr, arith, eqb-true, eq-eqb, Option, Some, None}
+use Rattle.std.specs.Prelude.{◌&&◌, ◌↔◌, not, nat_lt, position}
+use Rattle.std.specs.List.{position_or_len}
+use Rattle.std.proofs.lemmas.Bool.{lt-ltb, cases_Bool, cases_lt}
+use Rattle.std.proofs.lemmas.List.Sums.{fails_before_first, passes_at_first}
+use Rattle.sas_core.specs.declared.parts.Rule.{Rule}
+use Rattle.sas_core.specs.declared.parts.Parts.{Parts}
+use Rattle.sas_core.specs.Grounded.{rule_at}
+use Rattle.sas_meaning.specs.Layers.{CanFire, can_fire}
+use Rattle.sas_meaning.specs.LayerChecks.{agrees_with}
+use Rattle.sas_meaning.proofs.RuleTests.{fires, agrees_with_earlier}
+use Rattle.sas_task_reasons.specs.LayerReasons.{gives_other, other_giver}
+use Rattle.sas_task_reasons.specs.Laws.{IsOtherGiver, IsToldOther}
+
+abbrev none : Rule
+none = record { conditions = []; var = 0; old = None; new = 0 }
+
+-- ---- the test
+
+all_true : (a b c : Bool) → (a && (b && not c)) ≡ true → (a ≡ true) × (b ≡ true) × (c ≡ false)
+all_true true true true e = absurd cc
+all_true true true false e = (refl, refl, refl)
+all_true true false c e = absurd cc
+all_true false b c e = absurd cc
+
+so_all : (a b c : Bool) → a ≡ true → b ≡ true → c ≡ false → (a && (b && not c)) ≡ true
+so_all true true true x y z = absurd cc
+so_all true true false x y z = refl
+so_all true false c x y z = absurd cc
+so_all false b c x y z = absurd cc
+
+not_all : (a b c : Bool) → (a && (b && not c)) ≡ false → a ≡ true → b ≡ true → c ≡ true
+not_all true true true e x y = refl
+not_all true true false e x y = absurd cc
+not_all true false c e x y = absurd cc
+not_all false b c e x y = absurd cc
+
+differ : (m n : ℕ) → (m == n) ≡ false → m ≢ n
+differ m n e same = let yes : (m == n) ≡ true = eq-eqb m n same in absurd cc
+
+differs : (m n : ℕ) → m ≢ n → (m == n) ≡ false
+differs m n other = elim (cases_Bool (m == n)) [ inl y ↦ absurd (other (eqb-true m n y)) | inr isnt ↦ isnt ]
+
+module _ (p : Parts) (rule other : Rule) where
+  pub gives_tells : gives_other p rule other ≡ true → IsOtherGiver p rule other
+  gives_tells e =
+      let all = all_true (other.var == rule.var) (can_fire p other) (other.new == rule.new) e in
+      record { its_var = eqb-true _ _ all.0; can_fire = (fires p other).0 all.1; differs = differ _ _ all.2 }
+
+  pub giver_passes : IsOtherGiver p rule other → gives_other p rule other ≡ true
+  giver_passes g =
+      so_all (other.var == rule.var) (can_fire p other) (other.new == rule.new)
+      (eq-eqb _ _ g.its_var) ((fires p other).1 g.can_fire) (differs _ _ g.differs)
+
+  agrees : gives_other p rule other ≡ false → CanFire p other → other.var ≡ rule.var → other.new ≡ rule.new
+  agrees e can same =
+      eqb-true _ _ (not_all (other.var == rule.var) (can_fire p other) (other.new == rule.new) e (eq-eqb _ _ same) ((fires p other).1 can))
+
+-- ---- the lowest
+
+module _ (p : Parts) (place : ℕ) (within : place < length p.rules) where
+  abbrev rule : Rule
+  rule = rule_at p place
+
+  abbrev lowest : ℕ
+  lowest = position_or_len (gives_other p rule) p.rules
+
+  below : (k : ℕ) → k < lowest → gives_other p rule (rule_at p k) ≡ false
+  below k less = fails_before_first (gives_other p rule) p.rules k none less
+
+  -- where no rule before it gives another value, all agree
+  all_agree : place ≤ lowest → agrees_with p (take place p.rules) rule ≡ true
+  all_agree past = (agrees_with_earlier p rule place (omega (arith, within))).1 (λ k before. agrees p rule (rule_at p k) (below k (omega (arith, before, past))))
+
+  is_told : lowest < place → IsToldOther p place lowest
+  is_told before =
+      let exists : lowest < length p.rules = omega (arith, before, within) in record {
+        told = ap (λ (b : Bool). cond b (Some lowest) None) (lt-ltb lowest (length p.rules) exists);
+        before = before;
+        gives = gives_tells p rule (rule_at p lowest) (passes_at_first (gives_other p rule) p.rules none exists);
+        lowest = λ lower less gives.
+            let passes = giver_passes p rule (rule_at p lower) gives in
+            let fails = below lower less in
+            absurd (let apart : true ≡ false = sym passes ∙ fails in cc);
+      }
+
+  pub other_told : agrees_with p (take place p.rules) rule ≡ false → (other : ℕ) × IsToldOther p place other
+  other_told disagrees = elim (cases_lt lowest place) [
+    | inl before ↦ (lowest, is_told before)
+    | inr past ↦ absurd (let agree = all_agree past in let apart : true ≡ false = sym agree ∙ disagrees in cc)
+  ]

@@ -1,0 +1,26 @@
+-- The first place at which a test passes.
+use Rattle.std.proofs.Common.{◌≡◌, ℕ, ◌<◌, ◌≤◌, Bool, true, false, cond, List, length, get_or, Option, Some, None, inl, inr, sym, ap, ◌∙◌, arith}
+use Rattle.std.specs.Prelude.{position, nat_lt}
+use Rattle.std.proofs.lemmas.Bool.{lt-ltb, cases_Bool, ltb-true}
+use Rattle.std.proofs.lemmas.List.Sums.{position_or_len_is}
+
+module _ {X : Type 0} (p : X → Bool) (xs : List X) (d : X) where
+  -- at this place it passes, and at no lower one
+  pub position_at : (i : ℕ) → i < length xs → ((k : ℕ) → k < i → p (get_or xs k d) ≡ false) → p (get_or xs i d) ≡ true → Some i ≡ position p xs
+  position_at i within before passes =
+      let first = position_or_len_is p xs i d (omega arith) before (λ _. passes) in
+      sym
+      (ap (λ (n : ℕ). cond (nat_lt n (length xs)) (Some n) None) first
+      ∙ ap (λ (b : Bool). cond b (Some i) None) (lt-ltb i (length xs) within))
+
+  -- it passes at none
+  pub position_none : ((k : ℕ) → k < length xs → p (get_or xs k d) ≡ false) → None ≡ position p xs
+  position_none each =
+      let none : length xs < length xs → p (get_or xs (length xs) d) ≡ true = λ less. absurd (omega arith) in
+      let last = position_or_len_is p xs (length xs) d (omega arith) each none in
+      sym
+      (ap (λ (n : ℕ). cond (nat_lt n (length xs)) (Some n) None) last
+      ∙ ap (λ (b : Bool). cond b (Some (length xs)) None) (not_less (length xs)))
+    where
+      not_less : (n : ℕ) → nat_lt n n ≡ false
+      not_less n = elim (cases_Bool (nat_lt n n)) [ inl y ↦ absurd (let less = ltb-true n n y in omega arith) | inr isnt ↦ isnt ]

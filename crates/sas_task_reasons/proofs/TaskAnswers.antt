@@ -1,0 +1,99 @@
+-- What is said of a task with reasons: one thing, and always something; and how the answer comes about.
+use Rattle.std.proofs.Common.{◌≡◌, ℕ, List, ◌++◌, map, refl, sym, ap, subst, ◌∙◌, Option, Some, None}
+use Rattle.std.specs.Prelude.{option_map}
+use Rattle.std.proofs.lemmas.Option.{none-some}
+use Rattle.sas_core.specs.declared.parts.Parts.{Parts}
+use Rattle.sas_core.specs.FirstFault.{first_fault}
+use Rattle.sas_lines.specs.Lines.{text}
+use Rattle.sas_meaning.specs.declared.layered.LayerFault.{LayerFault}
+use Rattle.sas_meaning.specs.declared.layered.LayerFault.TheVariants.{Memory}
+use Rattle.sas_meaning.specs.LayerChecks.{layer_checks}
+use Rattle.sas_meaning.specs.Layers.{IsLayered}
+use Rattle.sas_meaning.proofs.LayerChecksAreRules.{checks_are_rules}
+use Rattle.sas_output.specs.declared.ending.Status.{Status}
+use Rattle.sas_output.specs.declared.ending.Status.TheVariants.{No}
+use Rattle.sas_output.specs.declared.told.Told.{Told}
+use Rattle.sas_output.specs.Ending.{Output, output_told}
+use Rattle.sas_answers.specs.Answers.{layers_refusal, layers_verdict, GroupsAnswer, LayeredGroupsAnswer}
+use Rattle.sas_answers.specs.LayerWords.{layer_words, layers_line}
+use Rattle.sas_answers.proofs.AnswerLaws.{OneAnswer, SomeAnswer}
+use Rattle.sas_answers.proofs.CheckAnswers.{some_check_answer}
+use Rattle.sas_answers.proofs.MutexAnswers.{one_mutex_answer, some_mutex_answer}
+use Rattle.sas_task_reasons.specs.declared.line.Line.{Line}
+use Rattle.sas_task_reasons.specs.Line.{line_bytes}
+use Rattle.sas_task_reasons.specs.LayerReasons.{layer_reasons}
+use Rattle.sas_task_reasons.specs.ReasonsText.{reasons_text}
+use Rattle.sas_task_reasons.specs.WhyLayers.{with_reasons, why_refusal, why_verdict, WhyCheckAnswer, WhyLayeredGroups, WhyMutexAnswer}
+
+-- ---- the layers
+
+-- the same refusal, with reasons behind
+pub refused_why : (p : Parts) (fault : LayerFault) (o : Output) → layers_refusal fault ≡ Some o → why_refusal p fault ≡ Some (with_reasons (layer_reasons p fault) o)
+refused_why p fault o is = ap (option_map (with_reasons (layer_reasons p fault))) is
+
+verdict_why : (p : Parts) (first : Option LayerFault) (o : Output) → layers_verdict first ≡ Some o → (q : Output) × (why_verdict p first ≡ Some q)
+verdict_why p None o is = (o, is)
+verdict_why p (Some fault) o is = (_, refused_why p fault o is)
+
+pub one_why_check : OneAnswer WhyCheckAnswer
+one_why_check p a b is_a is_b = cc
+
+pub some_why_check : SomeAnswer WhyCheckAnswer
+some_why_check p none = some_check_answer p (λ o told. let why = verdict_why p (first_fault (layer_checks p)) o told in none why.0 why.1)
+
+-- ---- the mutex groups
+
+one_groups : (p : Parts) (first : Option LayerFault) → first_fault (layer_checks p) ≡ first → (a b : Output) → WhyLayeredGroups p first a → WhyLayeredGroups p first b → a ≡ b
+one_groups p (Some fault) is a b is_a is_b = cc
+one_groups p None is a b is_a is_b =
+    one_mutex_answer p a b
+    (subst (λ (f : Option LayerFault). LayeredGroupsAnswer p f a) (sym is) is_a)
+    (subst (λ (f : Option LayerFault). LayeredGroupsAnswer p f b) (sym is) is_b)
+
+pub one_why_mutex : OneAnswer WhyMutexAnswer
+one_why_mutex p a b = one_groups p (first_fault (layer_checks p)) refl a b
+
+some_groups : (p : Parts) (first : Option LayerFault) → first_fault (layer_checks p) ≡ first → ((o : Output) → WhyLayeredGroups p first o → ⊥) → ⊥
+some_groups p (Some fault) is none =
+    some_check_answer p (λ o told.
+    let refused = subst (λ (f : Option LayerFault). layers_verdict f ≡ Some o) is told in none _ (refused_why p fault o refused))
+some_groups p None is none = some_mutex_answer p (λ o told. none o (subst (λ (f : Option LayerFault). LayeredGroupsAnswer p f o) is told))
+
+pub some_why_mutex : SomeAnswer WhyMutexAnswer
+some_why_mutex p = some_groups p (first_fault (layer_checks p)) refl
+
+-- ---- how the answers come about
+
+says_no : (words : Option (List ℕ)) (o : Output) → option_map (λ w. record { text = layers_line w; status = No }) words ≡ Some o → o.status ≡ No
+says_no None o is = absurd (none-some o is)
+says_no (Some w) o is =
+    let same : (record { text = layers_line w; status = No }) ≡ o = cc in
+    sym (ap (λ (x : Output). x.status) same)
+
+pub explained : (p : Parts) (fault : LayerFault) (told : Told) (lines : List Line) → layers_refusal fault ≡ Some (output_told told) → map (line_bytes p) lines ≡ layer_reasons p fault
+    → why_refusal p fault ≡ Some (record { text = told.text.items ++ reasons_text p lines; status = No })
+explained p fault told lines is are =
+    let reasons = layer_reasons p fault in
+    let plain = output_told told in
+    let no_ = says_no (layer_words fault) plain is in
+    refused_why p fault plain is
+    ∙ ap (λ (s : Status). Some (let x : Output = record { text = plain.text ++ text reasons; status = s } in x)) no_
+    ∙ ap (λ (l : List (List ℕ)). Some (let x : Output = record { text = plain.text ++ text l; status = No } in x)) (sym are)
+
+module _ (p : Parts) (o : Output) where
+  pub check_layered : IsLayered p → layers_verdict None ≡ Some o → WhyCheckAnswer p o
+  check_layered layered told = ap (why_verdict p) ((checks_are_rules p).1 layered) ∙ told
+
+  pub groups_layered : IsLayered p → GroupsAnswer p o → WhyMutexAnswer p o
+  groups_layered layered told = subst (λ (first : Option LayerFault). WhyLayeredGroups p first o) (sym ((checks_are_rules p).1 layered)) told
+
+  module _ (fault : LayerFault) (told : why_refusal p fault ≡ Some o) where
+    -- it is a fault of the task
+    pub not_memory : fault ≡ Memory → ⊥
+    not_memory is = none-some o (subst (λ (f : LayerFault). why_refusal p f ≡ Some o) is told)
+
+    pub check_refused : first_fault (layer_checks p) ≡ Some fault → WhyCheckAnswer p o
+    check_refused first = ap (why_verdict p) first ∙ told
+
+    pub groups_refused : first_fault (layer_checks p) ≡ Some fault → WhyMutexAnswer p o
+    groups_refused first = subst (λ (f : Option LayerFault). WhyLayeredGroups p f o) (sym first) told

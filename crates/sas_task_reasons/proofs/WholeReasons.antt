@@ -1,0 +1,125 @@
+-- All that the lines of reasons tell is there, where the fault is the first of a task's layers.
+use Rattle.std.proofs.Common.{◌≡◌, ◌≢◌, ℕ, ◌<◌, ◌==◌, Bool, true, false, List, [], ◌++◌, length, take, get_or, refl, subst, inl, inr, eq-eqb, Option, Some, None}
+use Rattle.std.specs.Prelude.{if◌then◌else◌, not, is_some, IsSome, slice_get}
+use Rattle.std.specs.Option.{option_map_or}
+use Rattle.sas_core.specs.declared.parts.Fact.{Fact}
+use Rattle.sas_core.specs.declared.parts.Effect.{Effect}
+use Rattle.sas_core.specs.declared.parts.Operator.{Operator}
+use Rattle.sas_core.specs.declared.parts.Rule.{Rule}
+use Rattle.sas_core.specs.declared.parts.Parts.{Parts}
+use Rattle.sas_core.specs.FirstFault.{Check, first_fault, check}
+use Rattle.sas_core.specs.Grounded.{operator_at, effect_at, rule_at}
+use Rattle.sas_core.specs.Variables.{layer_of, IsDerived}
+use Rattle.sas_meaning.specs.declared.layered.LayerFault.{LayerFault}
+use Rattle.sas_meaning.specs.declared.layered.LayerFault.TheVariants.{EffectOnDerived, RuleOnBasic, OldValue, TwoValues, LayerOrder}
+use Rattle.sas_meaning.specs.Layers.{IsBasic, default_of, can_fire}
+use Rattle.sas_meaning.specs.LayerChecks.{numbered, effect_layer_checks, operator_layer_checks, agrees_with, looks_down, firing_checks, rule_layer_checks, layer_checks}
+use Rattle.sas_task_reasons.specs.Laws.{IsToldOld, IsWhole, LayerReasonsAreWhole}
+use Rattle.sas_task_reasons.proofs.FailingChecks.{IsFirst, check_fails, asked_fails, either_fails, numbered_fails}
+use Rattle.sas_task_reasons.proofs.OtherGivers.{other_told}
+
+-- ---- tests that fail
+
+has_layer : (layer : Option ℕ) → not (is_some layer) ≡ false → IsSome layer
+has_layer None e = absurd cc
+has_layer (Some layer) e = search
+
+no_layer : (layer : Option ℕ) → is_some layer ≡ false → layer ≡ None
+no_layer None e = refl
+no_layer (Some layer) e = absurd cc
+
+both_layers : (a b : Option ℕ) (test : ℕ → ℕ → Bool) → option_map_or (λ here. option_map_or (λ its. test here its) b true) a true ≡ false → IsSome a × IsSome b
+both_layers None b test e = absurd cc
+both_layers (Some here) None test e = absurd cc
+both_layers (Some here) (Some its) test e = (search, search)
+
+module _ (p : Parts) where
+  old_told : (rule : Rule) (old : Option ℕ) → rule.old ≡ old → option_map_or (λ its. its == default_of p rule.var) old true ≡ false → IsToldOld p rule
+  old_told rule None is e = absurd cc
+  old_told rule (Some old) is e = record {
+    old = old;
+    told = is;
+    differs = λ same. let yes : (old == default_of p rule.var) ≡ true = eq-eqb old (default_of p rule.var) same in absurd cc;
+  }
+
+  -- ---- operators
+
+  abbrev no_operator : Operator
+  no_operator = record { name = []; prevail = []; effects = []; cost = 0 }
+
+  abbrev no_effect : Effect
+  no_effect = record { conditions = []; var = 0; old = None; new = 0 }
+
+  operator_whole : (operator : ℕ) (e : LayerFault) → operator < length p.operators → IsFirst (operator_layer_checks p operator (operator_at p operator)) e → IsWhole p e
+  operator_whole operator e within is =
+      let o = operator_at p operator in
+      let at = numbered_fails (effect_layer_checks p operator) no_effect o.effects e is in
+      let layer = layer_of p.variables (effect_at o at.place).var in
+      let fails = check_fails (not (is_some layer)) (EffectOnDerived operator at.place) e at.fails in
+      subst (IsWhole p) fails.1 (within, at.within, has_layer layer fails.0)
+
+  -- ---- rules
+
+  abbrev no_rule : Rule
+  no_rule = record { conditions = []; var = 0; old = None; new = 0 }
+
+  abbrev no_fact : Fact
+  no_fact = record { var = 0; value = 0 }
+
+  module _ (place : ℕ) (within : place < length p.rules) (e : LayerFault) where
+    abbrev rule : Rule
+    rule = rule_at p place
+
+    abbrev old_checks : List (Check LayerFault)
+    old_checks = check (option_map_or (λ old. old == default_of p rule.var) rule.old true) (OldValue place)
+
+    abbrev value_checks : List (Check LayerFault)
+    value_checks = check (agrees_with p (take place p.rules) rule) (TwoValues place)
+
+    abbrev order_check : ℕ → Fact → List (Check LayerFault)
+    order_check condition c = check (looks_down p rule.var c) (LayerOrder place condition)
+
+    old_whole : IsFirst old_checks e → IsWhole p e
+    old_whole is =
+        let fails = check_fails (option_map_or (λ old. old == default_of p rule.var) rule.old true) (OldValue place) e is in
+        subst (IsWhole p) fails.1 (within, old_told rule rule.old refl fails.0)
+
+    value_whole : IsFirst value_checks e → IsWhole p e
+    value_whole is =
+        let fails = check_fails (agrees_with p (take place p.rules) rule) (TwoValues place) e is in
+        subst (IsWhole p) fails.1 (within, other_told p place within fails.0)
+
+    order_whole : IsFirst (numbered order_check rule.conditions) e → IsWhole p e
+    order_whole is =
+        let at = numbered_fails order_check no_fact rule.conditions e is in
+        let c = get_or rule.conditions at.place no_fact in
+        let fails = check_fails (looks_down p rule.var c) (LayerOrder place at.place) e at.fails in
+        let layers = both_layers (layer_of p.variables rule.var) (layer_of p.variables c.var) _ fails.0 in
+        subst (IsWhole p) fails.1 (within, at.within, layers.0, layers.1)
+
+    firing_whole : IsFirst (firing_checks p place rule) e → IsWhole p e
+    firing_whole is = elim (either_fails (old_checks ++ value_checks) (numbered order_check rule.conditions) e is) [
+      | inl first ↦ elim (either_fails old_checks value_checks e first) [
+        | inl old ↦ old_whole old
+        | inr value ↦ value_whole value.1
+      ]
+      | inr order ↦ order_whole order.1
+    ]
+
+    rule_whole : IsFirst (rule_layer_checks p place rule) e → IsWhole p e
+    rule_whole is =
+        let layer = layer_of p.variables rule.var in
+        let firing = firing_checks p place rule in
+        elim (either_fails (check (is_some layer) (RuleOnBasic place)) (if can_fire p rule then firing else []) e is) [
+          | inl basic ↦ (let fails = check_fails (is_some layer) (RuleOnBasic place) e basic in subst (IsWhole p) fails.1 (within, no_layer layer fails.0))
+          | inr fires ↦ firing_whole (asked_fails (can_fire p rule) firing e fires.1)
+        ]
+
+  whole : (e : LayerFault) → IsFirst (layer_checks p) e → IsWhole p e
+  whole e is = elim (either_fails (numbered (operator_layer_checks p) p.operators) (numbered (rule_layer_checks p) p.rules) e is) [
+    | inl first ↦ (let at = numbered_fails (operator_layer_checks p) no_operator p.operators e first in operator_whole at.place e at.within at.fails)
+    | inr behind ↦ (let at = numbered_fails (rule_layer_checks p) no_rule p.rules e behind.1 in rule_whole at.place at.within e at.fails)
+  ]
+
+pub reasons_are_whole : LayerReasonsAreWhole
+reasons_are_whole p fault is = whole p fault is

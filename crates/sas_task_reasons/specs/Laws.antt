@@ -1,0 +1,55 @@
+-- What follows from the definition of the reasons: none of their lines is left out.
+use Rattle.std.specs.Prelude.{◌≡◌, ◌≢◌, ℕ, ◌<◌, length, IsSome, Some}
+use Rattle.sas_core.specs.declared.parts.Rule.{Rule}
+use Rattle.sas_core.specs.declared.parts.Parts.{Parts}
+use Rattle.sas_core.specs.FirstFault.{first_fault}
+use Rattle.sas_core.specs.Grounded.{operator_at, effect_at, rule_at}
+use Rattle.sas_core.specs.Variables.{IsDerived}
+use Rattle.sas_meaning.specs.declared.layered.LayerFault.{LayerFault}
+use Rattle.sas_meaning.specs.declared.layered.LayerFault.TheVariants.{EffectOnDerived, RuleOnBasic}
+use Rattle.sas_meaning.specs.declared.layered.LayerFault.TheVariants.{OldValue, TwoValues}
+use Rattle.sas_meaning.specs.declared.layered.LayerFault.TheVariants.{LayerOrder, Memory}
+use Rattle.sas_meaning.specs.LayerChecks.{layer_checks}
+use Rattle.sas_meaning.specs.Layers.{CanFire, IsBasic, default_of}
+use Rattle.sas_task_reasons.specs.LayerReasons.{condition_at, other_giver}
+
+-- a rule is of the same variable as this one, can fire, and has another new value
+pub record IsOtherGiver (p : Parts) (rule other : Rule) : Type 0 where
+  pub its_var : other.var ≡ rule.var
+  pub can_fire : CanFire p other
+  pub differs : other.new ≢ rule.new
+
+-- the other giver that is told of the rule at this place is the lowest, and stands before it
+pub record IsToldOther (p : Parts) (rule other : ℕ) : Type 0 where
+  pub told : other_giver p (rule_at p rule) ≡ Some other
+  pub before : other < rule
+  pub gives : IsOtherGiver p (rule_at p rule) (rule_at p other)
+  pub lowest : (lower : ℕ) → lower < other → IsOtherGiver p (rule_at p rule) (rule_at p lower) → ⊥
+
+-- the old value that is told of a rule isn't the default of its variable
+pub record IsToldOld (p : Parts) (rule : Rule) : Type 0 where
+  pub old : ℕ
+  pub told : rule.old ≡ Some old
+  pub differs : old ≢ default_of p rule.var
+
+-- what the lines for a fault tell is there: the parts that they name, layers, the old value, the
+-- other giver
+abbrev pub IsWhole : Parts → LayerFault → Type 0
+IsWhole p (EffectOnDerived operator effect) =
+    (operator < length p.operators)
+    × (effect < length (operator_at p operator).effects)
+    × IsDerived p.variables (effect_at (operator_at p operator) effect).var
+IsWhole p (RuleOnBasic rule) = (rule < length p.rules) × IsBasic p (rule_at p rule).var
+IsWhole p (OldValue rule) = (rule < length p.rules) × IsToldOld p (rule_at p rule)
+IsWhole p (TwoValues rule) = (rule < length p.rules) × ((other : ℕ) × IsToldOther p rule other)
+IsWhole p (LayerOrder rule condition) =
+    (rule < length p.rules)
+    × (condition < length (rule_at p rule).conditions)
+    × IsDerived p.variables (rule_at p rule).var
+    × IsDerived p.variables (condition_at (rule_at p rule) condition).var
+IsWhole p Memory = ⊥
+
+-- so it is of the first fault of a task
+abbrev pub LayerReasonsAreWhole : Type 0
+LayerReasonsAreWhole = (p : Parts) (fault : LayerFault)
+    → first_fault (layer_checks p) ≡ Some fault → IsWhole p fault

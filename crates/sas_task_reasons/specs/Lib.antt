@@ -1,0 +1,5 @@
+pub mod LayerReasons
+pub mod WhyLayers
+pub mod Laws
+pub mod Line
+pub mod ReasonsText

@@ -1,0 +1,51 @@
+-- The answers about a task, with the reasons why it isn't layered.
+use Rattle.std.specs.Prelude.{◌≡◌, ℕ, ◌<◌, ◌^◌, List, ◌++◌, length, Option, Some, None, option_map}
+use Rattle.sas_core.specs.declared.parts.Parts.{Parts}
+use Rattle.sas_core.specs.FirstFault.{first_fault}
+use Rattle.sas_lines.specs.Lines.{text}
+use Rattle.sas_meaning.specs.declared.layered.LayerFault.{LayerFault}
+use Rattle.sas_meaning.specs.LayerChecks.{layer_checks}
+use Rattle.sas_output.specs.declared.ending.Status.TheVariants.{No}
+use Rattle.sas_output.specs.Ending.{Output, output_told}
+use Rattle.sas_answers.specs.Answers.{layers_refusal, layers_verdict, GroupsAnswer}
+use Rattle.sas_task_reasons.specs.declared.tasks.TaskAnswer.{TaskAnswer}
+use Rattle.sas_task_reasons.specs.declared.tasks.TaskAnswer.TheVariants.{Text, Explained}
+use Rattle.sas_task_reasons.specs.LayerReasons.{layer_reasons}
+
+-- an answer with these lines behind
+abbrev pub with_reasons : List (List ℕ) → Output → Output
+with_reasons reasons plain =
+    record { text = plain.text ++ text reasons; status = plain.status }
+
+-- the refusal of a task for a fault of its layers, with the reasons behind
+abbrev pub why_refusal : Parts → LayerFault → Option Output
+why_refusal p fault = option_map (with_reasons (layer_reasons p fault)) (layers_refusal fault)
+
+-- the answer about a task's layers, by their first fault if they have one
+abbrev pub why_verdict : Parts → Option LayerFault → Option Output
+why_verdict p None = layers_verdict None
+why_verdict p (Some fault) = why_refusal p fault
+
+-- the answer to a check of a task, with reasons: that it is layered, or the refusal for the first
+-- fault of its layers and why
+abbrev pub WhyCheckAnswer : Parts → Output → Type 0
+WhyCheckAnswer p output = why_verdict p (first_fault (layer_checks p)) ≡ Some output
+
+-- the answer about the mutex groups of a task, with the reasons where it isn't layered
+abbrev pub WhyLayeredGroups : Parts → Option LayerFault → Output → Type 0
+WhyLayeredGroups p (Some fault) output = why_refusal p fault ≡ Some output
+WhyLayeredGroups p None output = GroupsAnswer p output
+
+abbrev pub WhyMutexAnswer : Parts → Output → Type 0
+WhyMutexAnswer p output = WhyLayeredGroups p (first_fault (layer_checks p)) output
+
+-- such an answer, as an output
+abbrev pub output_of_task : TaskAnswer → Output
+output_of_task (Text told) = output_told told
+output_of_task (Explained bytes) = record { text = bytes; status = No }
+
+-- whatever the fault of its layers is, the refusal and its reasons are short enough that their bytes
+-- can be counted
+abbrev pub LayerReasonsFit : Parts → Type 0
+LayerReasonsFit p = (fault : LayerFault) (output : Output) → why_refusal p fault ≡ Some output
+    → length output.text < 2 ^ 64

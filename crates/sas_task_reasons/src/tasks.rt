@@ -1,0 +1,79 @@
+// The answers about a task, with the reasons why it isn't layered.
+ghost use Rattle.std.specs.Prelude.{◌≡◌, Some, None, IfOk};
+ghost use Rattle.sas_answers.specs.Answers.{layers_verdict};
+ghost use Rattle.sas_task_reasons.specs.WhyLayers.{LayerReasonsFit, why_refusal, output_of_task};
+ghost use Rattle.sas_task_reasons.specs.WhyLayers.{WhyCheckAnswer, WhyMutexAnswer};
+
+use crate::explained::ExplainedTask;
+use crate::reasons::layer_reasons;
+use sas_answers::{accept_layers, refuse_layers, verdicts_answer};
+use sas_flat::FlatTask;
+use sas_meaning::{LayerFault, Layered};
+use sas_output::{Status, Told};
+use std::alloc::{AllocError, Global};
+
+/// The answer about a task.
+#[derive(Drop)]
+pub enum TaskAnswer {
+    /// A text that is at hand.
+    Text(Told),
+    /// It isn't layered, and why.
+    Explained(ExplainedTask),
+}
+
+/// Returns the answer about the layers of a task, with the reasons where it isn't layered.
+pub fn explain_check(alloc: Global, task: FlatTask) -> Result<TaskAnswer, AllocError>
+    requires { LayerReasonsFit task }
+    ensures { IfOk result (λ a. WhyCheckAnswer task (output_of_task a)) }
+{
+    match Layered::new(alloc, task) {
+        Ok(layered) => {
+            drop(layered);
+            layered_answer(alloc)
+        }
+        Err((task, fault)) => {
+            let explained = explain_layers(alloc, task, fault)?;
+            Ok(TaskAnswer::Explained(explained))
+        }
+    }
+}
+
+/// Returns the answer about a task that is layered.
+fn layered_answer(alloc: Global) -> Result<TaskAnswer, AllocError>
+    ensures { IfOk result (λ a. layers_verdict None ≡ Some (output_of_task a)) }
+{
+    Ok(TaskAnswer::Text(accept_layers(alloc)?))
+}
+
+/// Returns the answer about the mutex groups of a task, with the reasons where it isn't layered.
+pub fn explain_groups(alloc: Global, task: FlatTask) -> Result<TaskAnswer, AllocError>
+    requires { LayerReasonsFit task }
+    ensures { IfOk result (λ a. WhyMutexAnswer task (output_of_task a)) }
+{
+    match Layered::new(alloc, task) {
+        Ok(layered) => {
+            let told = verdicts_answer(alloc, &layered);
+            drop(layered);
+            Ok(TaskAnswer::Text(told?))
+        }
+        Err((task, fault)) => {
+            let explained = explain_layers(alloc, task, fault)?;
+            Ok(TaskAnswer::Explained(explained))
+        }
+    }
+}
+
+/// Returns the refusal of the task for a fault of its layers, with the reasons. For `Memory` it returns an `Err`.
+pub fn explain_layers(
+    alloc: Global,
+    task: FlatTask,
+    fault: LayerFault,
+) -> Result<ExplainedTask, AllocError>
+    requires { LayerReasonsFit task }
+    ensures { IfOk result (λ e.
+        why_refusal task fault ≡ Some (record { text = e; status = Status.No })) }
+{
+    let refusal = refuse_layers(alloc, fault)?;
+    let reasons = layer_reasons(alloc, &task, fault)?;
+    Ok(ExplainedTask::new(refusal.text, reasons.into_vec(), task))
+}
