@@ -1,11 +1,11 @@
 -- An operator doesn't keep a group exactly if it fails in some way. Then it has a first failure, and one only.
-use Rattle.std.proofs.Common.{◌≡◌, ℕ, ◌<◌, ◌⊎◌, tt, List, [], ◌∷◌, ◌++◌, length, get_or, None, Some, refl, sym, ◌∙◌, ap, subst, inl, inr, arith}
+use Rattle.std.proofs.Common.{◌≡◌, ℕ, ◌<◌, ◌⊎◌, List, [], ◌∷◌, ◌++◌, length, get_or, None, Some, refl, sym, ◌∙◌, ap, subst, inl, inr, arith}
 use Rattle.std.proofs.lemmas.Bool.{cases_eq, cases_order}
 use Rattle.std.proofs.lemmas.List.{get_or_default}
 use Rattle.std.proofs.lemmas.List.Elements.{Contains-get_or}
 use Rattle.std.proofs.lemmas.Option.{slice_get-get_or}
 use Rattle.std.specs.List.{Contains}
-use Rattle.std.specs.Prelude.{slice_get, Unit}
+use Rattle.std.specs.Prelude.{slice_get}
 use Rattle.sas_core.specs.declared.parts.Fact.{Fact}
 use Rattle.sas_core.specs.declared.parts.Effect.{Effect}
 use Rattle.sas_core.specs.declared.parts.Operator.{Operator}
@@ -20,7 +20,6 @@ use Rattle.sas_group_reasons.specs.declared.reason.Failure.{Failure}
 use Rattle.sas_group_reasons.specs.declared.reason.Failure.TheVariants.{SetsTwo, MayStay}
 use Rattle.sas_group_reasons.specs.Failures.{SetTwo, LetsStay, effect_of, FailsSo, Fails, IsEarlier, ComesBefore, IsFirstFailure}
 use Rattle.sas_group_reasons.specs.Lowest.{IsFirstOfEffect}
-use Rattle.sas_group_reasons.specs.Laws.{NotKeptIfFails, FailsIfNotKept, SomeFirstFailure, OneFirstFailure}
 use Rattle.sas_group_reasons.proofs.Least.{all_below, IsLeast, none_at_all, has_or_not, item_at}
 
 module _ (Counts : List Fact → Type 0) (o : Operator) (group : List Fact) where
@@ -100,7 +99,7 @@ module _ (Counts : List Fact → Type 0) (o : Operator) (group : List Fact) wher
   -- ---- the first failure
 
   -- failures of one effect are those with another effect and those with a fact
-  Of : ℕ → Type 0
+  abbrev Of : ℕ → Type 0
   Of effect = (failure : Failure) × (effect_of failure ≡ effect) × Fails Counts o group failure
 
   module _ (no_first : (failure : Failure) → IsFirstFailure Counts o group failure → ⊥) where
@@ -146,14 +145,12 @@ module _ (Counts : List Fact → Type 0) (o : Operator) (group : List Fact) wher
     ];
   }
 
-pub not_kept_if_fails : NotKeptIfFails
-not_kept_if_fails Counts o group failure fails keeps = fails_not_kept Counts o group failure fails keeps
+  -- an operator that doesn't keep the group can't be without a failure, nor without a first one
+  pub some_failure : (Keeps Counts o group → ⊥) → ((failure : Failure) → Fails Counts o group failure → ⊥) → ⊥
+  some_failure not none = all_keep none not
 
-pub fails_if_not_kept : FailsIfNotKept
-fails_if_not_kept Counts o group not none = all_keep Counts o group none not
-
-pub some_first_failure : SomeFirstFailure
-some_first_failure Counts o group not no_first = all_keep Counts o group (none_fails Counts o group no_first) not
+  pub some_first : (Keeps Counts o group → ⊥) → ((failure : Failure) → IsFirstFailure Counts o group failure → ⊥) → ⊥
+  some_first not no_first = all_keep (none_fails no_first) not
 
 -- ---- one comes before the other
 
@@ -185,8 +182,9 @@ compare a b = elim (cases_order (effect_of a) (effect_of b)) [
   ]
 ]
 
-pub one_first_failure : OneFirstFailure
-one_first_failure Counts o group a b first first' = elim (compare a b) [
+pub one_first : (Counts : List Fact → Type 0) (o : Operator) (group : List Fact) (a b : Failure)
+    → IsFirstFailure Counts o group a → IsFirstFailure Counts o group b → a ≡ b
+one_first Counts o group a b first first' = elim (compare a b) [
   | inl is ↦ is
   | inr differ ↦ elim differ [
     | inl before ↦ absurd (first'.first a before first.fails)

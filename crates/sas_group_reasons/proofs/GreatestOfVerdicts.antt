@@ -12,7 +12,7 @@ use Rattle.sas_groups.specs.Verdicts.{IsJointVerdict}
 use Rattle.sas_groups.proofs.GreatestFamily.{keeps_more, all_keep_more, group_of_larger, greatest_is_one}
 use Rattle.sas_mutex.specs.Effects.{family_of}
 use Rattle.sas_mutex.specs.Joint.{verdict_at, AreJointVerdicts}
-use Rattle.sas_group_reasons.proofs.Reasons.{counts_too}
+use Rattle.sas_group_reasons.proofs.GroupReasons.{counts_too}
 
 module _ (p : Parts) (verdicts : List Verdict) (kept : List Bool) (joint : AreJointVerdicts p verdicts)
     (exclusive : (place : ℕ) → place < length p.groups → IsTrue (family_of kept place) ↔ (verdict_at verdicts place ≡ Exclusive)) where

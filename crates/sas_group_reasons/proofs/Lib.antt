@@ -1,4 +1,4 @@
 pub mod Least
 pub mod Failing
-pub mod Reasons
+pub mod GroupReasons
 pub mod GreatestOfVerdicts

@@ -22,9 +22,9 @@ use Rattle.sas_group_reasons.specs.declared.reason.Reason.TheVariants.{OnDerived
 use Rattle.sas_group_reasons.specs.Failures.{IsFirstFailure}
 use Rattle.sas_group_reasons.specs.Reasons.{IsFirstSuch, HoldTwo, AreFirstHolding, verdict_of, Says, IsReason}
 use Rattle.sas_group_reasons.specs.Telling.{HoldsBeside}
-use Rattle.sas_group_reasons.specs.Laws.{SomeReason, OneReason}
+use Rattle.sas_group_reasons.specs.Laws.{NotKeptIfFails, FailsIfNotKept, SomeFirstFailure, OneFirstFailure, SomeReason, OneReason}
 use Rattle.sas_group_reasons.proofs.Least.{all_below, IsLeast, none_at_all, least_is_one, facts_same, item_at, stands_at}
-use Rattle.sas_group_reasons.proofs.Failing.{some_first_failure, one_first_failure, first_too}
+use Rattle.sas_group_reasons.proofs.Failing.{fails_not_kept, some_failure, some_first, one_first, first_too}
 
 -- two facts that stand at one place are one
 pub one_at : (facts : List Fact) (place : ℕ) (f g : Fact) → slice_get facts place ≡ Some f → slice_get facts place ≡ Some g → f ≡ g
@@ -37,7 +37,7 @@ same_place facts place place' f g same here here' = one_at facts place' f g (sub
 
 module _ (P : Fact → Type 0) (facts : List Fact) where
   -- such a fact stands at the place
-  HasAt : ℕ → Type 0
+  abbrev HasAt : ℕ → Type 0
   HasAt place = (fact : Fact) × (slice_get facts place ≡ Some fact) × P fact
 
   first_place : (fact : Fact) → (first : IsFirstSuch P facts fact) → IsLeast HasAt first.place
@@ -69,7 +69,7 @@ not_all P facts each not = all_below (length facts) (λ place. (d : Fact) → P 
 -- ---- two facts that hold
 
 module _ (s : List ℕ) (group : List Fact) where
-  HasBehind : ℕ → Type 0
+  abbrev HasBehind : ℕ → Type 0
   HasBehind place = (place' : ℕ) × HoldTwo s group place place'
 
   first_pair : (f g : Fact) → (pair : AreFirstHolding s group f g) → IsLeast HasBehind pair.place
@@ -186,6 +186,20 @@ counts_too p a b itself ga gb group counts = elim counts [
   | inr is ↦ inr is
 ]
 
+-- ---- failures
+
+pub not_kept_if_fails : NotKeptIfFails
+not_kept_if_fails p family o group = fails_not_kept (IsGroupOfOr p family group) o group
+
+pub fails_if_not_kept : FailsIfNotKept
+fails_if_not_kept p family o group = some_failure (IsGroupOfOr p family group) o group
+
+pub some_first_failure : SomeFirstFailure
+some_first_failure p family o group = some_first (IsGroupOfOr p family group) o group
+
+pub one_first_failure : OneFirstFailure
+one_first_failure p family o group = one_first (IsGroupOfOr p family group) o group
+
 -- ---- reasons
 
 same_breaks : (operator operator' : ℕ) (failure failure' : Failure) → operator ≡ operator' → failure ≡ failure' → Breaks operator failure ≡ Breaks operator' failure'
@@ -206,7 +220,7 @@ one_says p place (HoldsTwo f g) (Breaks operator failure) same says says' = absu
 one_says p place (Breaks operator failure) (OnDerived h) same says says' = absurd cc
 one_says p place (Breaks operator failure) (HoldsTwo g h) same says says' = absurd cc
 one_says p place (Breaks operator failure) (Breaks operator' failure') same (family, greatest, first) (family', greatest', first') =
-    same_breaks operator operator' failure failure' is (one_first_failure (IsGroupOfOr p family' itself) (operator_at p operator') itself failure failure'
+    same_breaks operator operator' failure failure' is (one_first (IsGroupOfOr p family' itself) (operator_at p operator') itself failure failure'
     (first_too (IsGroupOfOr p family itself) (IsGroupOfOr p family' itself) (operator_at p operator') itself (counts_too p family family' itself greatest greatest')
     (counts_too p family' family itself greatest' greatest) failure
     (subst (λ n. IsFirstFailure (IsGroupOfOr p family itself) (operator_at p n) itself failure) is first)) first')
@@ -228,5 +242,5 @@ some_reason p place Derived exists joint not none = not_all (λ (f : Fact). IsBa
 some_reason p place Initial exists joint not none =
     joint.1 (exclusive_then p.init (group_at p place) (λ f g pair. none (HoldsTwo f g) (record { told = refl; says = pair })))
 some_reason p place (Broken operator) exists (family, greatest, outside, basic, initial, breaking) not none =
-    some_first_failure (IsGroupOfOr p family (group_at p place)) (operator_at p operator) (group_at p place) breaking.breaks
+    some_first (IsGroupOfOr p family (group_at p place)) (operator_at p operator) (group_at p place) breaking.breaks
     (λ failure first. none (Breaks operator failure) (record { told = refl; says = (family, greatest, first) }))
