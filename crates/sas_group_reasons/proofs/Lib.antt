@@ -2,3 +2,4 @@ pub mod Least
 pub mod Failing
 pub mod GroupReasons
 pub mod GreatestOfVerdicts
+pub mod ReasonsSoFar

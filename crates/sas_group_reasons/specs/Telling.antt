@@ -51,6 +51,7 @@ pub record IsAsked (operator : ℕ) (verdicts : List Verdict) (reasons : List (O
   pub breaks : verdict_at verdicts place ≡ Broken operator
   pub untold : reason_at reasons place ≡ None
 
--- an operator breaks the group
-abbrev pub IsBroken : Verdict → Type 0
-IsBroken verdict = (operator : ℕ) × (verdict ≡ Broken operator)
+-- the verdict is that an operator breaks the group
+pub record IsBroken (verdict : Verdict) : Type 0 where
+  pub operator : ℕ
+  pub is : verdict ≡ Broken operator
