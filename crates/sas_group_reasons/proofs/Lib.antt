@@ -3,3 +3,4 @@ pub mod Failing
 pub mod GroupReasons
 pub mod GreatestOfVerdicts
 pub mod ReasonsSoFar
+pub mod LowestEffects

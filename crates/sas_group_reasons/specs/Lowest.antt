@@ -26,6 +26,12 @@ IsAny effect = Unit {0}
 abbrev pub SetsVariable : EffectPlace → ℕ → ℕ → Type 0
 SetsVariable f var effect = variable_of f.task f.operator effect ≡ var
 
+-- one of the first of these
+pub record IsOneOfFirst (effects : List ℕ) (count effect : ℕ) : Type 0 where
+  pub place : ℕ
+  pub early : place < count
+  pub here : slice_get effects place ≡ Some effect
+
 -- the effects of the operator that set the variable of one of the first facts
 pub record SetsOneOfFirst (f : EffectPlace) (facts : List Fact) (count effect : ℕ) : Type 0 where
   pub place : ℕ
@@ -33,6 +39,13 @@ pub record SetsOneOfFirst (f : EffectPlace) (facts : List Fact) (count effect : 
   pub fact : Fact
   pub here : slice_get facts place ≡ Some fact
   pub on : variable_of f.task f.operator effect ≡ fact.var
+
+-- the fact at this place has one before it on the same variable
+pub record FollowsOnVariable (facts : List Fact) (place : ℕ) : Type 0 where
+  pub before : ℕ
+  pub early : before < place
+  pub same : (fact other : Fact) → slice_get facts before ≡ Some fact
+      → slice_get facts place ≡ Some other → fact.var ≡ other.var
 
 -- the place of the first fact of the group that may stay; the number of its facts if none may
 pub record IsFirstStaying (f : EffectPlace) (kept : List Bool) (group : List Fact) (first : ℕ)

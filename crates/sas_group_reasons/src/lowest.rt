@@ -1,11 +1,11 @@
 // The lowest effect that may set another fact of a group in the same step.
-ghost use Rattle.std.specs.Prelude.{Contains};
+ghost use Rattle.std.specs.Prelude.{◌<◌, length, Contains, IsFalse};
 ghost use Rattle.sas_groups.specs.Families.{IsIn};
 ghost use Rattle.sas_mutex.specs.Effects.{family_of};
 ghost use Rattle.sas_mutex.specs.Noting.{IsNotedAt};
-ghost use Rattle.sas_group_reasons.specs.Lowest.{IsLowest, IsAny, SetsVariable};
+ghost use Rattle.sas_group_reasons.specs.Lowest.{IsLowest, IsAny, SetsVariable, FollowsOnVariable};
 
-use sas_core::Grounded;
+use sas_core::{Fact, Grounded};
 use sas_mutex::{Firing, Marks};
 
 /// Returns the lowest effect that may set a fact of the group in the same step as this effect, on another variable, or the
@@ -67,11 +67,19 @@ fn lowest_by_facts<T: Grounded>(
     let facts = firing.index.facts_of(firing.task, group);
     let mut lowest = firing.task.effects(firing.operator);
     for place in 0..facts.len() {
-        if place == 0 || facts[place - 1].var != facts[place].var {
+        if begins_run(facts, place) {
             lowest = lowest.min(lowest_on(firing, kept, group, facts[place].var, marks));
         }
     }
     lowest
+}
+
+/// Returns whether the fact at this place is the first of a run of facts on one variable.
+fn begins_run(facts: &[Fact], place: usize) -> bool
+    requires { place < length facts.now }
+    ensures { IsFalse result → FollowsOnVariable facts.now place }
+{
+    place == 0 || facts[place - 1].var != facts[place].var
 }
 
 /// Returns the lowest such effect on the variable, or a lower one, or the number of all effects if no effect on it may.
