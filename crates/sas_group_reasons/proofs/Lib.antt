@@ -4,3 +4,4 @@ pub mod GroupReasons
 pub mod GreatestOfVerdicts
 pub mod ReasonsSoFar
 pub mod LowestEffects
+pub mod FirstOfEffect

@@ -1,6 +1,9 @@
 -- One more fact, the first one on its variable or not.
-use Rattle.std.proofs.Common.{◌≡◌, ◌<◌, refl, arith}
-use Rattle.sas_group_reasons.proofs.LowestEffects.{lowest_of_none, one_more_fact, one_fact_more, all_facts_looked_at}
+use Rattle.std.proofs.Common.{List, sym, subst}
+use Rattle.sas_core.specs.declared.parts.Fact.{Fact}
+use Rattle.sas_core.specs.Grounded.{group_at}
+use Rattle.sas_group_index.specs.Distinct.{AreDistinct}
+use Rattle.sas_group_reasons.proofs.LowestEffects.{one_more_fact, one_fact_more, all_facts_looked_at}
 use Rattle.sas_group_reasons.proofs.lowest.lowest_by_facts.Goals as goal
 use Rattle.sas_group_reasons.proofs.lowest.lowest_by_facts.Goals.{then-begins_run, else-begins_run}
 
@@ -21,3 +24,13 @@ loop-place-preserved g c =
         lowest = one_fact_more f kept c.args.group facts n c.loop-place.lowest c.loop-place-test.true (c.begins_run.ensures w.if-begins_run.false) inv.lowest;
       }))
     ]
+
+pub returns-clause-lowest : goal.returns-clause-lowest
+returns-clause-lowest g c =
+    let group = rw (← c.firing.view_is) at c.requires.group in
+    let p = c.firing.inside.task.now in
+    let facts = c.facts_of-facts.result.now in
+    let distinct = subst (λ (xs : List Fact). AreDistinct xs (group_at p c.args.group)) (sym c.facts_of-facts.ensures) (c.firing.invariant.1.facts c.args.group group.exists) in
+    let lowest = rw (← c.firing.view_is) at c.loop-place.invariant.lowest in
+    rw (← c.firing.view_is) (all_facts_looked_at _ c.args.kept.now c.args.group facts c.loop-place.place c.loop-place.lowest c.loop-place-test.false
+    (λ fact among. (distinct.same fact).1 among) lowest)
