@@ -122,13 +122,13 @@ module _ (f : EffectPlace) (kept : List Bool) (place : ℕ) where
           })
           | inl e ↦ (let early = follows.early in
               let there = slice_get-get_or facts follows.before sets_one.fact (omega arith) in record {
-            place = follows.before;
-            early = follows.early;
-            fact = get_or facts follows.before sets_one.fact;
-            here = there;
-            on = sets_one.on ∙ sym (follows.same (get_or facts follows.before sets_one.fact) sets_one.fact there
-                (subst (λ k. slice_get facts k ≡ Some sets_one.fact) e sets_one.here));
-          })
+                place = follows.before;
+                early = follows.early;
+                fact = get_or facts follows.before sets_one.fact;
+                here = there;
+                on = sets_one.on ∙ sym (follows.same (get_or facts follows.before sets_one.fact) sets_one.fact there
+                    (subst (λ k. slice_get facts k ≡ Some sets_one.fact) e sets_one.here));
+              })
         ]
 
     -- an effect that sets a fact of the group sets the variable of one of them

@@ -35,10 +35,9 @@ pub fn group_reasons<T: Grounded>(
         return Ok(reasons.into_vec());
     }
     let index = Index::new(alloc, layered)?;
-    let mut greatest = Greatest {
-        kept: exclusive_groups(alloc, verdicts)?,
-        marks: Marks::new(alloc, layered, &index)?,
-    };
+    let kept = exclusive_groups(alloc, verdicts)?;
+    let marks = Marks::new(alloc, layered, &index)?;
+    let mut greatest = Greatest { kept, marks };
     let indexed = IndexedTask {
         task: layered,
         index: &index,
