@@ -1,16 +1,13 @@
 -- An operator doesn't keep a group exactly if it fails in some way. Then it has a first failure, and one only.
-use Rattle.std.proofs.Common.{◌≡◌, ℕ, ◌<◌, ◌⊎◌, List, [], ◌∷◌, ◌++◌, length, get_or, None, Some, refl, sym, ◌∙◌, ap, subst, inl, inr, arith}
-use Rattle.std.proofs.lemmas.Bool.{cases_eq, cases_order}
-use Rattle.std.proofs.lemmas.List.{get_or_default}
-use Rattle.std.proofs.lemmas.List.Elements.{Contains-get_or}
+use Rattle.std.proofs.Common.{◌≡◌, ℕ, ◌<◌, ◌⊎◌, List, [], ◌∷◌, length, Some, refl, sym, ◌∙◌, ap, subst, inl, inr}
+use Rattle.std.proofs.lemmas.Bool.{cases_order}
 use Rattle.std.proofs.lemmas.Option.{slice_get-get_or}
 use Rattle.std.specs.List.{Contains}
 use Rattle.std.specs.Prelude.{slice_get}
 use Rattle.sas_core.specs.declared.parts.Fact.{Fact}
-use Rattle.sas_core.specs.declared.parts.Effect.{Effect}
 use Rattle.sas_core.specs.declared.parts.Operator.{Operator}
 use Rattle.sas_core.specs.Grounded.{effect_at}
-use Rattle.sas_groups.specs.Clashes.{Clash, IsRemoved, Keeps, sets}
+use Rattle.sas_groups.specs.Clashes.{Keeps, sets}
 use Rattle.sas_groups.specs.Checks.{NotBoth, IsGone}
 use Rattle.sas_groups.specs.Lists.{known}
 use Rattle.sas_groups.proofs.GreatestFamily.{clash_more}
@@ -18,7 +15,7 @@ use Rattle.sas_mutex.specs.Effects.{EffectKeeps}
 use Rattle.sas_mutex.proofs.Keeping.{keeps_from_effects, effect_of_keeps}
 use Rattle.sas_group_reasons.specs.declared.reason.Failure.{Failure}
 use Rattle.sas_group_reasons.specs.declared.reason.Failure.TheVariants.{SetsTwo, MayStay}
-use Rattle.sas_group_reasons.specs.Failures.{SetTwo, LetsStay, effect_of, FailsSo, Fails, IsEarlier, ComesBefore, IsFirstFailure}
+use Rattle.sas_group_reasons.specs.Failures.{effect_of, FailsSo, Fails, IsEarlier, ComesBefore, IsFirstFailure}
 use Rattle.sas_group_reasons.specs.Lowest.{IsFirstOfEffect}
 use Rattle.sas_group_reasons.proofs.Least.{all_below, IsLeast, none_at_all, has_or_not, item_at}
 

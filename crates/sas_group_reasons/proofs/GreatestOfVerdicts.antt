@@ -1,15 +1,14 @@
 -- The groups that are exclusive by the joint verdicts are the greatest family.
-use Rattle.std.proofs.Common.{◌≡◌, ℕ, ◌<◌, Bool, List, length, refl, sym, subst}
+use Rattle.std.proofs.Common.{◌≡◌, ℕ, ◌<◌, Bool, List, length, refl, subst}
 use Rattle.std.specs.Prelude.{◌↔◌, IsTrue}
-use Rattle.sas_core.specs.declared.parts.Fact.{Fact}
 use Rattle.sas_core.specs.declared.parts.Parts.{Parts}
 use Rattle.sas_core.specs.Grounded.{operator_at, group_at}
 use Rattle.sas_groups.specs.declared.verdict.Verdict.{Verdict}
 use Rattle.sas_groups.specs.declared.verdict.Verdict.TheVariants.{Exclusive, Derived, Initial, Broken}
 use Rattle.sas_groups.specs.Clashes.{Keeps}
-use Rattle.sas_groups.specs.Families.{MayBeExclusive, IsIn, IsGroupOf, IsGroupOfOr, IsKeptJointly, IsGreatest}
+use Rattle.sas_groups.specs.Families.{IsIn, IsGroupOf, IsGroupOfOr, IsKeptJointly, IsGreatest}
 use Rattle.sas_groups.specs.Verdicts.{IsJointVerdict}
-use Rattle.sas_groups.proofs.GreatestFamily.{keeps_more, all_keep_more, group_of_larger, greatest_is_one}
+use Rattle.sas_groups.proofs.GreatestFamily.{keeps_more, all_keep_more, group_of_larger}
 use Rattle.sas_mutex.specs.Effects.{family_of}
 use Rattle.sas_mutex.specs.Joint.{verdict_at, AreJointVerdicts}
 use Rattle.sas_group_reasons.proofs.GroupReasons.{counts_too}

@@ -1,6 +1,6 @@
 -- Each group that isn't exclusive has one reason; that it has one is said doubly negated.
-use Rattle.std.proofs.Common.{◌≡◌, ◌≢◌, ℕ, ◌<◌, ◌⊎◌, Bool, List, length, get_or, Some, refl, sym, ◌∙◌, ap, subst, inl, inr, arith}
-use Rattle.std.proofs.lemmas.Bool.{cases_eq, cases_order}
+use Rattle.std.proofs.Common.{◌≡◌, ℕ, ◌<◌, Bool, List, length, get_or, Some, refl, sym, ◌∙◌, ap, subst, inl, inr}
+use Rattle.std.proofs.lemmas.Bool.{cases_order}
 use Rattle.std.proofs.lemmas.List.Elements.{All-contains}
 use Rattle.std.proofs.lemmas.Option.{slice_get-get_or}
 use Rattle.std.specs.List.{All, Contains}
@@ -10,20 +10,18 @@ use Rattle.sas_core.specs.declared.parts.Parts.{Parts}
 use Rattle.sas_core.specs.Grounded.{operator_at, group_at}
 use Rattle.sas_meaning.specs.Layers.{IsBasic}
 use Rattle.sas_meaning.specs.States.{Holds}
-use Rattle.sas_groups.specs.declared.verdict.Verdict.{Verdict}
 use Rattle.sas_groups.specs.declared.verdict.Verdict.TheVariants.{Exclusive, Derived, Initial, Broken}
 use Rattle.sas_groups.specs.Groups.{IsExclusiveIn}
-use Rattle.sas_groups.specs.Families.{IsIn, IsOnBasic, IsGreatest, IsGroupOfOr}
-use Rattle.sas_groups.specs.Verdicts.{IsJointVerdict}
+use Rattle.sas_groups.specs.Families.{IsGreatest, IsGroupOfOr}
 use Rattle.sas_groups.proofs.GreatestFamily.{group_of_larger, greatest_is_one}
 use Rattle.sas_group_reasons.specs.declared.reason.Failure.{Failure}
 use Rattle.sas_group_reasons.specs.declared.reason.Reason.{Reason}
 use Rattle.sas_group_reasons.specs.declared.reason.Reason.TheVariants.{OnDerived, HoldsTwo, Breaks}
 use Rattle.sas_group_reasons.specs.Failures.{IsFirstFailure}
-use Rattle.sas_group_reasons.specs.Reasons.{IsFirstSuch, HoldTwo, AreFirstHolding, verdict_of, Says, IsReason}
+use Rattle.sas_group_reasons.specs.Reasons.{IsFirstSuch, HoldTwo, AreFirstHolding, verdict_of, Says}
 use Rattle.sas_group_reasons.specs.Telling.{HoldsBeside}
 use Rattle.sas_group_reasons.specs.Laws.{NotKeptIfFails, FailsIfNotKept, SomeFirstFailure, OneFirstFailure, SomeReason, OneReason}
-use Rattle.sas_group_reasons.proofs.Least.{all_below, IsLeast, none_at_all, least_is_one, facts_same, item_at, stands_at}
+use Rattle.sas_group_reasons.proofs.Least.{all_below, IsLeast, none_at_all, least_is_one, facts_same, stands_at}
 use Rattle.sas_group_reasons.proofs.Failing.{fails_not_kept, some_failure, some_first, one_first, first_too}
 
 -- two facts that stand at one place are one

@@ -1,5 +1,5 @@
 -- One more group is told of.
-use Rattle.std.proofs.Common.{ℕ, ◌+◌, Bool, List, Option, get_or, sym, ◌∙◌, subst, below_more, inl, inr, arith}
+use Rattle.std.proofs.Common.{ℕ, ◌+◌, Bool, List, get_or, sym, ◌∙◌, subst, below_more, inl, inr, arith}
 use Rattle.std.proofs.lemmas.Bool.{cases_eq}
 use Rattle.std.proofs.lemmas.List.Elements.{All-from_get_or}
 use Rattle.sas_mutex.specs.Joint.{verdict_at}

@@ -1,6 +1,6 @@
 -- The family with the group has the groups of the family, and this one.
 use Rattle.std.proofs.Common.{◌≢◌, Bool, true, false, List, length, get_or, set, sym, ap, ◌∙◌, subst}
-use Rattle.std.proofs.lemmas.Bool.{true≢false, both_ways}
+use Rattle.std.proofs.lemmas.Bool.{both_ways}
 use Rattle.std.proofs.lemmas.List.{length-set}
 use Rattle.sas_core.specs.Grounded.{operator_at, effect_at, group_at}
 use Rattle.sas_groups.specs.Families.{IsGroupOfOr}

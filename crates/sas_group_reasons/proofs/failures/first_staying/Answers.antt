@@ -1,5 +1,4 @@
 -- One more fact, which is gone or stays.
-use Rattle.std.proofs.Common.{◌<◌}
 use Rattle.sas_groups.proofs.Turns.{each_more}
 use Rattle.sas_mutex.specs.Noting.{IsGoneAt}
 use Rattle.sas_group_reasons.proofs.FirstOfEffect.{none_stays, one_stays}

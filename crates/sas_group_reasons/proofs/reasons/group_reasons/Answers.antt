@@ -1,10 +1,7 @@
 -- The groups that are exclusive by the verdicts are the greatest family; where no operator breaks a group, the first reasons are all.
-use Rattle.std.proofs.Common.{◌≡◌, ◌<◌, ℕ, [], List, length, sym, subst}
-use Rattle.std.specs.Prelude.{◌↔◌, IsTrue, Option}
-use Rattle.sas_groups.specs.declared.verdict.Verdict.{Verdict}
+use Rattle.std.proofs.Common.{◌<◌, [], List, sym, subst}
+use Rattle.std.specs.Prelude.{Option}
 use Rattle.sas_groups.specs.declared.verdict.Verdict.TheVariants.{Exclusive}
-use Rattle.sas_mutex.specs.Effects.{family_of}
-use Rattle.sas_mutex.specs.Joint.{verdict_at}
 use Rattle.sas_group_reasons.specs.declared.reason.Reason.{Reason}
 use Rattle.sas_group_reasons.specs.Reasons.{AreReasons}
 use Rattle.sas_group_reasons.proofs.GreatestOfVerdicts.{exclusive_is_greatest}
