@@ -9,8 +9,8 @@ use sas_core::{Fact, Grounded};
 use sas_mutex::{Firing, Marks};
 
 /// Returns the lowest effect that may set a fact of the group in the same step as this effect, on another variable, or the
-/// number of all effects if none may. Either all effects are looked at, or those on variables of the group, if its facts are
-/// fewer.
+/// number of all effects if none may. All effects are looked at, or of a large operator those on variables of the group, if its
+/// facts are fewer.
 pub fn lowest_together<T: Grounded>(
     firing: &Firing<'_, '_, T>,
     kept: &[bool],
@@ -23,7 +23,12 @@ pub fn lowest_together<T: Grounded>(
     ensures lowest { IsLowest firing.now kept.now group IsAny result }
 {
     let facts = firing.index.facts_of(firing.task, group);
-    if facts.len() < firing.task.effects(firing.operator) as usize {
+    // The index has the effects of large operators alone.
+    let is_large = firing
+        .index
+        .effects_on(firing.task, firing.operator, 0)
+        .is_some();
+    if is_large && facts.len() < firing.task.effects(firing.operator) as usize {
         lowest_by_facts(firing, kept, group, marks)
     } else {
         lowest_of_all(firing, kept, group, marks)
