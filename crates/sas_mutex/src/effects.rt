@@ -102,7 +102,7 @@ impl<'a, 'b, T: Grounded> Firing<'a, 'b, T> {
 
     /// Returns which of the known facts where this effect fires the group has.
     #[inline(always)]
-    fn noted(&self, group: u32, marks: &Marks) -> Noted
+    pub fn noted(&self, group: u32, marks: &Marks) -> Noted
         requires wide { IsWide self.now.task marks.now.known }
         requires group { group < length self.now.task.groups }
         ensures { let f = self.now in (kept : List Bool) → IsNotedAt f kept marks.now
@@ -129,7 +129,7 @@ impl<'a, 'b, T: Grounded> Firing<'a, 'b, T> {
 
     /// Returns whether the other effect never sets a fact of the group on another variable in the same step as this effect
     /// fires.
-    fn not_both(&self, kept: &[bool], other: u32, group: u32, marks: &mut Marks) -> bool
+    pub fn not_both(&self, kept: &[bool], other: u32, group: u32, marks: &mut Marks) -> bool
         requires notes { IsNotedAt self.now kept.now marks.old }
         requires other { other < length (operator_of self.now).effects }
         requires group { IsIn self.now.task (family_of kept.now) group }
@@ -255,7 +255,7 @@ impl<'a, 'b, T: Grounded> Firing<'a, 'b, T> {
     }
 
     /// Returns whether no other fact of the group stays where this effect fires. Mostly an old value decides this at once.
-    fn removes_others(&self, kept: &[bool], group: u32, marks: &Marks) -> bool
+    pub fn removes_others(&self, kept: &[bool], group: u32, marks: &Marks) -> bool
         requires notes { IsNotedAt self.now kept.now marks.now }
         requires group { IsIn self.now.task (family_of kept.now) group }
         ensures yes { IsTrue result → AreGoneAt self.now kept.now group }
@@ -346,7 +346,7 @@ impl<'a, 'b, T: Grounded> Firing<'a, 'b, T> {
     }
 
     /// Returns whether the fact is on the effect's variable, or doesn't stay where the effect fires.
-    fn is_gone(&self, kept: &[bool], fact: Fact, marks: &Marks) -> bool
+    pub fn is_gone(&self, kept: &[bool], fact: Fact, marks: &Marks) -> bool
         requires notes { IsNotedAt self.now kept.now marks.now }
         requires fact { FactExists self.now.task.variables fact }
         ensures yes { IsTrue result → IsGoneAt self.now kept.now fact }

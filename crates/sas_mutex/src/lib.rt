@@ -1,5 +1,6 @@
 //! Mutex groups judged jointly: which groups of a task are invariants, where each may depend on others. The definitions, the
-//! laws and the check of one group are in `sas_groups`. This crate re-exports the laws and that check.
+//! laws and the check of one group are in `sas_groups`. This crate re-exports the laws and that check. What looks at one effect
+//! where it fires is public too, for those that ask further.
 #![tactic(auto)]
 
 mod deciding;
@@ -12,5 +13,8 @@ mod looking;
 mod marks;
 mod watches;
 
+pub use effects::Firing;
+pub use indexed::IndexedTask;
 pub use joint::check_groups;
+pub use marks::{Marks, forget_known, note_known};
 pub use sas_groups::{Facts, Verdict, check_group, group_laws};

@@ -1,0 +1,7 @@
+pub mod Least
+pub mod Failing
+pub mod GroupReasons
+pub mod GreatestOfVerdicts
+pub mod ReasonsSoFar
+pub mod LowestEffects
+pub mod FirstOfEffect

@@ -1,0 +1,13 @@
+-- Of the verdicts so far the exclusive ones are kept.
+use Rattle.std.proofs.Common.{◌≡◌, ℕ, ◌<◌, length}
+use Rattle.std.specs.Prelude.{◌↔◌, IsTrue}
+use Rattle.sas_groups.specs.declared.verdict.Verdict.TheVariants.{Exclusive}
+use Rattle.sas_mutex.specs.Effects.{family_of}
+use Rattle.sas_mutex.specs.Joint.{verdict_at}
+use Rattle.sas_group_reasons.proofs.reasons.exclusive_groups.Given as goal
+
+abbrev pub invariant-loop-verdict : goal.invariant-loop-verdict
+invariant-loop-verdict l = record {
+  one_each : length l.kept ≡ l.verdict-index;
+  exclusive : (place : ℕ) → place < l.verdict-index → IsTrue (family_of l.kept place) ↔ (verdict_at l.verdicts place ≡ Exclusive);
+}

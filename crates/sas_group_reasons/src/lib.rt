@@ -1,0 +1,14 @@
+//! Why groups aren't exclusive: the reason for each verdict on a group, as numbers.
+#![tactic(auto)]
+
+mod before_operators;
+mod broken;
+mod failures;
+mod laws;
+mod lowest;
+mod reason;
+mod reasons;
+
+pub use laws::reason_laws;
+pub use reason::{Failure, Reason};
+pub use reasons::group_reasons;

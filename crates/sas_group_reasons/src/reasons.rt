@@ -1,0 +1,88 @@
+// The reasons of all groups.
+ghost use Rattle.std.specs.Prelude.{◌≡◌, ◌<◌, ◌↔◌, ℕ, length, All, IfOk, IsTrue, IsFalse};
+ghost use Rattle.sas_groups.specs.declared.verdict.Verdict.{Verdict};
+ghost use Rattle.sas_groups.specs.declared.verdict.Verdict.TheVariants.{Exclusive};
+ghost use Rattle.sas_mutex.specs.Effects.{family_of};
+ghost use Rattle.sas_mutex.specs.Joint.{verdict_at, AreJointVerdicts};
+ghost use Rattle.sas_group_reasons.specs.Reasons.{AreReasons};
+ghost use Rattle.sas_group_reasons.specs.Telling.{IsBroken};
+
+use crate::before_operators::first_reasons;
+use crate::broken::{Greatest, tell_failures};
+use crate::reason::Reason;
+use sas_core::{Grounded, Items};
+use sas_group_index::Index;
+use sas_groups::Verdict;
+use sas_meaning::Layered;
+use sas_mutex::{IndexedTask, Marks};
+use std::alloc::{AllocError, Global};
+
+/// Returns, for each group of the task, in their order, the reason for the joint verdict on it, or none if it is exclusive. All
+/// memory is asked for before the operators are gone through.
+pub fn group_reasons<T: Grounded>(
+    alloc: Global,
+    layered: &Layered<T>,
+    verdicts: &[Verdict],
+) -> Result<Vec<Option<Reason>>, AllocError>
+    requires { AreJointVerdicts layered.now verdicts.now }
+    ensures { IfOk result (λ reasons. AreReasons layered.now verdicts.now reasons.items) }
+{
+    // By the contract of this call the task is well ranged.
+    let _ = layered.task();
+    let mut reasons = first_reasons(alloc, layered, verdicts)?;
+    // Where no operator breaks a group, all is told.
+    if !some_broken(verdicts) {
+        return Ok(reasons.into_vec());
+    }
+    let index = Index::new(alloc, layered)?;
+    let kept = exclusive_groups(alloc, verdicts)?;
+    let marks = Marks::new(alloc, layered, &index)?;
+    let mut greatest = Greatest { kept, marks };
+    let indexed = IndexedTask {
+        task: layered,
+        index: &index,
+    };
+    tell_failures(&indexed, verdicts, &mut greatest, &mut reasons);
+    drop(index);
+    drop(greatest);
+    Ok(reasons.into_vec())
+}
+
+/// Returns whether one of the verdicts is that an operator breaks the group.
+fn some_broken(verdicts: &[Verdict]) -> bool
+    ensures { IsFalse result → All (λ (verdict : Verdict). IsBroken verdict → ⊥) verdicts.now }
+{
+    for verdict in verdicts {
+        if is_broken(*verdict) {
+            return true;
+        }
+    }
+    false
+}
+
+/// Whether an operator breaks the group.
+fn is_broken(verdict: Verdict) -> bool
+    ensures { IsTrue result ↔ IsBroken verdict }
+{
+    matches!(verdict, Verdict::Broken { .. })
+}
+
+/// Returns, for each verdict, whether it is that the group is exclusive.
+fn exclusive_groups(alloc: Global, verdicts: &[Verdict]) -> Result<Items<bool>, AllocError>
+    ensures one_each { IfOk result (λ kept. length kept ≡ length verdicts.now) }
+    ensures exclusive { IfOk result (λ kept. (place : ℕ) → place < length verdicts.now
+        → IsTrue (family_of kept place) ↔ (verdict_at verdicts.now place ≡ Exclusive)) }
+{
+    let mut kept = Items::from_vec(Vec::with_capacity(alloc, verdicts.len())?);
+    for verdict in verdicts {
+        kept.push(is_exclusive(*verdict))?;
+    }
+    Ok(kept)
+}
+
+/// Whether the verdict is that the group is exclusive.
+fn is_exclusive(verdict: Verdict) -> bool
+    ensures { IsTrue result ↔ (verdict ≡ Exclusive) }
+{
+    matches!(verdict, Verdict::Exclusive)
+}
