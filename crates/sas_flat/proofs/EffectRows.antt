@@ -88,12 +88,12 @@ plain_range cs ds start end none fits =
     let behind = drop start cs in
     let many : length front ≡ start = length-take-le start cs fits in
     let split : effects_of cs ds ≡ effects_of front ds ++ plain_effects behind =
-        ap (λ l. effects_of l ds) (sym (take-append-drop start cs)) ∙ plain_more behind front ds (omega (arith, none, many)) in
+    ap (λ l. effects_of l ds) (sym (take-append-drop start cs)) ∙ plain_more behind front ds (omega (arith, none, many)) in
     let count : length (effects_of front ds) ≡ start = length-table (length front) _ ∙ many in
     let rest : drop start (effects_of cs ds) ≡ plain_effects behind =
-        ap (λ l. drop start l) split
-        ∙ ap (λ n. drop n (effects_of front ds ++ plain_effects behind)) (sym count)
-        ∙ drop-append_seam (effects_of front ds) (plain_effects behind) in
+    ap (λ l. drop start l) split
+    ∙ ap (λ n. drop n (effects_of front ds ++ plain_effects behind)) (sym count)
+    ∙ drop-append_seam (effects_of front ds) (plain_effects behind) in
     ap (λ l. take (end - start) l) rest ∙ take-map plain_effect (end - start) behind
 
 -- one effect more, where a list of conditions stands at its place

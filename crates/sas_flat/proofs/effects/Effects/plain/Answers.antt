@@ -6,7 +6,7 @@ use Rattle.sas_flat.proofs.effects.Effects.plain.Goals as goal
 pub offset_bounds-as_slice-start : goal.offset_bounds-as_slice-start
 offset_bounds-as_slice-start c =
     let within : c.args.start ≤ length c.as_slice.result.now =
-        rw c.as_slice.ensures.value (omega (arith, c.requires.order, c.requires.end, effect_count c.self.inside.changes.items c.self.inside.conditions c.args.self.now c.self.view_is)) in
+    rw c.as_slice.ensures.value (omega (arith, c.requires.order, c.requires.end, effect_count c.self.inside.changes.items c.self.inside.conditions c.args.self.now c.self.view_is)) in
     omega (arith, within, c.as_slice.type_inv)
 
 pub slice_bounds-result-end : goal.slice_bounds-result-end

@@ -26,7 +26,7 @@ returns c =
     let are = ap (λ (o : Operator). o.effects) (found columns c.args.self.now c.self.view_is c.args.operator c.requires) in
     let end = end_is columns c.args.self.now c.self.view_is c.args.operator c.requires (λ (h : Head). h.effects) c.index.result.now c.index.ensures in
     let range =
-        are
-        ∙ ap (λ n. slice_range columns.effects n (slice_index (effect_ends columns.heads.items) c.args.operator)) (sym c.before-start.ensures.effects)
-        ∙ ap (λ n. slice_range columns.effects c.before-start.result.effects n) end in
+    are
+    ∙ ap (λ n. slice_range columns.effects n (slice_index (effect_ends columns.heads.items) c.args.operator)) (sym c.before-start.ensures.effects)
+    ∙ ap (λ n. slice_range columns.effects c.before-start.result.effects n) end in
     subst (λ (effects : List Effect). IfSome c.plain.result (λ changes. effects ≡ plain_effects changes.now)) (sym range) c.plain.ensures
