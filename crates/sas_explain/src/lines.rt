@@ -5,7 +5,7 @@ ghost use Rattle.sas_core.specs.Grounded.{operator_at};
 ghost use Rattle.sas_core.specs.Stepwise.{step_at};
 ghost use Rattle.sas_output.specs.Pieces.{PutsOrBreaks};
 ghost use Rattle.sas_output.specs.Words.{line};
-ghost use Rattle.sas_wording.specs.Lines.{deed_line};
+ghost use Rattle.sas_wording.specs.Lines.{line_from, deed_line};
 ghost use Rattle.sas_reasons.specs.Cause.{gives_line, rule_asks_line};
 ghost use Rattle.sas_reasons.specs.WhyPlan.{like_line, effect_line, other_line};
 ghost use Rattle.sas_why.specs.Line.{line_bytes};
@@ -59,15 +59,7 @@ pub fn push_reason<W: Write>(
 {
     let task = named.task.task();
     match line {
-        Line::Step { step } => {
-            push_named(
-                pieces,
-                out,
-                Start::two(b"step"),
-                step as u64,
-                named.step(step),
-            )
-        }
+        Line::Step { step } => push_step(pieces, out, named, Start::two(b"step"), step),
         Line::Like { operator } => push_like(pieces, out, task, operator),
         Line::Operator { operator } => push_count(
             pieces,
@@ -79,13 +71,7 @@ pub fn push_reason<W: Write>(
         Line::Has { fact } => push_fact(pieces, out, task, Start::four(b"has"), fact),
         Line::SinceStart => push_words(pieces, out, Start::four(b"since the start")),
         Line::SinceStep { step } => {
-            push_named(
-                pieces,
-                out,
-                Start::four(b"since step"),
-                step as u64,
-                named.step(step),
-            )
+            push_step(pieces, out, named, Start::four(b"since step"), step)
         }
         Line::Gives { rule } => push_deed(pieces, out, task, gives(task, rule)),
         Line::NoRule => push_words(pieces, out, Start::four(b"no rule gives it")),
@@ -99,6 +85,24 @@ pub fn push_reason<W: Write>(
         Line::CostLines { sum } => push_cost_lines(pieces, out, sum),
         Line::MayMean { step, operator } => push_may_mean(pieces, out, step, operator),
     }
+}
+
+/// Adds the line of a step, counted from 1, and of its name.
+fn push_step<W: Write>(
+    pieces: &mut Pieces,
+    out: &mut Watched<W>,
+    named: &Named<'_>,
+    start: Start,
+    step: usize,
+) -> Result<(), Short>
+    requires { out.old.failed ≡ false }
+    ensures puts { PutsOrBreaks (W.contents out.old.device) (W.contents out.new.device)
+        pieces.old pieces.new
+        (line_from start (decimal step ∷ step_at named.now.plan.now (step - 1) ∷ []) ++ 10 ∷ [])
+        result }
+    ensures note { IsErr result ↔ IsTrue out.new.failed }
+{
+    push_named(pieces, out, start, step as u64, named.step(step))
 }
 
 /// Adds the line of an operator whose name is like that of a step.

@@ -1,5 +1,5 @@
 // What the reasons tell of the parts of a task. Behind the last part of a sort nothing is told, or that variable 0 has value 0.
-ghost use Rattle.std.specs.Prelude.{◌≡◌, option_map};
+ghost use Rattle.std.specs.Prelude.{◌≡◌};
 ghost use Rattle.sas_core.specs.Changes as spec;
 ghost use Rattle.sas_core.specs.Grounded.{rule_at};
 ghost use Rattle.sas_core.specs.Variables as variables;
