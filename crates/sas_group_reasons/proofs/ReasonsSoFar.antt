@@ -3,6 +3,7 @@ use Rattle.std.proofs.Common.{◌≡◌, ℕ, ◌+◌, ◌<◌, Bool, List, [], 
 use Rattle.std.proofs.lemmas.Bool.{cases_eq}
 use Rattle.std.proofs.lemmas.List.{length_push, get_or_push, get_or_append_left, length-set, get_or-set_same, get_or-set_other}
 use Rattle.std.specs.List.{Contains}
+use Rattle.std.specs.Prelude.{IsTrue}
 use Rattle.sas_core.specs.declared.parts.Parts.{Parts}
 use Rattle.sas_core.specs.Grounded.{operator_at, effect_at, group_at}
 use Rattle.sas_groups.specs.declared.verdict.Verdict.{Verdict}
@@ -20,7 +21,7 @@ use Rattle.sas_group_reasons.specs.declared.reason.Reason.TheVariants.{Breaks}
 use Rattle.sas_group_reasons.specs.Failures.{effect_of}
 use Rattle.sas_group_reasons.specs.Lowest.{IsFirstOfEffect}
 use Rattle.sas_group_reasons.specs.Reasons.{IsReason, IsReasonIfAny, reason_at, AreReasons}
-use Rattle.sas_group_reasons.specs.Telling.{KeptBelow, IsPending, IsReasonSoFar, AreReasonsSoFar, IsAsked, IsBroken}
+use Rattle.sas_group_reasons.specs.Telling.{KeptBelow, IsPending, IsReasonSoFar, AreReasonsSoFar, IsAsked, IsBroken, AreMarked}
 use Rattle.sas_group_reasons.proofs.Least.{has_or_not}
 use Rattle.sas_group_reasons.proofs.Failing.{sets_one, kept_never_fails, first_of_all}
 use Rattle.sas_group_reasons.proofs.GreatestOfVerdicts.{breaks_under}
@@ -175,6 +176,20 @@ module _ (p : Parts) (kept : List Bool) where
           (so_far.are place lt);
     }
 
+    -- an operator that breaks no group has nothing to be told of
+    pub skip_operator : (operator : ℕ) (reasons : List (Option Reason))
+        → ((place : ℕ) → place < length p.groups → verdict_at verdicts place ≡ Broken operator → ⊥)
+        → AreReasonsSoFar p kept operator 0 verdicts reasons → AreReasonsSoFar p kept (operator + 1) 0 verdicts reasons
+    skip_operator operator reasons none so_far = record {
+      one_each = so_far.one_each;
+      are = λ place lt. so_far_by operator 0 (operator + 1) 0 place (verdict_at verdicts place) (reason_at reasons place)
+          (λ breaking untold is pending. elim (cases_eq breaking operator) [
+            | inl same ↦ absurd (none place lt (is ∙ ap (λ (n : ℕ). Broken n) same))
+            | inr differ ↦ (let below = pending.0 in omega arith, λ same. record { keeps = λ lower less. absurd (omega arith) })
+          ])
+          (so_far.are place lt);
+    }
+
     -- in the end each is told
     told_in_the_end : (place : ℕ) (verdict : Verdict) (reason : Option Reason) → IsJointVerdict p place verdict
         → IsReasonSoFar p kept (length p.operators) 0 place verdict reason → IsReasonIfAny p place verdict reason
@@ -208,3 +223,28 @@ none_broken p verdicts reasons none so_far = record {
     told place Derived None not is = absurd is
     told place Initial None not is = absurd is
     told place (Broken breaking) None not is = absurd (not (record { operator = breaking; is = refl }))
+
+-- each operator that breaks one of the first groups is marked
+pub record MarkedUpTo (verdicts : List Verdict) (n : ℕ) (operators : ℕ) (marked : List Bool) : Type 0 where
+  pub for_each : length marked ≡ operators
+  pub all : (place operator : ℕ) → place < n → operator < operators → verdict_at verdicts place ≡ Broken operator → IsTrue (family_of marked operator)
+
+pub marked_none : (verdicts : List Verdict) (operators : ℕ) (marked : List Bool) → length marked ≡ operators → MarkedUpTo verdicts 0 operators marked
+marked_none verdicts operators marked for_each = record { for_each = for_each; all = λ place operator lt. absurd (omega arith) }
+
+pub marked_more : (verdicts : List Verdict) (n operators : ℕ) (before after : List Bool) → MarkedUpTo verdicts n operators before → length after ≡ length before
+    → ((operator : ℕ) → verdict_at verdicts n ≡ Broken operator → operator < length before → IsTrue (family_of after operator))
+    → ((operator : ℕ) → IsTrue (family_of before operator) → IsTrue (family_of after operator)) → MarkedUpTo verdicts (n + 1) operators after
+marked_more verdicts n operators before after was as_many now still = record {
+  for_each = as_many ∙ was.for_each;
+  all = λ place operator lt exists is. elim (cases_eq place n) [
+    | inl e ↦ now operator (subst (λ k. verdict_at verdicts k ≡ Broken operator) e is) (subst (λ k. operator < k) (sym was.for_each) exists)
+    | inr ne ↦ still operator (was.all place operator (omega arith) exists is)
+  ];
+}
+
+pub marked_all : (verdicts : List Verdict) (n operators : ℕ) (marked : List Bool) → length verdicts ≤ n → MarkedUpTo verdicts n operators marked
+    → AreMarked verdicts marked
+marked_all verdicts n operators marked all up_to = record {
+  all = λ place operator lt exists is. up_to.all place operator (omega arith) (subst (λ k. operator < k) up_to.for_each exists) is;
+}
