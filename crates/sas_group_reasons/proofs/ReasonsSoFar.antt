@@ -21,7 +21,7 @@ use Rattle.sas_group_reasons.specs.declared.reason.Reason.TheVariants.{Breaks}
 use Rattle.sas_group_reasons.specs.Failures.{effect_of}
 use Rattle.sas_group_reasons.specs.Lowest.{IsFirstOfEffect}
 use Rattle.sas_group_reasons.specs.Reasons.{IsReason, IsReasonIfAny, reason_at, AreReasons}
-use Rattle.sas_group_reasons.specs.Telling.{KeptBelow, IsPending, IsReasonSoFar, AreReasonsSoFar, IsAsked, IsBroken, AreMarked}
+use Rattle.sas_group_reasons.specs.Telling.{KeptBelow, IsPending, IsReasonSoFar, AreReasonsSoFar, IsAsked, IsBroken}
 use Rattle.sas_group_reasons.proofs.Least.{has_or_not}
 use Rattle.sas_group_reasons.proofs.Failing.{sets_one, kept_never_fails, first_of_all}
 use Rattle.sas_group_reasons.proofs.GreatestOfVerdicts.{breaks_under}
@@ -228,23 +228,3 @@ none_broken p verdicts reasons none so_far = record {
 pub record MarkedUpTo (verdicts : List Verdict) (n : ℕ) (operators : ℕ) (marked : List Bool) : Type 0 where
   pub for_each : length marked ≡ operators
   pub all : (place operator : ℕ) → place < n → operator < operators → verdict_at verdicts place ≡ Broken operator → IsTrue (family_of marked operator)
-
-pub marked_none : (verdicts : List Verdict) (operators : ℕ) (marked : List Bool) → length marked ≡ operators → MarkedUpTo verdicts 0 operators marked
-marked_none verdicts operators marked for_each = record { for_each = for_each; all = λ place operator lt. absurd (omega arith) }
-
-pub marked_more : (verdicts : List Verdict) (n operators : ℕ) (before after : List Bool) → MarkedUpTo verdicts n operators before → length after ≡ length before
-    → ((operator : ℕ) → verdict_at verdicts n ≡ Broken operator → operator < length before → IsTrue (family_of after operator))
-    → ((operator : ℕ) → IsTrue (family_of before operator) → IsTrue (family_of after operator)) → MarkedUpTo verdicts (n + 1) operators after
-marked_more verdicts n operators before after was as_many now still = record {
-  for_each = as_many ∙ was.for_each;
-  all = λ place operator lt exists is. elim (cases_eq place n) [
-    | inl e ↦ now operator (subst (λ k. verdict_at verdicts k ≡ Broken operator) e is) (subst (λ k. operator < k) (sym was.for_each) exists)
-    | inr ne ↦ still operator (was.all place operator (omega arith) exists is)
-  ];
-}
-
-pub marked_all : (verdicts : List Verdict) (n operators : ℕ) (marked : List Bool) → length verdicts ≤ n → MarkedUpTo verdicts n operators marked
-    → AreMarked verdicts marked
-marked_all verdicts n operators marked all up_to = record {
-  all = λ place operator lt exists is. up_to.all place operator (omega arith) (subst (λ k. operator < k) up_to.for_each exists) is;
-}
