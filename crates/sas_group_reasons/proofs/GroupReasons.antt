@@ -2,7 +2,7 @@
 use Rattle.std.proofs.Common.{◌≡◌, ℕ, ◌<◌, Bool, List, length, get_or, Some, refl, sym, ◌∙◌, ap, subst, inl, inr}
 use Rattle.std.proofs.lemmas.Bool.{cases_order}
 use Rattle.std.proofs.lemmas.List.Elements.{All-contains}
-use Rattle.std.proofs.lemmas.Option.{slice_get-get_or}
+use Rattle.std.proofs.lemmas.Option.{slice_get-get_or, slice_get_within}
 use Rattle.std.specs.List.{All, Contains}
 use Rattle.std.specs.Prelude.{slice_get, slice_index}
 use Rattle.sas_core.specs.declared.parts.Fact.{Fact}
@@ -10,15 +10,18 @@ use Rattle.sas_core.specs.declared.parts.Parts.{Parts}
 use Rattle.sas_core.specs.Grounded.{operator_at, group_at}
 use Rattle.sas_meaning.specs.Layers.{IsBasic}
 use Rattle.sas_meaning.specs.States.{Holds}
+use Rattle.sas_groups.specs.declared.verdict.Verdict.{Verdict}
 use Rattle.sas_groups.specs.declared.verdict.Verdict.TheVariants.{Exclusive, Derived, Initial, Broken}
 use Rattle.sas_groups.specs.Groups.{IsExclusiveIn}
 use Rattle.sas_groups.specs.Families.{IsGreatest, IsGroupOfOr}
+use Rattle.sas_groups.specs.Verdicts.{IsJointVerdict}
 use Rattle.sas_groups.proofs.GreatestFamily.{group_of_larger, greatest_is_one}
 use Rattle.sas_group_reasons.specs.declared.reason.Failure.{Failure}
 use Rattle.sas_group_reasons.specs.declared.reason.Reason.{Reason}
 use Rattle.sas_group_reasons.specs.declared.reason.Reason.TheVariants.{OnDerived, HoldsTwo, Breaks}
-use Rattle.sas_group_reasons.specs.Failures.{IsFirstFailure}
-use Rattle.sas_group_reasons.specs.Reasons.{IsFirstSuch, HoldTwo, AreFirstHolding, verdict_of, Says}
+use Rattle.sas_group_reasons.specs.declared.reason.Failure.TheVariants.{SetsTwo, MayStay}
+use Rattle.sas_group_reasons.specs.Failures.{effect_of, IsFirstFailure}
+use Rattle.sas_group_reasons.specs.Reasons.{IsFirstSuch, HoldTwo, AreFirstHolding, verdict_of, Says, IsReason}
 use Rattle.sas_group_reasons.specs.Telling.{HoldsBeside}
 use Rattle.sas_group_reasons.specs.Laws.{NotKeptIfFails, FailsIfNotKept, SomeFirstFailure, OneFirstFailure, SomeReason, OneReason}
 use Rattle.sas_group_reasons.proofs.Least.{all_below, IsLeast, none_at_all, least_is_one, facts_same, stands_at}
@@ -242,3 +245,27 @@ some_reason p place Initial exists joint not none =
 some_reason p place (Broken operator) exists (family, greatest, outside, basic, initial, breaking) not none =
     some_first (IsGroupOfOr p family (group_at p place)) (operator_at p operator) (group_at p place) breaking.breaks
     (λ failure first. none (Breaks operator failure) (record { told = refl; says = (family, greatest, first) }))
+
+-- ---- what a reason names is there
+
+module _ (p : Parts) (place : ℕ) (verdict : Verdict) (joint : IsJointVerdict p place verdict) (operator : ℕ) (failure : Failure)
+    (reason : IsReason p place verdict (Breaks operator failure)) where
+  -- the operator
+  pub operator_exists : operator < length p.operators
+  operator_exists =
+      let (family, greatest, outside, basic, initial, breaking) = subst (IsJointVerdict p place) reason.told joint in breaking.exists
+
+  -- and the effect
+  pub effect_exists : effect_of failure < length (operator_at p operator).effects
+  effect_exists = reason.says.2.fails.exists
+
+-- the other effect
+pub other_exists : (p : Parts) (place : ℕ) (verdict : Verdict) (operator effect other : ℕ) → IsReason p place verdict (Breaks operator (SetsTwo effect other))
+    → other < length (operator_at p operator).effects
+other_exists p place verdict operator effect other reason = reason.says.2.fails.so.0
+
+-- or the fact
+pub fact_exists : (p : Parts) (place : ℕ) (verdict : Verdict) (operator effect fact : ℕ) → IsReason p place verdict (Breaks operator (MayStay effect fact))
+    → fact < length (group_at p place)
+fact_exists p place verdict operator effect fact reason =
+    let so = reason.says.2.fails.so in slice_get_within (group_at p place) fact so.0 so.1

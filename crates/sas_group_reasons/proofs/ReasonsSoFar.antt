@@ -3,6 +3,7 @@ use Rattle.std.proofs.Common.{◌≡◌, ℕ, ◌+◌, ◌<◌, Bool, List, [], 
 use Rattle.std.proofs.lemmas.Bool.{cases_eq}
 use Rattle.std.proofs.lemmas.List.{length_push, get_or_push, get_or_append_left, length-set, get_or-set_same, get_or-set_other}
 use Rattle.std.specs.List.{Contains}
+use Rattle.std.specs.Prelude.{IsTrue}
 use Rattle.sas_core.specs.declared.parts.Parts.{Parts}
 use Rattle.sas_core.specs.Grounded.{operator_at, effect_at, group_at}
 use Rattle.sas_groups.specs.declared.verdict.Verdict.{Verdict}
@@ -175,6 +176,20 @@ module _ (p : Parts) (kept : List Bool) where
           (so_far.are place lt);
     }
 
+    -- an operator that breaks no group has nothing to be told of
+    pub skip_operator : (operator : ℕ) (reasons : List (Option Reason))
+        → ((place : ℕ) → place < length p.groups → verdict_at verdicts place ≡ Broken operator → ⊥)
+        → AreReasonsSoFar p kept operator 0 verdicts reasons → AreReasonsSoFar p kept (operator + 1) 0 verdicts reasons
+    skip_operator operator reasons none so_far = record {
+      one_each = so_far.one_each;
+      are = λ place lt. so_far_by operator 0 (operator + 1) 0 place (verdict_at verdicts place) (reason_at reasons place)
+          (λ breaking untold is pending. elim (cases_eq breaking operator) [
+            | inl same ↦ absurd (none place lt (is ∙ ap (λ (n : ℕ). Broken n) same))
+            | inr differ ↦ (let below = pending.0 in omega arith, λ same. record { keeps = λ lower less. absurd (omega arith) })
+          ])
+          (so_far.are place lt);
+    }
+
     -- in the end each is told
     told_in_the_end : (place : ℕ) (verdict : Verdict) (reason : Option Reason) → IsJointVerdict p place verdict
         → IsReasonSoFar p kept (length p.operators) 0 place verdict reason → IsReasonIfAny p place verdict reason
@@ -208,3 +223,8 @@ none_broken p verdicts reasons none so_far = record {
     told place Derived None not is = absurd is
     told place Initial None not is = absurd is
     told place (Broken breaking) None not is = absurd (not (record { operator = breaking; is = refl }))
+
+-- each operator that breaks one of the first groups is marked
+pub record MarkedUpTo (verdicts : List Verdict) (n : ℕ) (operators : ℕ) (marked : List Bool) : Type 0 where
+  pub for_each : length marked ≡ operators
+  pub all : (place operator : ℕ) → place < n → operator < operators → verdict_at verdicts place ≡ Broken operator → IsTrue (family_of marked operator)

@@ -1,5 +1,5 @@
 -- How the reasons of all groups are found, one operator after another.
-use Rattle.std.specs.Prelude.{◌≡◌, ◌≢◌, ℕ, ◌<◌, ◌≤◌, Bool, List, length, Option, None, Some, Contains, slice_index}
+use Rattle.std.specs.Prelude.{◌≡◌, ◌≢◌, ℕ, ◌<◌, ◌≤◌, Bool, IsTrue, List, length, Option, None, Some, Contains, slice_index}
 use Rattle.sas_core.specs.declared.parts.Fact.{Fact}
 use Rattle.sas_core.specs.declared.parts.Parts.{Parts}
 use Rattle.sas_core.specs.Grounded.{operator_at, effect_at, group_at}
@@ -7,7 +7,7 @@ use Rattle.sas_meaning.specs.States.{Holds}
 use Rattle.sas_groups.specs.declared.verdict.Verdict.{Verdict}
 use Rattle.sas_groups.specs.declared.verdict.Verdict.TheVariants.{Exclusive, Derived, Initial, Broken}
 use Rattle.sas_groups.specs.Clashes.{sets}
-use Rattle.sas_mutex.specs.Effects.{KeepsWithItself}
+use Rattle.sas_mutex.specs.Effects.{family_of, KeepsWithItself}
 use Rattle.sas_mutex.specs.Joint.{verdict_at}
 use Rattle.sas_group_reasons.specs.declared.reason.Reason.{Reason}
 use Rattle.sas_group_reasons.specs.Reasons.{IsReason, reason_at}
@@ -55,3 +55,8 @@ pub record IsAsked (operator : ℕ) (verdicts : List Verdict) (reasons : List (O
 pub record IsBroken (verdict : Verdict) : Type 0 where
   pub operator : ℕ
   pub is : verdict ≡ Broken operator
+
+-- each operator that breaks a group by these verdicts is marked
+pub record AreMarked (verdicts : List Verdict) (marked : List Bool) : Type 0 where
+  pub all : (place operator : ℕ) → place < length verdicts → operator < length marked
+      → verdict_at verdicts place ≡ Broken operator → IsTrue (family_of marked operator)

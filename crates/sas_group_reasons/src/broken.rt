@@ -9,7 +9,7 @@ ghost use Rattle.sas_mutex.specs.Joint.{verdict_at, AreJointVerdicts};
 ghost use Rattle.sas_mutex.specs.Marks.{IsClean};
 ghost use Rattle.sas_mutex.specs.Noting.{AreBelow, IsNotedAt};
 ghost use Rattle.sas_group_reasons.specs.Reasons.{reason_at, AreReasons};
-ghost use Rattle.sas_group_reasons.specs.Telling.{IsReasonSoFar, AreReasonsSoFar, IsAsked};
+ghost use Rattle.sas_group_reasons.specs.Telling.{IsReasonSoFar, AreReasonsSoFar, IsAsked, AreMarked};
 
 use crate::failures::first_failure;
 use crate::reason::Reason;
@@ -26,12 +26,16 @@ pub struct Greatest {
 }
 
 /// Tells, of each group that an operator breaks, the operator's first failure to keep it under the family and the group itself.
+/// Each operator that breaks a group is marked.
 pub fn tell_failures<T: Grounded>(
     indexed: &IndexedTask<'_, '_, T>,
     verdicts: &[Verdict],
+    marked: &[bool],
     greatest: &mut Greatest,
     reasons: &mut Items<Option<Reason>>,
 )
+    requires marked { AreMarked verdicts.now marked.now }
+    requires for_each { length marked.now ≡ length indexed.now.operators }
     requires joint { AreJointVerdicts indexed.now verdicts.now }
     requires greatest { IsGreatest indexed.now (family_of greatest.old.kept) }
     requires one_each { length greatest.old.kept ≡ length indexed.now.groups }
@@ -40,7 +44,10 @@ pub fn tell_failures<T: Grounded>(
     ensures { AreReasons indexed.now verdicts.now reasons.new }
 {
     for operator in 0..indexed.task.operators() {
-        tell_failures_of(indexed, operator, verdicts, greatest, reasons);
+        let breaks = marked[operator as usize];
+        if breaks {
+            tell_failures_of(indexed, operator, verdicts, greatest, reasons);
+        }
     }
 }
 

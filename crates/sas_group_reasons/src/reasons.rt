@@ -1,11 +1,11 @@
 // The reasons of all groups.
 ghost use Rattle.std.specs.Prelude.{◌≡◌, ◌<◌, ◌↔◌, ℕ, length, All, IfOk, IsTrue, IsFalse};
 ghost use Rattle.sas_groups.specs.declared.verdict.Verdict.{Verdict};
-ghost use Rattle.sas_groups.specs.declared.verdict.Verdict.TheVariants.{Exclusive};
+ghost use Rattle.sas_groups.specs.declared.verdict.Verdict.TheVariants.{Exclusive, Broken};
 ghost use Rattle.sas_mutex.specs.Effects.{family_of};
 ghost use Rattle.sas_mutex.specs.Joint.{verdict_at, AreJointVerdicts};
 ghost use Rattle.sas_group_reasons.specs.Reasons.{AreReasons};
-ghost use Rattle.sas_group_reasons.specs.Telling.{IsBroken};
+ghost use Rattle.sas_group_reasons.specs.Telling.{IsBroken, AreMarked};
 
 use crate::before_operators::first_reasons;
 use crate::broken::{Greatest, tell_failures};
@@ -35,6 +35,7 @@ pub fn group_reasons<T: Grounded>(
         return Ok(reasons.into_vec());
     }
     let index = Index::new(alloc, layered)?;
+    let marked = breaking_operators(alloc, layered.operators(), verdicts)?;
     let kept = exclusive_groups(alloc, verdicts)?;
     let marks = Marks::new(alloc, layered, &index)?;
     let mut greatest = Greatest { kept, marks };
@@ -42,7 +43,9 @@ pub fn group_reasons<T: Grounded>(
         task: layered,
         index: &index,
     };
-    tell_failures(&indexed, verdicts, &mut greatest, &mut reasons);
+    let breaking = marked.as_slice();
+    tell_failures(&indexed, verdicts, breaking, &mut greatest, &mut reasons);
+    drop(marked);
     drop(index);
     drop(greatest);
     Ok(reasons.into_vec())
@@ -65,6 +68,37 @@ fn is_broken(verdict: Verdict) -> bool
     ensures { IsTrue result ↔ IsBroken verdict }
 {
     matches!(verdict, Verdict::Broken { .. })
+}
+
+/// Returns a mark for each operator: whether it breaks a group.
+fn breaking_operators(
+    alloc: Global,
+    operators: u32,
+    verdicts: &[Verdict],
+) -> Result<Items<bool>, AllocError>
+    ensures for_each { IfOk result (λ marked. length marked ≡ operators) }
+    ensures marked { IfOk result (λ marked. AreMarked verdicts.now marked) }
+{
+    let mut marked = Items::from_vec(vec![in alloc; false; operators as usize]?);
+    for verdict in verdicts {
+        mark(*verdict, &mut marked);
+    }
+    Ok(marked)
+}
+
+/// Marks the operator that breaks the group, if there is one.
+fn mark(verdict: Verdict, marked: &mut Items<bool>)
+    ensures as_many { length marked.new ≡ length marked.old }
+    ensures marked { (operator : ℕ) → verdict ≡ Broken operator → operator < length marked.old
+        → IsTrue (family_of marked.new operator) }
+    ensures still { (operator : ℕ) → IsTrue (family_of marked.old operator)
+        → IsTrue (family_of marked.new operator) }
+{
+    if let Verdict::Broken { operator } = verdict {
+        if (operator as usize) < marked.len() {
+            marked.set(operator as usize, true);
+        }
+    }
 }
 
 /// Returns, for each verdict, whether it is that the group is exclusive.
