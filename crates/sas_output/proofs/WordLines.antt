@@ -22,3 +22,11 @@ breaks_as a b p x whole short e broken = subst (λ (l : List ℕ). Breaks a b p 
 
 pub puts_as : (a b : Option (List ℕ)) (p q : Piece) (x whole : List ℕ) (result : Result ⊤ Short) → x ≡ whole → PutsOrBreaks a b p q x result → PutsOrBreaks a b p q whole result
 puts_as a b p q x whole result e puts = subst (λ (l : List ℕ). PutsOrBreaks a b p q l result) e puts
+
+-- and so of a word, three numbers and a name
+pub numbered_is : (word first second third name : List ℕ)
+    → (((word ++ 32 ∷ first) ++ 32 ∷ second) ++ 32 ∷ third) ++ 32 ∷ name ≡ word ++ 32 ∷ (first ++ 32 ∷ (second ++ 32 ∷ (third ++ 32 ∷ name)))
+numbered_is word first second third name =
+    append_assoc ((word ++ 32 ∷ first) ++ 32 ∷ second) (32 ∷ third) (32 ∷ name)
+    ∙ append_assoc (word ++ 32 ∷ first) (32 ∷ second) (32 ∷ third ++ 32 ∷ name)
+    ∙ append_assoc word (32 ∷ first) (32 ∷ second ++ 32 ∷ (third ++ 32 ∷ name))

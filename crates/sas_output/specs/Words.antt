@@ -1,11 +1,12 @@
 -- Lines of words.
-use Rattle.std.specs.Prelude.{ℕ, List, ◌∷◌, ◌++◌, map, replicate, decimal}
+use Rattle.std.specs.Prelude.{ℕ, List, [], ◌∷◌, ◌++◌, map, replicate, decimal}
 use Rattle.sas_lines.specs.Spelling.{joined}
 use Rattle.sas_output.specs.declared.words.Word.{Word}
 use Rattle.sas_output.specs.declared.words.Word.TheVariants.{Text, Number}
 use Rattle.sas_output.specs.declared.words.Indent.{Indent}
 use Rattle.sas_output.specs.declared.words.Indent.TheVariants as indent
 use Rattle.sas_output.specs.declared.words.Words.{Words}
+use Rattle.sas_output.specs.declared.words.Numbered.{Numbered}
 
 -- A line: this many spaces, then words with one space between each two. A number is a word; a name
 -- stands last, since it may hold spaces.
@@ -30,3 +31,8 @@ spaces_of indent.Four = 4
 -- the bytes of such a line
 abbrev pub words_line : Words → List ℕ
 words_line l = line (spaces_of l.indent) (l.first.now ∷ map word_bytes l.rest.now)
+
+-- the bytes of a line of a word, three numbers and a name
+abbrev pub numbered_line : Numbered → List ℕ
+numbered_line l =
+    line 0 (l.word.now ∷ decimal l.first ∷ decimal l.second ∷ decimal l.third ∷ l.name.now ∷ [])

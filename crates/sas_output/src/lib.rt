@@ -10,4 +10,4 @@ mod words;
 pub use ending::{Status, ToolFault};
 pub use pieces::Pieces;
 pub use told::Told;
-pub use words::{Indent, Word, Words};
+pub use words::{Indent, Numbered, Word, Words};

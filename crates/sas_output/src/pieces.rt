@@ -3,10 +3,10 @@ ghost use Rattle.std.specs.Prelude.{◌≡◌, ◌↔◌, [], ◌∷◌, ◌++�
 ghost use Rattle.std.specs.Prelude.{IfOk, IfErr, IsErr, IsTrue, IsFalse, OnOk, flat_map};
 ghost use Rattle.std.specs.Io.KnownBytes.{Appends};
 ghost use Rattle.sas_output.specs.Pieces.{Breaks, CountsOn, PutsOrBreaks};
-ghost use Rattle.sas_output.specs.Words.{words_line};
+ghost use Rattle.sas_output.specs.Words.{numbered_line, words_line};
 
-use crate::placing::{place, place_line};
-use crate::words::Words;
+use crate::placing::{place, place_line, place_numbered};
+use crate::words::{Numbered, Words};
 use sas_lines::{Short, Watched, write_out};
 use std::alloc::{AllocError, Global};
 use std::io::Write;
@@ -120,6 +120,23 @@ impl Pieces {
         ensures written { self.new.written ≡ self.old.written }
     {
         match place_line(self.piece.as_mut_slice(), self.end, line) {
+            Some(end) => {
+                self.end = end;
+                true
+            }
+            None => false,
+        }
+    }
+
+    /// Holds this line and its end, LF, likewise.
+    #[inline(always)]
+    pub(crate) fn hold_numbered(&mut self, line: Numbered<'_>) -> bool
+        ensures yes { IsTrue result
+            → self.new.held ≡ self.old.held ++ numbered_line line.entry ++ 10 ∷ [] }
+        ensures no { IsFalse result → self.new ≡ self.old }
+        ensures written { self.new.written ≡ self.old.written }
+    {
+        match place_numbered(self.piece.as_mut_slice(), self.end, line) {
             Some(end) => {
                 self.end = end;
                 true

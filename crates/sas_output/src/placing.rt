@@ -4,9 +4,9 @@
 ghost use Rattle.std.specs.Prelude.{◌≡◌, ◌<◌, ◌≤◌, ◌+◌, ◌/◌, ◌%◌, [], ◌∷◌, ◌++◌};
 ghost use Rattle.std.specs.Prelude.{decimal, flat_map, length, replicate};
 ghost use Rattle.sas_output.specs.Placing.{PlacesOrLeaves};
-ghost use Rattle.sas_output.specs.Words.{behind_space, spaces_of, words_line};
+ghost use Rattle.sas_output.specs.Words.{behind_space, numbered_line, spaces_of, words_line};
 
-use crate::words::{Indent, Word, Words};
+use crate::words::{Indent, Numbered, Word, Words};
 use itoa::Buffer;
 
 /// Places the bytes behind the first `at` of the piece. Returns where they end, or `None` if there is no room for them.
@@ -214,4 +214,30 @@ pub(crate) fn place_line(piece: &mut [u8], at: usize, line: Words<'_>) -> Option
         return None;
     };
     place_byte(piece, behind_rest, b'\n')
+}
+
+/// Places a line of a word, three numbers and a name likewise.
+#[inline(always)]
+pub(crate) fn place_numbered(piece: &mut [u8], at: usize, line: Numbered<'_>) -> Option<usize>
+    requires { at ≤ length piece.old }
+    ensures length { length piece.new ≡ length piece.old }
+    ensures places { PlacesOrLeaves piece.old piece.new at
+        (numbered_line line.entry ++ 10 ∷ []) result }
+{
+    let Some(behind_word) = place(piece, at, line.word) else {
+        return None;
+    };
+    let Some(behind_first) = place_number(piece, behind_word, line.first) else {
+        return None;
+    };
+    let Some(behind_second) = place_number(piece, behind_first, line.second) else {
+        return None;
+    };
+    let Some(behind_third) = place_number(piece, behind_second, line.third) else {
+        return None;
+    };
+    let Some(behind_name) = place_behind_space(piece, behind_third, line.name) else {
+        return None;
+    };
+    place_byte(piece, behind_name, b'\n')
 }

@@ -2,7 +2,7 @@
 ghost use Rattle.std.specs.Prelude.{◌≡◌, ◌↔◌, false, [], ◌∷◌, ◌++◌, flat_map, replicate};
 ghost use Rattle.std.specs.Prelude.{IsErr, IsTrue, decimal};
 ghost use Rattle.sas_output.specs.Pieces.{PutsOrBreaks};
-ghost use Rattle.sas_output.specs.Words.{word_bytes, behind_space, spaces_of, words_line};
+ghost use Rattle.sas_output.specs.Words.{word_bytes, behind_space, numbered_line, spaces_of, words_line};
 
 use crate::pieces::Pieces;
 use itoa::Buffer;
@@ -47,7 +47,59 @@ pub struct Words<'w> {
     pub rest: &'w [Word<'w>],
 }
 
+/// A line of a word, three numbers and a name, with one space between each two.
+#[derive(Clone, Copy, Debug)]
+pub struct Numbered<'w> {
+    pub word: &'w [u8],
+    pub first: u64,
+    pub second: u64,
+    pub third: u64,
+    pub name: &'w [u8],
+}
+
 impl Pieces {
+    /// Adds the line and its end, LF, to the text. Not to be called after a failure. Where many lines are of this form it is faster
+    /// than `push_line`: there is no list of words to be gone through.
+    #[inline(always)]
+    pub fn push_numbered<W: Write>(
+        &mut self,
+        out: &mut Watched<W>,
+        line: Numbered<'_>,
+    ) -> Result<(), Short>
+        requires { out.old.failed ≡ false }
+        ensures puts { PutsOrBreaks (W.contents out.old.device) (W.contents out.new.device)
+            self.old self.new
+            (numbered_line line.entry ++ 10 ∷ []) result }
+        ensures note { IsErr result ↔ IsTrue out.new.failed }
+    {
+        if self.hold_numbered(line) {
+            return Ok(());
+        }
+        self.push_each(out, line)
+    }
+
+    /// Adds the line and its end, one word after another, for a line at the end of a piece.
+    fn push_each<W: Write>(&mut self, out: &mut Watched<W>, line: Numbered<'_>) -> Result<(), Short>
+        requires { out.old.failed ≡ false }
+        ensures puts { PutsOrBreaks (W.contents out.old.device) (W.contents out.new.device)
+            self.old self.new
+            (numbered_line line.entry ++ 10 ∷ []) result }
+        ensures note { IsErr result ↔ IsTrue out.new.failed }
+    {
+        let rest = [
+            Word::Number(line.first),
+            Word::Number(line.second),
+            Word::Number(line.third),
+            Word::Text(line.name),
+        ];
+        let words = Words {
+            indent: Indent::None,
+            first: line.word,
+            rest: &rest,
+        };
+        self.push_words(out, words)
+    }
+
     /// Adds the line and its end, LF, to the text. Not to be called after a failure.
     #[inline(always)]
     pub fn push_line<W: Write>(

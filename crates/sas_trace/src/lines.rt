@@ -10,7 +10,7 @@ use sas_core::{Fact, Grounded};
 use sas_flat::FlatTask;
 use sas_lines::{Short, Watched};
 use sas_meaning::{Layered, State};
-use sas_output::{Indent, Pieces, Word, Words};
+use sas_output::{Indent, Numbered, Pieces, Word, Words};
 use std::io::Write;
 
 /// Returns the name of the fact's value; if there is no such value, no bytes.
@@ -68,19 +68,14 @@ pub fn push_step_line<W: Write>(
         (step_line task.now step operator ++ 10 ∷ []) result }
     ensures note { IsErr result ↔ IsTrue out.new.failed }
 {
-    let cost = u64::from(task.cost(operator));
-    let rest = [
-        Word::Number(step as u64),
-        Word::Number(u64::from(operator)),
-        Word::Number(cost),
-        Word::Text(task.name(operator)),
-    ];
-    let line = Words {
-        indent: Indent::None,
-        first: b"step",
-        rest: &rest,
+    let line = Numbered {
+        word: b"step",
+        first: step as u64,
+        second: u64::from(operator),
+        third: u64::from(task.cost(operator)),
+        name: task.name(operator),
     };
-    pieces.push_line(out, line)
+    pieces.push_numbered(out, line)
 }
 
 /// Adds the line of a fact that a step brings, in place of this value of its variable.
@@ -99,17 +94,12 @@ pub fn push_change_line<W: Write>(
         ++ 10 ∷ []) result }
     ensures note { IsErr result ↔ IsTrue out.new.failed }
 {
-    let name = name_of(task, fact);
-    let rest = [
-        Word::Number(u64::from(fact.var)),
-        Word::Number(u64::from(before)),
-        Word::Number(u64::from(fact.value)),
-        Word::Text(name),
-    ];
-    let line = Words {
-        indent: Indent::None,
-        first: b"change",
-        rest: &rest,
+    let line = Numbered {
+        word: b"change",
+        first: u64::from(fact.var),
+        second: u64::from(before),
+        third: u64::from(fact.value),
+        name: name_of(task, fact),
     };
-    pieces.push_line(out, line)
+    pieces.push_numbered(out, line)
 }
