@@ -4,7 +4,6 @@ ghost use Rattle.std.specs.Prelude.{◌≡◌, ◌<◌, ◌^◌, ◌⊎◌, ◌�
 ghost use Rattle.std.specs.Prelude.{IfErr, IsErr, IsErrAnd, IsTrue, OnOk, codes, map};
 ghost use Rattle.std.specs.Io.KnownBytes.{Appends};
 ghost use Rattle.sas_lines.specs.Lines.{text};
-ghost use Rattle.sas_answers.specs.GroupWords as words;
 ghost use Rattle.sas_answers.specs.GroupWords.{group_line};
 ghost use Rattle.sas_group_reasons.specs.Reasons.{reason_at};
 ghost use Rattle.sas_output.specs.Ending.{Ends, IsWrite};
@@ -17,6 +16,7 @@ ghost use Rattle.sas_task_reasons.specs.WhyGroups.{why_lines, groups_output};
 use crate::explained::push_reasons;
 use crate::facts::member_of;
 use crate::line::Line;
+use sas_answers::groups_status;
 use sas_flat::FlatTask;
 use sas_group_reasons::{Failure, Reason};
 use sas_lines::{Short, Watched};
@@ -87,18 +87,6 @@ impl ExplainedGroups {
             }),
         }
     }
-}
-
-/// Returns `Yes` if all groups are exclusive, else `No`.
-fn groups_status(verdicts: &[Verdict]) -> Status
-    ensures { result ≡ words.groups_status verdicts.now }
-{
-    for verdict in verdicts {
-        if *verdict != Verdict::Exclusive {
-            return Status::No;
-        }
-    }
-    Status::Yes
 }
 
 /// Writes the lines of all groups. In the end nothing is held back.
