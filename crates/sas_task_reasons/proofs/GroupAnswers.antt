@@ -1,5 +1,5 @@
 -- What is said of the groups of a layered task with reasons: one thing, and always something.
-use Rattle.std.proofs.Common.{◌≡◌, ◌≢◌, ℕ, zero, suc, ◌<◌, ◌≤◌, List, [], ◌∷◌, ◌++◌, length, refl, sym, ap, ◌∙◌, subst, inl, inr, arith, Option, Some, None}
+use Rattle.std.proofs.Common.{◌≡◌, ℕ, zero, suc, ◌<◌, ◌≤◌, List, [], ◌∷◌, ◌++◌, length, refl, sym, ap, ◌∙◌, subst, inl, inr, arith, Option, Some, None}
 use Rattle.std.proofs.lemmas.Bool.{cases_eq}
 use Rattle.std.proofs.lemmas.List.{ext_get_or, length_push, get_or_push, get_or_append_left}
 use Rattle.sas_core.specs.declared.parts.Parts.{Parts}
@@ -10,9 +10,8 @@ use Rattle.sas_mutex.specs.Joint.{verdict_at, AreJointVerdicts}
 use Rattle.sas_mutex.proofs.JointLists.{one_list, some_list}
 use Rattle.sas_group_reasons.specs.declared.reason.Reason.{Reason}
 use Rattle.sas_group_reasons.specs.declared.reason.Reason.TheVariants.{OnDerived, HoldsTwo, Breaks}
-use Rattle.sas_group_reasons.specs.Reasons.{verdict_of, IsReason, IsReasonIfAny, reason_at, AreReasons}
+use Rattle.sas_group_reasons.specs.Reasons.{verdict_of, IsReasonIfAny, reason_at, AreReasons}
 use Rattle.sas_group_reasons.proofs.GroupReasons.{one_reason, some_reason}
-use Rattle.sas_output.specs.Ending.{Output}
 use Rattle.sas_answers.proofs.AnswerLaws.{OneAnswer, SomeAnswer}
 use Rattle.sas_task_reasons.specs.WhyGroups.{groups_output, WhyGroupsAnswer}
 

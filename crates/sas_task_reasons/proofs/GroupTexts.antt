@@ -1,5 +1,5 @@
 -- The text of groups with reasons, group by group.
-use Rattle.std.proofs.Common.{◌≡◌, ℕ, ◌+◌, ◌<◌, ◌≤◌, List, [], ◌∷◌, ◌++◌, length, take, drop, get_or, append_assoc, append-nil, codes, decimal, refl, sym, ap, subst, ◌∙◌, arith, Option}
+use Rattle.std.proofs.Common.{◌≡◌, ℕ, ◌+◌, ◌<◌, ◌≤◌, List, [], ◌∷◌, ◌++◌, length, take, drop, get_or, append_assoc, append-nil, codes, decimal, sym, ap, subst, ◌∙◌, arith, Option}
 use Rattle.std.proofs.lemmas.Grind.{flat_map-append}
 use Rattle.std.proofs.lemmas.List.{take_more, take-append-drop, take_all, length-take}
 use Rattle.sas_core.specs.declared.parts.Parts.{Parts}
@@ -11,7 +11,6 @@ use Rattle.sas_group_reasons.specs.Reasons.{reason_at}
 use Rattle.sas_output.specs.Pieces.{Piece, Puts, Breaks}
 use Rattle.sas_output.specs.Words.{line}
 use Rattle.sas_output.proofs.Putting.{puts_then, puts_then_breaks, breaks_within}
-use Rattle.sas_answers.specs.GroupWords.{verdict_words, group_line}
 use Rattle.sas_task_reasons.specs.WhyGroups.{group_lines, why_lines_from, why_lines}
 
 -- ---- the line of a verdict, as words

@@ -1,6 +1,6 @@
 -- The other giver of a rule's variable, where a rule before it has another new value.
-use Rattle.std.proofs.Common.{◌≡◌, ◌≢◌, ℕ, ◌<◌, ◌≤◌, ◌==◌, Bool, true, false, cond, List, [], length, take, get_or, refl, sym, ap, ◌∙◌, inl, inr, arith, eqb-true, eq-eqb, Option, Some, None}
-use Rattle.std.specs.Prelude.{◌&&◌, ◌↔◌, not, nat_lt, position}
+use Rattle.std.proofs.Common.{◌≡◌, ◌≢◌, ℕ, ◌<◌, ◌≤◌, ◌==◌, Bool, true, false, cond, [], length, take, refl, sym, ap, ◌∙◌, inl, inr, arith, eqb-true, eq-eqb, Some, None}
+use Rattle.std.specs.Prelude.{◌&&◌, not}
 use Rattle.std.specs.List.{position_or_len}
 use Rattle.std.proofs.lemmas.Bool.{lt-ltb, cases_Bool, cases_lt}
 use Rattle.std.proofs.lemmas.List.Sums.{fails_before_first, passes_at_first}
@@ -10,7 +10,7 @@ use Rattle.sas_core.specs.Grounded.{rule_at}
 use Rattle.sas_meaning.specs.Layers.{CanFire, can_fire}
 use Rattle.sas_meaning.specs.LayerChecks.{agrees_with}
 use Rattle.sas_meaning.proofs.RuleTests.{fires, agrees_with_earlier}
-use Rattle.sas_task_reasons.specs.LayerReasons.{gives_other, other_giver}
+use Rattle.sas_task_reasons.specs.LayerReasons.{gives_other}
 use Rattle.sas_task_reasons.specs.Laws.{IsOtherGiver, IsToldOther}
 
 abbrev none : Rule

@@ -185,7 +185,11 @@ fn push_verdict<W: Write>(
     match verdict {
         Verdict::Exclusive => push_words(pieces, out, &[group, Word::Text(b"exclusive")]),
         Verdict::Derived => push_words(pieces, out, &[group, Word::Text(b"derived")]),
-        Verdict::Initial => push_words(pieces, out, &[group, Word::Text(b"not shown: initial state")]),
+        Verdict::Initial => push_words(
+            pieces,
+            out,
+            &[group, Word::Text(b"not shown: initial state")],
+        ),
         Verdict::Broken { operator } => {
             let words = Word::Text(b"not shown: operator");
             let number = Word::Number(u64::from(operator));
@@ -249,7 +253,10 @@ fn failure_lines(task: &FlatTask, group: usize, operator: u32, failure: Failure)
         Failure::SetsTwo { effect, other } => [
             Line::Operator { operator },
             Line::Sets { operator, effect },
-            Line::Sets { operator, effect: other },
+            Line::Sets {
+                operator,
+                effect: other,
+            },
         ],
         Failure::MayStay { effect, place } => [
             Line::Operator { operator },

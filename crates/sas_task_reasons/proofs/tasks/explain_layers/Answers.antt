@@ -1,4 +1,4 @@
-use Rattle.std.proofs.Common.{◌≡◌, ◌<◌, ◌^◌, ◌++◌, List, ℕ, length, subst, sym, ap, ◌∙◌, map}
+use Rattle.std.proofs.Common.{◌≡◌, List, ap, ◌∙◌, map}
 use Rattle.sas_task_reasons.specs.declared.line.Line.{Line}
 use Rattle.sas_task_reasons.specs.Line.{line_bytes}
 use Rattle.sas_task_reasons.specs.LayerReasons.{layer_reasons}

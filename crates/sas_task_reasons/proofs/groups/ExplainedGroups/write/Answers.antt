@@ -1,4 +1,4 @@
-use Rattle.std.proofs.Common.{◌<◌, ◌^◌, List, ℕ, length, refl, ap, subst, ◌∙◌, Option}
+use Rattle.std.proofs.Common.{◌<◌, ◌^◌, List, length, refl, ap, subst, ◌∙◌, Option}
 use Rattle.sas_lines.specs.Lines.{text}
 use Rattle.sas_groups.specs.declared.verdict.Verdict.{Verdict}
 use Rattle.sas_group_reasons.specs.declared.reason.Reason.{Reason}
