@@ -109,14 +109,14 @@ AreReasonsFrom p reasons group verdicts = (k : ℕ) → k < length verdicts → 
 
 module _ (p : Parts) (reasons : List (Option Reason)) where
   pub all_exclusive : (group : ℕ) (verdicts : List Verdict) → AreReasonsFrom p reasons group verdicts → groups_status verdicts ≡ Yes → why_lines_from p reasons group verdicts ≡ verdict_lines_from group verdicts
-  all_exclusive group [] are yes = refl
-  all_exclusive group (Exclusive ∷ verdicts) are yes =
+  all_exclusive group [] are says = refl
+  all_exclusive group (Exclusive ∷ verdicts) are says =
       let later = why_lines_from p reasons (group + 1) verdicts in
       let its : IsReasonIfAny p group Exclusive (reason_at reasons group) = subst (λ (m : ℕ). IsReasonIfAny p m Exclusive (reason_at reasons m)) (omega arith) (are 0 (omega arith)) in
       let others : AreReasonsFrom p reasons (group + 1) verdicts = λ k lt.
       subst (λ (m : ℕ). IsReasonIfAny p m (get_or verdicts k Exclusive) (reason_at reasons m)) (omega arith) (are (suc k) (omega (arith, lt))) in
       ap (λ (found : Option Reason). group_lines p group Exclusive found ++ later) (none_if_exclusive p group (reason_at reasons group) its)
-      ∙ ap (λ (l : List (List ℕ)). group_line group Exclusive ∷ l) (all_exclusive (group + 1) verdicts others yes)
-  all_exclusive group (Derived ∷ verdicts) are yes = absurd cc
-  all_exclusive group (Initial ∷ verdicts) are yes = absurd cc
-  all_exclusive group (Broken place ∷ verdicts) are yes = absurd cc
+      ∙ ap (λ (l : List (List ℕ)). group_line group Exclusive ∷ l) (all_exclusive (group + 1) verdicts others says)
+  all_exclusive group (Derived ∷ verdicts) are says = absurd cc
+  all_exclusive group (Initial ∷ verdicts) are says = absurd cc
+  all_exclusive group (Broken place ∷ verdicts) are says = absurd cc

@@ -89,7 +89,7 @@ only_item : {A : Type 0} (x y : A) → Contains (x ∷ []) y → x ≡ y
 only_item x y h = All-contains (λ z. x ≡ z) (x ∷ []) y (All-cons (λ z. x ≡ z) x [] refl (All-nil (λ z. x ≡ z))) h
 
 -- if the line is one of those of the verdicts from place n on, the verdict of its group is that
-record IsSaid (n place : ℕ) (verdicts : List Verdict) : Type 0 where
+pub record IsSaid (n place : ℕ) (verdicts : List Verdict) : Type 0 where
   pub behind : ℕ
   pub is : place ≡ n + behind
   pub below : behind < length verdicts
