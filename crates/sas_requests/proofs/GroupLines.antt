@@ -1,5 +1,5 @@
 -- Each line behind that of a group tells a reason; and what is left of the lines of groups when reasons are taken away.
-use Rattle.std.proofs.Common.{◌≡◌, ℕ, suc, ◌+◌, ◌<◌, List, [], ◌∷◌, ◌++◌, length, get_or, codes, refl, sym, ap, subst, ◌∙◌, arith, Bool, Option, Some, None}
+use Rattle.std.proofs.Common.{◌≡◌, ℕ, suc, ◌+◌, ◌<◌, List, [], ◌∷◌, ◌++◌, length, get_or, codes, refl, ap, subst, ◌∙◌, arith, Bool, Option, Some, None}
 use Rattle.std.specs.Prelude.{not, filter, if◌then◌else◌}
 use Rattle.std.specs.List.{AllByRecursion}
 use Rattle.std.specs.Option.{option_map_or}
@@ -80,8 +80,8 @@ module _ (p : Parts) (names : HasPlainNames p) where
     plain_from group (verdict ∷ verdicts) = (
       plain_told (group_line group verdict) (group_told group verdict),
       all_both Plain (behind group) (why_lines_from p reasons (group + 1) verdicts)
-      (all_map IsReason Plain plain_reason (behind group) (any_tells group (reason_at reasons group)))
-      (plain_from (group + 1) verdicts),
+          (all_map IsReason Plain plain_reason (behind group) (any_tells group (reason_at reasons group)))
+          (plain_from (group + 1) verdicts),
     )
 
     pub lines_of_groups : (verdicts : List Verdict) → lines (text (why_lines p verdicts reasons)) ≡ why_lines p verdicts reasons

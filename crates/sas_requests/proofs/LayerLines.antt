@@ -1,8 +1,7 @@
 -- Each line that tells why a task isn't layered tells a reason.
-use Rattle.std.proofs.Common.{ℕ, List, [], ◌∷◌, codes, refl}
+use Rattle.std.proofs.Common.{ℕ, [], ◌∷◌, codes, refl}
 use Rattle.std.specs.Prelude.{decimal}
 use Rattle.sas_core.specs.declared.parts.Fact.{Fact}
-use Rattle.sas_core.specs.declared.parts.Rule.{Rule}
 use Rattle.sas_core.specs.declared.parts.Parts.{Parts}
 use Rattle.sas_core.specs.Grounded.{operator_at, effect_at, rule_at}
 use Rattle.sas_core.specs.Variables.{layer_of}
@@ -11,7 +10,7 @@ use Rattle.sas_meaning.specs.declared.layered.LayerFault.{LayerFault}
 use Rattle.sas_meaning.specs.declared.layered.LayerFault.TheVariants.{EffectOnDerived, RuleOnBasic, OldValue, TwoValues, LayerOrder, Memory}
 use Rattle.sas_meaning.specs.Layers.{default_of}
 use Rattle.sas_wording.specs.Facts.{fact_words}
-use Rattle.sas_task_reasons.specs.LayerReasons.{condition_at, other_giver, operator_line, effect_line, rule_line, condition_line, from_line, default_line, on_layer_line, from_lines, layer_lines, other_lines, layer_reasons}
+use Rattle.sas_task_reasons.specs.LayerReasons.{condition_at, other_giver, operator_line, effect_line, rule_line, condition_line, from_line, default_line, on_layer_line, from_lines, layer_lines, layer_reasons}
 use Rattle.sas_requests.proofs.PlainNames.{HasPlainNames}
 use Rattle.sas_requests.proofs.ReasonLines.{IsReason, AreReasons, two_spaces, both, one_if_any, plain_fact}
 

@@ -110,8 +110,7 @@ reasons_from p verdicts reasons joint are k lt =
 mutex_same : (p : Parts) (first : Option LayerFault) (o : Output) → WellRanged p → WhyLayeredGroups p first o → (plain : Output) × LayeredGroupsAnswer p first plain × IsSameAnswer plain o
 mutex_same p None o ranged (verdicts, reasons, joint, are, is) =
     let plain : Output = record { text = text (verdict_lines verdicts); status = groups_status verdicts } in
-    let whole : o.text ≡ text (why_lines p verdicts reasons) = ap (λ (x : Output). x.text) is in
-    (
+    let whole : o.text ≡ text (why_lines p verdicts reasons) = ap (λ (x : Output). x.text) is in (
       plain,
       (verdicts, joint, refl),
       record {

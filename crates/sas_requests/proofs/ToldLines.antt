@@ -1,5 +1,5 @@
 -- Lines that tell no reason: an answer of such lines stays as it is when reasons are taken away.
-use Rattle.std.proofs.Common.{◌≡◌, ℕ, ◌+◌, List, [], ◌∷◌, ◌++◌, codes, refl, sym, ap, subst, ◌∙◌, Bool, false, Some}
+use Rattle.std.proofs.Common.{◌≡◌, ℕ, List, [], ◌∷◌, ◌++◌, codes, refl, sym, ap, subst, ◌∙◌, Bool, false, Some}
 use Rattle.std.specs.Prelude.{not, filter, if◌then◌else◌, decimal}
 use Rattle.std.specs.List.{AllByRecursion}
 use Rattle.std.proofs.lemmas.Option.{none-some}
