@@ -12,7 +12,7 @@ nothing and has the answer of the call. A reader that wants memory returns that 
 SAS is the program itself, with requests over a task of the examples and over one that has several of everything. Each
 allocation of it is refused in turn, until a run meets no refusal. With one refused it prints `sas: out of memory` on standard
 error, writes nothing on standard output and ends with status 3; or it does without and answers as ever. So it is with `--why`,
-for each kind of answer about a plan, with `trace` and with `plans`: there the answer is what reasons.py, traces.py and many.py
+for each kind of answer about a plan and about groups, with `trace` and with `plans`: there the answer is what reasons.py, traces.py and many.py
 compute.
 
 The library that refuses is made of refuse.c, with $CC or cc. Each call that fails has a line, and the last line is
@@ -29,6 +29,7 @@ from concurrent.futures import ThreadPoolExecutor
 
 import report
 from axioms import text_of
+from group_reasons import with_all_reasons
 from large import plan_text, wide_plans, wide_task
 from layers import behind_refusal
 from many import lines_of, status_of
@@ -175,8 +176,8 @@ def long_plan():
 
 
 def refused_reasons(sas, folder):
-    """Yields each kind of answer to `plan --why`, and why a task isn't layered. It could show reasons that stop where memory is
-    refused, or of which a part is written before that."""
+    """Yields each kind of answer to `plan --why`, why a task isn't layered, and why groups aren't exclusive. It could show reasons
+    that stop where memory is refused, or of which a part is written before that."""
     for number, (task, names, cost) in enumerate(failing_plans()):
         files = both_written(folder, f"why.{number}", task, names, cost)
         fault, behind = reasons(task, names, cost)
@@ -186,6 +187,9 @@ def refused_reasons(sas, folder):
     for request in ("check", "mutex"):
         said = "task refused: rule 0: layer order"
         yield asked(sas, [request, "--why", UNLAYERED], 1, told([said, *behind_refusal(said, {"file": UNLAYERED})]))
+    groups = next(made for made in table("groups.json") if made["name"] == "each verdict")
+    task = written(folder, "groups.sas", as_bytes(groups["task"]).decode())
+    yield asked(sas, ["mutex", "--why", task], 1, with_all_reasons(groups["output"], groups["task"]))
 
 
 def refused_traces(sas, folder):

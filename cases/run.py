@@ -73,9 +73,10 @@ import report
 from crowded import crowded_cases
 from families import grouped_tasks, idle_effects, long_chains
 from following import long_runs
+from group_reasons import reason_cases, with_all_reasons
 from idle import idle_cases, nets_cases
 from large import large_cases
-from layers import layer_cases, with_reasons
+from layers import layer_cases
 from lengthy import lengthy_cases
 from many import plans_cases
 from plenty import plenty_cases
@@ -212,10 +213,11 @@ def family_cases():
 
 
 def with_why(case):
-    """Returns a case with `--why`: no other answer is due, but for the reasons why a task isn't layered. It could show one."""
+    """Returns a case with `--why`: no other answer is due, but for the reasons why a task isn't layered, or its groups aren't
+    exclusive. It could show one."""
     request, *words = case["words"]
     task = case.get("input", case.get("files", {}).get("t.sas", ""))
-    output = with_reasons(case["output"], task)
+    output = with_all_reasons(case["output"], task)
     return {**case, "name": f"{case['name']}, with --why", "words": [request, "--why", *words], "output": output}
 
 
@@ -371,7 +373,7 @@ def main():
     with tempfile.TemporaryDirectory() as plans, tempfile.TemporaryDirectory() as folder:
         files = [*whole_cases(), *line_cases(), *plan_cases(plans), *group_cases()]
         plans = [*verdict_cases(), *why_cases(), *trace_cases(), *plans_cases()]
-        made = [*cut_cases(), *plans, *family_cases(), *layer_cases(), *table("program.json")]
+        made = [*cut_cases(), *plans, *family_cases(), *reason_cases(), *layer_cases(), *table("program.json")]
         # those that take longest first
         large = [*nets_cases(), *idle_cases(), *lengthy_cases(), *plenty_cases(), *crowded_cases(), *large_cases()]
         cases = [*large, *files, *map(with_why, files), *made]

@@ -32,7 +32,7 @@ pub fn groups_answer(alloc: Global, task: FlatTask) -> Result<Told, AllocError>
 }
 
 /// Returns the answer about the mutex groups of a layered task.
-pub fn verdicts_answer(alloc: Global, layered: &Layered<FlatTask>) -> Result<Told, AllocError>
+fn verdicts_answer(alloc: Global, layered: &Layered<FlatTask>) -> Result<Told, AllocError>
     ensures { IfOk result (λ a. GroupsAnswer layered.now (output_told a)) }
 {
     let verdicts = check_groups(alloc, layered)?;
@@ -82,7 +82,7 @@ fn push_broken(out: &mut Vec<u8>, operator: u32) -> Result<(), AllocError>
 }
 
 /// Returns `Yes` if all groups are exclusive, else `No`.
-fn groups_status(verdicts: &[Verdict]) -> Status
+pub fn groups_status(verdicts: &[Verdict]) -> Status
     ensures { result ≡ spec.groups_status verdicts.now }
 {
     for verdict in verdicts {

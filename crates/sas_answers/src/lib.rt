@@ -5,6 +5,6 @@ mod groups;
 mod layers;
 mod plans;
 
-pub use groups::{groups_answer, verdicts_answer};
+pub use groups::{groups_answer, groups_status};
 pub use layers::{accept_layers, layers_answer, refuse_layers};
 pub use plans::{accept_plan, answer_by, refuse_plan, verdict_answer};

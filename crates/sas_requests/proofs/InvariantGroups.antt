@@ -23,21 +23,26 @@ use Rattle.sas_reader.proofs.Plain.{plain, plain-decimal, plain_bytes, plain-app
 use Rattle.sas_task_format.specs.TaskFormat.{task_format}
 use Rattle.sas_groups.specs.declared.verdict.Verdict.{Verdict}
 use Rattle.sas_groups.specs.declared.verdict.Verdict.TheVariants.{Exclusive, Derived, Initial, Broken}
+use Rattle.sas_mutex.specs.Joint.{AreJointVerdicts}
 use Rattle.sas_mutex.proofs.JointLists.{listed_invariants}
+use Rattle.sas_group_reasons.specs.declared.reason.Reason.{Reason}
+use Rattle.sas_group_reasons.specs.Reasons.{reason_at}
 use Rattle.sas_requests.specs.Headline.{HasInvariant, Invariants}
 use Rattle.sas_answers.specs.GroupWords.{verdict_words, group_line, verdict_lines_from, verdict_lines}
 use Rattle.sas_answers.specs.LayerWords.{layer_words, layers_line}
 use Rattle.sas_answers.specs.Answers.{layers_refusal, GroupsAnswer, LayeredGroupsAnswer, MutexAnswer}
 use Rattle.sas_task_reasons.specs.LayerReasons.{layer_reasons}
+use Rattle.sas_task_reasons.specs.WhyGroups.{why_lines_from, why_lines, WhyGroupsAnswer}
 use Rattle.sas_task_reasons.specs.WhyLayers.{why_refusal, WhyLayeredGroups, WhyMutexAnswer}
 use Rattle.sas_reasons.proofs.Sorting.{contains_cases, contains_none}
 use Rattle.sas_output.specs.Ending.{Output}
 use Rattle.sas_requests.specs.Output.{word_of, refusal, refusal_line, IsAnswerOrRefusal, FileOut}
 use Rattle.sas_requests.specs.Why.{is_reason}
 use Rattle.sas_requests.proofs.Headlines.{sent_same}
-use Rattle.sas_requests.proofs.PlainNames.{plain_names}
+use Rattle.sas_requests.proofs.PlainNames.{HasPlainNames, plain_names}
 use Rattle.sas_requests.proofs.ReasonLines.{IsReason, AreReasons}
 use Rattle.sas_requests.proofs.LayerLines.{layer_reasons_tell}
+use Rattle.sas_requests.proofs.GroupLines.{any_tells, behind, lines_of_groups}
 use Rattle.sas_requests.proofs.ToldLines.{IsTold, lines_of_first, file_words, file_plain, kind_plain, layer_told}
 use Rattle.sas_requests.proofs.WhyAnswers.{worded, why_is}
 
@@ -84,7 +89,7 @@ only_item : {A : Type 0} (x y : A) → Contains (x ∷ []) y → x ≡ y
 only_item x y h = All-contains (λ z. x ≡ z) (x ∷ []) y (All-cons (λ z. x ≡ z) x [] refl (All-nil (λ z. x ≡ z))) h
 
 -- if the line is one of those of the verdicts from place n on, the verdict of its group is that
-record IsSaid (n place : ℕ) (verdicts : List Verdict) : Type 0 where
+pub record IsSaid (n place : ℕ) (verdicts : List Verdict) : Type 0 where
   pub behind : ℕ
   pub is : place ≡ n + behind
   pub below : behind < length verdicts
@@ -102,6 +107,25 @@ line_said n place (v ∷ verdicts) few h =
           record { behind = 0; is = omega (arith, same.0); below = omega arith; exclusive = same.1 })
       | inr later ↦ said_later n place v verdicts (line_said (n + 1) place verdicts (omega arith) later)
     ]
+
+-- ---- which groups a text calls exclusive
+
+-- each line of the text that says that a group is exclusive is one of these verdicts
+pub record TellsVerdicts (p : Parts) (out : List ℕ) : Type 0 where
+  pub verdicts : List Verdict
+  pub are : AreJointVerdicts p verdicts
+  pub said : (place : ℕ) → Contains (lines out) (group_line place Exclusive) → IsSaid 0 place verdicts
+
+plain_verdicts : (p : Parts) (o : Output) → WellRanged p → GroupsAnswer p o → TellsVerdicts p o.text
+plain_verdicts p o ranged (verdicts, are, e) =
+    let few = ranged.groups.count in
+    let one_each = are.one_each in
+    let are_lines : lines o.text ≡ verdict_lines verdicts = ap (λ (x : Output). lines x.text) e ∙ lines-text (verdict_lines verdicts) (lines_plain 0 verdicts) in
+    record {
+      verdicts = verdicts;
+      are = are;
+      said = λ place has. line_said 0 place verdicts (omega arith) (subst (λ (ls : List (List ℕ)). Contains ls (group_line place Exclusive)) are_lines has);
+    }
 
 -- ---- a refusal has no such line
 
@@ -137,6 +161,35 @@ refusal_says_none words reasons told are place has =
 alone_says_none : (words out : List ℕ) → IsTold (codes "task refused: " ++ words) → out ≡ (codes "task refused: " ++ words) ++ 10 ∷ [] → SaysNone out
 alone_says_none words out told is = subst SaysNone (append-nil ((codes "task refused: " ++ words) ++ 10 ∷ []) ∙ sym is) (refusal_says_none words [] told tt)
 
+-- with reasons behind the lines of groups, too
+module _ (p : Parts) (names : HasPlainNames p) (reasons : List (Option Reason)) where
+  why_said : (n place : ℕ) (verdicts : List Verdict) → n + length verdicts < 2 ^ 64 → Contains (why_lines_from p reasons n verdicts) (group_line place Exclusive) → IsSaid n place verdicts
+  why_said n place [] few h = absurd (contains_none (group_line place Exclusive) h)
+  why_said n place (v ∷ verdicts) few h =
+      let its = behind p names reasons n in
+      let later = why_lines_from p reasons (n + 1) verdicts in
+      elim (contains_cases (group_line n v) (its ++ later) (group_line place Exclusive) h) [
+        | inl here ↦
+            (let same = same_line n place v (omega arith) here in
+            record { behind = 0; is = omega (arith, same.0); below = omega arith; exclusive = same.1 })
+        | inr others ↦ elim (Contains-append_cases its later (group_line place Exclusive) others) [
+          | inl among ↦ absurd (reasons_apart its (any_tells p names n (reason_at reasons n)) place among)
+          | inr more ↦ said_later n place v verdicts (why_said (n + 1) place verdicts (omega arith) more)
+        ]
+      ]
+
+why_verdicts : (p : Parts) (o : Output) → WellRanged p → WhyGroupsAnswer p o → TellsVerdicts p o.text
+why_verdicts p o ranged (verdicts, reasons, joint, are, e) =
+    let few = ranged.groups.count in
+    let one_each = joint.one_each in
+    let names = plain_names p ranged in
+    let are_lines : lines o.text ≡ why_lines p verdicts reasons = ap (λ (x : Output). lines x.text) e ∙ lines_of_groups p names reasons verdicts in
+    record {
+      verdicts = verdicts;
+      are = joint;
+      said = λ place has. why_said p names reasons 0 place verdicts (omega arith) (subst (λ (ls : List (List ℕ)). Contains ls (group_line place Exclusive)) are_lines has);
+    }
+
 -- the refusal of a file
 file_says_none : (fault : Fault) (o : Output) → Some o ≡ refusal (codes "task") fault → SaysNone o.text
 file_says_none fault o is =
@@ -163,20 +216,20 @@ why_says_none p fault o ranged told =
 
 -- ---- answers about groups
 
--- an answer is that about the groups of a layered task, or says of no group that it is exclusive
+-- an answer tells the verdicts on the groups of a layered task, or says of no group that it is exclusive
 abbrev pub TellsGroups : (Parts → Output → Type 0) → Type 0
-TellsGroups IsAnswer = (p : Parts) (o : Output) → WellRanged p → IsAnswer p o → (IsLayered p × GroupsAnswer p o) ⊎ SaysNone o.text
+TellsGroups IsAnswer = (p : Parts) (o : Output) → WellRanged p → IsAnswer p o → (IsLayered p × TellsVerdicts p o.text) ⊎ SaysNone o.text
 
-plain_told : (p : Parts) (first : Option LayerFault) (o : Output) → (first ≡ None → IsLayered p) → LayeredGroupsAnswer p first o → (IsLayered p × GroupsAnswer p o) ⊎ SaysNone o.text
-plain_told p (Some fault) o layered refused = inr (layers_say_none fault o refused)
-plain_told p None o layered answer = inl (layered refl, answer)
+plain_told : (p : Parts) (first : Option LayerFault) (o : Output) → WellRanged p → (first ≡ None → IsLayered p) → LayeredGroupsAnswer p first o → (IsLayered p × TellsVerdicts p o.text) ⊎ SaysNone o.text
+plain_told p (Some fault) o ranged layered refused = inr (layers_say_none fault o refused)
+plain_told p None o ranged layered answer = inl (layered refl, plain_verdicts p o ranged answer)
 
 pub plain_groups : TellsGroups MutexAnswer
-plain_groups p o ranged answer = plain_told p (first_fault (layer_checks p)) o (checks_are_rules p).0 answer
+plain_groups p o ranged answer = plain_told p (first_fault (layer_checks p)) o ranged (checks_are_rules p).0 answer
 
-why_told : (p : Parts) (first : Option LayerFault) (o : Output) → WellRanged p → (first ≡ None → IsLayered p) → WhyLayeredGroups p first o → (IsLayered p × GroupsAnswer p o) ⊎ SaysNone o.text
+why_told : (p : Parts) (first : Option LayerFault) (o : Output) → WellRanged p → (first ≡ None → IsLayered p) → WhyLayeredGroups p first o → (IsLayered p × TellsVerdicts p o.text) ⊎ SaysNone o.text
 why_told p (Some fault) o ranged layered refused = inr (why_says_none p fault o ranged refused)
-why_told p None o ranged layered answer = inl (layered refl, answer)
+why_told p None o ranged layered answer = inl (layered refl, why_verdicts p o ranged answer)
 
 pub why_groups : TellsGroups WhyMutexAnswer
 why_groups p o ranged answer = why_told p (first_fault (layer_checks p)) o ranged (checks_are_rules p).0 answer
@@ -184,12 +237,10 @@ why_groups p o ranged answer = why_told p (first_fault (layer_checks p)) o range
 -- ---- what was printed of the bytes
 
 module _ (b : List ℕ) (o : Output) (place : ℕ) (has : Contains (lines o.text) (group_line place Exclusive)) where
-  groups_have : (p : Parts) → Reads task_format b p → IsLayered p → GroupsAnswer p o → HasInvariant b place
-  groups_have p is layered (verdicts, are, e) =
-      let few = is.good.groups.count in
-      let one_each = are.one_each in
-      let are_lines : lines o.text ≡ verdict_lines verdicts = ap (λ (x : Output). lines x.text) e ∙ lines-text (verdict_lines verdicts) (lines_plain 0 verdicts) in
-      let said = line_said 0 place verdicts (omega arith) (subst (λ (ls : List (List ℕ)). Contains ls (group_line place Exclusive)) are_lines has) in
+  groups_have : (p : Parts) → Reads task_format b p → IsLayered p → TellsVerdicts p o.text → HasInvariant b place
+  groups_have p is layered told =
+      let one_each = told.are.one_each in
+      let said = told.said place has in
       let same : place ≡ said.behind = omega (arith, said.is) in
       let exists : place < length p.groups = omega (arith, same, said.below) in
       record {
@@ -197,10 +248,10 @@ module _ (b : List ℕ) (o : Output) (place : ℕ) (has : Contains (lines o.text
         is_task = is;
         layered = layered;
         exists = exists;
-        invariant = listed_invariants p verdicts are place exists (ap (λ (k : ℕ). get_or verdicts k Exclusive) same ∙ said.exclusive);
+        invariant = listed_invariants p told.verdicts told.are place exists (ap (λ (k : ℕ). get_or told.verdicts k Exclusive) same ∙ said.exclusive);
       }
 
-  answer_has : (p : Parts) → Reads task_format b p → (IsLayered p × GroupsAnswer p o) ⊎ SaysNone o.text → HasInvariant b place
+  answer_has : (p : Parts) → Reads task_format b p → (IsLayered p × TellsVerdicts p o.text) ⊎ SaysNone o.text → HasInvariant b place
   answer_has p is told = elim told [
     | inl groups ↦ groups_have p is groups.0 groups.1
     | inr none ↦ absurd (none place has)

@@ -61,14 +61,14 @@ layers_short Memory o is = absurd (none-some o is)
 -- ---- the lines behind
 
 -- a line that takes no more than one with a name does, with its end
-abbrev IsShort : List ℕ → Type 0
+abbrev pub IsShort : List ℕ → Type 0
 IsShort line = length line + 1 ≤ with_name
 
 any_short : {A : Type 0} (line_of : A → List ℕ) → ((item : A) → IsShort (line_of item)) → (found : Option A) → length (text (option_map_or (λ item. line_of item ∷ []) found [])) ≤ with_name
 any_short line_of each None = omega arith
 any_short line_of each (Some item) = omega (arith, next_size (line_of item) [], each item)
 
-size_of_both : (a b : List (List ℕ)) → length (text (a ++ b)) ≡ length (text a) + length (text b)
+pub size_of_both : (a b : List (List ℕ)) → length (text (a ++ b)) ≡ length (text a) + length (text b)
 size_of_both a b =
     let ends : List ℕ → List ℕ = λ l. l ++ 10 ∷ [] in
     let all : text (a ++ b) ≡ text a ++ text b = flat_map-append ends a b in
@@ -78,7 +78,7 @@ on_layer_short : (layer : ℕ) → IsShort (on_layer_line layer)
 on_layer_short layer = omega (arith, two_spaces (codes "on layer" ∷ decimal layer ∷ []), decimal_short layer)
 
 module _ (p : Parts) (small : IsSmall p) where
-  operator_short : (operator : ℕ) → IsShort (operator_line p operator)
+  pub operator_short : (operator : ℕ) → IsShort (operator_line p operator)
   operator_short operator = omega (
     arith,
     two_spaces (codes "operator" ∷ decimal operator ∷ (operator_at p operator).name ∷ []),
@@ -91,7 +91,7 @@ module _ (p : Parts) (small : IsSmall p) where
   deed_short first verb number var value short =
       omega (arith, two_spaces (first ∷ decimal number ∷ verb ∷ fact_words p var value), decimal_short number, facts_short p small var value, short)
 
-  effect_short : (operator effect : ℕ) → IsShort (effect_line p operator effect)
+  pub effect_short : (operator effect : ℕ) → IsShort (effect_line p operator effect)
   effect_short operator effect =
       let e = effect_at (operator_at p operator) effect in
       deed_short (codes "effect") (codes "sets") effect e.var e.new (omega arith)

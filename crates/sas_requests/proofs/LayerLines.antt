@@ -18,12 +18,12 @@ on_layer : (layer : ℕ) → IsReason (on_layer_line layer)
 on_layer layer = two_spaces (codes "on layer" ∷ decimal layer ∷ []) (plain_bytes (codes "on layer") refl, (plain-decimal layer, tt))
 
 module _ (p : Parts) (names : HasPlainNames p) where
-  operator : (place : ℕ) → IsReason (operator_line p place)
+  pub operator : (place : ℕ) → IsReason (operator_line p place)
   operator place =
       two_spaces (codes "operator" ∷ decimal place ∷ (operator_at p place).name ∷ [])
       (plain_bytes (codes "operator") refl, (plain-decimal place, (names.operator place, tt)))
 
-  effect : (place its : ℕ) → IsReason (effect_line p place its)
+  pub effect : (place its : ℕ) → IsReason (effect_line p place its)
   effect place its =
       let e = effect_at (operator_at p place) its in
       two_spaces (codes "effect" ∷ decimal its ∷ codes "sets" ∷ fact_words p e.var e.new)

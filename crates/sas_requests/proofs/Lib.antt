@@ -17,5 +17,7 @@ mod PlainNames
 mod ReasonLines
 mod LayerLines
 mod LayerLengths
+mod GroupLengths
 pub mod ToldLines
+mod GroupLines
 mod SameAnswers

@@ -1,5 +1,5 @@
 -- An output with reasons is the same answer as the output without them.
-use Rattle.std.proofs.Common.{◌≡◌, ℕ, List, ◌++◌, codes, refl, sym, ap, subst, ◌∙◌, inl, inr, Option, Some, None, Result, Ok, Err}
+use Rattle.std.proofs.Common.{◌≡◌, ℕ, ◌+◌, ◌<◌, List, ◌++◌, length, get_or, arith, codes, refl, sym, ap, subst, ◌∙◌, inl, inr, Option, Some, None, Result, Ok, Err}
 use Rattle.sas_core.specs.declared.parts.Parts.{Parts}
 use Rattle.sas_core.specs.FirstFault.{first_fault}
 use Rattle.sas_core.specs.PlanParts.{PlanParts}
@@ -8,6 +8,11 @@ use Rattle.sas_core.specs.WellRanged.{WellRanged}
 use Rattle.sas_meaning.specs.declared.layered.LayerFault.{LayerFault}
 use Rattle.sas_meaning.specs.LayerChecks.{layer_checks}
 use Rattle.sas_lines.specs.Lines.{text}
+use Rattle.sas_groups.specs.declared.verdict.Verdict.{Verdict}
+use Rattle.sas_groups.specs.declared.verdict.Verdict.TheVariants.{Exclusive}
+use Rattle.sas_mutex.specs.Joint.{AreJointVerdicts}
+use Rattle.sas_group_reasons.specs.declared.reason.Reason.{Reason}
+use Rattle.sas_group_reasons.specs.Reasons.{IsReasonIfAny, AreReasons, reason_at}
 use Rattle.sas_reader.specs.declared.fault.Fault.{Fault}
 use Rattle.sas_reader.specs.Format.{Format, ReadsAs}
 use Rattle.sas_reader.specs.Limit.{most_bytes}
@@ -17,9 +22,11 @@ use Rattle.sas_run.specs.declared.plan_check.PlanFault.{PlanFault}
 use Rattle.sas_output.specs.declared.ending.Status.TheVariants.{Yes, No}
 use Rattle.sas_output.specs.Ending.{Output}
 use Rattle.sas_answers.specs.Answers.{layers_refusal, layers_verdict, LayeredGroupsAnswer, CheckAnswer, MutexAnswer, VerdictAnswer}
+use Rattle.sas_answers.specs.GroupWords.{verdict_lines, groups_status}
 use Rattle.sas_answers.specs.LayerWords.{layer_words, layers_line}
 use Rattle.sas_answers.specs.PlanWords.{fault_words, invalid_line}
 use Rattle.sas_task_reasons.specs.LayerReasons.{layer_reasons}
+use Rattle.sas_task_reasons.specs.WhyGroups.{why_lines}
 use Rattle.sas_task_reasons.specs.WhyLayers.{why_refusal, why_verdict, WhyCheckAnswer, WhyLayeredGroups, WhyMutexAnswer}
 use Rattle.sas_explain.specs.Verdict.{WhyVerdict, Explains}
 use Rattle.sas_requests.specs.declared.Request.TheVariants.{Show, Print, Steps, Check, Plan, Mutex}
@@ -28,7 +35,8 @@ use Rattle.sas_requests.specs.Why.{without_reasons, IsSameAnswer, SameAnswer}
 use Rattle.sas_requests.proofs.PlainNames.{plain_names, plain_steps}
 use Rattle.sas_requests.proofs.ReasonLines.{why_tells}
 use Rattle.sas_requests.proofs.LayerLines.{layer_reasons_tell}
-use Rattle.sas_requests.proofs.ToldLines.{IsToldText, stays, first_stays, AreRefusalsTold, task_refusals_told, plan_refusals_told, layer_told, layers_told, groups_told, verdict_told}
+use Rattle.sas_requests.proofs.GroupLines.{groups_kept, all_exclusive}
+use Rattle.sas_requests.proofs.ToldLines.{IsToldText, stays, first_stays, AreRefusalsTold, task_refusals_told, plan_refusals_told, layer_told, layers_told, verdict_told}
 use Rattle.sas_requests.proofs.WhyAnswers.{worded, why_is}
 
 -- ---- an output is the same answer as itself
@@ -68,10 +76,6 @@ layers_stay None o is =
     yes_stays o (sym (ap (λ (x : Output). x.status) same))
 layers_stay (Some fault) o is = told_stays o (layers_told fault o is)
 
-groups_stay : (p : Parts) (first : Option LayerFault) (o : Output) → LayeredGroupsAnswer p first o → Stays o
-groups_stay p (Some fault) o is = told_stays o (layers_told fault o is)
-groups_stay p None o (verdicts, are, is) = told_stays o (subst IsToldText (sym (ap (λ (x : Output). x.text) is)) (groups_told verdicts))
-
 -- ---- answers about a task
 
 -- the refusal is what is left of one with reasons
@@ -96,8 +100,25 @@ check_same : (p : Parts) (first : Option LayerFault) (o : Output) → WellRanged
 check_same p None o ranged is = (o, is, itself o (layers_stay None o is))
 check_same p (Some fault) o ranged is = refused_same p fault o ranged is
 
+-- the reason for each verdict, counted from the first one
+reasons_from : (p : Parts) (verdicts : List Verdict) (reasons : List (Option Reason)) → AreJointVerdicts p verdicts → AreReasons p verdicts reasons
+    → (k : ℕ) → k < length verdicts → IsReasonIfAny p (0 + k) (get_or verdicts k Exclusive) (reason_at reasons (0 + k))
+reasons_from p verdicts reasons joint are k lt =
+    let same : k ≡ 0 + k = omega arith in
+    subst (λ (m : ℕ). IsReasonIfAny p m (get_or verdicts k Exclusive) (reason_at reasons m)) same (are.are k (omega (arith, lt, joint.one_each)))
+
 mutex_same : (p : Parts) (first : Option LayerFault) (o : Output) → WellRanged p → WhyLayeredGroups p first o → (plain : Output) × LayeredGroupsAnswer p first plain × IsSameAnswer plain o
-mutex_same p None o ranged is = (o, is, itself o (groups_stay p None o is))
+mutex_same p None o ranged (verdicts, reasons, joint, are, is) =
+    let plain : Output = record { text = text (verdict_lines verdicts); status = groups_status verdicts } in
+    let whole : o.text ≡ text (why_lines p verdicts reasons) = ap (λ (x : Output). x.text) is in (
+      plain,
+      (verdicts, joint, refl),
+      record {
+        status = ap (λ (x : Output). x.status) is;
+        yes = λ is_yes. whole ∙ ap (λ (ls : List (List ℕ)). text ls) (all_exclusive p reasons 0 verdicts (reasons_from p verdicts reasons joint are) is_yes);
+        no = λ _. ap without_reasons whole ∙ groups_kept p (plain_names p ranged) reasons verdicts;
+      },
+    )
 mutex_same p (Some fault) o ranged is = refused_same p fault o ranged is
 
 -- the answer with reasons about each task is the same as one without them

@@ -150,6 +150,9 @@ rule_size r =
     let last = head r.var r.old r.new ∷ [] in
     omega (arith, between_size (codes "begin_rule") (conditions ++ last) (codes "end_rule"))
 
+group_size : (facts : List Fact) → 32 ≤ size (group_lines facts)
+group_size facts = omega (arith, between_size (codes "begin_mutex_group") (counted (line fact) facts) (codes "end_mutex_group"))
+
 -- an operator's name, and its preconditions
 operator_size : (o : Operator) → length o.name + length o.prevail * 4 + length o.effects * 4 + 1 ≤ size (operator_lines o)
 operator_size o =
@@ -221,10 +224,11 @@ unfolding size
 size_of_read bytes p (reads, short) =
     subst (λ (l : List (List ℕ)). length (text l) ≤ 2 ^ 32) reads.lines (omega (arith, text_short bytes, short))
 
--- so its names are short, and it has so many facts of the goal, operators with so many preconditions, and rules at most
+-- so its names are short, and it has so many groups, facts of the goal, operators with so many preconditions, and rules at most
 pub record IsSmall (p : Parts) : Type 0 where
   pub value : (var value : ℕ) → length (unwrap_or (value_name p.variables var value) []) ≤ 2 ^ 32
   pub operator : (operator : ℕ) → length (operator_at p operator).name ≤ 2 ^ 32
+  pub groups : length p.groups ≤ 2 ^ 27
   pub goal : length p.goal ≤ 2 ^ 30
   pub operators : asked p.operators * 4 + length p.operators ≤ 2 ^ 32
   pub rules : length p.rules ≤ 2 ^ 28
@@ -238,6 +242,7 @@ read_small bytes p value =
     let all = size_of_read bytes p value in
     let sections = size_of_sections version_lines (metric_lines p.metric) (counted variable_lines p.variables) (counted group_lines p.groups) (state_lines p.init) (file.goal_lines p.goal) (counted operator_lines p.operators) (counted rule_lines p.rules) in
     let of_variables = counted_size variable_lines p.variables in
+    let of_groups = counted_size group_lines p.groups in
     let of_goal = between_size (codes "begin_goal") (counted (line fact) p.goal) (codes "end_goal") in
     let of_facts = counted_size (line fact) p.goal in
     let of_operators = counted_size operator_lines p.operators in
@@ -245,6 +250,7 @@ read_small bytes p value =
     record {
       value = λ var value. named_short (value_name p.variables var value) (2 ^ 32) (λ bytes is. omega (arith, all, sections, of_variables, name_short p.variables var value bytes is));
       operator = λ operator. omega (arith, all, sections, of_operators, operator_name_short p.operators operator (record { name = []; prevail = []; effects = []; cost = 0 }) refl);
+      groups = omega (arith, all, sections, of_groups, size_of_each group_lines 32 group_size p.groups);
       goal = omega (arith, all, sections, of_goal, of_facts, size_of_each (line fact) 4 fact_size p.goal);
       operators = omega (arith, all, sections, of_operators, operators_size p.operators);
       rules = omega (arith, all, sections, of_rules, size_of_each rule_lines 16 rule_size p.rules);

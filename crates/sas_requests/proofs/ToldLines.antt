@@ -1,5 +1,5 @@
 -- Lines that tell no reason: an answer of such lines stays as it is when reasons are taken away.
-use Rattle.std.proofs.Common.{◌≡◌, ℕ, ◌+◌, List, [], ◌∷◌, ◌++◌, codes, refl, sym, ap, subst, ◌∙◌, Bool, false, Some}
+use Rattle.std.proofs.Common.{◌≡◌, ℕ, List, [], ◌∷◌, ◌++◌, codes, refl, sym, ap, subst, ◌∙◌, Bool, false, Some}
 use Rattle.std.specs.Prelude.{not, filter, if◌then◌else◌, decimal}
 use Rattle.std.specs.List.{AllByRecursion}
 use Rattle.std.proofs.lemmas.Option.{none-some}
@@ -20,7 +20,7 @@ use Rattle.sas_run.specs.declared.plan_check.PlanFault.{PlanFault}
 use Rattle.sas_run.specs.declared.plan_check.PlanFault.TheVariants as plan_fault
 use Rattle.sas_output.specs.Ending.{Output}
 use Rattle.sas_answers.specs.Answers.{layers_refusal}
-use Rattle.sas_answers.specs.GroupWords.{verdict_words, group_line, verdict_lines_from, verdict_lines}
+use Rattle.sas_answers.specs.GroupWords.{verdict_words, group_line}
 use Rattle.sas_answers.specs.LayerWords.{layer_words, layers_line, part_words}
 use Rattle.sas_answers.specs.PlanWords.{fault_words, step_words, goal_words, sum_words}
 use Rattle.sas_requests.specs.Output.{word_of, refusal, refusal_line}
@@ -41,7 +41,7 @@ pub record IsToldText (bytes : List ℕ) : Type 0 where
   pub each : AllByRecursion IsTold told
   pub whole : bytes ≡ text told
 
-kept_first : (first : List ℕ) (behind : List (List ℕ)) → IsTold first → filter (λ line. not (is_reason line)) (first ∷ behind) ≡ first ∷ filter (λ line. not (is_reason line)) behind
+pub kept_first : (first : List ℕ) (behind : List (List ℕ)) → IsTold first → filter (λ line. not (is_reason line)) (first ∷ behind) ≡ first ∷ filter (λ line. not (is_reason line)) behind
 kept_first first behind told =
     let rest = filter (λ line. not (is_reason line)) behind in
     ap (λ (b : Bool). if not b then first ∷ rest else rest) told.no_reason
@@ -57,10 +57,10 @@ none_kept (first ∷ reasons) h =
     let rest = filter (λ line. not (is_reason line)) reasons in
     ap (λ (b : Bool). if not b then first ∷ rest else rest) tells.tells ∙ none_kept reasons h.1
 
-plain_told : (line : List ℕ) → IsTold line → Plain line
+pub plain_told : (line : List ℕ) → IsTold line → Plain line
 plain_told line told = plain line told.plain
 
-plain_reason : (line : List ℕ) → IsReason line → Plain line
+pub plain_reason : (line : List ℕ) → IsReason line → Plain line
 plain_reason line reason = plain line reason.plain
 
 -- a text without reasons stays
@@ -174,7 +174,7 @@ verdict_plain Derived = plain_bytes (codes "derived") refl
 verdict_plain Initial = plain_bytes (codes "not shown: initial state") refl
 verdict_plain (Broken operator) = plain-append (codes "not shown: operator ") (decimal operator) (plain_bytes (codes "not shown: operator ") refl) (plain-decimal operator)
 
-group_told : (place : ℕ) (verdict : Verdict) → IsTold (group_line place verdict)
+pub group_told : (place : ℕ) (verdict : Verdict) → IsTold (group_line place verdict)
 group_told place verdict = record {
   plain =
       plain-append (codes "group " ++ decimal place ++ codes " ") (verdict_words verdict)
@@ -183,13 +183,6 @@ group_told place verdict = record {
       (verdict_plain verdict);
   no_reason = refl;
 }
-
-lines_told : (place : ℕ) (verdicts : List Verdict) → AllByRecursion IsTold (verdict_lines_from place verdicts)
-lines_told place [] = tt
-lines_told place (verdict ∷ verdicts) = (group_told place verdict, lines_told (place + 1) verdicts)
-
-pub groups_told : (verdicts : List Verdict) → IsToldText (text (verdict_lines verdicts))
-groups_told verdicts = record { told = verdict_lines verdicts; each = lines_told 0 verdicts; whole = refl }
 
 -- ---- the verdict on a plan
 

@@ -6,20 +6,21 @@ use Rattle.sas_lines.specs.Lines.{text}
 use Rattle.sas_output.specs.declared.ending.Status.TheVariants.{Yes, No}
 use Rattle.sas_output.specs.Ending.{Output, output_told}
 use Rattle.sas_requests.specs.declared.answers.Answer.{Answer}
-use Rattle.sas_requests.specs.declared.answers.Answer.TheVariants.{Text, Summary, Explained, Refused}
+use Rattle.sas_requests.specs.declared.answers.Answer.TheVariants.{Text, Summary, Explained, Refused, Groups}
 use Rattle.sas_output.specs.declared.ending.ToolFault.{ToolFault}
 use Rattle.sas_output.specs.declared.ending.ToolFault.TheVariants as fault
 use Rattle.sas_output.specs.Ending.{IsDecided, IsWrite}
 use Rattle.sas_requests.specs.Output.{IsLayeredText}
 use Rattle.sas_summary.specs.Summary.{summary_lines}
 
--- a text that is at hand, the summary of a task with this outline, why a plan isn't valid, or why a
--- task isn't layered
+-- a text that is at hand, the summary of a task with this outline, why a plan isn't valid, why a
+-- task isn't layered, or why groups of it aren't exclusive
 abbrev pub output_of : Answer → Output
 output_of (Text told) = output_told told
 output_of (Summary outline) = record { text = text (summary_lines outline); status = Yes }
 output_of (Explained bytes) = record { text = bytes; status = No }
 output_of (Refused bytes) = record { text = bytes; status = No }
+output_of (Groups output) = output
 
 -- an answer is the output, and past the limit there is none
 abbrev pub Answers : (Option Output → Type 0) → Result Answer ToolFault → Type 0

@@ -23,8 +23,8 @@ abbrev pub WhyPlanOut : List ℕ → List ℕ → Option Output → Type 0
 WhyPlanOut = PlanOutBy WhyVerdict why_refusal
 
 -- The output with reasons for the bytes b of the task and c of the plan, or none if the file that
--- decides it is too long. Reasons are told of plans, and of tasks that aren't layered; all else is
--- answered as without them.
+-- decides it is too long. Reasons are told of plans, of tasks that aren't layered, and of mutex
+-- groups; all else is answered as without them.
 abbrev pub OutWhy : Request → List ℕ → List ℕ → Option Output → Type 0
 OutWhy Show b c output = ShowOut b output
 OutWhy Print b c output = PrintOut b output

@@ -18,7 +18,7 @@ use sas_plan_file::read_plan_text;
 use sas_reader::{Fault, Kind};
 use sas_summary::Summary;
 use sas_task_reader::{read_flat_task, read_outline, read_task_text};
-use sas_task_reasons::ExplainedTask;
+use sas_task_reasons::{ExplainedGroups, ExplainedTask};
 use std::alloc::Global;
 use std::io::{Read, Write};
 
@@ -33,6 +33,8 @@ pub enum Answer {
     Explained(Explained),
     /// Why a task isn't layered, which is put together only as it goes out. Its status is `No`.
     Refused(ExplainedTask),
+    /// Why groups aren't exclusive, which is put together only as it goes out. Its status is `Yes` if all are.
+    Groups(ExplainedGroups),
 }
 
 /// Returns the answer to the request about the inputs.
@@ -88,6 +90,7 @@ pub fn write_answer<W: Write>(
         Answer::Summary(summary) => summary.write(alloc, out),
         Answer::Explained(explained) => explained.write(alloc, out),
         Answer::Refused(refused) => refused.write(alloc, out),
+        Answer::Groups(groups) => groups.write(alloc, out),
     }
 }
 

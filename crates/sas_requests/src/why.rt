@@ -1,5 +1,5 @@
-// Why a task isn't layered, and why a plan doesn't solve a task. What is told of a file that is refused, and of mutex groups, is
-// what is told without reasons.
+// Why a task isn't layered, why a plan doesn't solve a task, and why mutex groups aren't exclusive. What is told of a file that is
+// refused is what is told without reasons.
 ghost use Rattle.std.specs.Prelude.{◌≡◌, ◌↔◌, ◌||◌, ℕ, List, false, Some};
 ghost use Rattle.std.specs.Prelude.{IfErr, IfOk, IsErrOf, IsFalse, IsTrue};
 ghost use Rattle.std.specs.Io.KnownBytes.{Consumes};
@@ -70,7 +70,8 @@ fn check_explanation<R: Read>(alloc: Global, reader: &mut Watched<R>) -> Result<
     Ok(answer_of(explain_check(alloc, task)?))
 }
 
-/// Returns the answer to which mutex groups of a task are exclusive, with the reasons where the task isn't layered.
+/// Returns the answer to which mutex groups of a task are exclusive, with the reasons why the others aren't, or why the task isn't
+/// layered.
 fn mutex_explanation<R: Read>(alloc: Global, reader: &mut Watched<R>) -> Result<Answer, ToolFault>
     requires { reader.old.failed ≡ false }
     ensures { AnswersFile R.remaining WhyMutexOut reader.old reader.new result }
@@ -89,6 +90,7 @@ fn answer_of(answer: TaskAnswer) -> Answer
     match answer {
         TaskAnswer::Text(told) => Answer::Text(told),
         TaskAnswer::Explained(explained) => Answer::Refused(explained),
+        TaskAnswer::Groups(groups) => Answer::Groups(groups),
     }
 }
 

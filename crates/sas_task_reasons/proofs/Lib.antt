@@ -3,4 +3,6 @@ mod Positions
 mod FailingChecks
 mod OtherGivers
 mod WholeReasons
+mod GroupTexts
+pub mod GroupAnswers
 pub mod TaskAnswers

@@ -14,16 +14,17 @@ use Rattle.sas_output.specs.declared.ending.Status.{Status}
 use Rattle.sas_output.specs.declared.ending.Status.TheVariants.{No}
 use Rattle.sas_output.specs.declared.told.Told.{Told}
 use Rattle.sas_output.specs.Ending.{Output, output_told}
-use Rattle.sas_answers.specs.Answers.{layers_refusal, layers_verdict, GroupsAnswer, LayeredGroupsAnswer}
+use Rattle.sas_answers.specs.Answers.{layers_refusal, layers_verdict}
 use Rattle.sas_answers.specs.LayerWords.{layer_words, layers_line}
 use Rattle.sas_answers.proofs.AnswerLaws.{OneAnswer, SomeAnswer}
 use Rattle.sas_answers.proofs.CheckAnswers.{some_check_answer}
-use Rattle.sas_answers.proofs.MutexAnswers.{one_mutex_answer, some_mutex_answer}
 use Rattle.sas_task_reasons.specs.declared.line.Line.{Line}
 use Rattle.sas_task_reasons.specs.Line.{line_bytes}
 use Rattle.sas_task_reasons.specs.LayerReasons.{layer_reasons}
 use Rattle.sas_task_reasons.specs.ReasonsText.{reasons_text}
+use Rattle.sas_task_reasons.specs.WhyGroups.{WhyGroupsAnswer}
 use Rattle.sas_task_reasons.specs.WhyLayers.{with_reasons, why_refusal, why_verdict, WhyCheckAnswer, WhyLayeredGroups, WhyMutexAnswer}
+use Rattle.sas_task_reasons.proofs.GroupAnswers.{one_groups_answer, some_groups_answer}
 
 -- ---- the layers
 
@@ -43,21 +44,18 @@ some_why_check p none = some_check_answer p (λ o told. let why = verdict_why p 
 
 -- ---- the mutex groups
 
-one_groups : (p : Parts) (first : Option LayerFault) → first_fault (layer_checks p) ≡ first → (a b : Output) → WhyLayeredGroups p first a → WhyLayeredGroups p first b → a ≡ b
-one_groups p (Some fault) is a b is_a is_b = cc
-one_groups p None is a b is_a is_b =
-    one_mutex_answer p a b
-    (subst (λ (f : Option LayerFault). LayeredGroupsAnswer p f a) (sym is) is_a)
-    (subst (λ (f : Option LayerFault). LayeredGroupsAnswer p f b) (sym is) is_b)
+one_groups : (p : Parts) (first : Option LayerFault) (a b : Output) → WhyLayeredGroups p first a → WhyLayeredGroups p first b → a ≡ b
+one_groups p (Some fault) a b is_a is_b = cc
+one_groups p None a b is_a is_b = one_groups_answer p a b is_a is_b
 
 pub one_why_mutex : OneAnswer WhyMutexAnswer
-one_why_mutex p a b = one_groups p (first_fault (layer_checks p)) refl a b
+one_why_mutex p a b = one_groups p (first_fault (layer_checks p)) a b
 
 some_groups : (p : Parts) (first : Option LayerFault) → first_fault (layer_checks p) ≡ first → ((o : Output) → WhyLayeredGroups p first o → ⊥) → ⊥
 some_groups p (Some fault) is none =
     some_check_answer p (λ o told.
     let refused = subst (λ (f : Option LayerFault). layers_verdict f ≡ Some o) is told in none _ (refused_why p fault o refused))
-some_groups p None is none = some_mutex_answer p (λ o told. none o (subst (λ (f : Option LayerFault). LayeredGroupsAnswer p f o) is told))
+some_groups p None is none = some_groups_answer p none
 
 pub some_why_mutex : SomeAnswer WhyMutexAnswer
 some_why_mutex p = some_groups p (first_fault (layer_checks p)) refl
@@ -84,7 +82,7 @@ module _ (p : Parts) (o : Output) where
   pub check_layered : IsLayered p → layers_verdict None ≡ Some o → WhyCheckAnswer p o
   check_layered layered told = ap (why_verdict p) ((checks_are_rules p).1 layered) ∙ told
 
-  pub groups_layered : IsLayered p → GroupsAnswer p o → WhyMutexAnswer p o
+  pub groups_layered : IsLayered p → WhyGroupsAnswer p o → WhyMutexAnswer p o
   groups_layered layered told = subst (λ (first : Option LayerFault). WhyLayeredGroups p first o) (sym ((checks_are_rules p).1 layered)) told
 
   module _ (fault : LayerFault) (told : why_refusal p fault ≡ Some o) where

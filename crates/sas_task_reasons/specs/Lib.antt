@@ -1,4 +1,5 @@
 pub mod LayerReasons
+pub mod WhyGroups
 pub mod WhyLayers
 pub mod Laws
 pub mod Line

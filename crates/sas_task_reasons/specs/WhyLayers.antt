@@ -1,4 +1,4 @@
--- The answers about a task, with the reasons why it isn't layered.
+-- The answers about a task, with the reasons why it isn't layered, or a group of it isn't exclusive.
 use Rattle.std.specs.Prelude.{◌≡◌, ℕ, ◌<◌, ◌^◌, List, ◌++◌, length, Option, Some, None, option_map}
 use Rattle.sas_core.specs.declared.parts.Parts.{Parts}
 use Rattle.sas_core.specs.FirstFault.{first_fault}
@@ -7,10 +7,11 @@ use Rattle.sas_meaning.specs.declared.layered.LayerFault.{LayerFault}
 use Rattle.sas_meaning.specs.LayerChecks.{layer_checks}
 use Rattle.sas_output.specs.declared.ending.Status.TheVariants.{No}
 use Rattle.sas_output.specs.Ending.{Output, output_told}
-use Rattle.sas_answers.specs.Answers.{layers_refusal, layers_verdict, GroupsAnswer}
+use Rattle.sas_answers.specs.Answers.{layers_refusal, layers_verdict}
 use Rattle.sas_task_reasons.specs.declared.tasks.TaskAnswer.{TaskAnswer}
-use Rattle.sas_task_reasons.specs.declared.tasks.TaskAnswer.TheVariants.{Text, Explained}
+use Rattle.sas_task_reasons.specs.declared.tasks.TaskAnswer.TheVariants.{Text, Explained, Groups}
 use Rattle.sas_task_reasons.specs.LayerReasons.{layer_reasons}
+use Rattle.sas_task_reasons.specs.WhyGroups.{WhyGroupsAnswer}
 
 -- an answer with these lines behind
 abbrev pub with_reasons : List (List ℕ) → Output → Output
@@ -31,10 +32,11 @@ why_verdict p (Some fault) = why_refusal p fault
 abbrev pub WhyCheckAnswer : Parts → Output → Type 0
 WhyCheckAnswer p output = why_verdict p (first_fault (layer_checks p)) ≡ Some output
 
--- the answer about the mutex groups of a task, with the reasons where it isn't layered
+-- the answer about the mutex groups of a task, by the first fault of its layers if they have one:
+-- with the reasons why it isn't layered, or else with those why groups aren't exclusive
 abbrev pub WhyLayeredGroups : Parts → Option LayerFault → Output → Type 0
 WhyLayeredGroups p (Some fault) output = why_refusal p fault ≡ Some output
-WhyLayeredGroups p None output = GroupsAnswer p output
+WhyLayeredGroups p None output = WhyGroupsAnswer p output
 
 abbrev pub WhyMutexAnswer : Parts → Output → Type 0
 WhyMutexAnswer p output = WhyLayeredGroups p (first_fault (layer_checks p)) output
@@ -43,6 +45,7 @@ WhyMutexAnswer p output = WhyLayeredGroups p (first_fault (layer_checks p)) outp
 abbrev pub output_of_task : TaskAnswer → Output
 output_of_task (Text told) = output_told told
 output_of_task (Explained bytes) = record { text = bytes; status = No }
+output_of_task (Groups output) = output
 
 -- whatever the fault of its layers is, the refusal and its reasons are short enough that their bytes
 -- can be counted

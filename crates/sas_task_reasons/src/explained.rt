@@ -99,8 +99,8 @@ fn push_explained<W: Write>(
     pieces.flush(out)
 }
 
-/// Adds the lines, each with its end, to the text.
-fn push_reasons<W: Write>(
+/// Adds the lines, each with its end, to the text. Not to be called after a failure.
+pub fn push_reasons<W: Write>(
     pieces: &mut Pieces,
     out: &mut Watched<W>,
     task: &FlatTask,

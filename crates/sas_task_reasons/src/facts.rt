@@ -5,6 +5,7 @@ ghost use Rattle.sas_core.specs.Grounded.{rule_at};
 ghost use Rattle.sas_core.specs.Variables as variables;
 ghost use Rattle.sas_meaning.specs.Layers.{default_of};
 ghost use Rattle.sas_task_reasons.specs.LayerReasons.{condition_at};
+ghost use Rattle.sas_task_reasons.specs.WhyGroups.{member_at};
 
 use sas_core::{Change, Fact, Grounded};
 use sas_flat::FlatTask;
@@ -57,6 +58,19 @@ pub fn condition_of(task: &FlatTask, rule: u32, condition: u32) -> Fact
     if rule < task.rules() {
         let conditions = task.rule_conditions(rule);
         conditions.get(condition as usize).copied().unwrap_or(none)
+    } else {
+        none
+    }
+}
+
+/// Returns the fact at this place of the mutex group.
+pub fn member_of(task: &FlatTask, group: usize, place: usize) -> Fact
+    ensures { result ≡ member_at task.now group place }
+{
+    let none = Fact { var: 0, value: 0 };
+    if group < task.groups() as usize {
+        let members = task.group(group as u32);
+        members.get(place).copied().unwrap_or(none)
     } else {
         none
     }

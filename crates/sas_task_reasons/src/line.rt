@@ -1,7 +1,7 @@
 // Lines of reasons.
 use sas_core::Fact;
 
-/// A line that tells why a task isn't layered, as its numbers. Which bytes it has follows from the task. All is counted from 0.
+/// A line that tells why a task isn't layered, or why a group of it isn't exclusive, as its numbers. Which bytes it has follows from the task. All is counted from 0.
 #[derive(Clone, Copy, Debug, PartialEq, Eq)]
 pub enum Line {
     /// `operator I NAME`.
@@ -18,4 +18,10 @@ pub enum Line {
     Default { fact: Fact },
     /// `on layer L`.
     OnLayer { layer: u32 },
+    /// `fact VAR VALUE NAME`.
+    Derived { fact: Fact },
+    /// `holds VAR VALUE NAME`.
+    Holds { fact: Fact },
+    /// `may stay VAR VALUE NAME`.
+    MayStay { fact: Fact },
 }

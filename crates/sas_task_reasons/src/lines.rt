@@ -42,6 +42,9 @@ pub fn push_reason<W: Write>(
         Line::From { fact } => push_fact(pieces, out, task, Start::two(b"from"), fact),
         Line::Default { fact } => push_fact(pieces, out, task, Start::two(b"default"), fact),
         Line::OnLayer { layer } => push_count(pieces, out, Start::two(b"on layer"), layer as u64),
+        Line::Derived { fact } => push_fact(pieces, out, task, Start::two(b"fact"), fact),
+        Line::Holds { fact } => push_fact(pieces, out, task, Start::two(b"holds"), fact),
+        Line::MayStay { fact } => push_fact(pieces, out, task, Start::two(b"may stay"), fact),
     }
 }
 

@@ -1,14 +1,18 @@
-// The answers about a task, with the reasons why it isn't layered.
+// The answers about a task, with the reasons why it isn't layered, or a group of it isn't exclusive.
 ghost use Rattle.std.specs.Prelude.{◌≡◌, Some, None, IfOk};
 ghost use Rattle.sas_answers.specs.Answers.{layers_verdict};
 ghost use Rattle.sas_task_reasons.specs.WhyLayers.{LayerReasonsFit, why_refusal, output_of_task};
 ghost use Rattle.sas_task_reasons.specs.WhyLayers.{WhyCheckAnswer, WhyMutexAnswer};
+ghost use Rattle.sas_task_reasons.specs.WhyGroups.{GroupReasonsFit, WhyGroupsAnswer};
 
 use crate::explained::ExplainedTask;
+use crate::groups::ExplainedGroups;
 use crate::reasons::layer_reasons;
-use sas_answers::{accept_layers, refuse_layers, verdicts_answer};
+use sas_answers::{accept_layers, refuse_layers};
 use sas_flat::FlatTask;
+use sas_group_reasons::group_reasons;
 use sas_meaning::{LayerFault, Layered};
+use sas_mutex::check_groups;
 use sas_output::{Status, Told};
 use std::alloc::{AllocError, Global};
 
@@ -19,6 +23,8 @@ pub enum TaskAnswer {
     Text(Told),
     /// It isn't layered, and why.
     Explained(ExplainedTask),
+    /// Which of its mutex groups are exclusive, and why the others aren't.
+    Groups(ExplainedGroups),
 }
 
 /// Returns the answer about the layers of a task, with the reasons where it isn't layered.
@@ -45,22 +51,33 @@ fn layered_answer(alloc: Global) -> Result<TaskAnswer, AllocError>
     Ok(TaskAnswer::Text(accept_layers(alloc)?))
 }
 
-/// Returns the answer about the mutex groups of a task, with the reasons where it isn't layered.
+/// Returns the answer about the mutex groups of a task, with the reasons why groups aren't exclusive, or where the task isn't
+/// layered with the reasons for that.
 pub fn explain_groups(alloc: Global, task: FlatTask) -> Result<TaskAnswer, AllocError>
-    requires { LayerReasonsFit task }
+    requires layers { LayerReasonsFit task }
+    requires groups { GroupReasonsFit task }
     ensures { IfOk result (λ a. WhyMutexAnswer task (output_of_task a)) }
 {
     match Layered::new(alloc, task) {
         Ok(layered) => {
-            let told = verdicts_answer(alloc, &layered);
-            drop(layered);
-            Ok(TaskAnswer::Text(told?))
+            let explained = explain_layered(alloc, layered)?;
+            Ok(TaskAnswer::Groups(explained))
         }
         Err((task, fault)) => {
             let explained = explain_layers(alloc, task, fault)?;
             Ok(TaskAnswer::Explained(explained))
         }
     }
+}
+
+/// Returns the answer about the mutex groups of a layered task, with the reasons why groups aren't exclusive.
+fn explain_layered(alloc: Global, layered: Layered<FlatTask>) -> Result<ExplainedGroups, AllocError>
+    requires { GroupReasonsFit layered }
+    ensures { IfOk result (λ g. WhyGroupsAnswer layered g) }
+{
+    let verdicts = check_groups(alloc, &layered)?;
+    let reasons = group_reasons(alloc, &layered, verdicts.as_slice())?;
+    Ok(ExplainedGroups::new(verdicts, reasons, layered.into_task()))
 }
 
 /// Returns the refusal of the task for a fault of its layers, with the reasons. For `Memory` it returns an `Err`.

@@ -1,0 +1,97 @@
+"""Why mutex groups aren't shown to be exclusive, computed from the file of a task and the verdicts on its groups: the lines that
+`--why` prints behind each of these. Two spaces stand in front of each line. A task here is as in families.py; `FACT` in a line
+represents `VARIABLE VALUE NAME`, with the name of the value.
+
+    derived                       fact FACT: the first one of the group on a derived variable
+    not shown: initial state      holds FACT, holds FACT: the first fact of the state section with a later different one, and the
+                                  first of these
+    not shown: operator I         operator I NAME, effect E sets FACT, and how the operator fails to keep the group:
+        effect F sets FACT        the two effects may fire together, and set facts of the group on different variables
+        may stay FACT             the fact of the group may hold before a step in which effect E fires, and behind it
+
+Told is the first such effect E, with the first effect F; where there is none, with the first fact of the group that may stay. Facts
+contradict each other as in families.py, in the family of the groups that are exclusive and the group itself.
+"""
+from axioms import task_of
+from families import clash, gone, grouped_tasks
+from layers import fact_said, with_reasons
+from steps import holds, preconditions
+from texts import as_bytes
+
+
+def sets(effect):
+    """Returns the fact that an effect sets."""
+    return effect[1], effect[3]
+
+
+def two_setters(operator, first, group, family):
+    """Returns the first effect that sets a fact of the group together with this one, on another variable; None where none may."""
+    known = [*preconditions(operator), *first[0]]
+    others = ((at, other) for at, other in enumerate(operator[2]) if sets(other) in group and other[1] != first[1])
+    return next((at for at, other in others if not clash([*known, *other[0]], family)), None)
+
+
+def staying(operator, first, group, family):
+    """Returns the first fact of the group on another variable that may stay where this effect fires; None where none may."""
+    others = (fact for fact in group if fact[0] != first[1])
+    return next((fact for fact in others if not gone(operator, fact, first, family)), None)
+
+
+def broken_reasons(task, place, group, family):
+    """Returns the lines of how an operator fails to keep a group."""
+    operator = task["operators"][place]
+    for at, effect in enumerate(operator[2]):
+        if sets(effect) not in group:
+            continue
+        said = [f"  operator {place} {operator[0]}", f"  effect {at} sets {fact_said(task, *sets(effect))}"]
+        other = two_setters(operator, effect, group, family)
+        if other is not None:
+            return [*said, f"  effect {other} sets {fact_said(task, *sets(operator[2][other]))}"]
+        fact = staying(operator, effect, group, family)
+        if fact is not None:
+            return [*said, f"  may stay {fact_said(task, *fact)}"]
+    raise AssertionError("the operator keeps the group")
+
+
+def group_reasons(task, group, verdict, family):
+    """Returns the lines for this verdict on a group, in words."""
+    if verdict == "exclusive":
+        return []
+    if verdict == "derived":
+        return [f"  fact {fact_said(task, *next(fact for fact in group if task['layers'][fact[0]] is not None))}"]
+    if verdict == "not shown: initial state":
+        held = [fact for fact in group if holds(task["defaults"], [fact])]
+        pair = next((f, g) for at, f in enumerate(held) for g in held[at + 1 :] if f != g)
+        return [f"  holds {fact_said(task, *fact)}" for fact in pair]
+    return broken_reasons(task, int(verdict.removeprefix("not shown: operator ")), group, [*family, group])
+
+
+def behind_groups(lines, text):
+    """Returns these lines of verdicts on the groups of the file's task, with the reasons behind each."""
+    task = task_of(as_bytes(text).decode("latin-1"))
+    verdicts = [line.split(" ", 2)[2] for line in lines]
+    family = [group for group, verdict in zip(task["groups"], verdicts) if verdict == "exclusive"]
+    told = zip(lines, task["groups"], verdicts)
+    return [said for line, group, verdict in told for said in (line, *group_reasons(task, group, verdict, family))]
+
+
+def with_all_reasons(output, text):
+    """Returns the output about the file of a task with the lines behind it: those of its groups, or why it isn't layered."""
+    said = as_bytes(output)
+    if not said.startswith(b"group "):
+        return with_reasons(output, text)
+    lines = behind_groups(said.decode("latin-1").removesuffix("\n").split("\n"), text)
+    return "".join(f"{line}\n" for line in lines).encode("latin-1")
+
+
+def reason_cases():
+    """Yields the tasks of families.py that are made at random, with `--why`. They could show a wrong definition of the reasons, in a
+    case that no one thought of."""
+    for made in grouped_tasks():
+        yield {
+            "name": f"{made['name']}, with reasons",
+            "words": ["mutex", "--why", "t.sas"],
+            "files": {"t.sas": made["task"]},
+            "output": with_all_reasons(made["output"], made["task"]),
+            "status": made["status"],
+        }

@@ -1,0 +1,122 @@
+-- Each line behind that of a group tells a reason; and what is left of the lines of groups when reasons are taken away.
+use Rattle.std.proofs.Common.{◌≡◌, ℕ, suc, ◌+◌, ◌<◌, List, [], ◌∷◌, ◌++◌, length, get_or, codes, refl, ap, subst, ◌∙◌, arith, Bool, Option, Some, None}
+use Rattle.std.specs.Prelude.{not, filter, if◌then◌else◌}
+use Rattle.std.specs.List.{AllByRecursion}
+use Rattle.std.specs.Option.{option_map_or}
+use Rattle.sas_core.specs.declared.parts.Fact.{Fact}
+use Rattle.sas_core.specs.declared.parts.Parts.{Parts}
+use Rattle.sas_lines.specs.Lines.{text, lines}
+use Rattle.sas_lines.proofs.Splitting.{Plain, lines-text}
+use Rattle.sas_reader.proofs.Plain.{plain_bytes}
+use Rattle.sas_task_format.proofs.TaskSections.{all_map}
+use Rattle.sas_groups.specs.declared.verdict.Verdict.{Verdict}
+use Rattle.sas_groups.specs.declared.verdict.Verdict.TheVariants.{Exclusive, Derived, Initial, Broken}
+use Rattle.sas_group_reasons.specs.declared.reason.Failure.{Failure}
+use Rattle.sas_group_reasons.specs.declared.reason.Failure.TheVariants.{SetsTwo, MayStay}
+use Rattle.sas_group_reasons.specs.declared.reason.Reason.{Reason}
+use Rattle.sas_group_reasons.specs.declared.reason.Reason.TheVariants.{OnDerived, HoldsTwo, Breaks}
+use Rattle.sas_group_reasons.specs.Reasons.{IsReasonIfAny, reason_at}
+use Rattle.sas_output.specs.declared.ending.Status.TheVariants.{Yes}
+use Rattle.sas_answers.specs.GroupWords.{group_line, verdict_lines_from, verdict_lines, groups_status}
+use Rattle.sas_wording.specs.Facts.{fact_words}
+use Rattle.sas_task_reasons.specs.WhyGroups.{fact_line, holds_line, stays_line, member_at, failure_lines, reason_lines, group_lines, why_lines_from, why_lines}
+use Rattle.sas_task_reasons.proofs.GroupAnswers.{no_reason}
+use Rattle.sas_requests.specs.Why.{is_reason, without_reasons}
+use Rattle.sas_requests.proofs.PlainNames.{HasPlainNames}
+use Rattle.sas_requests.proofs.ReasonLines.{IsReason, AreReasons, two_spaces, plain_fact}
+use Rattle.sas_requests.proofs.LayerLines.{operator, effect}
+use Rattle.sas_requests.proofs.ToldLines.{kept_first, plain_told, plain_reason, group_told}
+
+all_both : {A : Type 0} (P : A → Type 0) (a b : List A) → AllByRecursion P a → AllByRecursion P b → AllByRecursion P (a ++ b)
+all_both P [] b h g = g
+all_both P (first ∷ a) b h g = (h.0, all_both P a b h.1 g)
+
+-- lines of reasons go, whatever stands behind them
+reasons_gone : (reasons behind : List (List ℕ)) → AreReasons reasons → filter (λ line. not (is_reason line)) (reasons ++ behind) ≡ filter (λ line. not (is_reason line)) behind
+reasons_gone [] behind h = refl
+reasons_gone (first ∷ reasons) behind h =
+    let tells : IsReason first = h.0 in
+    let rest = filter (λ line. not (is_reason line)) (reasons ++ behind) in
+    ap (λ (b : Bool). if not b then first ∷ rest else rest) tells.tells ∙ reasons_gone reasons behind h.1
+
+-- an exclusive group has no reason
+none_if_exclusive : (p : Parts) (group : ℕ) (found : Option Reason) → IsReasonIfAny p group Exclusive found → found ≡ None
+none_if_exclusive p group None is = refl
+none_if_exclusive p group (Some reason) is = absurd (no_reason reason is.told)
+
+module _ (p : Parts) (names : HasPlainNames p) where
+  -- ---- the lines of a reason
+
+  fact_tells : (f : Fact) → IsReason (fact_line p f)
+  fact_tells f = two_spaces (codes "fact" ∷ fact_words p f.var f.value) (plain_bytes (codes "fact") refl, plain_fact p names f.var f.value)
+
+  holds_tells : (f : Fact) → IsReason (holds_line p f)
+  holds_tells f = two_spaces (codes "holds" ∷ fact_words p f.var f.value) (plain_bytes (codes "holds") refl, plain_fact p names f.var f.value)
+
+  stays_tells : (f : Fact) → IsReason (stays_line p f)
+  stays_tells f = two_spaces (codes "may stay" ∷ fact_words p f.var f.value) (plain_bytes (codes "may stay") refl, plain_fact p names f.var f.value)
+
+  failure_tells : (group place : ℕ) (failure : Failure) → AreReasons (failure_lines p group place failure)
+  failure_tells group place (SetsTwo first second) = (operator p names place, (effect p names place first, (effect p names place second, tt)))
+  failure_tells group place (MayStay first member) = (operator p names place, (effect p names place first, (stays_tells (member_at p group member), tt)))
+
+  reason_tells : (group : ℕ) (reason : Reason) → AreReasons (reason_lines p group reason)
+  reason_tells group (OnDerived f) = (fact_tells f, tt)
+  reason_tells group (HoldsTwo f g) = (holds_tells f, (holds_tells g, tt))
+  reason_tells group (Breaks place failure) = failure_tells group place failure
+
+  pub any_tells : (group : ℕ) (found : Option Reason) → AreReasons (option_map_or (reason_lines p group) found [])
+  any_tells group None = tt
+  any_tells group (Some reason) = reason_tells group reason
+
+  module _ (reasons : List (Option Reason)) where
+    abbrev pub behind : ℕ → List (List ℕ)
+    behind group = option_map_or (reason_lines p group) (reason_at reasons group) []
+
+    -- ---- the lines of the text
+
+    plain_from : (group : ℕ) (verdicts : List Verdict) → AllByRecursion Plain (why_lines_from p reasons group verdicts)
+    plain_from group [] = tt
+    plain_from group (verdict ∷ verdicts) = (
+      plain_told (group_line group verdict) (group_told group verdict),
+      all_both Plain (behind group) (why_lines_from p reasons (group + 1) verdicts)
+          (all_map IsReason Plain plain_reason (behind group) (any_tells group (reason_at reasons group)))
+          (plain_from (group + 1) verdicts),
+    )
+
+    pub lines_of_groups : (verdicts : List Verdict) → lines (text (why_lines p verdicts reasons)) ≡ why_lines p verdicts reasons
+    lines_of_groups verdicts = lines-text (why_lines p verdicts reasons) (plain_from 0 verdicts)
+
+    -- ---- without reasons
+
+    kept_from : (group : ℕ) (verdicts : List Verdict) → filter (λ line. not (is_reason line)) (why_lines_from p reasons group verdicts) ≡ verdict_lines_from group verdicts
+    kept_from group [] = refl
+    kept_from group (verdict ∷ verdicts) =
+        let later = why_lines_from p reasons (group + 1) verdicts in
+        kept_first (group_line group verdict) (behind group ++ later) (group_told group verdict)
+        ∙ ap (λ (l : List (List ℕ)). group_line group verdict ∷ l)
+        (reasons_gone (behind group) later (any_tells group (reason_at reasons group)) ∙ kept_from (group + 1) verdicts)
+
+    pub groups_kept : (verdicts : List Verdict) → without_reasons (text (why_lines p verdicts reasons)) ≡ text (verdict_lines verdicts)
+    groups_kept verdicts =
+        ap (λ (ls : List (List ℕ)). text (filter (λ line. not (is_reason line)) ls)) (lines_of_groups verdicts)
+        ∙ ap (λ (ls : List (List ℕ)). text ls) (kept_from 0 verdicts)
+
+-- ---- where all groups are exclusive
+
+abbrev AreReasonsFrom : Parts → List (Option Reason) → ℕ → List Verdict → Type 0
+AreReasonsFrom p reasons group verdicts = (k : ℕ) → k < length verdicts → IsReasonIfAny p (group + k) (get_or verdicts k Exclusive) (reason_at reasons (group + k))
+
+module _ (p : Parts) (reasons : List (Option Reason)) where
+  pub all_exclusive : (group : ℕ) (verdicts : List Verdict) → AreReasonsFrom p reasons group verdicts → groups_status verdicts ≡ Yes → why_lines_from p reasons group verdicts ≡ verdict_lines_from group verdicts
+  all_exclusive group [] are says = refl
+  all_exclusive group (Exclusive ∷ verdicts) are says =
+      let later = why_lines_from p reasons (group + 1) verdicts in
+      let its : IsReasonIfAny p group Exclusive (reason_at reasons group) = subst (λ (m : ℕ). IsReasonIfAny p m Exclusive (reason_at reasons m)) (omega arith) (are 0 (omega arith)) in
+      let others : AreReasonsFrom p reasons (group + 1) verdicts = λ k lt.
+      subst (λ (m : ℕ). IsReasonIfAny p m (get_or verdicts k Exclusive) (reason_at reasons m)) (omega arith) (are (suc k) (omega (arith, lt))) in
+      ap (λ (found : Option Reason). group_lines p group Exclusive found ++ later) (none_if_exclusive p group (reason_at reasons group) its)
+      ∙ ap (λ (l : List (List ℕ)). group_line group Exclusive ∷ l) (all_exclusive (group + 1) verdicts others says)
+  all_exclusive group (Derived ∷ verdicts) are says = absurd cc
+  all_exclusive group (Initial ∷ verdicts) are says = absurd cc
+  all_exclusive group (Broken place ∷ verdicts) are says = absurd cc

@@ -1,0 +1,89 @@
+-- What is said of the groups of a layered task with reasons: one thing, and always something.
+use Rattle.std.proofs.Common.{◌≡◌, ℕ, zero, suc, ◌<◌, ◌≤◌, List, [], ◌∷◌, ◌++◌, length, refl, sym, ap, ◌∙◌, subst, inl, inr, arith, Option, Some, None}
+use Rattle.std.proofs.lemmas.Bool.{cases_eq}
+use Rattle.std.proofs.lemmas.List.{ext_get_or, length_push, get_or_push, get_or_append_left}
+use Rattle.sas_core.specs.declared.parts.Parts.{Parts}
+use Rattle.sas_groups.specs.declared.verdict.Verdict.{Verdict}
+use Rattle.sas_groups.specs.declared.verdict.Verdict.TheVariants.{Exclusive, Derived, Initial, Broken}
+use Rattle.sas_groups.specs.Verdicts.{IsJointVerdict}
+use Rattle.sas_mutex.specs.Joint.{verdict_at, AreJointVerdicts}
+use Rattle.sas_mutex.proofs.JointLists.{one_list, some_list}
+use Rattle.sas_group_reasons.specs.declared.reason.Reason.{Reason}
+use Rattle.sas_group_reasons.specs.declared.reason.Reason.TheVariants.{OnDerived, HoldsTwo, Breaks}
+use Rattle.sas_group_reasons.specs.Reasons.{verdict_of, IsReasonIfAny, reason_at, AreReasons}
+use Rattle.sas_group_reasons.proofs.GroupReasons.{one_reason, some_reason}
+use Rattle.sas_answers.proofs.AnswerLaws.{OneAnswer, SomeAnswer}
+use Rattle.sas_task_reasons.specs.WhyGroups.{groups_output, WhyGroupsAnswer}
+
+-- ---- one reason
+
+-- an exclusive group has none
+pub no_reason : (reason : Reason) → Exclusive ≡ verdict_of reason → ⊥
+no_reason (OnDerived fact) is = absurd cc
+no_reason (HoldsTwo first second) is = absurd cc
+no_reason (Breaks operator failure) is = absurd cc
+
+same_if_any : (p : Parts) (place : ℕ) (verdict : Verdict) (a b : Option Reason) → IsReasonIfAny p place verdict a → IsReasonIfAny p place verdict b → a ≡ b
+same_if_any p place verdict None None is_a is_b = refl
+same_if_any p place verdict None (Some b) is_a is_b = absurd (no_reason b (sym is_a ∙ is_b.told))
+same_if_any p place verdict (Some a) None is_a is_b = absurd (no_reason a (sym is_b ∙ is_a.told))
+same_if_any p place verdict (Some a) (Some b) is_a is_b = ap (λ (r : Reason). Some r) (one_reason p place verdict a b is_a is_b)
+
+pub one_reasons : (p : Parts) (verdicts : List Verdict) (a b : List (Option Reason)) → AreReasons p verdicts a → AreReasons p verdicts b → a ≡ b
+one_reasons p verdicts a b are are' = ext_get_or None a b (are.one_each ∙ sym are'.one_each) (λ place lt.
+    same place (subst (λ n. place < n) are.one_each lt))
+  where
+    same : (place : ℕ) → place < length p.groups → reason_at a place ≡ reason_at b place
+    same place exists = same_if_any p place (verdict_at verdicts place) (reason_at a place) (reason_at b place) (are.are place exists) (are'.are place exists)
+
+-- ---- and some
+
+some_if_any : (p : Parts) (place : ℕ) (verdict : Verdict) → place < length p.groups → IsJointVerdict p place verdict → ((reason : Option Reason) → IsReasonIfAny p place verdict reason → ⊥) → ⊥
+some_if_any p place Exclusive exists joint none = none None refl
+some_if_any p place Derived exists joint none = some_reason p place Derived exists joint (λ is. absurd cc) (λ reason is. none (Some reason) is)
+some_if_any p place Initial exists joint none = some_reason p place Initial exists joint (λ is. absurd cc) (λ reason is. none (Some reason) is)
+some_if_any p place (Broken operator) exists joint none = some_reason p place (Broken operator) exists joint (λ is. absurd cc) (λ reason is. none (Some reason) is)
+
+-- the reasons of the groups before a place
+record AreReasonsBelow (p : Parts) (verdicts : List Verdict) (end : ℕ) (reasons : List (Option Reason)) : Type 0 where
+  one_each : length reasons ≡ end
+  are : (place : ℕ) → place < end → IsReasonIfAny p place (verdict_at verdicts place) (reason_at reasons place)
+
+-- one reason more
+one_more : (p : Parts) (verdicts : List Verdict) (end : ℕ) (reasons : List (Option Reason)) (reason : Option Reason) → AreReasonsBelow p verdicts end reasons
+    → IsReasonIfAny p end (verdict_at verdicts end) reason → AreReasonsBelow p verdicts (suc end) (reasons ++ reason ∷ [])
+one_more p verdicts end reasons reason below here = record {
+  one_each = length_push reasons reason ∙ omega (arith, below.one_each);
+  are = λ place lt. elim (cases_eq place end) [
+    | inl is ↦ subst (IsReasonIfAny p place (verdict_at verdicts place)) (sym (get_or_push reasons reason None place (below.one_each ∙ sym is)))
+        (subst (λ n. IsReasonIfAny p n (verdict_at verdicts n) reason) (sym is) here)
+    | inr is_not ↦ subst (IsReasonIfAny p place (verdict_at verdicts place))
+        (sym (get_or_append_left reasons (reason ∷ []) None place (subst (λ n. place < n) (sym below.one_each) (omega arith))))
+        (below.are place (omega arith))
+  ];
+}
+
+module _ (p : Parts) (verdicts : List Verdict) (joint : AreJointVerdicts p verdicts) where
+  some_below : (end : ℕ) → end ≤ length p.groups → ((reasons : List (Option Reason)) → AreReasonsBelow p verdicts end reasons → ⊥) → ⊥
+  some_below zero within none = none [] (record { one_each = refl; are = λ place lt. absurd (omega arith) })
+  some_below (suc end) within none = some_below end (omega arith) (λ reasons below.
+      some_if_any p end (verdict_at verdicts end) (omega arith) (joint.are end (omega arith)) (λ reason here. none (reasons ++ reason ∷ []) (one_more p verdicts end reasons reason below here)))
+
+  pub some_reasons : ((reasons : List (Option Reason)) → AreReasons p verdicts reasons → ⊥) → ⊥
+  some_reasons none = some_below (length p.groups) (omega arith) (λ reasons below.
+      none reasons (record { one_each = below.one_each; are = below.are }))
+
+-- ---- one answer, and some
+
+pub one_groups_answer : OneAnswer WhyGroupsAnswer
+one_groups_answer p a b is_a is_b =
+    let verdicts : is_a.0 ≡ is_b.0 = one_list p is_a.0 is_b.0 is_a.2 is_b.2 in
+    let reasons : is_a.1 ≡ is_b.1 = one_reasons p is_b.0 is_a.1 is_b.1 (subst (λ (vs : List Verdict). AreReasons p vs is_a.1) verdicts is_a.3) is_b.3 in
+    is_a.4
+    ∙ ap (λ (vs : List Verdict). groups_output p vs is_a.1) verdicts
+    ∙ ap (λ (rs : List (Option Reason)). groups_output p is_b.0 rs) reasons
+    ∙ sym is_b.4
+
+pub some_groups_answer : SomeAnswer WhyGroupsAnswer
+some_groups_answer p none = some_list p (λ verdicts joint.
+    some_reasons p verdicts joint (λ reasons are. none (groups_output p verdicts reasons) (verdicts, reasons, joint, are, refl)))

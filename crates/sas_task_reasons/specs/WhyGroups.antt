@@ -1,0 +1,94 @@
+-- Why mutex groups aren't shown to be exclusive: the lines behind `group K ..`.
+use Rattle.std.specs.Prelude.{◌≡◌, ℕ, ◌+◌, ◌<◌, ◌^◌, List, [], ◌∷◌, ◌++◌, length, codes, Option, slice_index_or}
+use Rattle.std.specs.Option.{option_map_or}
+use Rattle.sas_core.specs.declared.parts.Fact.{Fact}
+use Rattle.sas_core.specs.declared.parts.Parts.{Parts}
+use Rattle.sas_core.specs.Grounded.{group_at}
+use Rattle.sas_lines.specs.Lines.{text}
+use Rattle.sas_groups.specs.declared.verdict.Verdict.{Verdict}
+use Rattle.sas_mutex.specs.Joint.{AreJointVerdicts}
+use Rattle.sas_group_reasons.specs.declared.reason.Failure.{Failure}
+use Rattle.sas_group_reasons.specs.declared.reason.Failure.TheVariants.{SetsTwo, MayStay}
+use Rattle.sas_group_reasons.specs.declared.reason.Reason.{Reason}
+use Rattle.sas_group_reasons.specs.declared.reason.Reason.TheVariants.{OnDerived, HoldsTwo, Breaks}
+use Rattle.sas_group_reasons.specs.Reasons.{AreReasons, reason_at}
+use Rattle.sas_output.specs.Ending.{Output}
+use Rattle.sas_output.specs.Words.{line}
+use Rattle.sas_answers.specs.GroupWords.{group_line, groups_status}
+use Rattle.sas_wording.specs.Facts.{fact_words}
+use Rattle.sas_task_reasons.specs.LayerReasons.{operator_line, effect_line}
+
+-- ---- lines
+
+-- `fact VAR VALUE NAME`, `holds VAR VALUE NAME` and `may stay VAR VALUE NAME`
+abbrev pub fact_line : Parts → Fact → List ℕ
+fact_line p f = line 2 (codes "fact" ∷ fact_words p f.var f.value)
+
+abbrev pub holds_line : Parts → Fact → List ℕ
+holds_line p f = line 2 (codes "holds" ∷ fact_words p f.var f.value)
+
+abbrev pub stays_line : Parts → Fact → List ℕ
+stays_line p f = line 2 (codes "may stay" ∷ fact_words p f.var f.value)
+
+-- ---- the lines of a reason
+
+-- the fact at this place of a group; behind the last one, that variable 0 has value 0
+abbrev pub member_at : Parts → ℕ → ℕ → Fact
+member_at p group place = slice_index_or (group_at p group) place (record { var = 0; value = 0 })
+
+-- how the operator fails to keep the group at this place
+abbrev pub failure_lines : Parts → ℕ → ℕ → Failure → List (List ℕ)
+failure_lines p group operator (SetsTwo effect other) =
+    operator_line p operator
+    ∷ effect_line p operator effect
+    ∷ effect_line p operator other
+    ∷ []
+failure_lines p group operator (MayStay effect place) =
+    operator_line p operator
+    ∷ effect_line p operator effect
+    ∷ stays_line p (member_at p group place)
+    ∷ []
+
+-- the reason why the group at this place isn't exclusive
+abbrev pub reason_lines : Parts → ℕ → Reason → List (List ℕ)
+reason_lines p group (OnDerived fact) = fact_line p fact ∷ []
+reason_lines p group (HoldsTwo first second) = holds_line p first ∷ holds_line p second ∷ []
+reason_lines p group (Breaks operator failure) = failure_lines p group operator failure
+
+-- ---- the lines of all groups
+
+-- the verdict on the group at this place, and behind it the reason, if there is one
+abbrev pub group_lines : Parts → ℕ → Verdict → Option Reason → List (List ℕ)
+group_lines p group verdict reason =
+    group_line group verdict ∷ option_map_or (reason_lines p group) reason []
+
+-- the lines of each group, the first of which has this place
+abbrev pub why_lines_from : Parts → List (Option Reason) → ℕ → List Verdict → List (List ℕ)
+why_lines_from p reasons group [] = []
+why_lines_from p reasons group (verdict ∷ verdicts) =
+    group_lines p group verdict (reason_at reasons group)
+    ++ why_lines_from p reasons (group + 1) verdicts
+
+-- the lines of each group of a task
+abbrev pub why_lines : Parts → List Verdict → List (Option Reason) → List (List ℕ)
+why_lines p verdicts reasons = why_lines_from p reasons 0 verdicts
+
+-- these lines, each ended by LF, and yes if all groups are exclusive
+abbrev pub groups_output : Parts → List Verdict → List (Option Reason) → Output
+groups_output p verdicts reasons =
+    record { text = text (why_lines p verdicts reasons); status = groups_status verdicts }
+
+-- ---- the answer
+
+-- the answer about the mutex groups of a layered task: the joint verdict on each, and the reason
+-- behind it where the group isn't exclusive
+abbrev pub WhyGroupsAnswer : Parts → Output → Type 0
+WhyGroupsAnswer p output = (verdicts : List Verdict)
+    × (reasons : List (Option Reason))
+    × AreJointVerdicts p verdicts
+    × AreReasons p verdicts reasons
+    × (output ≡ groups_output p verdicts reasons)
+
+-- such an answer is short enough that its bytes can be counted
+abbrev pub GroupReasonsFit : Parts → Type 0
+GroupReasonsFit p = (output : Output) → WhyGroupsAnswer p output → length output.text < 2 ^ 64

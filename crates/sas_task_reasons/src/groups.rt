@@ -1,0 +1,269 @@
+// The answer about the mutex groups of a layered task, with the reasons why groups aren't exclusive. Their names are put in as it is
+// written: they may make it far longer than the numbers that it holds.
+ghost use Rattle.std.specs.Prelude.{◌≡◌, ◌<◌, ◌^◌, ◌⊎◌, ◌↔◌, [], ◌∷◌, ◌++◌, length, false, Some};
+ghost use Rattle.std.specs.Prelude.{IfErr, IsErr, IsErrAnd, IsTrue, OnOk, codes, map};
+ghost use Rattle.std.specs.Io.KnownBytes.{Appends};
+ghost use Rattle.sas_lines.specs.Lines.{text};
+ghost use Rattle.sas_answers.specs.GroupWords.{group_line};
+ghost use Rattle.sas_group_reasons.specs.Reasons.{reason_at};
+ghost use Rattle.sas_output.specs.Ending.{Ends, IsWrite};
+ghost use Rattle.sas_output.specs.Pieces.{PutsOrBreaks};
+ghost use Rattle.sas_output.specs.Words.{line, word_bytes};
+ghost use Rattle.sas_task_reasons.specs.Line.{line_bytes};
+ghost use Rattle.sas_task_reasons.specs.WhyGroups as spec;
+ghost use Rattle.sas_task_reasons.specs.WhyGroups.{why_lines, groups_output};
+
+use crate::explained::push_reasons;
+use crate::facts::member_of;
+use crate::line::Line;
+use sas_answers::groups_status;
+use sas_flat::FlatTask;
+use sas_group_reasons::{Failure, Reason};
+use sas_lines::{Short, Watched};
+use sas_mutex::Verdict;
+use sas_output::{Indent, Pieces, Status, ToolFault, Word, Words};
+use std::alloc::Global;
+use std::io::Write;
+use std::marker::Model;
+
+/// The answer about the mutex groups of a layered task: the verdict on each, with the reason behind it where the group isn't
+/// exclusive. In a contract its value is its text and its status. A `usize` can hold the text's length, so the bytes of it that are
+/// written can be counted.
+#[derive(Drop)]
+pub struct ExplainedGroups {
+    verdicts: Vec<Verdict>,
+    reasons: Vec<Option<Reason>>,
+    task: FlatTask,
+}
+
+impl Model for ExplainedGroups {
+    ghost use Rattle.std.specs.Prelude.{◌<◌, ◌^◌, length};
+    ghost use Rattle.sas_output.specs.Ending.{Output};
+    ghost use Rattle.sas_lines.specs.Lines.{text};
+    ghost use Rattle.sas_task_reasons.specs.WhyGroups.{why_lines, groups_output};
+
+    ghost Value = { Output };
+
+    ghost view = { λ g. groups_output g.task g.verdicts.items g.reasons.items };
+
+    ghost invariant = { λ g. length (text (why_lines g.task g.verdicts.items g.reasons.items)) < 2 ^ 64 };
+}
+
+impl ExplainedGroups {
+    /// Returns the answer with these verdicts, and the reason for each that isn't `Exclusive`.
+    pub(crate) fn new(
+        verdicts: Vec<Verdict>,
+        reasons: Vec<Option<Reason>>,
+        task: FlatTask,
+    ) -> ExplainedGroups
+        requires { length (text (why_lines task verdicts.items reasons.items)) < 2 ^ 64 }
+        ensures { result ≡ groups_output task verdicts.items reasons.items }
+    {
+        ExplainedGroups {
+            verdicts,
+            reasons,
+            task,
+        }
+    }
+
+    /// Writes the text, in pieces, and returns the status. If an `Err` isn't a failed write, it is `Memory`, and nothing was
+    /// written. Not to be called after a failure.
+    pub fn write<W: Write>(&self, alloc: Global, out: &mut Watched<W>) -> Result<Status, ToolFault>
+        requires { out.old.failed ≡ false }
+        ensures ends { Ends (λ output. output ≡ Some self.now)
+            (Appends (W.contents out.old.device) (W.contents out.new.device)) result }
+        ensures nothing { IfErr result (λ e. IsWrite e
+            ⊎ ((e ≡ ToolFault.Memory) × (out.new ≡ out.old))) }
+        ensures writes { IsErrAnd result IsWrite ↔ IsTrue out.new.failed }
+    {
+        // What takes memory comes first.
+        let mut pieces = Pieces::new(alloc)?;
+        let verdicts = self.verdicts.as_slice();
+        let reasons = self.reasons.as_slice();
+        match push_all(&mut pieces, out, &self.task, verdicts, reasons) {
+            Ok(()) => Ok(groups_status(verdicts)),
+            Err(short) => Err(ToolFault::Write {
+                written: short.written,
+            }),
+        }
+    }
+}
+
+/// Writes the lines of all groups. In the end nothing is held back.
+fn push_all<W: Write>(
+    pieces: &mut Pieces,
+    out: &mut Watched<W>,
+    task: &FlatTask,
+    verdicts: &[Verdict],
+    reasons: &[Option<Reason>],
+) -> Result<(), Short>
+    requires { out.old.failed ≡ false }
+    ensures puts { PutsOrBreaks (W.contents out.old.device) (W.contents out.new.device)
+        pieces.old pieces.new
+        (text (why_lines task.now verdicts.now reasons.now)) result }
+    ensures empty { OnOk result (pieces.new.held ≡ []) }
+    ensures note { IsErr result ↔ IsTrue out.new.failed }
+{
+    push_groups(pieces, out, task, verdicts, reasons)?;
+    pieces.flush(out)
+}
+
+/// Adds the lines of all groups, each with its end, to the text.
+fn push_groups<W: Write>(
+    pieces: &mut Pieces,
+    out: &mut Watched<W>,
+    task: &FlatTask,
+    verdicts: &[Verdict],
+    reasons: &[Option<Reason>],
+) -> Result<(), Short>
+    requires { out.old.failed ≡ false }
+    ensures puts { PutsOrBreaks (W.contents out.old.device) (W.contents out.new.device)
+        pieces.old pieces.new
+        (text (why_lines task.now verdicts.now reasons.now)) result }
+    ensures note { IsErr result ↔ IsTrue out.new.failed }
+{
+    for (place, verdict) in verdicts.iter().enumerate() {
+        let group = Group {
+            place,
+            verdict: *verdict,
+            reason: reason_of(reasons, place),
+        };
+        push_group(pieces, out, task, group)?;
+    }
+    Ok(())
+}
+
+/// What is told of the group at a place: the verdict on it, and why it isn't exclusive.
+#[derive(Clone, Copy)]
+struct Group {
+    place: usize,
+    verdict: Verdict,
+    reason: Option<Reason>,
+}
+
+/// Returns the reason at this place, if there is one.
+fn reason_of(reasons: &[Option<Reason>], place: usize) -> Option<Reason>
+    ensures { result ≡ reason_at reasons.now place }
+{
+    reasons.get(place).copied().unwrap_or(None)
+}
+
+/// Adds the lines of the group, each with its end, to the text.
+fn push_group<W: Write>(
+    pieces: &mut Pieces,
+    out: &mut Watched<W>,
+    task: &FlatTask,
+    group: Group,
+) -> Result<(), Short>
+    requires { out.old.failed ≡ false }
+    ensures puts { PutsOrBreaks (W.contents out.old.device) (W.contents out.new.device)
+        pieces.old pieces.new
+        (text (spec.group_lines task.now group.place group.verdict group.reason)) result }
+    ensures note { IsErr result ↔ IsTrue out.new.failed }
+{
+    push_verdict(pieces, out, group.place, group.verdict)?;
+    match group.reason {
+        Some(reason) => push_why(pieces, out, task, group.place, reason),
+        None => Ok(()),
+    }
+}
+
+/// Adds the line of the verdict on the group at this place, and its end.
+fn push_verdict<W: Write>(
+    pieces: &mut Pieces,
+    out: &mut Watched<W>,
+    place: usize,
+    verdict: Verdict,
+) -> Result<(), Short>
+    requires { out.old.failed ≡ false }
+    ensures puts { PutsOrBreaks (W.contents out.old.device) (W.contents out.new.device)
+        pieces.old pieces.new
+        (group_line place verdict ++ 10 ∷ []) result }
+    ensures note { IsErr result ↔ IsTrue out.new.failed }
+{
+    let group = Word::Number(place as u64);
+    match verdict {
+        Verdict::Exclusive => push_words(pieces, out, &[group, Word::Text(b"exclusive")]),
+        Verdict::Derived => push_words(pieces, out, &[group, Word::Text(b"derived")]),
+        Verdict::Initial => push_words(
+            pieces,
+            out,
+            &[group, Word::Text(b"not shown: initial state")],
+        ),
+        Verdict::Broken { operator } => {
+            let words = Word::Text(b"not shown: operator");
+            let number = Word::Number(u64::from(operator));
+            push_words(pieces, out, &[group, words, number])
+        }
+    }
+}
+
+/// Adds the line of the word for a group and these words, and its end.
+fn push_words<W: Write>(
+    pieces: &mut Pieces,
+    out: &mut Watched<W>,
+    words: &[Word<'_>],
+) -> Result<(), Short>
+    requires { out.old.failed ≡ false }
+    ensures puts { PutsOrBreaks (W.contents out.old.device) (W.contents out.new.device)
+        pieces.old pieces.new
+        (line 0 (codes "group" ∷ map word_bytes words.now) ++ 10 ∷ []) result }
+    ensures note { IsErr result ↔ IsTrue out.new.failed }
+{
+    let line = Words {
+        indent: Indent::None,
+        first: b"group",
+        rest: words,
+    };
+    pieces.push_line(out, line)
+}
+
+/// Adds the lines of the reason why the group at this place isn't exclusive, each with its end.
+fn push_why<W: Write>(
+    pieces: &mut Pieces,
+    out: &mut Watched<W>,
+    task: &FlatTask,
+    group: usize,
+    reason: Reason,
+) -> Result<(), Short>
+    requires { out.old.failed ≡ false }
+    ensures puts { PutsOrBreaks (W.contents out.old.device) (W.contents out.new.device)
+        pieces.old pieces.new
+        (text (spec.reason_lines task.now group reason)) result }
+    ensures note { IsErr result ↔ IsTrue out.new.failed }
+{
+    match reason {
+        Reason::OnDerived { fact } => push_reasons(pieces, out, task, &[Line::Derived { fact }]),
+        Reason::HoldsTwo { first, second } => {
+            let lines = [Line::Holds { fact: first }, Line::Holds { fact: second }];
+            push_reasons(pieces, out, task, &lines)
+        }
+        Reason::Breaks { operator, failure } => {
+            let lines = failure_lines(task, group, operator, failure);
+            push_reasons(pieces, out, task, &lines)
+        }
+    }
+}
+
+/// Returns the lines of how the operator fails to keep the group at this place.
+fn failure_lines(task: &FlatTask, group: usize, operator: u32, failure: Failure) -> [Line; 3]
+    ensures { map (line_bytes task.now) result ≡ spec.failure_lines task.now group operator failure }
+{
+    match failure {
+        Failure::SetsTwo { effect, other } => [
+            Line::Operator { operator },
+            Line::Sets { operator, effect },
+            Line::Sets {
+                operator,
+                effect: other,
+            },
+        ],
+        Failure::MayStay { effect, place } => [
+            Line::Operator { operator },
+            Line::Sets { operator, effect },
+            Line::MayStay {
+                fact: member_of(task, group, place),
+            },
+        ],
+    }
+}
