@@ -4,8 +4,11 @@ ghost use Rattle.sas_reader.specs.Laws.{Laws};
 ghost use Rattle.sas_reader.specs.System.{Grammar};
 ghost use Rattle.sas_task_format.specs.Process.{process_node};
 ghost use Rattle.sas_task_format.specs.TaskFormat.{TaskSlot, task_format, TaskLineFits};
+ghost use Rattle.sas_task_format.specs.Marks.{OneDue, SomeDue};
 ghost use Rattle.sas_task_format.specs.TaskLaws.{TaskIsFilled, OneCompletion, FillingsInBytes};
+ghost use Rattle.sas_task_format.specs.TaskReasons.{OneTaskReason};
 ghost use Rattle.sas_task_format.specs.TaskProcess.{task_start};
+ghost use Rattle.sas_task_format.specs.WrongWords.{OneWrongWord};
 
 /// States the laws of task files. No byte list is a text of two tasks. The texts of a task are its lines, each ended by
 /// LF or by CR LF. Bytes are live exactly where they have no fault, and have one fault at most. All bytes are read as
@@ -18,4 +21,13 @@ pub fn task_laws()
     ensures one_completion { OneCompletion }
     ensures fillings { (before : Option TaskSlot) → FillingsInBytes before }
     ensures grammar { Grammar task_format TaskLineFits process_node task_start }
+{}
+
+/// States the laws of what is due in task files. Behind the same lines of a task one thing is due, at one place, and something
+/// is due wherever a task has a line. A wrong line has one first wrong word at most. So there is one reason why a line is refused.
+pub fn mark_laws()
+    ensures one_due { OneDue }
+    ensures some_due { SomeDue }
+    ensures one_wrong_word { OneWrongWord }
+    ensures one_reason { OneTaskReason }
 {}

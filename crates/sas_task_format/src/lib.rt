@@ -2,5 +2,9 @@
 #![tactic(auto)]
 
 mod laws;
+mod marks;
+mod places;
 
-pub use laws::task_laws;
+pub use laws::{mark_laws, task_laws};
+pub use marks::{Counts, Due, FixedWord, Location, Mark, WrongWord};
+pub use places::Place;

@@ -14,8 +14,8 @@ use Rattle.sas_task_format.specs.TaskProcess.{TaskProcess, task_start}
 use Rattle.sas_task_line.specs.Sections.{spelled, HasNames, OperatorInRanges, RuleInRanges}
 use Rattle.sas_task_line.specs.TaskRanges.{ranges_of, fact_in_ranges}
 use Rattle.sas_task_line.specs.declared.so_far.SoFar.{SoFar}
-use Rattle.sas_task_judge.specs.declared.task_judge.Place.{Place}
-use Rattle.sas_task_judge.specs.declared.task_judge.Place.TheVariants as at
+use Rattle.sas_task_format.specs.declared.places.Place.{Place}
+use Rattle.sas_task_format.specs.declared.places.Place.TheVariants as at
 use Rattle.sas_task_judge.specs.declared.task_judge.TaskJudge.{TaskJudge}
 use Rattle.sas_task_judge.specs.declared.task_judge.sections.Section.TheVariants as section
 use Rattle.sas_task_judge.specs.declared.task_machine.TaskMachine.{TaskMachine}

@@ -5,8 +5,8 @@ use Rattle.sas_core.specs.declared.parts.Fact.{Fact}
 use Rattle.sas_core.specs.declared.parts.Variable.{Variable}
 use Rattle.sas_core.specs.declared.parts.Effect.{Effect}
 use Rattle.sas_core.specs.declared.parts.Parts.{Parts}
-use Rattle.sas_task_judge.specs.declared.task_judge.Place.{Place}
-use Rattle.sas_task_judge.specs.declared.task_judge.Place.TheVariants as at
+use Rattle.sas_task_format.specs.declared.places.Place.{Place}
+use Rattle.sas_task_format.specs.declared.places.Place.TheVariants as at
 use Rattle.sas_task_line.specs.declared.so_far.SoFar.{SoFar}
 use Rattle.sas_task_judge.specs.declared.task_judge.TaskJudge.{TaskJudge}
 use Rattle.sas_task_format.specs.Process.{done, read, process_node}

@@ -15,8 +15,8 @@ use Rattle.sas_core.specs.Variables.{range_of}
 use Rattle.sas_task_line.specs.declared.task_events.Event.{Event}
 use Rattle.sas_task_line.specs.declared.task_events.Said.{Said}
 use Rattle.sas_task_line.specs.declared.so_far.SoFar.{SoFar}
-use Rattle.sas_task_judge.specs.declared.task_judge.Place.{Place}
-use Rattle.sas_task_judge.specs.declared.task_judge.Place.TheVariants as at
+use Rattle.sas_task_format.specs.declared.places.Place.{Place}
+use Rattle.sas_task_format.specs.declared.places.Place.TheVariants as at
 use Rattle.sas_task_judge.specs.declared.task_judge.TaskJudge.{TaskJudge}
 use Rattle.sas_task_judge.specs.TaskPlaces.{state_values, state_values_of, goal_begin}
 use Rattle.sas_task_judge.specs.TaskJudge.{state_at, state_of, KnownTo, LeadsOn, RejectsLine, TakesMemory, Moves, MovesBy, MovesAhead}

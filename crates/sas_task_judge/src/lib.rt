@@ -7,5 +7,6 @@ mod task_judge;
 mod task_machine;
 
 pub use keeper::{Keeper, VariableKept};
-pub use task_judge::{Place, Section, TaskJudge};
+pub use sas_task_format::Place;
+pub use task_judge::{Section, TaskJudge};
 pub use task_machine::TaskMachine;

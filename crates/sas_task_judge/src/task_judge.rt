@@ -11,58 +11,13 @@ mod sections;
 
 use sas_core::{Change, Fact, Items};
 use sas_reader::Kind;
+use sas_task_format::Place;
 use sas_task_line::{
     Event, Said, effect_at, fact_at, head_at, name_at, number_at, number_below, positive_at,
     signed_at, version_at, word_at,
 };
 pub use sections::Section;
 use std::alloc::Global;
-
-/// What comes next.
-#[derive(Clone, Copy, Debug, PartialEq, Eq)]
-pub enum Place {
-    VersionBegin,
-    VersionNumber,
-    VersionEnd,
-    MetricBegin,
-    MetricNumber,
-    MetricEnd,
-    VariableCount,
-    /// The next variable, or behind the last one the number of groups.
-    Variables,
-    VariableName,
-    VariableLayer,
-    VariableRange,
-    /// The next value, or behind the last one the end of the variable.
-    VariableValues,
-    /// The next group, or behind the last one the state.
-    Groups,
-    GroupSize,
-    /// The next fact, or behind the last one the end of the group.
-    GroupFacts,
-    /// The value of the next variable, or behind the last one the end of the state.
-    StateValues,
-    GoalBegin,
-    GoalSize,
-    /// The next fact, or behind the last one the end of the goal.
-    GoalFacts,
-    OperatorCount,
-    /// The next operator, or behind the last one the number of rules.
-    Operators,
-    OperatorName,
-    PrevailCount,
-    /// The next prevail condition, or behind the last one the number of effects.
-    Prevail,
-    /// The next effect, or behind the last one the cost.
-    Effects,
-    OperatorEnd,
-    /// The next rule, or behind the last one nothing.
-    Rules,
-    RuleSize,
-    /// The next condition, or behind the last one the head.
-    RuleConditions,
-    RuleEnd,
-}
 
 /// The place behind the lines so far, and what of them decides which lines may follow. It keeps nothing else of a task.
 #[derive(Drop)]

@@ -6,7 +6,8 @@ ghost use Rattle.sas_task_line.specs.declared.so_far.SoFar.{SoFar};
 ghost use Rattle.sas_task_format.specs.TaskProcess.{a_word, a_name, a_number, a_fact, any};
 ghost use Rattle.sas_task_judge.specs.TaskJudge.{Due, MovesAhead, HasEnded};
 
-use super::{Place, TaskJudge};
+use super::TaskJudge;
+use sas_task_format::Place;
 use sas_task_line::{
     Ahead, Event, change_in, effect_ahead, fact_ahead, head_ahead, name_ahead, number_ahead,
     value_in, word_ahead,

@@ -3,7 +3,8 @@
 ghost use Rattle.std.specs.Prelude.{◌≡◌, ◌<◌, ◌-◌, [], ◌∷◌, ◌++◌, IfSome, IfNone, OnOk, OnErr};
 ghost use Rattle.sas_task_judge.specs.TaskJudge.{SectionDue};
 
-use super::{Place, TaskJudge};
+use super::TaskJudge;
+use sas_task_format::Place;
 use sas_core::Items;
 use std::alloc::AllocError;
 

@@ -1,0 +1,157 @@
+-- Where each line of a task file stands, and what is due there: a list beside the layout, line by line.
+use Rattle.std.specs.Prelude.{◌≡◌, ℕ, ◌+◌, ◌-◌, List, [], ◌∷◌, ◌++◌, length, map, codes, slice_get, Some}
+use Rattle.sas_core.specs.declared.parts.Fact.{Fact}
+use Rattle.sas_core.specs.declared.parts.Variable.{Variable}
+use Rattle.sas_core.specs.declared.parts.Operator.{Operator}
+use Rattle.sas_core.specs.declared.parts.Rule.{Rule}
+use Rattle.sas_core.specs.declared.parts.Parts.{Parts}
+use Rattle.sas_core.specs.WellRanged.{WellRanged}
+use Rattle.sas_reader.specs.Format.{Next, lines_of}
+use Rattle.sas_task_format.specs.declared.marks.Due.{Due}
+use Rattle.sas_task_format.specs.declared.marks.Due.TheVariants as due
+use Rattle.sas_task_format.specs.declared.marks.FixedWord.{FixedWord}
+use Rattle.sas_task_format.specs.declared.marks.FixedWord.TheVariants as fixed
+use Rattle.sas_task_format.specs.declared.marks.Location.{Location}
+use Rattle.sas_task_format.specs.declared.marks.Location.TheVariants as at
+use Rattle.sas_task_format.specs.declared.marks.Mark.{Mark}
+use Rattle.sas_task_format.specs.TaskFormat.{TaskSlot, word_slot, name_slot, number_slot, signed_slot, fact_slot, effect_slot, head_slot, task_format}
+
+-- the words in their bytes
+abbrev pub word_bytes : FixedWord → List ℕ
+word_bytes fixed.BeginVersion = codes "begin_version"
+word_bytes fixed.EndVersion = codes "end_version"
+word_bytes fixed.BeginMetric = codes "begin_metric"
+word_bytes fixed.EndMetric = codes "end_metric"
+word_bytes fixed.BeginVariable = codes "begin_variable"
+word_bytes fixed.EndVariable = codes "end_variable"
+word_bytes fixed.BeginMutexGroup = codes "begin_mutex_group"
+word_bytes fixed.EndMutexGroup = codes "end_mutex_group"
+word_bytes fixed.BeginState = codes "begin_state"
+word_bytes fixed.EndState = codes "end_state"
+word_bytes fixed.BeginGoal = codes "begin_goal"
+word_bytes fixed.EndGoal = codes "end_goal"
+word_bytes fixed.BeginOperator = codes "begin_operator"
+word_bytes fixed.EndOperator = codes "end_operator"
+word_bytes fixed.BeginRule = codes "begin_rule"
+word_bytes fixed.EndRule = codes "end_rule"
+
+-- ---- what is due on the lines of each section
+
+-- the greatest number of a task file
+abbrev pub most_number : ℕ
+most_number = 2147483647
+
+-- any number, and one that isn't 0
+abbrev pub any_number : Due
+any_number = due.Number 0 most_number
+
+abbrev pub positive_number : Due
+positive_number = due.Number 1 most_number
+
+-- the first word, what is due between, the last word
+abbrev pub between_words : FixedWord → List Due → FixedWord → List Due
+between_words first dues last = due.Word first ∷ (dues ++ due.Word last ∷ [])
+
+-- this is due for each
+abbrev pub for_each : {A : Type 0} → Due → List A → List Due
+for_each one items = map (λ _. one) items
+
+-- how many there are, and then this for each
+abbrev pub counted_dues : {A : Type 0} → Due → List A → List Due
+counted_dues one items = any_number ∷ for_each one items
+
+abbrev pub version_dues : List Due
+version_dues = between_words fixed.BeginVersion (due.Number 3 3 ∷ []) fixed.EndVersion
+
+abbrev pub metric_dues : List Due
+metric_dues = between_words fixed.BeginMetric (due.Number 0 1 ∷ []) fixed.EndMetric
+
+abbrev pub variable_dues : Variable → List Due
+variable_dues v = between_words fixed.BeginVariable
+    (due.Name ∷ due.Layer ∷ positive_number ∷ for_each due.Name v.values) fixed.EndVariable
+
+abbrev pub group_dues : List Fact → List Due
+group_dues facts =
+    between_words fixed.BeginMutexGroup (counted_dues due.Fact facts) fixed.EndMutexGroup
+
+-- a value in the initial state is less than its variable's range
+abbrev pub value_due : Variable → Due
+value_due v = due.Number 0 (length v.values - 1)
+
+abbrev pub state_dues : List Variable → List Due
+state_dues variables = between_words fixed.BeginState (map value_due variables) fixed.EndState
+
+abbrev pub goal_dues : List Fact → List Due
+goal_dues facts = between_words fixed.BeginGoal (counted_dues due.Fact facts) fixed.EndGoal
+
+abbrev pub operator_dues : Operator → List Due
+operator_dues o = between_words fixed.BeginOperator
+    (due.Name ∷ (counted_dues due.Fact o.prevail
+    ++ (counted_dues due.Effect o.effects ++ any_number ∷ [])))
+    fixed.EndOperator
+
+abbrev pub rule_dues : Rule → List Due
+rule_dues r = between_words fixed.BeginRule
+    (counted_dues due.Fact r.conditions ++ due.Head ∷ []) fixed.EndRule
+
+-- ---- the marks of a task
+
+-- these are due there
+abbrev pub there : Location → List Due → List Mark
+there at dues = map (λ d. record { at = at; due = d }) dues
+
+-- what is due for each, there where its number says, which counts from this one on
+abbrev pub numbered : {A : Type 0} → (ℕ → Location) → (A → List Due) → ℕ → List A → List Mark
+numbered at dues n [] = []
+numbered at dues n (a ∷ rest) = there (at n) (dues a) ++ numbered at dues (n + 1) rest
+
+-- where each line of the task stands, and what is due there, in order
+abbrev pub task_marks : Parts → List Mark
+task_marks p =
+    there at.Version version_dues
+    ++ (there at.Metric metric_dues
+    ++ (there at.Variables (positive_number ∷ [])
+    ++ (numbered at.Variable variable_dues 0 p.variables
+    ++ (there at.Groups (any_number ∷ [])
+    ++ (numbered at.Group group_dues 0 p.groups
+    ++ (there at.State (state_dues p.variables)
+    ++ (there at.Goal (goal_dues p.goal)
+    ++ (there at.Operators (any_number ∷ [])
+    ++ (numbered at.Operator operator_dues 0 p.operators
+    ++ (there at.Rules (any_number ∷ [])
+    ++ numbered at.Rule rule_dues 0 p.rules))))))))))
+
+-- Behind these lines this is due: some task's lines begin with them, and its next one has the mark.
+pub record IsDue (begun : List (List ℕ)) (mark : Mark) : Type 0 where
+  pub task : Parts
+  pub more : List (List ℕ)
+  pub good : WellRanged task
+  pub lines : lines_of task_format task ≡ begun ++ more
+  pub marked : slice_get (task_marks task) (length begun) ≡ Some mark
+
+-- Behind these lines all lines of a task have come.
+abbrev pub IsWhole : List (List ℕ) → Type 0
+IsWhole begun = (task : Parts) × WellRanged task × (lines_of task_format task ≡ begun)
+
+-- where lines that are due belong
+abbrev pub slot_of_due : Due → TaskSlot
+slot_of_due (due.Word w) = word_slot (word_bytes w)
+slot_of_due due.Name = name_slot
+slot_of_due (due.Number least most) = number_slot
+slot_of_due due.Layer = signed_slot
+slot_of_due due.Fact = fact_slot
+slot_of_due due.Head = head_slot
+slot_of_due due.Effect = effect_slot
+-- nothing is due only behind all lines
+slot_of_due due.Nothing = name_slot
+
+-- ---- laws
+
+-- behind the same lines one thing is due
+abbrev pub OneDue : Type 0
+OneDue = (begun : List (List ℕ)) (m n : Mark) → IsDue begun m → IsDue begun n → m ≡ n
+
+-- where a task has a line at a slot, something is due, which belongs there
+abbrev pub SomeDue : Type 0
+SomeDue = (begun : List (List ℕ)) (s : TaskSlot) → Next task_format begun s
+    → (m : Mark) × IsDue begun m × (slot_of_due m.due ≡ s)

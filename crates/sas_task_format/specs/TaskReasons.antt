@@ -1,0 +1,30 @@
+-- Why a line of a task file is refused: where it stands, what is due there, and which word of it is wrong.
+use Rattle.std.specs.Prelude.{◌≡◌, ◌≢◌, ℕ, List, Option, None, IfSome}
+use Rattle.sas_reader.specs.declared.fault.Kind.{Kind}
+use Rattle.sas_reader.specs.declared.fault.Kind.TheVariants as kinds
+use Rattle.sas_task_format.specs.declared.marks.Due.TheVariants as due
+use Rattle.sas_task_format.specs.declared.marks.Location.TheVariants as at
+use Rattle.sas_task_format.specs.declared.marks.Mark.{Mark}
+use Rattle.sas_task_format.specs.declared.marks.WrongWord.{WrongWord}
+use Rattle.sas_task_format.specs.Marks.{IsDue}
+use Rattle.sas_task_format.specs.WrongWords.{IsWrongBehind}
+
+-- nothing is due behind the last line
+abbrev pub end_mark : Mark
+end_mark = record { at = at.End; due = due.Nothing }
+
+-- Behind these lines a text is refused for a fault of this kind: this is due there, and this word of
+-- the text is the first that may not stand there, if there is one.
+pub record IsTaskReason (kind : Kind) (begun : List (List ℕ)) (found : List ℕ) (mark : Mark)
+    (word : Option WrongWord) : Type 0 where
+  pub trailing : kind ≡ kinds.Trailing → mark ≡ end_mark
+  pub due : kind ≢ kinds.Trailing → IsDue begun mark
+  pub wrong_word : IfSome word (λ w. (kind ≡ kinds.Value) × IsWrongBehind begun found w)
+  pub no_wrong_word : word ≡ None → kind ≡ kinds.Value
+      → (w : WrongWord) → IsWrongBehind begun found w → ⊥
+
+-- ---- a law: there is one reason
+abbrev pub OneTaskReason : Type 0
+OneTaskReason = (kind : Kind) (begun : List (List ℕ)) (found : List ℕ) (m n : Mark)
+    (w x : Option WrongWord) → IsTaskReason kind begun found m w → IsTaskReason kind begun found n x
+    → (m ≡ n) × (w ≡ x)

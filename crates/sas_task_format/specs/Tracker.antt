@@ -1,0 +1,169 @@
+-- Where the lines of a task lead, one after another: what is due behind them. Proofs follow what is due by it; what is
+-- due is defined over tasks, by their marks.
+use Rattle.std.specs.Prelude.{ℕ, zero, suc, ◌+◌, ◌-◌, nat_lt, if◌then◌else◌, List, [], ◌∷◌, ◌++◌, length}
+use Rattle.std.specs.Prelude.{slice_index_or}
+use Rattle.sas_task_format.specs.declared.places.Place.{Place}
+use Rattle.sas_task_format.specs.declared.places.Place.TheVariants as place
+use Rattle.sas_task_format.specs.declared.marks.Due.{Due}
+use Rattle.sas_task_format.specs.declared.marks.Due.TheVariants as due
+use Rattle.sas_task_format.specs.declared.marks.FixedWord.TheVariants as fixed
+use Rattle.sas_task_format.specs.declared.marks.Location.{Location}
+use Rattle.sas_task_format.specs.declared.marks.Location.TheVariants as at
+use Rattle.sas_task_format.specs.declared.marks.Mark.{Mark}
+use Rattle.sas_task_format.specs.Marks.{any_number, positive_number}
+use Rattle.sas_task_format.specs.TaskFormat.{TaskLine}
+use Rattle.sas_task_format.specs.TaskProcess.{number_in}
+
+-- the place behind some lines; how many variables, groups, operators or rules are left, and how many
+-- values, facts or effects; and what has come
+pub record Tracker : Type 0 where
+  pub place : Place
+  pub left : ℕ
+  pub more : ℕ
+  -- the number of values of each variable, with that of a variable that has begun once it is known
+  pub ranges : List ℕ
+  -- how many variables, values of the initial state, groups, operators and rules have come
+  pub variables : ℕ
+  pub valued : ℕ
+  pub groups : ℕ
+  pub operators : ℕ
+  pub rules : ℕ
+
+abbrev pub tracker_start : Tracker
+tracker_start = record {
+  place = place.VersionBegin;
+  left = 0;
+  more = 0;
+  ranges = [];
+  variables = 0;
+  valued = 0;
+  groups = 0;
+  operators = 0;
+  rules = 0;
+}
+
+-- to another place; with so many left; with so many more
+abbrev pub goes_to : Place → Tracker → Tracker
+goes_to p t = record t { place = p }
+
+abbrev pub goes_with_left : Place → ℕ → Tracker → Tracker
+goes_with_left p n t = record t { place = p; left = n }
+
+abbrev pub goes_with_more : Place → ℕ → Tracker → Tracker
+goes_with_more p n t = record t { place = p; more = n }
+
+-- where none is left, or else, by how many are
+abbrev pub by_count : {A : Type 0} → ℕ → A → A → A
+by_count zero none some = none
+by_count (suc n) none some = some
+
+-- one less left, or one less more
+abbrev pub begins_one : Place → Tracker → Tracker
+begins_one p t = record t { place = p; left = t.left - 1 }
+
+abbrev pub one_less : Tracker → Tracker
+one_less t = record t { more = t.more - 1 }
+
+-- behind one line more, at a place
+abbrev pub step_at : Place → Tracker → TaskLine → Tracker
+step_at place.VersionBegin t i = goes_to place.VersionNumber t
+step_at place.VersionNumber t i = goes_to place.VersionEnd t
+step_at place.VersionEnd t i = goes_to place.MetricBegin t
+step_at place.MetricBegin t i = goes_to place.MetricNumber t
+step_at place.MetricNumber t i = goes_to place.MetricEnd t
+step_at place.MetricEnd t i = goes_to place.VariableCount t
+step_at place.VariableCount t i = goes_with_left place.Variables (number_in i) t
+step_at place.Variables t i = by_count t.left (goes_with_left place.Groups (number_in i) t)
+    (begins_one place.VariableName t)
+step_at place.VariableName t i = goes_to place.VariableLayer t
+step_at place.VariableLayer t i = goes_to place.VariableRange t
+step_at place.VariableRange t i =
+    record (goes_with_more place.VariableValues (number_in i) t) {
+      ranges = t.ranges ++ number_in i ∷ [];
+    }
+step_at place.VariableValues t i =
+    by_count t.more (record (goes_to place.Variables t) { variables = t.variables + 1 }) (one_less t)
+step_at place.Groups t i = by_count t.left (goes_to place.StateValues t) (begins_one place.GroupSize t)
+step_at place.GroupSize t i = goes_with_more place.GroupFacts (number_in i) t
+step_at place.GroupFacts t i =
+    by_count t.more (record (goes_to place.Groups t) { groups = t.groups + 1 }) (one_less t)
+step_at place.StateValues t i = if nat_lt t.valued (length t.ranges)
+    then record t { valued = t.valued + 1 }
+    else goes_to place.GoalBegin t
+step_at place.GoalBegin t i = goes_to place.GoalSize t
+step_at place.GoalSize t i = goes_with_more place.GoalFacts (number_in i) t
+step_at place.GoalFacts t i = by_count t.more (goes_to place.OperatorCount t) (one_less t)
+step_at place.OperatorCount t i = goes_with_left place.Operators (number_in i) t
+step_at place.Operators t i = by_count t.left (goes_with_left place.Rules (number_in i) t)
+    (begins_one place.OperatorName t)
+step_at place.OperatorName t i = goes_to place.PrevailCount t
+step_at place.PrevailCount t i = goes_with_more place.Prevail (number_in i) t
+step_at place.Prevail t i = by_count t.more (goes_with_more place.Effects (number_in i) t) (one_less t)
+step_at place.Effects t i =
+    by_count t.more (record (goes_to place.OperatorEnd t) { operators = t.operators + 1 }) (one_less t)
+step_at place.OperatorEnd t i = goes_to place.Operators t
+step_at place.Rules t i = begins_one place.RuleSize t
+step_at place.RuleSize t i = goes_with_more place.RuleConditions (number_in i) t
+step_at place.RuleConditions t i =
+    by_count t.more (record (goes_to place.RuleEnd t) { rules = t.rules + 1 }) (one_less t)
+step_at place.RuleEnd t i = goes_to place.Rules t
+
+abbrev pub step : Tracker → TaskLine → Tracker
+step t i = step_at t.place t i
+
+-- behind all of the lines
+abbrev pub track : Tracker → List TaskLine → Tracker
+track t [] = t
+track t (i ∷ items) = track (step t i) items
+
+-- ---- what is due
+
+abbrev pub mark : Location → Due → Mark
+mark where_it_stands what = record { at = where_it_stands; due = what }
+
+-- the value of the next variable in the initial state
+abbrev pub next_value : Tracker → Due
+next_value t = due.Number 0 (slice_index_or t.ranges t.valued 0 - 1)
+
+abbrev pub mark_at : Place → Tracker → Mark
+mark_at place.VersionBegin t = mark at.Version (due.Word fixed.BeginVersion)
+mark_at place.VersionNumber t = mark at.Version (due.Number 3 3)
+mark_at place.VersionEnd t = mark at.Version (due.Word fixed.EndVersion)
+mark_at place.MetricBegin t = mark at.Metric (due.Word fixed.BeginMetric)
+mark_at place.MetricNumber t = mark at.Metric (due.Number 0 1)
+mark_at place.MetricEnd t = mark at.Metric (due.Word fixed.EndMetric)
+mark_at place.VariableCount t = mark at.Variables positive_number
+mark_at place.Variables t = by_count t.left (mark at.Groups any_number)
+    (mark (at.Variable t.variables) (due.Word fixed.BeginVariable))
+mark_at place.VariableName t = mark (at.Variable t.variables) due.Name
+mark_at place.VariableLayer t = mark (at.Variable t.variables) due.Layer
+mark_at place.VariableRange t = mark (at.Variable t.variables) positive_number
+mark_at place.VariableValues t = mark (at.Variable t.variables)
+    (by_count t.more (due.Word fixed.EndVariable) due.Name)
+mark_at place.Groups t = by_count t.left (mark at.State (due.Word fixed.BeginState))
+    (mark (at.Group t.groups) (due.Word fixed.BeginMutexGroup))
+mark_at place.GroupSize t = mark (at.Group t.groups) any_number
+mark_at place.GroupFacts t = mark (at.Group t.groups)
+    (by_count t.more (due.Word fixed.EndMutexGroup) due.Fact)
+mark_at place.StateValues t = mark at.State
+    (if nat_lt t.valued (length t.ranges) then next_value t else due.Word fixed.EndState)
+mark_at place.GoalBegin t = mark at.Goal (due.Word fixed.BeginGoal)
+mark_at place.GoalSize t = mark at.Goal any_number
+mark_at place.GoalFacts t = mark at.Goal (by_count t.more (due.Word fixed.EndGoal) due.Fact)
+mark_at place.OperatorCount t = mark at.Operators any_number
+mark_at place.Operators t = by_count t.left (mark at.Rules any_number)
+    (mark (at.Operator t.operators) (due.Word fixed.BeginOperator))
+mark_at place.OperatorName t = mark (at.Operator t.operators) due.Name
+mark_at place.PrevailCount t = mark (at.Operator t.operators) any_number
+mark_at place.Prevail t = mark (at.Operator t.operators) (by_count t.more any_number due.Fact)
+mark_at place.Effects t = mark (at.Operator t.operators) (by_count t.more any_number due.Effect)
+-- the operator and the rule of the last line have been counted
+mark_at place.OperatorEnd t = mark (at.Operator (t.operators - 1)) (due.Word fixed.EndOperator)
+mark_at place.Rules t = by_count t.left (mark at.End due.Nothing)
+    (mark (at.Rule t.rules) (due.Word fixed.BeginRule))
+mark_at place.RuleSize t = mark (at.Rule t.rules) any_number
+mark_at place.RuleConditions t = mark (at.Rule t.rules) (by_count t.more due.Head due.Fact)
+mark_at place.RuleEnd t = mark (at.Rule (t.rules - 1)) (due.Word fixed.EndRule)
+
+abbrev pub mark_in : Tracker → Mark
+mark_in t = mark_at t.place t
