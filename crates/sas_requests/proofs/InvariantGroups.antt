@@ -141,7 +141,7 @@ reason_apart line place reason e =
     let tells : is_reason (group_line place Exclusive) ≡ true = subst (λ (l : List ℕ). is_reason l ≡ true) e reason.tells in
     absurd cc
 
-reasons_apart : (reasons : List (List ℕ)) → AreReasons reasons → (place : ℕ) → Contains reasons (group_line place Exclusive) → ⊥
+pub reasons_apart : (reasons : List (List ℕ)) → AreReasons reasons → (place : ℕ) → Contains reasons (group_line place Exclusive) → ⊥
 reasons_apart [] are place has = contains_none (group_line place Exclusive) has
 reasons_apart (line ∷ reasons) are place has = elim (contains_cases line reasons (group_line place Exclusive) has) [
   | inl here ↦ reason_apart line place are.0 here

@@ -21,3 +21,6 @@ mod GroupLengths
 pub mod ToldLines
 mod GroupLines
 mod SameAnswers
+pub mod RefusalReasons
+mod RefusalLaws
+pub mod ReasonedOutputs

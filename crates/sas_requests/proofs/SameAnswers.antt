@@ -1,4 +1,4 @@
--- An output with reasons is the same answer as the output without them.
+-- An output with the reasons of what was read is the same answer as the output without them.
 use Rattle.std.proofs.Common.{◌≡◌, ℕ, ◌+◌, ◌<◌, List, ◌++◌, length, get_or, arith, codes, refl, sym, ap, subst, ◌∙◌, inl, inr, Option, Some, None, Result, Ok, Err}
 use Rattle.sas_core.specs.declared.parts.Parts.{Parts}
 use Rattle.sas_core.specs.FirstFault.{first_fault}
@@ -29,9 +29,10 @@ use Rattle.sas_task_reasons.specs.LayerReasons.{layer_reasons}
 use Rattle.sas_task_reasons.specs.WhyGroups.{why_lines}
 use Rattle.sas_task_reasons.specs.WhyLayers.{why_refusal, why_verdict, WhyCheckAnswer, WhyLayeredGroups, WhyMutexAnswer}
 use Rattle.sas_explain.specs.Verdict.{WhyVerdict, Explains}
+use Rattle.sas_requests.specs.declared.Request.{Request}
 use Rattle.sas_requests.specs.declared.Request.TheVariants.{Show, Print, Steps, Check, Plan, Mutex}
-use Rattle.sas_requests.specs.Output.{IsAnswerOrRefusal, FileOut, LayersOut, JudgedOut, plain_refusal, ShowAnswer, PrintAnswer}
-use Rattle.sas_requests.specs.Why.{without_reasons, IsSameAnswer, SameAnswer}
+use Rattle.sas_requests.specs.Output.{Out, IsAnswerOrRefusal, FileOut, LayersOut, JudgedOut, plain_refusal, ShowAnswer, PrintAnswer}
+use Rattle.sas_requests.specs.Why.{without_reasons, IsSameAnswer, OutOfRead}
 use Rattle.sas_requests.proofs.PlainNames.{plain_names, plain_steps}
 use Rattle.sas_requests.proofs.ReasonLines.{why_tells}
 use Rattle.sas_requests.proofs.LayerLines.{layer_reasons_tell}
@@ -170,14 +171,14 @@ judged_same b c (Ok p) o reads out = layers_same c p reads.0.good (first_fault (
 
 -- ---- all of them
 
-pub same_answer : SameAnswer
-same_answer Show b c why out = (why, out, itself why (file_stays task_format (codes "task") ShowAnswer task_refusals_told show_stays b why out))
-same_answer Print b c why out = (why, out, itself why (file_stays task_format (codes "task") (PrintAnswer task_format) task_refusals_told (print_stays task_format) b why out))
-same_answer Steps b c why out = (why, out, itself why (file_stays plan_format (codes "plan") (PrintAnswer plan_format) plan_refusals_told (print_stays plan_format) c why out))
-same_answer Check b c why out =
+pub same_of_read : (request : Request) (b c : List ℕ) (why : Output) → OutOfRead request b c (Some why) → (plain : Output) × Out request b c (Some plain) × IsSameAnswer plain why
+same_of_read Show b c why out = (why, out, itself why (file_stays task_format (codes "task") ShowAnswer task_refusals_told show_stays b why out))
+same_of_read Print b c why out = (why, out, itself why (file_stays task_format (codes "task") (PrintAnswer task_format) task_refusals_told (print_stays task_format) b why out))
+same_of_read Steps b c why out = (why, out, itself why (file_stays plan_format (codes "plan") (PrintAnswer plan_format) plan_refusals_told (print_stays plan_format) c why out))
+same_of_read Check b c why out =
     let it = task_same CheckAnswer WhyCheckAnswer (λ p o ranged is. check_same p (first_fault (layer_checks p)) o ranged is) b out.0 why out.1 out.2 in
     (it.0, (out.0, out.1, it.1), it.2)
-same_answer Plan b c why out = let it = judged_same b c out.0 why out.1 out.2 in (it.0, (out.0, out.1, it.1), it.2)
-same_answer Mutex b c why out =
+same_of_read Plan b c why out = let it = judged_same b c out.0 why out.1 out.2 in (it.0, (out.0, out.1, it.1), it.2)
+same_of_read Mutex b c why out =
     let it = task_same MutexAnswer WhyMutexAnswer (λ p o ranged is. mutex_same p (first_fault (layer_checks p)) o ranged is) b out.0 why out.1 out.2 in
     (it.0, (out.0, out.1, it.1), it.2)

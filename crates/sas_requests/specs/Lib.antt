@@ -7,5 +7,6 @@ pub use Rattle.sas_output.specs.Ending
 pub use Rattle.sas_summary.specs.Summary
 pub mod Output
 pub mod Headline
+pub mod FileReasons
 pub mod Why
 pub mod Answering

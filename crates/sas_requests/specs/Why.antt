@@ -1,14 +1,15 @@
 -- What the program prints with `--why`: the output without it, and reasons behind a no.
-use Rattle.std.specs.Prelude.{◌≡◌, ℕ, Bool, not, List, filter, codes, Option, Some, None}
+use Rattle.std.specs.Prelude.{◌≡◌, ℕ, Bool, not, List, filter, codes, Option, Some, None, option_map}
 use Rattle.sas_lines.specs.Lines.{text, lines}
 use Rattle.sas_output.specs.declared.ending.Status.TheVariants.{Yes, No}
 use Rattle.sas_output.specs.Ending.{Output}
 use Rattle.sas_reasons.specs.Lines.{begins}
 use Rattle.sas_task_format.specs.TaskFormat.{task_format}
-use Rattle.sas_task_reasons.specs.WhyLayers.{why_refusal, WhyCheckAnswer, WhyMutexAnswer}
+use Rattle.sas_task_reasons.specs.WhyLayers.{with_reasons, why_refusal, WhyCheckAnswer, WhyMutexAnswer}
 use Rattle.sas_explain.specs.Verdict.{WhyVerdict}
 use Rattle.sas_requests.specs.declared.Request.{Request}
 use Rattle.sas_requests.specs.declared.Request.TheVariants.{Show, Print, Steps, Check, Plan, Mutex}
+use Rattle.sas_requests.specs.FileReasons.{RefusalReasons}
 use Rattle.sas_requests.specs.Output.{Out, ShowOut, PrintOut, StepsOut, FileOut, PlanOutBy, IsLong}
 
 -- the output of `check`, `mutex` and `plan` with reasons, about the bytes b of the task and c of the
@@ -22,16 +23,24 @@ WhyMutexOut = FileOut task_format (codes "task") WhyMutexAnswer
 abbrev pub WhyPlanOut : List ℕ → List ℕ → Option Output → Type 0
 WhyPlanOut = PlanOutBy WhyVerdict why_refusal
 
--- The output with reasons for the bytes b of the task and c of the plan, or none if the file that
--- decides it is too long. Reasons are told of plans, of tasks that aren't layered, and of mutex
--- groups; all else is answered as without them.
-abbrev pub OutWhy : Request → List ℕ → List ℕ → Option Output → Type 0
-OutWhy Show b c output = ShowOut b output
-OutWhy Print b c output = PrintOut b output
-OutWhy Steps b c output = StepsOut c output
-OutWhy Check b c output = WhyCheckOut b output
-OutWhy Plan b c output = WhyPlanOut b c output
-OutWhy Mutex b c output = WhyMutexOut b output
+-- The output for the bytes b of the task and c of the plan with the reasons of what was read: why a plan
+-- isn't valid, a task isn't layered, or a mutex group isn't exclusive; or none if the file that decides
+-- it is too long.
+abbrev pub OutOfRead : Request → List ℕ → List ℕ → Option Output → Type 0
+OutOfRead Show b c output = ShowOut b output
+OutOfRead Print b c output = PrintOut b output
+OutOfRead Steps b c output = StepsOut c output
+OutOfRead Check b c output = WhyCheckOut b output
+OutOfRead Plan b c output = WhyPlanOut b c output
+OutOfRead Mutex b c output = WhyMutexOut b output
+
+-- The output with reasons: this, and behind the refusal of a file why it is refused.
+pub record OutWhy (request : Request) (b c : List ℕ) (output : Option Output) : Type 0 where
+  pub of_read : Option Output
+  pub reasons : List (List ℕ)
+  pub is_out : OutOfRead request b c of_read
+  pub are_reasons : RefusalReasons request b c reasons
+  pub whole : output ≡ option_map (with_reasons reasons) of_read
 
 -- ---- the same answer
 

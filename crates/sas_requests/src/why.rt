@@ -1,5 +1,4 @@
-// Why a task isn't layered, why a plan doesn't solve a task, and why mutex groups aren't exclusive. What is told of a file that is
-// refused is what is told without reasons.
+// Why a file is refused, why a task isn't layered, why a plan doesn't solve a task, and why mutex groups aren't exclusive.
 ghost use Rattle.std.specs.Prelude.{◌≡◌, ◌↔◌, ◌||◌, ℕ, List, false, Some};
 ghost use Rattle.std.specs.Prelude.{IfErr, IfOk, IsErrOf, IsFalse, IsTrue};
 ghost use Rattle.std.specs.Io.KnownBytes.{Consumes};
@@ -50,11 +49,50 @@ pub fn explanation_to<T: Read, P: Read>(
 {
     match request {
         Request::Plan => plan_explanation(alloc, task, plan),
-        Request::Show => answer_to(alloc, Request::Show, task, plan),
-        Request::Print => answer_to(alloc, Request::Print, task, plan),
-        Request::Steps => answer_to(alloc, Request::Steps, task, plan),
+        Request::Show => show_explanation(alloc, task),
+        Request::Print => print_explanation(alloc, task),
+        Request::Steps => steps_explanation(alloc, plan),
         Request::Check => check_explanation(alloc, task),
         Request::Mutex => mutex_explanation(alloc, task),
+    }
+}
+
+/// Returns the answer with the summary of a task, or why it is refused.
+fn show_explanation<R: Read>(alloc: Global, reader: &mut Watched<R>) -> Result<Answer, ToolFault>
+    requires { reader.old.failed ≡ false }
+    ensures { AnswersFile R.remaining (WhyFileOut ShowAnswer) reader.old reader.new result }
+{
+    match read_outline_telling(alloc, reader) {
+        Ok(outline) => Ok(Answer::Summary(Summary::new(outline))),
+        Err(refusal) => explain_task_refusal(alloc, refusal),
+    }
+}
+
+/// Returns the answer with the lines of a task, or why it is refused.
+fn print_explanation<R: Read>(alloc: Global, reader: &mut Watched<R>) -> Result<Answer, ToolFault>
+    requires { reader.old.failed ≡ false }
+    ensures { AnswersFile R.remaining WhyPrintOut reader.old reader.new result }
+{
+    match read_task_text_telling(alloc, reader) {
+        Ok(text) => Ok(Answer::Text(Told {
+            text,
+            status: Status::Yes,
+        })),
+        Err(refusal) => explain_task_refusal(alloc, refusal),
+    }
+}
+
+/// Returns the answer with the steps of a plan and its cost, or why it is refused.
+fn steps_explanation<R: Read>(alloc: Global, plan: &mut Watched<R>) -> Result<Answer, ToolFault>
+    requires { plan.old.failed ≡ false }
+    ensures { AnswersFile R.remaining WhyStepsOut plan.old plan.new result }
+{
+    match read_plan_text_telling(alloc, plan) {
+        Ok(text) => Ok(Answer::Text(Told {
+            text,
+            status: Status::Yes,
+        })),
+        Err(refusal) => explain_plan_refusal(alloc, refusal),
     }
 }
 
@@ -63,9 +101,9 @@ fn check_explanation<R: Read>(alloc: Global, reader: &mut Watched<R>) -> Result<
     requires { reader.old.failed ≡ false }
     ensures { AnswersFile R.remaining WhyCheckOut reader.old reader.new result }
 {
-    let task = match read_flat_task(alloc, reader) {
+    let task = match read_flat_task_telling(alloc, reader) {
         Ok(task) => task,
-        Err(fault) => return refuse(alloc, "task", fault),
+        Err(refusal) => return explain_task_refusal(alloc, refusal),
     };
     Ok(answer_of(explain_check(alloc, task)?))
 }
@@ -76,9 +114,9 @@ fn mutex_explanation<R: Read>(alloc: Global, reader: &mut Watched<R>) -> Result<
     requires { reader.old.failed ≡ false }
     ensures { AnswersFile R.remaining WhyMutexOut reader.old reader.new result }
 {
-    let task = match read_flat_task(alloc, reader) {
+    let task = match read_flat_task_telling(alloc, reader) {
         Ok(task) => task,
-        Err(fault) => return refuse(alloc, "task", fault),
+        Err(refusal) => return explain_task_refusal(alloc, refusal),
     };
     Ok(answer_of(explain_groups(alloc, task)?))
 }
@@ -106,9 +144,9 @@ fn plan_explanation<T: Read, P: Read>(
     ensures { AnswersFiles T.remaining P.remaining WhyPlanOut
         task.old task.new plan.old plan.new result }
 {
-    let read = match read_flat_task(alloc, task) {
+    let read = match read_flat_task_telling(alloc, task) {
         Ok(read) => read,
-        Err(fault) => return refuse(alloc, "task", fault),
+        Err(refusal) => return explain_task_refusal(alloc, refusal),
     };
     match Layered::new(alloc, read) {
         Ok(layered) => explain_judged(alloc, layered, plan),
@@ -135,14 +173,14 @@ fn explain_judged<P: Read>(
     requires task { (b : List ℕ) × ValueOf task_format b layered }
     ensures { AnswersFile P.remaining (VerdictOut WhyVerdict layered) plan.old plan.new result }
 {
-    match read_flat_plan(alloc, plan) {
+    match read_flat_plan_telling(alloc, plan) {
         Ok(read) => match explain_plan(alloc, layered, read)? {
             PlanAnswer::Valid(told) => Ok(Answer::Text(told)),
             PlanAnswer::Explained(explained) => Ok(Answer::Explained(explained)),
         },
-        Err(fault) => {
+        Err(refusal) => {
             drop(layered);
-            refuse(alloc, "plan", fault)
+            explain_plan_refusal(alloc, refusal)
         }
     }
 }

@@ -1,12 +1,8 @@
 use Rattle.std.proofs.Common.{[]}
-use Rattle.sas_task_reasons.specs.WhyLayers.{why_refusal, WhyMutexAnswer}
-use Rattle.sas_explain.specs.Verdict.{WhyVerdict}
 use Rattle.sas_requests.specs.Answering.{output_of}
 use Rattle.sas_requests.specs.Why.{OutWhy}
 use Rattle.sas_requests.proofs.Endings.{ends_as, ends_well}
-use Rattle.sas_requests.proofs.Headlines.{headline_of}
-use Rattle.sas_requests.proofs.InvariantGroups.{why_groups, invariants_of}
-use Rattle.sas_requests.proofs.WhyAnswers.{why_tells_valid, why_refuses}
+use Rattle.sas_requests.proofs.ReasonedOutputs.{headline_why, invariants_why}
 use Rattle.sas_requests.proofs.explain.Goals as goal
 
 pub returns-clause-output : goal.returns-clause-output
@@ -22,10 +18,10 @@ pub returns-clause-headline : goal.returns-clause-headline
 returns-clause-headline g c =
     ends_well (output_of c.in_ok-answer.answer) _ _ _ c.write_answer.ensures.ends (λ status same sent. λ plan b c' before known_b known_c known.
     let answer = c.in_ok-answer.ensures.output b c' (λ _. known_b, λ _. known_c) in
-    headline_of WhyVerdict why_refusal why_tells_valid why_refuses b c' (output_of c.in_ok-answer.answer) (rw plan at answer) _ _ before status known same sent)
+    headline_why b c' (output_of c.in_ok-answer.answer) (rw plan at answer) _ _ before status known same sent)
 
 pub returns-clause-invariants : goal.returns-clause-invariants
 returns-clause-invariants g c =
     ends_well (output_of c.in_ok-answer.answer) _ _ _ c.write_answer.ensures.ends (λ status same sent. λ mutex b before known_b known.
     let answer = c.in_ok-answer.ensures.output b [] (rw mutex (λ _. known_b, λ e. absurd cc)) in
-    invariants_of WhyMutexAnswer why_groups b (output_of c.in_ok-answer.answer) (rw mutex at answer) _ _ before known sent)
+    invariants_why b [] (output_of c.in_ok-answer.answer) (rw mutex at answer) _ _ before known sent)

@@ -1,5 +1,4 @@
-use Rattle.sas_requests.proofs.SameAnswers.{same_answer}
-use Rattle.sas_requests.proofs.WhyLaws.{one_why, some_why, long_why}
+use Rattle.sas_requests.proofs.ReasonedOutputs.{same_answer, one_why, some_why, long_why}
 use Rattle.sas_requests.proofs.laws.explain_laws.Goals as goal
 
 pub returns-clause-same : goal.returns-clause-same

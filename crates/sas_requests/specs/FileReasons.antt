@@ -1,0 +1,91 @@
+-- Why a file is refused: the lines that stand behind its refusal.
+use Rattle.std.specs.Prelude.{◌≡◌, ℕ, List, [], ◌∷◌, length, take, nat_lt, Option, Some, None, option_map, Result, Ok, Err}
+use Rattle.sas_core.specs.declared.parts.Parts.{Parts}
+use Rattle.sas_core.specs.FirstFault.{first_fault}
+use Rattle.sas_meaning.specs.declared.layered.LayerFault.{LayerFault}
+use Rattle.sas_meaning.specs.LayerChecks.{layer_checks}
+use Rattle.sas_reader.specs.declared.fault.Fault.{Fault}
+use Rattle.sas_reader.specs.declared.fault.Kind.{Kind}
+use Rattle.sas_reader.specs.declared.fault.Kind.TheVariants.{TooLong}
+use Rattle.sas_reader.specs.Format.{Format, ReadsAs}
+use Rattle.sas_reader.specs.Limit.{most_bytes}
+use Rattle.sas_reader.specs.Telling.{IsAbout}
+use Rattle.sas_plan_file.specs.PlanFormat.{plan_format}
+use Rattle.sas_task_format.specs.declared.marks.Mark.{Mark}
+use Rattle.sas_task_format.specs.declared.marks.WrongWord.{WrongWord}
+use Rattle.sas_task_format.specs.TaskFormat.{task_format}
+use Rattle.sas_task_format.specs.TaskReasons.{IsTaskReason}
+use Rattle.sas_file_reasons.specs.TaskDue.{task_reason_lines}
+use Rattle.sas_file_reasons.specs.PlanDue.{plan_reason_lines}
+use Rattle.sas_output.specs.Ending.{Output}
+use Rattle.sas_requests.specs.declared.Request.{Request}
+use Rattle.sas_requests.specs.declared.Request.TheVariants.{Show, Print, Steps, Check, Plan, Mutex}
+
+-- ---- one file
+
+-- `Tells` relates the kind of a fault, the lines that were accepted before it, and the text that
+-- stood there, to the lines that tell why it may not stand there.
+module _ {V I S : Type 0} (F : Format V I S)
+    (Tells : Kind → List (List ℕ) → List ℕ → List (List ℕ) → Type 0) where
+  -- the reasons why the bytes are refused for their fault: those of what it is about; a file that is
+  -- too long is refused without a line
+  pub data FaultReasons (bytes : List ℕ) (fault : Fault) (reasons : List (List ℕ)) : Type 0 where
+    told : (begun : List (List ℕ)) → (found : List ℕ) → IsAbout F most_bytes bytes fault begun found
+        → Tells fault.kind begun found reasons → FaultReasons bytes fault reasons
+    too_long : fault.kind ≡ TooLong → reasons ≡ [] → FaultReasons bytes fault reasons
+
+  -- by what the bytes are read as: where they are a text there are none
+  abbrev pub ReadReasons : List ℕ → Result V Fault → List (List ℕ) → Type 0
+  ReadReasons bytes (Ok value) reasons = reasons ≡ []
+  ReadReasons bytes (Err fault) reasons = FaultReasons bytes fault reasons
+
+  -- the reasons why the bytes are refused
+  abbrev pub FileReasons : List ℕ → List (List ℕ) → Type 0
+  FileReasons bytes reasons = (read : Result V Fault) × ReadsAs F most_bytes bytes read
+      × ReadReasons bytes read reasons
+
+-- a task: where the line stands, what is due there, its first wrong word, and the first 64 bytes of
+-- what was found
+pub record TellsTask (kind : Kind) (begun : List (List ℕ)) (found : List ℕ)
+    (reasons : List (List ℕ)) : Type 0 where
+  pub mark : Mark
+  pub word : Option WrongWord
+  pub reason : IsTaskReason kind begun found mark word
+  pub lines : reasons
+      ≡ task_reason_lines mark word kind (take 64 found) (nat_lt 64 (length found))
+
+-- a plan: what is due, by the kind of the fault, and the first 64 bytes of what was found
+abbrev pub TellsPlan : Kind → List (List ℕ) → List ℕ → List (List ℕ) → Type 0
+TellsPlan kind begun found reasons =
+    reasons ≡ plan_reason_lines kind (take 64 found) (nat_lt 64 (length found))
+
+abbrev pub TaskFileReasons : List ℕ → List (List ℕ) → Type 0
+TaskFileReasons = FileReasons task_format TellsTask
+
+abbrev pub PlanFileReasons : List ℕ → List (List ℕ) → Type 0
+PlanFileReasons = FileReasons plan_format TellsPlan
+
+-- ---- the files of a request
+
+-- of a task that was read, by the first fault of its layers if they have one: only for a layered one
+-- the plan is read
+abbrev pub LayersFileReasons : Option LayerFault → List ℕ → List (List ℕ) → Type 0
+LayersFileReasons (Some fault) c reasons = reasons ≡ []
+LayersFileReasons None c reasons = PlanFileReasons c reasons
+
+abbrev pub JudgedFileReasons : List ℕ → Result Parts Fault → List ℕ → List (List ℕ) → Type 0
+JudgedFileReasons b (Err fault) c reasons = FaultReasons task_format TellsTask b fault reasons
+JudgedFileReasons b (Ok p) c reasons = LayersFileReasons (first_fault (layer_checks p)) c reasons
+
+abbrev pub FilesReasons : List ℕ → List ℕ → List (List ℕ) → Type 0
+FilesReasons b c reasons = (read : Result Parts Fault) × ReadsAs task_format most_bytes b read
+    × JudgedFileReasons b read c reasons
+
+-- the reasons why a file of the request is refused, for the bytes b of the task and c of the plan
+abbrev pub RefusalReasons : Request → List ℕ → List ℕ → List (List ℕ) → Type 0
+RefusalReasons Show b c reasons = TaskFileReasons b reasons
+RefusalReasons Print b c reasons = TaskFileReasons b reasons
+RefusalReasons Steps b c reasons = PlanFileReasons c reasons
+RefusalReasons Check b c reasons = TaskFileReasons b reasons
+RefusalReasons Plan b c reasons = FilesReasons b c reasons
+RefusalReasons Mutex b c reasons = TaskFileReasons b reasons
