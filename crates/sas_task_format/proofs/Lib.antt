@@ -7,3 +7,5 @@ pub mod TaskGrammar
 pub mod TaskExample
 pub mod TaskFilling
 pub mod TaskLaws
+pub mod Tracking
+pub mod TrackedSections
