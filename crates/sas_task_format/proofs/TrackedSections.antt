@@ -19,7 +19,18 @@ use Rattle.sas_task_format.specs.declared.marks.Mark.{Mark}
 use Rattle.sas_task_format.specs.TaskFormat.{TaskLine, word, name, number, signed, fact, effect, head, task_slot, line, between, counted, version_lines, metric_lines, variable_lines, group_lines, goal_lines, operator_lines, rule_lines}
 use Rattle.sas_task_format.specs.Marks.{for_each, there, slot_of_due, any_number, version_dues, metric_dues, variable_dues, group_dues, goal_dues, operator_dues, rule_dues, numbered}
 use Rattle.sas_task_format.specs.Tracker.{Tracker, tracker_start, step, track, mark, mark_in}
-use Rattle.sas_task_format.proofs.Tracking.{track_marks, IsBehindVariables, Known, Along, Scan, ◌then◌, marked, leading, one}
+use Rattle.sas_task_format.proofs.Tracking.{track_marks, IsBehindVariables, Known, Along, Scan, ◌then◌, marked, leading, spelled, one}
+
+operator_marks : (f : Due → Mark) (a b : List Due) (c w : Due) → map f a ++ (f c ∷ (map f b ++ f c ∷ f w ∷ [])) ≡ map f ((a ++ c ∷ (b ++ c ∷ [])) ++ w ∷ [])
+operator_marks f a b c w = sym (
+    map-append f (a ++ c ∷ (b ++ c ∷ [])) (w ∷ [])
+    ∙ ap (λ (x : List Mark). x ++ f w ∷ []) (map-append f a (c ∷ (b ++ c ∷ [])))
+    ∙ append_assoc (map f a) (f c ∷ map f (b ++ c ∷ [])) (f w ∷ [])
+    ∙ ap (λ (x : List Mark). map f a ++ f c ∷ (x ++ f w ∷ [])) (map-append f b (c ∷ []))
+    ∙ ap (λ (x : List Mark). map f a ++ f c ∷ x) (append_assoc (map f b) (f c ∷ []) (f w ∷ [])))
+
+rule_marks : (f : Due → Mark) (a : List Due) (h w : Due) → map f a ++ f h ∷ f w ∷ [] ≡ map f ((a ++ h ∷ []) ++ w ∷ [])
+rule_marks f a h w = sym (map-append f (a ++ h ∷ []) (w ∷ []) ∙ ap (λ (x : List Mark). x ++ f w ∷ []) (map-append f a (h ∷ [])) ∙ append_assoc (map f a) (f h ∷ []) (f w ∷ []))
 
 module _ (ranges : List ℕ) where
   -- ---- the version and the metric
@@ -123,3 +134,100 @@ module _ (ranges : List ℕ) where
         let ends : Scan ranges (record t { place = place.GoalFacts; left = 0; more = 0 }) (word (codes "end_goal") ∷ []) (there at.Goal (due.Word fixed.EndGoal ∷ [])) (record t { place = place.OperatorCount; left = 0; more = 0 }) = record { marks = refl; ends = refl; along = (λ h. k, refl, λ h. k) } in
         marked ranges (◌then◌ ranges begins (◌then◌ ranges (facts_scan place.GoalFacts at.Goal 0 (λ n i. refl) (λ n. refl) facts) ends))
         (ap (λ (x : List Mark). there at.Goal (due.Word fixed.BeginGoal ∷ any_number ∷ []) ++ x) (sym (map-append (mark at.Goal) (for_each due.Fact facts) (due.Word fixed.EndGoal ∷ []))))
+
+    -- so many groups are left, and so many have come
+    abbrev at_group : ℕ → ℕ → Tracker
+    at_group left n = record t { place = place.Groups; left = left; more = 0; groups = n }
+
+    group_begins : (left n : ℕ) (facts : List Fact)
+        → Scan ranges (at_group (suc left) n) (word (codes "begin_mutex_group") ∷ number (length facts) ∷ []) (there (at.Group n) (due.Word fixed.BeginMutexGroup ∷ any_number ∷ []))
+        (record (at_group left n) { place = place.GroupFacts; more = length facts })
+    group_begins left n facts =
+        let less : suc left - 1 ≡ left = omega arith in
+        record { marks = refl; ends = ap (λ (x : ℕ). let r : Tracker = record (at_group x n) { place = place.GroupFacts; more = length facts } in r) less; along = (λ h. k, refl, (λ h. k, refl, λ h. k)) }
+
+    group_ends : (left n : ℕ) → Scan ranges (record (at_group left n) { place = place.GroupFacts }) (word (codes "end_mutex_group") ∷ []) (there (at.Group n) (due.Word fixed.EndMutexGroup ∷ [])) (at_group left (n + 1))
+    group_ends left n = record { marks = refl; ends = refl; along = (λ h. k, refl, λ h. k) }
+
+    group_scan : (left n : ℕ) (facts : List Fact) → Scan ranges (at_group (suc left) n) (group_lines facts) (there (at.Group n) (group_dues facts)) (at_group left (n + 1))
+    group_scan left n facts =
+        marked ranges (◌then◌ ranges (group_begins left n facts) (◌then◌ ranges
+        (each_scan fact place.GroupFacts (at.Group n) due.Fact (record t { left = left; groups = n }) (λ n i. refl) (λ n. refl) (λ a. refl) (λ h. k) facts)
+        (group_ends left n)))
+        (ap (λ (x : List Mark). there (at.Group n) (due.Word fixed.BeginMutexGroup ∷ any_number ∷ []) ++ x)
+        (sym (map-append (mark (at.Group n)) (for_each due.Fact facts) (due.Word fixed.EndMutexGroup ∷ []))))
+
+    pub groups_scan : (n : ℕ) (groups : List (List Fact)) → Scan ranges (at_group (length groups) n) (flat_map group_lines groups) (numbered at.Group group_dues n groups) (at_group 0 (n + length groups))
+    groups_scan n groups = all_scan group_lines at.Group group_dues at_group group_scan (λ n h. k) n groups
+
+    -- ---- operators
+
+    abbrev at_operator : ℕ → ℕ → Tracker
+    at_operator left n = record t { place = place.Operators; left = left; more = 0; operators = n }
+
+    operator_begins : (left n : ℕ) (o : Operator)
+        → Scan ranges (at_operator (suc left) n) (word (codes "begin_operator") ∷ name o.name ∷ number (length o.prevail) ∷ []) (there (at.Operator n) (due.Word fixed.BeginOperator ∷ due.Name ∷ any_number ∷ []))
+        (record (at_operator left n) { place = place.Prevail; more = length o.prevail })
+    operator_begins left n o =
+        let less : suc left - 1 ≡ left = omega arith in
+        record { marks = refl; ends = ap (λ (x : ℕ). let r : Tracker = record (at_operator x n) { place = place.Prevail; more = length o.prevail } in r) less; along = (λ h. k, refl, (λ h. k, refl, (λ h. k, refl, λ h. k))) }
+
+    effects_begin : (left n : ℕ) (o : Operator)
+        → Scan ranges (record (at_operator left n) { place = place.Prevail }) (number (length o.effects) ∷ []) (there (at.Operator n) (any_number ∷ []))
+        (record (at_operator left n) { place = place.Effects; more = length o.effects })
+    effects_begin left n o = record { marks = refl; ends = refl; along = (λ h. k, refl, λ h. k) }
+
+    operator_ends : (left n : ℕ) (o : Operator)
+        → Scan ranges (record (at_operator left n) { place = place.Effects }) (number o.cost ∷ word (codes "end_operator") ∷ []) (there (at.Operator n) (any_number ∷ due.Word fixed.EndOperator ∷ [])) (at_operator left (n + 1))
+    operator_ends left n o =
+        let same : n + 1 - 1 ≡ n = omega arith in
+        record {
+          marks = ap (λ (x : ℕ). mark (at.Operator n) any_number ∷ mark (at.Operator x) (due.Word fixed.EndOperator) ∷ []) same;
+          ends = refl;
+          along = (λ h. k, refl, (λ h. k, refl, λ h. k));
+        }
+
+    operator_scan : (left n : ℕ) (o : Operator) → Scan ranges (at_operator (suc left) n) (operator_lines o) (there (at.Operator n) (operator_dues o)) (at_operator left (n + 1))
+    operator_scan left n o =
+        let u : Tracker = record t { left = left; operators = n } in
+        let prevail = each_scan fact place.Prevail (at.Operator n) due.Fact u (λ n i. refl) (λ n. refl) (λ a. refl) (λ h. k) o.prevail in
+        let effects = each_scan effect place.Effects (at.Operator n) due.Effect u (λ n i. refl) (λ n. refl) (λ a. refl) (λ h. k) o.effects in
+        marked ranges (spelled ranges (◌then◌ ranges (operator_begins left n o) (◌then◌ ranges prevail (◌then◌ ranges (effects_begin left n o) (◌then◌ ranges effects (operator_ends left n o)))))
+        (simp append_assoc))
+        (ap (λ (x : List Mark). there (at.Operator n) (due.Word fixed.BeginOperator ∷ due.Name ∷ any_number ∷ []) ++ x)
+        (operator_marks (mark (at.Operator n)) (for_each due.Fact o.prevail) (for_each due.Effect o.effects) any_number (due.Word fixed.EndOperator)))
+
+    pub operators_scan : (n : ℕ) (operators : List Operator) → Scan ranges (at_operator (length operators) n) (flat_map operator_lines operators) (numbered at.Operator operator_dues n operators) (at_operator 0 (n + length operators))
+    operators_scan n operators = all_scan operator_lines at.Operator operator_dues at_operator operator_scan (λ n h. k) n operators
+
+    -- ---- rules
+
+    abbrev at_rule : ℕ → ℕ → Tracker
+    at_rule left n = record t { place = place.Rules; left = left; more = 0; rules = n }
+
+    rule_begins : (left n : ℕ) (r : Rule)
+        → Scan ranges (at_rule (suc left) n) (word (codes "begin_rule") ∷ number (length r.conditions) ∷ []) (there (at.Rule n) (due.Word fixed.BeginRule ∷ any_number ∷ []))
+        (record (at_rule left n) { place = place.RuleConditions; more = length r.conditions })
+    rule_begins left n r =
+        let less : suc left - 1 ≡ left = omega arith in
+        record { marks = refl; ends = ap (λ (x : ℕ). let q : Tracker = record (at_rule x n) { place = place.RuleConditions; more = length r.conditions } in q) less; along = (λ h. k, refl, (λ h. k, refl, λ h. k)) }
+
+    rule_ends : (left n : ℕ) (r : Rule)
+        → Scan ranges (record (at_rule left n) { place = place.RuleConditions }) (head r.var r.old r.new ∷ word (codes "end_rule") ∷ []) (there (at.Rule n) (due.Head ∷ due.Word fixed.EndRule ∷ [])) (at_rule left (n + 1))
+    rule_ends left n r =
+        let same : n + 1 - 1 ≡ n = omega arith in
+        record {
+          marks = ap (λ (x : ℕ). mark (at.Rule n) due.Head ∷ mark (at.Rule x) (due.Word fixed.EndRule) ∷ []) same;
+          ends = refl;
+          along = (λ h. k, refl, (λ h. k, refl, λ h. k));
+        }
+
+    rule_scan : (left n : ℕ) (r : Rule) → Scan ranges (at_rule (suc left) n) (rule_lines r) (there (at.Rule n) (rule_dues r)) (at_rule left (n + 1))
+    rule_scan left n r =
+        let conditions = each_scan fact place.RuleConditions (at.Rule n) due.Fact (record t { left = left; rules = n }) (λ n i. refl) (λ n. refl) (λ a. refl) (λ h. k) r.conditions in
+        marked ranges (spelled ranges (◌then◌ ranges (rule_begins left n r) (◌then◌ ranges conditions (rule_ends left n r))) (simp append_assoc))
+        (ap (λ (x : List Mark). there (at.Rule n) (due.Word fixed.BeginRule ∷ any_number ∷ []) ++ x)
+        (rule_marks (mark (at.Rule n)) (for_each due.Fact r.conditions) due.Head (due.Word fixed.EndRule)))
+
+    pub rules_scan : (n : ℕ) (rules : List Rule) → Scan ranges (at_rule (length rules) n) (flat_map rule_lines rules) (numbered at.Rule rule_dues n rules) (at_rule 0 (n + length rules))
+    rules_scan n rules = all_scan rule_lines at.Rule rule_dues at_rule rule_scan (λ n h. k) n rules

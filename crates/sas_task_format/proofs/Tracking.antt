@@ -87,6 +87,9 @@ module _ (ranges : List ℕ) where
   pub leading : {t u v : Tracker} {a : List TaskLine} {m : List Mark} → Scan t a m u → u ≡ v → Scan t a m v
   leading s e = record { marks = s.marks; ends = s.ends ∙ e; along = s.along }
 
+  pub spelled : {t u : Tracker} {a b : List TaskLine} {m : List Mark} → Scan t a m u → a ≡ b → Scan t b m u
+  spelled {t = t} {u = u} {m = m} s e = subst (λ (x : List TaskLine). Scan t x m u) e s
+
   -- one line
   pub one : {t u : Tracker} (i : TaskLine) → Known t → slot_of_due (mark_in t).due ≡ task_slot i → step t i ≡ u → Known u → Scan t (i ∷ []) (mark_in t ∷ []) u
   one i h s e k = record { marks = refl; ends = e; along = (h, s, subst Known (sym e) k) }
