@@ -9,3 +9,4 @@ pub mod TaskFilling
 pub mod TaskLaws
 pub mod Tracking
 pub mod TrackedSections
+pub mod TrackedTask

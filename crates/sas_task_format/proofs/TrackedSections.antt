@@ -128,7 +128,7 @@ module _ (ranges : List ℕ) where
         (facts : List Fact) → Scan ranges (record t { place = p; left = left; more = length facts }) (flat_map (line fact) facts) (there where_it_stands (for_each due.Fact facts)) (record t { place = p; left = left; more = 0 })
     facts_scan p where_it_stands left moves marks facts = each_scan fact p where_it_stands due.Fact (record t { left = left }) moves marks (λ a. refl) (λ h. k) facts
 
-    goal_scan : (facts : List Fact) → Scan ranges (record t { place = place.GoalBegin; left = 0; more = 0 }) (goal_lines facts) (there at.Goal (goal_dues facts)) (record t { place = place.OperatorCount; left = 0; more = 0 })
+    pub goal_scan : (facts : List Fact) → Scan ranges (record t { place = place.GoalBegin; left = 0; more = 0 }) (goal_lines facts) (there at.Goal (goal_dues facts)) (record t { place = place.OperatorCount; left = 0; more = 0 })
     goal_scan facts =
         let begins : Scan ranges (record t { place = place.GoalBegin; left = 0; more = 0 }) (word (codes "begin_goal") ∷ number (length facts) ∷ []) (there at.Goal (due.Word fixed.BeginGoal ∷ any_number ∷ [])) (record t { place = place.GoalFacts; left = 0; more = length facts }) = record { marks = refl; ends = refl; along = (λ h. k, refl, (λ h. k, refl, λ h. k)) } in
         let ends : Scan ranges (record t { place = place.GoalFacts; left = 0; more = 0 }) (word (codes "end_goal") ∷ []) (there at.Goal (due.Word fixed.EndGoal ∷ [])) (record t { place = place.OperatorCount; left = 0; more = 0 }) = record { marks = refl; ends = refl; along = (λ h. k, refl, λ h. k) } in
@@ -136,7 +136,7 @@ module _ (ranges : List ℕ) where
         (ap (λ (x : List Mark). there at.Goal (due.Word fixed.BeginGoal ∷ any_number ∷ []) ++ x) (sym (map-append (mark at.Goal) (for_each due.Fact facts) (due.Word fixed.EndGoal ∷ []))))
 
     -- so many groups are left, and so many have come
-    abbrev at_group : ℕ → ℕ → Tracker
+    abbrev pub at_group : ℕ → ℕ → Tracker
     at_group left n = record t { place = place.Groups; left = left; more = 0; groups = n }
 
     group_begins : (left n : ℕ) (facts : List Fact)
@@ -162,7 +162,7 @@ module _ (ranges : List ℕ) where
 
     -- ---- operators
 
-    abbrev at_operator : ℕ → ℕ → Tracker
+    abbrev pub at_operator : ℕ → ℕ → Tracker
     at_operator left n = record t { place = place.Operators; left = left; more = 0; operators = n }
 
     operator_begins : (left n : ℕ) (o : Operator)
@@ -202,7 +202,7 @@ module _ (ranges : List ℕ) where
 
     -- ---- rules
 
-    abbrev at_rule : ℕ → ℕ → Tracker
+    abbrev pub at_rule : ℕ → ℕ → Tracker
     at_rule left n = record t { place = place.Rules; left = left; more = 0; rules = n }
 
     rule_begins : (left n : ℕ) (r : Rule)
