@@ -10,3 +10,4 @@ pub mod TaskLaws
 pub mod Tracking
 pub mod TrackedSections
 pub mod TrackedTask
+pub mod DueBehind
