@@ -11,3 +11,4 @@ pub mod Tracking
 pub mod TrackedSections
 pub mod TrackedTask
 pub mod DueBehind
+pub mod WrongWords
