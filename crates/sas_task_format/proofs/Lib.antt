@@ -12,3 +12,4 @@ pub mod TrackedSections
 pub mod TrackedTask
 pub mod DueBehind
 pub mod WrongWords
+pub mod MarkLaws
