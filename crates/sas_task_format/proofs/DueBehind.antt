@@ -139,9 +139,9 @@ module _ (begun : List (List ℕ)) (m : Mark) (v : Parts) (good : WellRanged v) 
   standing_at items [] e s g =
       let all : task_layout v ≡ items = e ∙ append-nil items in
       let none : slice_get (task_marks v) (length items) ≡ None =
-          ap (λ (x : List Mark). slice_get x (length items)) (sym (task_scan v good).marks)
-          ∙ ap (λ (x : List TaskLine). slice_get (track_marks tracker_start x) (length items)) all
-          ∙ no_mark_at_end tracker_start items in
+      ap (λ (x : List Mark). slice_get x (length items)) (sym (task_scan v good).marks)
+      ∙ ap (λ (x : List TaskLine). slice_get (track_marks tracker_start x) (length items)) all
+      ∙ no_mark_at_end tracker_start items in
       absurd cc
   standing_at items (i ∷ more) e s g =
       let there : slice_get (task_marks v) (length items) ≡ Some (mark_in (track tracker_start items)) = due_behind v good items i more e in

@@ -52,10 +52,11 @@ one_due begun m n d f =
     a.marked ∙ ap (λ (x : List TaskLine). mark_in (track tracker_start x)) items ∙ sym b.marked
 
 pub some_due : SomeDue
-some_due begun s n =
-    (mark_in (track tracker_start n.before),
-    is_due n.value n.good begun n.before n.item n.more n.spells n.layout,
-    belongs_behind n.value n.good n.before n.item n.more n.layout ∙ n.slot)
+some_due begun s n = (
+  mark_in (track tracker_start n.before),
+  is_due n.value n.good begun n.before n.item n.more n.spells n.layout,
+  belongs_behind n.value n.good n.before n.item n.more n.layout ∙ n.slot,
+)
 
 -- ---- one word is wrong
 

@@ -39,13 +39,13 @@ module _ (ranges : List ℕ) (t : Tracker) where
       let more : length ranges ≡ length done + length (ranges_in (v ∷ vs)) = ap length e ∙ length-append done (ranges_in (v ∷ vs)) in
       let some : nat_lt (length done) (length ranges) ≡ true = lt-ltb (length done) (length ranges) (omega (arith, more)) in
       let due_is : mark_in (at_value (length done)) ≡ mark at.State (value_due v) =
-          ap (λ (b : Bool). mark at.State (if b then due.Number 0 (slice_index_or ranges (length done) 0 - 1) else due.Word fixed.EndState)) some
-          ∙ ap (λ (r : List ℕ). mark at.State (due.Number 0 (slice_index_or r (length done) 0 - 1))) e
-          ∙ ap (λ (n : ℕ). mark at.State (due.Number 0 (n - 1))) (read_next done (length v.values) (ranges_in vs)) in
+      ap (λ (b : Bool). mark at.State (if b then due.Number 0 (slice_index_or ranges (length done) 0 - 1) else due.Word fixed.EndState)) some
+      ∙ ap (λ (r : List ℕ). mark at.State (due.Number 0 (slice_index_or r (length done) 0 - 1))) e
+      ∙ ap (λ (n : ℕ). mark at.State (due.Number 0 (n - 1))) (read_next done (length v.values) (ranges_in vs)) in
       let next : length done + 1 ≡ length (done ++ length v.values ∷ []) = sym (length-append done (length v.values ∷ [])) in
       let moves : step (at_value (length done)) (number x) ≡ at_value (length (done ++ length v.values ∷ [])) =
-          ap (λ (b : Bool). if b then at_value (length done + 1) else (record (at_value (length done)) { place = place.GoalBegin })) some
-          ∙ ap at_value next in
+      ap (λ (b : Bool). if b then at_value (length done + 1) else (record (at_value (length done)) { place = place.GoalBegin })) some
+      ∙ ap at_value next in
       marked ranges (one ranges (number x) (λ h. refl) (ap (λ (m : Mark). slot_of_due m.due) due_is) moves (λ h. refl)) (ap (λ (m : Mark). m ∷ []) due_is)
 
   values_scan : (done : List ℕ) (vs : List Variable) (xs : List ℕ) → Paired InRange vs xs → ranges ≡ done ++ ranges_in vs
@@ -60,9 +60,9 @@ module _ (ranges : List ℕ) (t : Tracker) where
   end_scan =
       let none : nat_lt (length ranges) (length ranges) ≡ false = le-ltb (length ranges) (length ranges) (omega arith) in
       let due_is : mark_in (at_value (length ranges)) ≡ mark at.State (due.Word fixed.EndState) =
-          ap (λ (b : Bool). mark at.State (if b then due.Number 0 (slice_index_or ranges (length ranges) 0 - 1) else due.Word fixed.EndState)) none in
+      ap (λ (b : Bool). mark at.State (if b then due.Number 0 (slice_index_or ranges (length ranges) 0 - 1) else due.Word fixed.EndState)) none in
       let moves : step (at_value (length ranges)) (word (codes "end_state")) ≡ record (at_value (length ranges)) { place = place.GoalBegin } =
-          ap (λ (b : Bool). if b then at_value (length ranges + 1) else (record (at_value (length ranges)) { place = place.GoalBegin })) none in
+      ap (λ (b : Bool). if b then at_value (length ranges + 1) else (record (at_value (length ranges)) { place = place.GoalBegin })) none in
       marked ranges (one ranges (word (codes "end_state")) (λ h. refl) (ap (λ (m : Mark). slot_of_due m.due) due_is) moves (λ h. refl)) (ap (λ (m : Mark). m ∷ []) due_is)
 
   state_scan : (vs : List Variable) (xs : List ℕ) → Paired InRange vs xs → ranges ≡ ranges_in vs
