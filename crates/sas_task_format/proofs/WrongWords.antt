@@ -142,6 +142,24 @@ ranges_decide vs us e i =
     let range_in : Variable → ℕ = λ v. length v.values in
     same_bounds vs us (sym (length-map vs range_in) ∙ ap length e ∙ length-map us range_in) (range_same vs us e) i
 
+-- so a word is wrong among these where it is wrong among those
+pub wrong_among : (vs us : List Variable) (slot : TaskSlot) (line : List ℕ) (w : WrongWord) → map (λ v. length v.values) vs ≡ map (λ v. length v.values) us → IsWrongWord vs slot line w → IsWrongWord us slot line w
+wrong_among vs us slot line w e a = record {
+  item = a.item;
+  belongs = a.belongs;
+  fits = a.fits;
+  spells = a.spells;
+  before = a.before;
+  wrong = a.wrong;
+  behind = a.behind;
+  words = sym (ranges_decide vs us e a.item) ∙ a.words;
+  earlier = a.earlier;
+  stands_not = a.stands_not;
+  word = a.word;
+  may_be_none = a.may_be_none;
+  most = a.most;
+}
+
 -- where a line has bounds the same ranges decide them
 pub one_word : (vs us : List Variable) (slot : TaskSlot) (line : List ℕ) (w x : WrongWord) → (HasBounds slot → map (λ v. length v.values) vs ≡ map (λ v. length v.values) us) → IsWrongWord vs slot line w → IsWrongWord us slot line x → w ≡ x
 one_word vs us slot line w x e a b = same_word vs us slot line w x bounds a b
