@@ -7,3 +7,10 @@ pub mod TaskGrammar
 pub mod TaskExample
 pub mod TaskFilling
 pub mod TaskLaws
+pub mod Tracking
+pub mod TrackedSections
+pub mod TrackedTask
+pub mod DueBehind
+pub mod DueAfter
+pub mod WrongWords
+pub mod MarkLaws
