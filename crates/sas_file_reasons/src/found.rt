@@ -8,6 +8,9 @@ use sas_lines::push_line;
 use sas_reader::Kind;
 use std::alloc::AllocError;
 
+/// How many bytes of what was found are told.
+const MOST_BYTES: usize = 64;
+
 /// What was found: its first bytes, at most 64 of them, and whether there are more.
 #[derive(Clone, Copy, Debug)]
 pub struct FoundText<'a> {
@@ -21,13 +24,11 @@ impl<'a> FoundText<'a> {
         ensures first { result.bytes.now ≡ take 64 bytes.now }
         ensures more { result.more ≡ nat_lt 64 (length bytes.now) }
     {
-        if bytes.len() > 64 {
-            return FoundText {
-                bytes: &bytes[..64],
-                more: true,
-            };
+        let told = MOST_BYTES.min(bytes.len());
+        FoundText {
+            bytes: &bytes[..told],
+            more: told < bytes.len(),
         }
-        FoundText { bytes, more: false }
     }
 }
 
