@@ -1,0 +1,2 @@
+mod ReasonLines
+mod ReasonLengths

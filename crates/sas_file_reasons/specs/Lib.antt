@@ -1,0 +1,4 @@
+pub mod Found
+pub mod TaskDue
+pub mod PlanDue
+pub mod Laws

@@ -1,0 +1,83 @@
+// Where a line of a task file stands, and what is due there, in words.
+ghost use Rattle.std.specs.Prelude.{◌≡◌, ◌++◌, [], ◌∷◌, decimal, codes, OnOk};
+ghost use Rattle.sas_file_reasons.specs.TaskDue.{due_line, due_words, location_line, location_words};
+
+use sas_lines::push_number;
+use sas_task_format::{Due, Location};
+use std::alloc::AllocError;
+
+/// Appends the line that tells where a line stands.
+pub(crate) fn push_location(out: &mut Vec<u8>, at: Location) -> Result<(), AllocError>
+    ensures { OnOk result (out.new.items ≡ out.old.items ++ (location_line at ++ 10 ∷ [])) }
+{
+    out.extend_from_slice(b"  at ")?;
+    push_location_words(out, at)?;
+    out.push(b'\n')?;
+    Ok(())
+}
+
+/// Appends the words for where a line stands.
+fn push_location_words(out: &mut Vec<u8>, at: Location) -> Result<(), AllocError>
+    ensures { OnOk result (out.new.items ≡ out.old.items ++ location_words at) }
+{
+    match at {
+        Location::Version => out.extend_from_slice(b"version"),
+        Location::Metric => out.extend_from_slice(b"metric"),
+        Location::Variables => out.extend_from_slice(b"variables"),
+        Location::Variable(n) => push_counted(out, b"variable ", n),
+        Location::Groups => out.extend_from_slice(b"groups"),
+        Location::Group(n) => push_counted(out, b"group ", n),
+        Location::State => out.extend_from_slice(b"state"),
+        Location::Goal => out.extend_from_slice(b"goal"),
+        Location::Operators => out.extend_from_slice(b"operators"),
+        Location::Operator(n) => push_counted(out, b"operator ", n),
+        Location::Rules => out.extend_from_slice(b"rules"),
+        Location::Rule(n) => push_counted(out, b"rule ", n),
+        Location::End => out.extend_from_slice(b"the end"),
+    }
+}
+
+/// Appends these bytes and the number.
+fn push_counted(out: &mut Vec<u8>, bytes: &[u8], n: u32) -> Result<(), AllocError>
+    ensures { OnOk result (out.new.items ≡ out.old.items ++ (bytes.now ++ decimal n)) }
+{
+    out.extend_from_slice(bytes)?;
+    push_number(out, u128::from(n))
+}
+
+/// Appends the line that tells what is due.
+pub(crate) fn push_due(out: &mut Vec<u8>, due: Due) -> Result<(), AllocError>
+    ensures { OnOk result (out.new.items ≡ out.old.items ++ (due_line due ++ 10 ∷ [])) }
+{
+    out.extend_from_slice(b"  due ")?;
+    push_due_words(out, due)?;
+    out.push(b'\n')?;
+    Ok(())
+}
+
+/// Appends the words for what is due.
+fn push_due_words(out: &mut Vec<u8>, due: Due) -> Result<(), AllocError>
+    ensures { OnOk result (out.new.items ≡ out.old.items ++ due_words due) }
+{
+    match due {
+        Due::Word(word) => out.extend_from_slice(word.bytes()),
+        Due::Name => out.extend_from_slice(b"a name"),
+        Due::Number { least, most } => push_range(out, least, most),
+        Due::Layer => out.extend_from_slice(b"number -1 to 2147483647"),
+        Due::Fact => out.extend_from_slice(b"fact: VAR VALUE"),
+        Due::Head => out.extend_from_slice(b"head: VAR OLD NEW"),
+        Due::Effect => {
+            out.extend_from_slice(b"effect: COUNT, COUNT times VAR VALUE, VAR OLD NEW")
+        }
+        Due::Nothing => out.extend_from_slice(b"nothing"),
+    }
+}
+
+/// Appends the words for a number from the least to the most.
+fn push_range(out: &mut Vec<u8>, least: u32, most: u32) -> Result<(), AllocError>
+    ensures { OnOk result (out.new.items
+        ≡ out.old.items ++ codes "number " ++ decimal least ++ codes " to " ++ decimal most) }
+{
+    push_counted(out, b"number ", least)?;
+    push_counted(out, b" to ", most)
+}
