@@ -11,6 +11,9 @@ pub mod Advancing
 pub mod Conversion
 pub mod Reading
 pub mod Known
+mod Ending
+mod Keeping
+mod BehindEnds
 mod Copying
 mod WithLfAlone
 mod FeedingPlain

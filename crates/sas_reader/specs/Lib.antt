@@ -1,4 +1,5 @@
 pub mod Faults
+pub mod Found
 pub mod Format
 pub mod Laws
 pub mod System
