@@ -8,4 +8,5 @@ pub mod Machine
 pub mod Reader
 pub mod Reading
 pub mod Devices
+pub mod Telling
 pub mod Returns
