@@ -119,7 +119,7 @@ module _ {T V I S : Type 0} (F : Format V I S) (Fits : I → Type 0) (node : T �
   begins p s ok next v [] e a = absurd cc
   begins p s ok next v (i ∷ is) e a = (i, is, refl, ((subst (λ n. OneLine F Fits n i (λ r. LeadsToEnd F Fits node r is v)) e a).0).slot)
 
-  next_slot : (p : T) (s : S) (ok : I → Bool) (next : I → T) (ls : List (List ℕ)) → node p ≡ before s ok next → Leads F Fits node start ls p → Next F ls s
+  pub next_slot : (p : T) (s : S) (ok : I → Bool) (next : I → T) (ls : List (List ℕ)) → node p ≡ before s ok next → Leads F Fits node start ls p → Next F ls s
   next_slot p s ok next ls e h =
       let c = g.fillable h.items p h.after in
       let w = g.sound (h.items ++ c.0) c.1 (after_ends F Fits node start p c.1 h.items c.0 h.after c.2) in
@@ -139,7 +139,7 @@ module _ {T V I S : Type 0} (F : Format V I S) (Fits : I → Type 0) (node : T �
   }
 
   -- a line that the node rejects
-  rejected_as : (n : Node T V I S) (line : List ℕ) (k : Kind) → Rejects F Fits n line k → (s : S) × (ok : I → Bool) × (next : I → T) × (n ≡ before s ok next) × Judged F Fits s ok line k
+  pub rejected_as : (n : Node T V I S) (line : List ℕ) (k : Kind) → Rejects F Fits n line k → (s : S) × (ok : I → Bool) × (next : I → T) × (n ≡ before s ok next) × Judged F Fits s ok line k
   rejected_as (ended v) line k r = absurd r
   rejected_as (before s ok next) line k r = (s, ok, next, refl, r)
 
