@@ -1,2 +1,2 @@
-mod ReasonLines
+pub mod ReasonLines
 mod ReasonLengths

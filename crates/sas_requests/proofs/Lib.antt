@@ -24,3 +24,4 @@ mod SameAnswers
 pub mod RefusalReasons
 mod RefusalLaws
 pub mod ReasonedOutputs
+pub mod Explained

@@ -32,7 +32,7 @@ module _ {V I S : Type 0} (F : Format V I S)
   pub data FaultReasons (bytes : List ℕ) (fault : Fault) (reasons : List (List ℕ)) : Type 0 where
     told : (begun : List (List ℕ)) → (found : List ℕ) → IsAbout F most_bytes bytes fault begun found
         → Tells fault.kind begun found reasons → FaultReasons bytes fault reasons
-    too_long : fault.kind ≡ TooLong → reasons ≡ [] → FaultReasons bytes fault reasons
+    past_limit : fault.kind ≡ TooLong → reasons ≡ [] → FaultReasons bytes fault reasons
 
   -- by what the bytes are read as: where they are a text there are none
   abbrev pub ReadReasons : List ℕ → Result V Fault → List (List ℕ) → Type 0

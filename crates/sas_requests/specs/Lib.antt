@@ -10,3 +10,4 @@ pub mod Headline
 pub mod FileReasons
 pub mod Why
 pub mod Answering
+pub mod Explaining

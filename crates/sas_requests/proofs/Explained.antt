@@ -1,0 +1,151 @@
+-- How an answer about one file with reasons comes about.
+use Rattle.std.proofs.Common.{◌≡◌, ◌≢◌, ℕ, ◌++◌, List, [], length, take, refl, sym, ap, subst, ◌∙◌, inl, inr, append-nil, Option, Some, None, Result, Ok, Err}
+use Rattle.std.specs.Prelude.{option_map, nat_lt, IfOk, IfErr, IsErrOf, ◌↔◌}
+use Rattle.std.specs.Io.KnownBytes.{Consumes, IsAtEnd}
+use Rattle.std.proofs.lemmas.Option.{none-some}
+use Rattle.sas_lines.specs.Device.{Device}
+use Rattle.sas_reader.specs.declared.fault.Fault.{Fault}
+use Rattle.sas_reader.specs.declared.fault.Kind.{Kind}
+use Rattle.sas_reader.specs.declared.fault.Kind.TheVariants.{TooLong, Read, Memory}
+use Rattle.sas_reader.specs.declared.found.Found.{Found}
+use Rattle.sas_reader.specs.Devices.{Refuses, unread_at, ended_at, faulty_at, ReadsAll}
+use Rattle.sas_reader.specs.Format.{Format, ReadsAs}
+use Rattle.sas_reader.specs.Found.{IsFoundOf, bytes_of}
+use Rattle.sas_reader.specs.Laws.{Laws}
+use Rattle.sas_reader.specs.Limit.{most_bytes}
+use Rattle.sas_reader.specs.Telling.{IsTold, IsAbout, TellingLaws, TellsAbout, RefusesTelling, ReadsAllTelling}
+use Rattle.sas_reader.proofs.Known.{known_answer, known_fault, front_read, all_read}
+use Rattle.sas_output.specs.declared.ending.ToolFault.{ToolFault}
+use Rattle.sas_output.specs.declared.ending.ToolFault.TheVariants as tool_fault
+use Rattle.sas_output.specs.Ending.{Output, IsDecided, IsWrite}
+use Rattle.sas_task_reasons.specs.WhyLayers.{with_reasons}
+use Rattle.sas_requests.specs.declared.answers.Answer.{Answer}
+use Rattle.sas_requests.specs.Answering.{Answers, AnswersFile, output_of}
+use Rattle.sas_requests.specs.Explaining.{FileOutWhy, IsRefusedWith}
+use Rattle.sas_requests.specs.FileReasons.{FaultReasons, told, past_limit}
+use Rattle.sas_requests.specs.Output.{word_of, refusal, FileOut}
+use Rattle.sas_requests.proofs.Outputs.{refused_kind, too_long_else, reading_of_refusal}
+use Rattle.sas_requests.proofs.RefusalReasons.{no_reasons, some_of}
+
+module _ {D V I S A R : Type 0} (left : D → Option (List ℕ)) (F : Format V I S) (telling : TellingLaws F) (Tells : Kind → List (List ℕ) → List ℕ → List (List ℕ) → Type 0) (Gives : List ℕ → A → Type 0)
+    (fault : R → Fault) (found : R → Found) (Told : List (List ℕ) → List ℕ → R → Type 0) (name : List ℕ) (IsAnswer : V → Output → Type 0) where
+  abbrev Reads : Device D → Device D → Result A R → Type 0
+  Reads = ReadsAllTelling F fault found Told left Gives
+
+  abbrev OutWhy : List ℕ → Option Output → Type 0
+  OutWhy = FileOutWhy F Tells name IsAnswer
+
+  plain_read : (old new : Device D) (a : A) → Reads old new (Ok a) → ReadsAll left F Gives old new (Ok a)
+  plain_read old new a h = record { read = h.read; fault = tt; memory = tt; note = h.note }
+
+  plain_fault : (old new : Device D) (r : R) → Reads old new (Err r) → ReadsAll left F Gives old new (Err (fault r))
+  plain_fault old new r h = record { read = tt; fault = λ ne. let x = h.refused ne in (x.0, x.1, (x.2).refuses); memory = h.memory; note = h.note }
+
+  -- ---- what was read is answered
+
+  value_out : (b : List ℕ) (o : Output) → (v : V) × ReadsAs F most_bytes b (Ok v) × IsAnswer v o → OutWhy b (Some o)
+  value_out b o (v, reads, is) = record {
+    of_read = Some o;
+    reasons = [];
+    is_out = (Ok v, reads, (o, is, refl));
+    are_reasons = (Ok v, reads, refl);
+    whole = ap Some (sym (no_reasons o));
+  }
+
+  pub explains_value : (old new : Device D) (a : A) (r : Answer) → Reads old new (Ok a) → ((b : List ℕ) → Gives b a → (v : V) × ReadsAs F most_bytes b (Ok v) × IsAnswer v (output_of r)) → AnswersFile left OutWhy old new (Ok r)
+  explains_value old new a r h gives = record {
+    output = λ b known. value_out b (output_of r) (gives b (known_answer left F Gives old new a b (plain_read old new a h) known));
+    taken = λ decided. let read = h.read in (read.0, (read.1).0, value_out read.0 (output_of r) (gives read.0 read.2));
+    reads = (λ e. absurd cc, λ t. absurd (h.note.1 t));
+    writes = tt;
+  }
+
+  -- ---- a fault is refused, or the run ends at it
+
+  -- what is told of it, too, where the bytes that are known went on
+  known_about : (known new : Option (List ℕ)) (input bytes : List ℕ) (r : R) → known ≡ Some input → Consumes known new bytes → Refuses F bytes (IsAtEnd new) (fault r) → (fault r).kind ≢ Read → TellsAbout F fault found Told bytes r → TellsAbout F fault found Told input r
+  known_about known new input bytes r e c (unread_at l n k) ne about = absurd (ne k)
+  known_about known new input bytes r e c (ended_at d h) ne about = subst (λ (b : List ℕ). TellsAbout F fault found Told b r) (all_read known new input bytes e c d) about
+  known_about known new input bytes r e c (faulty_at h k) ne (accepted, text, about, is, tells) =
+      let rest = front_read known new input bytes e c in
+      (accepted, text, subst (λ (b : List ℕ). IsAbout F most_bytes b (fault r) accepted text) rest.1 (telling.about_stays most_bytes bytes rest.0 (fault r) accepted text h about), is, tells)
+
+  module _ (r : R) (reasons : List (List ℕ)) (tells : (accepted : List (List ℕ)) (text : List ℕ) → IsFoundOf text (found r) → Told accepted text r → Tells (fault r).kind accepted text reasons) where
+    reasons_of : (b : List ℕ) → TellsAbout F fault found Told b r → FaultReasons F Tells b (fault r) reasons
+    reasons_of b (accepted, text, about, is, says) = told accepted text about (tells accepted text is says)
+
+    -- the kind of a fault that is refused
+    worded_kind : (o : Output) → IsRefusedWith name (fault r) reasons o → IsTold (fault r).kind
+    worded_kind o is =
+        let (plain, refused, same) = some_of reasons (refusal name (fault r)) o (sym is) in (
+          refused_kind (fault r).kind Read _ plain refl refused,
+          refused_kind (fault r).kind TooLong _ plain refl refused,
+          refused_kind (fault r).kind Memory _ plain refl refused,
+        )
+
+    refused_out : (b : List ℕ) (o : Output) → IsRefusedWith name (fault r) reasons o → ReadsAs F most_bytes b (Err (fault r)) → TellsAbout F fault found Told b r → OutWhy b (Some o)
+    refused_out b o is reads about = record {
+      of_read = refusal name (fault r);
+      reasons = reasons;
+      is_out = (Err (fault r), reads, refl);
+      are_reasons = (Err (fault r), reads, reasons_of b about);
+      whole = sym is;
+    }
+
+    long_out : (b : List ℕ) → (fault r).kind ≡ TooLong → ReadsAs F most_bytes b (Err (fault r)) → OutWhy b None
+    long_out b long reads = record {
+      of_read = refusal name (fault r);
+      reasons = [];
+      is_out = (Err (fault r), reads, refl);
+      are_reasons = (Err (fault r), reads, past_limit long refl);
+      whole = rw long refl;
+    }
+
+    module _ (old new : Device D) (h : Reads old new (Err r)) where
+      known_out : (b : List ℕ) → left old.device ≡ Some b → (o : Output) → IsRefusedWith name (fault r) reasons o → OutWhy b (Some o)
+      known_out b known o is =
+          let kind = worded_kind o is in
+          let x = h.refused kind.2 in
+          refused_out b o is (known_fault left F Gives old new (fault r) b (plain_fault old new r h) known kind.2 kind.0)
+          (known_about (left old.device) (left new.device) b x.0 r known x.1 (x.2).refuses kind.0 ((x.2).about kind))
+
+      taken_out : (o : Output) → IsRefusedWith name (fault r) reasons o → (b : List ℕ) × Consumes (left old.device) (left new.device) b × OutWhy b (Some o)
+      taken_out o is =
+          let kind = worded_kind o is in
+          let x = h.refused kind.2 in
+          (x.0, x.1, refused_out x.0 o is (reading_of_refusal F x.0 (IsAtEnd (left new.device)) (fault r) (x.2).refuses kind.0) ((x.2).about kind))
+
+      not_memory : (fault r).kind ≡ TooLong → (fault r).kind ≢ Memory
+      not_memory long = too_long_else (fault r).kind Memory long (λ e. absurd cc)
+
+      not_read : (fault r).kind ≡ TooLong → (fault r).kind ≢ Read
+      not_read long = too_long_else (fault r).kind Read long (λ e. absurd cc)
+
+      known_long : (b : List ℕ) → left old.device ≡ Some b → (fault r).kind ≡ TooLong → OutWhy b None
+      known_long b known long = long_out b long (known_fault left F Gives old new (fault r) b (plain_fault old new r h) known (not_memory long) (not_read long))
+
+      taken_long : (fault r).kind ≡ TooLong → (b : List ℕ) × Consumes (left old.device) (left new.device) b × OutWhy b None
+      taken_long long =
+          let x = h.refused (not_memory long) in
+          (x.0, x.1, long_out x.0 long (reading_of_refusal F x.0 (IsAtEnd (left new.device)) (fault r) (x.2).refuses (not_read long)))
+
+      known_answers : (result : Result Answer ToolFault) → IfOk result (λ a. IsRefusedWith name (fault r) reasons (output_of a)) → (IsErrOf result tool_fault.TooLong → (fault r).kind ≡ TooLong) → (b : List ℕ) → left old.device ≡ Some b → Answers (OutWhy b) result
+      known_answers (Ok a) ok long b known = known_out b known (output_of a) ok
+      known_answers (Err e) ok long b known = λ is. known_long b known (long (ap Err is))
+
+      taken_answers : (result : Result Answer ToolFault) → IfOk result (λ a. IsRefusedWith name (fault r) reasons (output_of a)) → (IsErrOf result tool_fault.TooLong → (fault r).kind ≡ TooLong) → IfErr result (λ e. IsWrite e → ⊥) → IsDecided result
+          → (b : List ℕ) × Consumes (left old.device) (left new.device) b × Answers (OutWhy b) result
+      taken_answers (Ok a) ok long writes decided = taken_out (output_of a) ok
+      taken_answers (Err tool_fault.TooLong) ok long writes decided = let x = taken_long (long refl) in (x.0, x.1, λ is. x.2)
+      taken_answers (Err tool_fault.Memory) ok long writes decided = absurd decided
+      taken_answers (Err tool_fault.Read) ok long writes decided = absurd decided
+      taken_answers (Err (tool_fault.Write n)) ok long writes decided = absurd (writes tt)
+
+      pub explains_refusal : (result : Result Answer ToolFault) → IfOk result (λ a. IsRefusedWith name (fault r) reasons (output_of a)) → (IsErrOf result tool_fault.TooLong → (fault r).kind ≡ TooLong)
+          → IsErrOf result tool_fault.Read ↔ ((fault r).kind ≡ Read) → IfErr result (λ e. IsWrite e → ⊥) → AnswersFile left OutWhy old new result
+      explains_refusal result ok long read writes = record {
+        output = λ b known. known_answers result ok long b known;
+        taken = λ decided. taken_answers result ok long writes decided;
+        reads = (λ e. h.note.0 (read.0 e), λ t. read.1 (h.note.1 t));
+        writes = writes;
+      }
