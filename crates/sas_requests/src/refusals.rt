@@ -1,12 +1,19 @@
 // Refusals of files.
-ghost use Rattle.std.specs.Prelude.{◌≡◌, ◌↔◌, Some, IfOk, IfErr, IsErrOf};
+ghost use Rattle.std.specs.Prelude.{◌≡◌, ◌↔◌, codes, Some, IfOk, IfErr, IsErrOf};
 ghost use Rattle.sas_output.specs.Ending.{IsWrite, output_told};
+ghost use Rattle.sas_reader.specs.Found.{bytes_of};
+ghost use Rattle.sas_requests.specs.Answering.{output_of};
+ghost use Rattle.sas_requests.specs.Explaining.{IsRefusedWith, plan_refusal_lines, task_refusal_lines};
 ghost use Rattle.sas_requests.specs.Output.{refusal, refusal_line, word_of};
 
+use crate::answers::Answer;
 use crate::{Status, ToolFault};
+use sas_file_reasons::{FoundText, push_plan_reasons, push_task_reasons};
 use sas_lines::{push_line, push_number};
 use sas_output::Told;
-use sas_reader::{Fault, Kind};
+use sas_plan_file::PlanRefusal;
+use sas_reader::{Fault, Found, Kind};
+use sas_task_reader::TaskRefusal;
 use std::alloc::{AllocError, Global};
 
 /// Returns the refusal of a file for its fault, or why the run ends at it.
@@ -21,6 +28,53 @@ pub fn refuse_file(alloc: Global, name: &str, fault: Fault) -> Result<Told, Tool
         text: refusal_text(alloc, name, fault.line, word)?,
         status: Status::No,
     })
+}
+
+/// Returns the refusal of a task for its fault, with the reasons, or why the run ends at it.
+pub fn explain_task_refusal(alloc: Global, refused: TaskRefusal) -> Result<Answer, ToolFault>
+    ensures ok { IfOk result (λ a.
+        IsRefusedWith (codes "task") refused.fault (task_refusal_lines refused) (output_of a)) }
+    ensures long { IsErrOf result ToolFault.TooLong ↔ (refused.fault.kind ≡ Kind.TooLong) }
+    ensures read { IsErrOf result ToolFault.Read ↔ (refused.fault.kind ≡ Kind.Read) }
+    ensures writes { IfErr result (λ e. IsWrite e → ⊥) }
+{
+    let mut told = refuse_file(alloc, "task", refused.fault)?;
+    push_task_reasons(
+        &mut told.text,
+        refused.fault.kind,
+        refused.mark,
+        refused.word,
+        found_text(&refused.found),
+    )?;
+    Ok(Answer::Text(told))
+}
+
+/// Returns the refusal of a plan for its fault, with the reasons, or why the run ends at it.
+pub fn explain_plan_refusal(alloc: Global, refused: PlanRefusal) -> Result<Answer, ToolFault>
+    ensures ok { IfOk result (λ a.
+        IsRefusedWith (codes "plan") refused.fault (plan_refusal_lines refused) (output_of a)) }
+    ensures long { IsErrOf result ToolFault.TooLong ↔ (refused.fault.kind ≡ Kind.TooLong) }
+    ensures read { IsErrOf result ToolFault.Read ↔ (refused.fault.kind ≡ Kind.Read) }
+    ensures writes { IfErr result (λ e. IsWrite e → ⊥) }
+{
+    let mut told = refuse_file(alloc, "plan", refused.fault)?;
+    push_plan_reasons(
+        &mut told.text,
+        refused.fault.kind,
+        found_text(&refused.found),
+    )?;
+    Ok(Answer::Text(told))
+}
+
+/// Returns what was found at a fault, as it is told.
+fn found_text(found: &Found) -> FoundText<'_>
+    ensures bytes { result.bytes.now ≡ bytes_of found.now }
+    ensures more { result.more ≡ found.now.more }
+{
+    FoundText {
+        bytes: found.bytes(),
+        more: found.has_more(),
+    }
 }
 
 /// Returns the word for what is wrong with a file, or why the run ends at this kind.

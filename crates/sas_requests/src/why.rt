@@ -4,21 +4,27 @@ ghost use Rattle.std.specs.Prelude.{IfErr, IfOk, IsErrOf, IsFalse, IsTrue};
 ghost use Rattle.std.specs.Io.KnownBytes.{Consumes};
 ghost use Rattle.sas_explain.specs.Verdict.{WhyVerdict};
 ghost use Rattle.sas_output.specs.Ending.{IsDecided, IsWrite};
+ghost use Rattle.sas_plan_file.specs.PlanFormat.{plan_format};
 ghost use Rattle.sas_reader.specs.Devices.{ValueOf};
 ghost use Rattle.sas_task_format.specs.TaskFormat.{task_format};
-ghost use Rattle.sas_task_reasons.specs.WhyLayers.{LayerReasonsFit, why_refusal, output_of_task};
+ghost use Rattle.sas_task_reasons.specs.WhyLayers.{LayerReasonsFit, WhyCheckAnswer, WhyMutexAnswer};
+ghost use Rattle.sas_task_reasons.specs.WhyLayers.{output_of_task, why_refusal};
 ghost use Rattle.sas_requests.specs.Answering.{Answers, AnswersFile, AnswersFiles, output_of};
-ghost use Rattle.sas_requests.specs.Output.{VerdictOut, AreInputs, IsLayeredText, reads_plan, reads_task};
-ghost use Rattle.sas_requests.specs.Why.{OutWhy, WhyCheckOut, WhyMutexOut, WhyPlanOut};
+ghost use Rattle.sas_requests.specs.Explaining.{PlanOutWhy, TaskOutWhy};
+ghost use Rattle.sas_requests.specs.Output.{AreInputs, IsLayeredText, PrintAnswer, ShowAnswer, reads_plan, reads_task};
+ghost use Rattle.sas_requests.specs.Why.{OutWhy};
 
-use crate::answers::{Answer, answer_to, refuse};
-use crate::{Request, ToolFault};
+use crate::answers::Answer;
+use crate::refusals::{explain_plan_refusal, explain_task_refusal};
+use crate::{Request, Status, ToolFault};
 use sas_explain::{PlanAnswer, explain_plan};
 use sas_flat::FlatTask;
 use sas_lines::Watched;
 use sas_meaning::{LayerFault, Layered};
-use sas_plan_file::read_flat_plan;
-use sas_task_reader::read_flat_task;
+use sas_output::Told;
+use sas_plan_file::{read_flat_plan_telling, read_plan_text_telling};
+use sas_summary::Summary;
+use sas_task_reader::{read_flat_task_telling, read_outline_telling, read_task_text_telling};
 use sas_task_reasons::{TaskAnswer, explain_check, explain_groups, explain_layers};
 use std::alloc::Global;
 use std::io::Read;
@@ -60,7 +66,7 @@ pub fn explanation_to<T: Read, P: Read>(
 /// Returns the answer with the summary of a task, or why it is refused.
 fn show_explanation<R: Read>(alloc: Global, reader: &mut Watched<R>) -> Result<Answer, ToolFault>
     requires { reader.old.failed ≡ false }
-    ensures { AnswersFile R.remaining (WhyFileOut ShowAnswer) reader.old reader.new result }
+    ensures { AnswersFile R.remaining (TaskOutWhy ShowAnswer) reader.old reader.new result }
 {
     match read_outline_telling(alloc, reader) {
         Ok(outline) => Ok(Answer::Summary(Summary::new(outline))),
@@ -71,7 +77,7 @@ fn show_explanation<R: Read>(alloc: Global, reader: &mut Watched<R>) -> Result<A
 /// Returns the answer with the lines of a task, or why it is refused.
 fn print_explanation<R: Read>(alloc: Global, reader: &mut Watched<R>) -> Result<Answer, ToolFault>
     requires { reader.old.failed ≡ false }
-    ensures { AnswersFile R.remaining WhyPrintOut reader.old reader.new result }
+    ensures { AnswersFile R.remaining (TaskOutWhy (PrintAnswer task_format)) reader.old reader.new result }
 {
     match read_task_text_telling(alloc, reader) {
         Ok(text) => Ok(Answer::Text(Told {
@@ -85,7 +91,7 @@ fn print_explanation<R: Read>(alloc: Global, reader: &mut Watched<R>) -> Result<
 /// Returns the answer with the steps of a plan and its cost, or why it is refused.
 fn steps_explanation<R: Read>(alloc: Global, plan: &mut Watched<R>) -> Result<Answer, ToolFault>
     requires { plan.old.failed ≡ false }
-    ensures { AnswersFile R.remaining WhyStepsOut plan.old plan.new result }
+    ensures { AnswersFile R.remaining (PlanOutWhy (PrintAnswer plan_format)) plan.old plan.new result }
 {
     match read_plan_text_telling(alloc, plan) {
         Ok(text) => Ok(Answer::Text(Told {
@@ -99,7 +105,7 @@ fn steps_explanation<R: Read>(alloc: Global, plan: &mut Watched<R>) -> Result<An
 /// Returns the answer to whether a task is layered, with the reasons where it isn't.
 fn check_explanation<R: Read>(alloc: Global, reader: &mut Watched<R>) -> Result<Answer, ToolFault>
     requires { reader.old.failed ≡ false }
-    ensures { AnswersFile R.remaining WhyCheckOut reader.old reader.new result }
+    ensures { AnswersFile R.remaining (TaskOutWhy WhyCheckAnswer) reader.old reader.new result }
 {
     let task = match read_flat_task_telling(alloc, reader) {
         Ok(task) => task,
@@ -112,7 +118,7 @@ fn check_explanation<R: Read>(alloc: Global, reader: &mut Watched<R>) -> Result<
 /// layered.
 fn mutex_explanation<R: Read>(alloc: Global, reader: &mut Watched<R>) -> Result<Answer, ToolFault>
     requires { reader.old.failed ≡ false }
-    ensures { AnswersFile R.remaining WhyMutexOut reader.old reader.new result }
+    ensures { AnswersFile R.remaining (TaskOutWhy WhyMutexAnswer) reader.old reader.new result }
 {
     let task = match read_flat_task_telling(alloc, reader) {
         Ok(task) => task,
@@ -141,7 +147,7 @@ fn plan_explanation<T: Read, P: Read>(
 ) -> Result<Answer, ToolFault>
     requires task { task.old.failed ≡ false }
     requires plan { plan.old.failed ≡ false }
-    ensures { AnswersFiles T.remaining P.remaining WhyPlanOut
+    ensures { AnswersFiles T.remaining P.remaining (OutWhy Request.Plan)
         task.old task.new plan.old plan.new result }
 {
     let read = match read_flat_task_telling(alloc, task) {
@@ -171,7 +177,7 @@ fn explain_judged<P: Read>(
 ) -> Result<Answer, ToolFault>
     requires plan { plan.old.failed ≡ false }
     requires task { (b : List ℕ) × ValueOf task_format b layered }
-    ensures { AnswersFile P.remaining (VerdictOut WhyVerdict layered) plan.old plan.new result }
+    ensures { AnswersFile P.remaining (PlanOutWhy (WhyVerdict layered)) plan.old plan.new result }
 {
     match read_flat_plan_telling(alloc, plan) {
         Ok(read) => match explain_plan(alloc, layered, read)? {
