@@ -1,5 +1,5 @@
 -- How an answer about one file with reasons comes about.
-use Rattle.std.proofs.Common.{◌≡◌, ◌≢◌, ℕ, ◌++◌, List, [], length, take, refl, sym, ap, subst, ◌∙◌, inl, inr, append-nil, Option, Some, None, Result, Ok, Err}
+use Rattle.std.proofs.Common.{◌≡◌, ◌≢◌, ℕ, ◌<◌, Bool, true, false, IsTrue, ◌++◌, List, [], length, take, refl, sym, ap, subst, ◌∙◌, inl, inr, append-nil, Option, Some, None, Result, Ok, Err}
 use Rattle.std.specs.Prelude.{option_map, nat_lt, IfOk, IfErr, IsErrOf, ◌↔◌}
 use Rattle.std.specs.Io.KnownBytes.{Consumes, IsAtEnd}
 use Rattle.std.proofs.lemmas.Option.{none-some}
@@ -21,8 +21,14 @@ use Rattle.sas_output.specs.Ending.{Output, IsDecided, IsWrite}
 use Rattle.sas_task_reasons.specs.WhyLayers.{with_reasons}
 use Rattle.sas_requests.specs.declared.answers.Answer.{Answer}
 use Rattle.sas_requests.specs.Answering.{Answers, AnswersFile, output_of}
-use Rattle.sas_requests.specs.Explaining.{FileOutWhy, IsRefusedWith}
-use Rattle.sas_requests.specs.FileReasons.{FaultReasons, told, past_limit}
+use Rattle.sas_plan_file.specs.declared.plan.PlanRefusal.{PlanRefusal}
+use Rattle.sas_task_format.proofs.TaskSections.{less, is_less}
+use Rattle.sas_task_format.specs.TaskReasons.{IsTaskReason}
+use Rattle.sas_task_reader.specs.declared.refusal.TaskRefusal.{TaskRefusal}
+use Rattle.sas_file_reasons.specs.PlanDue.{plan_reason_lines}
+use Rattle.sas_file_reasons.specs.TaskDue.{task_reason_lines}
+use Rattle.sas_requests.specs.Explaining.{FileOutWhy, IsRefusedWith, task_refusal_lines, plan_refusal_lines}
+use Rattle.sas_requests.specs.FileReasons.{FaultReasons, told, past_limit, TellsTask, TellsPlan}
 use Rattle.sas_requests.specs.Output.{word_of, refusal, FileOut}
 use Rattle.sas_requests.proofs.Outputs.{refused_kind, too_long_else, reading_of_refusal}
 use Rattle.sas_requests.proofs.RefusalReasons.{no_reasons, some_of}
@@ -149,3 +155,29 @@ module _ {D V I S A R : Type 0} (left : D → Option (List ℕ)) (F : Format V I
         reads = (λ e. h.note.0 (read.0 e), λ t. read.1 (h.note.1 t));
         writes = writes;
       }
+
+-- ---- what is kept of what was found
+
+not_true : (b : Bool) → (b ≡ true → false ≡ true) → false ≡ b
+not_true true f = f refl
+not_true false f = refl
+
+more_is : (m : Bool) (n : ℕ) → IsTrue m ↔ (64 < n) → m ≡ nat_lt 64 n
+more_is true n h = sym (less 64 n (h.0 refl))
+more_is false n h = not_true (nat_lt 64 n) (λ t. h.1 (is_less 64 n t))
+
+-- what a refusal tells of a task, and of a plan
+pub task_refusal_tells : (r : TaskRefusal) (accepted : List (List ℕ)) (text : List ℕ) → IsFoundOf text r.found → IsTaskReason (r.fault).kind accepted text r.mark r.word → TellsTask (r.fault).kind accepted text (task_refusal_lines r)
+task_refusal_tells r accepted text is reason = record {
+  mark = r.mark;
+  word = r.word;
+  reason = reason;
+  lines =
+      ap (λ (bytes : List ℕ). task_reason_lines r.mark r.word (r.fault).kind bytes (r.found).more) is.front
+      ∙ ap (λ (more : Bool). task_reason_lines r.mark r.word (r.fault).kind (take 64 text) more) (more_is (r.found).more (length text) is.longer);
+}
+
+pub plan_refusal_tells : (r : PlanRefusal) (accepted : List (List ℕ)) (text : List ℕ) → IsFoundOf text r.found → TellsPlan (r.fault).kind accepted text (plan_refusal_lines r)
+plan_refusal_tells r accepted text is =
+    ap (λ (bytes : List ℕ). plan_reason_lines (r.fault).kind bytes (r.found).more) is.front
+    ∙ ap (λ (more : Bool). plan_reason_lines (r.fault).kind (take 64 text) more) (more_is (r.found).more (length text) is.longer)

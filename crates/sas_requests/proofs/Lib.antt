@@ -25,3 +25,4 @@ pub mod RefusalReasons
 mod RefusalLaws
 pub mod ReasonedOutputs
 pub mod Explained
+mod ExplainedPlans
