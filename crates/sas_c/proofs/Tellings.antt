@@ -17,10 +17,13 @@ use Rattle.sas_output.specs.Ending.{Output, Ends, output_told}
 use Rattle.sas_answers.specs.Answers.{layers_verdict}
 use Rattle.sas_core.specs.PlanParts.{PlanParts}
 use Rattle.sas_requests.specs.declared.Request.{Request}
+use Rattle.sas_requests.specs.declared.Request.TheVariants.{Plan}
 use Rattle.sas_requests.specs.Headline.{Headline}
 use Rattle.sas_requests.specs.Output.{CheckOut, PlanOutBy}
 use Rattle.sas_requests.proofs.Headlines.{TellsValid, headline_of}
 use Rattle.sas_requests.proofs.PlanAnswers.{Refuses}
+use Rattle.sas_requests.proofs.ReasonedOutputs.{headline_why}
+use Rattle.sas_requests.specs.Why.{OutWhy}
 use Rattle.sas_plans.specs.declared.held.Opening.{Opening}
 use Rattle.sas_plans.specs.declared.held.Opening.TheVariants.{Ready, Refused}
 use Rattle.sas_plans.specs.Opened.{Opens}
@@ -133,6 +136,12 @@ pub headline_told : (Verdict : Parts → PlanParts → Output → Type 0) (refus
 headline_told Verdict refused tells refuses b c room size number t = λ status is.
     let x = t.told status is in
     subst (λ (text : List ℕ). Headline b c (λ line. text ≡ line) status) (sym x.4) (headline_of Verdict refused tells refuses b c x.0 x.1 (Some []) (Some (x.0).text) [] status refl (sym x.2) refl)
+
+-- the same with reasons
+pub headline_why_told : (b c room : List ℕ) (size number : ℕ) → Tells (OutWhy Plan b c) room size number → TellsHeadline b c room size number
+headline_why_told b c room size number t = λ status is.
+    let x = t.told status is in
+    subst (λ (text : List ℕ). Headline b c (λ line. text ≡ line) status) (sym x.4) (headline_why b c x.0 x.1 (Some []) (Some (x.0).text) [] status refl (sym x.2) refl)
 
 -- ---- a task that was opened
 

@@ -2,7 +2,7 @@
 // answer to the front of `room`, and its length in bytes to `size`.
 ghost use Rattle.std.specs.Prelude.{[]};
 ghost use Rattle.sas_requests.specs.Output.{ShowOut, PrintOut, StepsOut, CheckOut, MutexOut, PlanOut};
-ghost use Rattle.sas_requests.specs.Why.{OutWhy, WhyPlanOut};
+ghost use Rattle.sas_requests.specs.Why.{OutWhy};
 ghost use Rattle.sas_plans.specs.TraceOut.{TraceOut};
 ghost use Rattle.sas_c.specs.Telling.{Tells, TellsHeadline};
 
@@ -74,7 +74,7 @@ pub extern "C" fn sas_plan_why(
     room: &mut [u8],
     size: &mut usize,
 ) -> u32
-    ensures tells { Tells (WhyPlanOut task.now plan.now) room.new size.new result }
+    ensures tells { Tells (OutWhy Request.Plan task.now plan.now) room.new size.new result }
     ensures headline { TellsHeadline task.now plan.now room.new size.new result }
 {
     answer_why(alloc, Asked::new(Request::Plan, task, plan), room, size)
