@@ -1,5 +1,5 @@
 -- What a fault is about, for any format, and for a machine that follows a grammar.
-use Rattle.std.proofs.Common.{◌≡◌, ◌≢◌, ℕ, ◌+◌, ◌≤◌, List, [], ◌∷◌, ◌++◌, length, refl, sym, ap, subst, ◌∙◌, append_assoc, ◌⊎◌, inl, inr, Option, Result, Ok, Err}
+use Rattle.std.proofs.Common.{◌≡◌, ◌≢◌, ℕ, ◌≤◌, List, [], ◌∷◌, ◌++◌, length, refl, sym, ap, subst, ◌∙◌, append_assoc, arith, ◌⊎◌, inl, inr, Option, Ok, Err}
 use Rattle.std.specs.Io.KnownBytes.{IsAtEnd}
 use Rattle.sas_lines.specs.Device.{Device}
 use Rattle.sas_lines.specs.Lines.{without_return, lines, unfinished}
@@ -10,14 +10,14 @@ use Rattle.sas_reader.specs.declared.fault.Kind.TheVariants as kinds
 use Rattle.sas_reader.specs.declared.found.Found.{Found}
 use Rattle.sas_reader.specs.declared.reader.Refused.{Refused}
 use Rattle.sas_reader.specs.Devices.{Refuses, unread_at, ended_at, faulty_at}
-use Rattle.sas_reader.specs.Format.{Format, Live, Next, KindAt, too_long, trailing, wrong, FaultOf, EndOf}
+use Rattle.sas_reader.specs.Format.{Format, Live, KindAt, too_long, trailing, wrong, FaultOf, EndOf}
 use Rattle.sas_reader.specs.Found.{IsFoundOf}
 use Rattle.sas_reader.specs.Limit.{most_bytes}
-use Rattle.sas_reader.specs.Reader.{Reached, EndsEarly, FaultIn, StopsTelling, told_full, told_over, told_rejected, FaultTold, EndTold, ToldBy, ReadFailsTelling, told_unread, told_early, told_faulty, FeedsMachineTelling}
+use Rattle.sas_reader.specs.Reader.{Reached, StopsTelling, told_full, told_over, told_rejected, FaultTold, EndTold, ToldBy, ReadFailsTelling, told_unread, told_early, told_faulty, FeedsMachineTelling}
 use Rattle.sas_reader.specs.System.{Node, Grammar}
-use Rattle.sas_reader.specs.Telling.{IsTold, IsAbout, of_line, of_byte, of_end, OneAbout, SomeAbout, AboutStays, TellingLaws, TellsAbout, RefusesTelling, ReadsAllTelling, StandsBehind, behind_line, behind_text, at_end}
+use Rattle.sas_reader.specs.Telling.{IsTold, IsAbout, of_line, of_byte, of_end, OneAbout, SomeAbout, AboutStays, TellingLaws, TellsAbout, ReadsAllTelling, StandsBehind, behind_line, behind_text, at_end}
 use Rattle.sas_reader.proofs.Conversion.{Follows, At, at, path_of, fault_of_format, end_of_format, live_of_format, more_is_due}
-use Rattle.sas_reader.proofs.Live.{fault_stays, fault_done, fault_rejected, rejected_as, next_slot, reads_done}
+use Rattle.sas_reader.proofs.Live.{live, done_dead, line_dead, rejected_as, next_slot, reads_done}
 use Rattle.sas_reader.proofs.Standing.{fault_is}
 use Rattle.sas_reader.proofs.Whole.{fault_is_dead, no_slot_at_end, one_line, one_place}
 
@@ -54,9 +54,13 @@ module _ {T V I S : Type 0} (F : Format V I S) (Fits : I → Type 0) (node : T �
   one_about limit bytes f a b t u (of_line j ja jt s n k) (of_end h ha ht) = absurd (fault_is_dead F Fits node start g limit bytes f j h.live)
   one_about limit bytes f a b t u (of_byte j ja jt v r k) (of_end h ha ht) = absurd (fault_is_dead F Fits node start g limit bytes f j h.live)
 
+  longer : (limit : ℕ) (bytes more : List ℕ) (f : Fault) → FaultOf F limit bytes f → FaultOf F limit (bytes ++ more) f
+  longer limit bytes more f h = record { before = h.before; byte = h.byte; after = h.after ++ more; whole = ap (λ (b : List ℕ). b ++ more) h.whole ∙ append_assoc h.before (h.byte ∷ h.after) more; live = h.live; dead = h.dead; line = h.line; kind = h.kind }
+
   pub about_stays : AboutStays F
-  about_stays limit bytes more f a t d (of_line h ha ht s n k) = of_line (fault_stays F limit bytes more f h) ha ht s n k
-  about_stays limit bytes more f a t d (of_byte h ha ht v r k) = of_byte (fault_stays F limit bytes more f h) ha ht v r k
+  unfolding longer
+  about_stays limit bytes more f a t d (of_line h ha ht s n k) = of_line (longer limit bytes more f h) ha ht s n k
+  about_stays limit bytes more f a t d (of_byte h ha ht v r k) = of_byte (longer limit bytes more f h) ha ht v r k
   about_stays limit bytes more f a t d (of_end h ha ht) = absurd (fault_is_dead F Fits node start g limit bytes f d h.live)
 
   pub telling_laws_of : TellingLaws F
@@ -82,12 +86,12 @@ module _ {T V I S M : Type 0} (F : Format V I S) (Fits : I → Type 0) (node : T
       let a = go_on h.machine h.before h.reached in
       let path = path_of F Fits node start g led_by Ended rejects follows h.machine h.before h.reached in
       let v = a.value d in
-      let x = fault_done F Fits node start g limit a.state v.0 h.before h.byte f v.1 path l h.line k in
-      let fault : FaultOf F limit bytes f = record { before = h.before; byte = h.byte; after = h.after; whole = h.whole; live = x.live; dead = x.dead; line = h.line; kind = x.kind } in
+      let reads = reads_done F Fits node start g a.state v.0 h.before v.1 path in
+      let fault : FaultOf F limit bytes f = record { before = h.before; byte = h.byte; after = h.after; whole = h.whole; live = live F Fits node start g limit a.state h.before (omega (arith, l)) path; dead = done_dead F Fits node start g limit a.state v.0 h.before h.byte v.1 path; line = h.line; kind = trailing l v.0 reads k } in
       record {
         accepted = lines h.before;
         text = h.byte ∷ [];
-        about = of_byte fault refl refl v.0 (reads_done F Fits node start g a.state v.0 h.before v.1 path) k;
+        about = of_byte fault refl refl v.0 reads k;
         kept = is;
         stands = behind_text (subst (λ (m : M). led_by (lines h.before) m) (sym stays) h.reached.led) (subst Ended (sym stays) d) k;
       }
@@ -97,12 +101,14 @@ module _ {T V I S M : Type 0} (F : Format V I S) (Fits : I → Type 0) (node : T
       let path = path_of F Fits node start g led_by Ended rejects follows h.machine h.before h.reached in
       let refused = a.refuses line f.kind going r in
       let j = rejected_as F Fits node start g (node a.state) line f.kind refused in
-      let x = fault_rejected F Fits node start g limit a.state h.before f path refused l h.line in
-      let fault : FaultOf F limit bytes f = record { before = h.before; byte = h.byte; after = h.after; whole = h.whole; live = x.live; dead = subst (λ (y : ℕ). Live F limit (h.before ++ y ∷ []) → ⊥) (sym b) x.dead; line = h.line; kind = subst (λ (y : ℕ). KindAt F limit h.before y f.kind) (sym b) x.kind } in
+      let ended : lines (h.before ++ h.byte ∷ []) ≡ lines h.before ++ line ∷ [] = ap (λ (y : ℕ). lines (h.before ++ y ∷ [])) b ∙ lines-end h.before in
+      let next = next_slot F Fits node start g a.state j.0 j.1 j.2 (lines h.before) j.3 a.leads in
+      let dead = line_dead F Fits node start g limit a.state j.0 j.1 j.2 h.before f.kind j.3 path j.4 in
+      let fault : FaultOf F limit bytes f = record { before = h.before; byte = h.byte; after = h.after; whole = h.whole; live = live F Fits node start g limit a.state h.before (omega (arith, l)) path; dead = subst (λ (y : ℕ). Live F limit (h.before ++ y ∷ []) → ⊥) (sym b) dead; line = h.line; kind = wrong l line ended j.0 next j.4.kind } in
       record {
         accepted = lines h.before;
         text = line;
-        about = of_line fault refl (ap (λ (y : ℕ). lines (h.before ++ y ∷ [])) b ∙ lines-end h.before) j.0 (next_slot F Fits node start g a.state j.0 j.1 j.2 (lines h.before) j.3 a.leads) j.4.kind;
+        about = of_line fault refl ended j.0 next j.4.kind;
         kept = is;
         stands = behind_line h.machine h.reached.led going r behind;
       }
@@ -156,11 +162,14 @@ module _ {T V I S M : Type 0} (F : Format V I S) (Fits : I → Type 0) (node : T
             read = tt;
             refused = λ ne.
                 let t = h.told (λ e. ne (kind ∙ e)) in
-                let q = device_told t.0 (IsAtEnd (left new.device)) r t.2 in
-                (t.0, t.1, record {
-                  refuses = subst (λ (f : Fault). Refuses F t.0 (IsAtEnd (left new.device)) f) (sym same) q.0;
-                  about = λ told. tells_about t.0 r x same same_found tells (q.1 (subst IsTold kind told));
-                });
+                let q = device_told t.0 (IsAtEnd (left new.device)) r t.2 in (
+                  t.0,
+                  t.1,
+                  record {
+                    refuses = subst (λ (f : Fault). Refuses F t.0 (IsAtEnd (left new.device)) f) (sym same) q.0;
+                    about = λ told. tells_about t.0 r x same same_found tells (q.1 (subst IsTold kind told));
+                  },
+                );
             memory = λ e. let m = h.plain.memory (sym kind ∙ e) in (m.0, m.1, m.2, more_is_due F Fits node start g led_by Ended rejects follows most_bytes m.0 m.1 m.3);
             note = ((λ e. h.plain.note.0 (sym kind ∙ e)), (λ t. kind ∙ h.plain.note.1 t));
           }

@@ -221,7 +221,7 @@ module _ {M : Type 0} (led_by : List (List ℕ) → M → Type 0) (ended : M →
     pub kind : IsOfBytes k
     pub fault : k ≢ kinds.Memory → (bytes : List ℕ) → Accepted led_by ended old bytes
         → FaultBehind old.limit bytes piece (record { line = new.lines + 1; kind = k })
-            new.machine new.found
+        new.machine new.found
     pub memory : k ≡ kinds.Memory → (bytes : List ℕ) → Accepted led_by ended old bytes
         → LineIsDue led_by ended old.limit bytes piece
 

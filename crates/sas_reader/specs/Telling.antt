@@ -1,5 +1,5 @@
 -- What a fault is about: the lines that were accepted before it, and the text that stood there.
-use Rattle.std.specs.Prelude.{◌≡◌, ◌≢◌, ◌↔◌, ℕ, ◌+◌, ◌≤◌, List, [], ◌∷◌, ◌++◌, length, ◌⊎◌}
+use Rattle.std.specs.Prelude.{◌≡◌, ◌≢◌, ◌↔◌, ℕ, List, [], ◌∷◌, ◌++◌, ◌⊎◌}
 use Rattle.std.specs.Prelude.{Option, Result, IfOk, IfErr, IsErrAnd, IsTrue}
 use Rattle.std.specs.Io.KnownBytes.{IsAtEnd}
 use Rattle.sas_lines.specs.Device.{Device}

@@ -26,8 +26,7 @@ pub fn read_all<M: Machine, R: Read>(
     ensures { FeedsMachine M.led_by M.ended M.rejects R.remaining limit
         device.old device.new result }
 {
-    let mut buffer = [0u8; 4096];
-    match feed_all(Reader::new(alloc, machine, limit), device, &mut buffer) {
+    match read_all_telling(alloc, machine, limit, device) {
         Ok(machine) => Ok(machine),
         Err(refused) => Err(refused.fault),
     }
@@ -53,6 +52,23 @@ pub fn read_all_large<M: Machine, R: Read>(
     }
 }
 
+/// Reads as `read_all` does, and tells of a fault what stood there, and where the machine stands behind it.
+pub fn read_all_telling<M: Machine, R: Read>(
+    alloc: Global,
+    machine: M,
+    limit: u64,
+    device: &mut Watched<R>,
+) -> Result<M, Refused<M>>
+    requires note { device.old.failed ≡ false }
+    requires small { limit ≤ most_bytes }
+    requires start { M.led_by [] machine }
+    ensures { FeedsMachineTelling M.led_by M.ended M.rejects M.stopped R.remaining limit
+        device.old device.new result }
+{
+    let mut buffer = [0u8; 4096];
+    feed_all(Reader::new(alloc, machine, limit), device, &mut buffer)
+}
+
 /// Reads as `read_all_large` does, and tells of a fault what stood there, and where the machine stands behind it.
 pub fn read_all_large_telling<M: Machine, R: Read>(
     alloc: Global,
@@ -72,10 +88,7 @@ pub fn read_all_large_telling<M: Machine, R: Read>(
             device,
             buffer.as_mut_slice(),
         ),
-        Err(_) => {
-            let mut buffer = [0u8; 4096];
-            feed_all(Reader::new(alloc, machine, limit), device, &mut buffer)
-        }
+        Err(_) => read_all_telling(alloc, machine, limit, device),
     }
 }
 

@@ -1,17 +1,16 @@
-use Rattle.std.proofs.Common.{rules, refl, ◌≡◌, ◌≢◌, ◌≤◌, ◌+◌, ◌++◌, ℕ, List, length, ap, subst, ◌∙◌, sym, arith, ◌⊎◌, inl, inr, take, Result, Ok, Err, None, Some, Option}
+use Rattle.std.proofs.Common.{refl, ◌≡◌, ◌≢◌, ◌≤◌, ◌+◌, ◌++◌, ℕ, List, length, ap, subst, ◌∙◌, sym, arith, inl, inr, take, Result, Ok, Err, None, Some, Option}
 use Rattle.std.specs.Prelude.{IsTrue}
 use Rattle.std.specs.Io.KnownBytes.{Consumes, IsAtEnd}
 use Rattle.std.proofs.KnownBytes.{Consumes-trans, Consumes-kept}
 use Rattle.std.proofs.lemmas.List.{append-nil}
 use Rattle.sas_lines.specs.Device.{Device}
-use Rattle.sas_lines.specs.Lines.{lines}
 use Rattle.sas_reader.specs.declared.fault.Fault.{Fault}
 use Rattle.sas_reader.specs.declared.fault.Kind.{Kind}
 use Rattle.sas_reader.specs.declared.fault.Kind.TheVariants as kinds
 use Rattle.sas_reader.specs.declared.reader.Reader.{Reader}
 use Rattle.sas_reader.specs.declared.reader.Refused.{Refused}
 use Rattle.sas_reader.specs.Faults.{answer}
-use Rattle.sas_reader.specs.Reader.{Reached, LineIsDue, EndsEarly, FaultIn, FaultTold, EndTold, ToldBy, Stands, StandsTelling, ReadFails, unread, early, faulty, FeedsMachine, ReachesEndTelling, ReadFailsTelling, told_unread, told_early, told_faulty, FeedsMachineTelling}
+use Rattle.sas_reader.specs.Reader.{LineIsDue, FaultTold, ToldBy, Stands, StandsTelling, ReadFails, unread, early, faulty, ReachesEndTelling, ReadFailsTelling, told_unread, told_early, told_faulty, FeedsMachineTelling}
 use Rattle.sas_reader.proofs.Standing.{accepted_of, told_of, fault_is}
 use Rattle.sas_reader.proofs.devices.feed_all.Goals as goal
 
@@ -23,10 +22,10 @@ module _ {M D : Type 0} (led_by : List (List ℕ) → M → Type 0) (ended : M �
   fails limit b End r (told_faulty h ne) = faulty (fault_is led_by ended rejects halted limit b r.fault r.machine r.found h) ne
 
   -- a refusal by what it tells, want of memory aside
-  pub refused_as : (limit : ℕ) (old new : Device D) (r : Refused M) → (r.fault.kind ≢ kinds.Memory → (b : List ℕ) × Consumes (left old.device) (left new.device) b × ReadFailsTelling led_by ended rejects halted limit b (IsAtEnd (left new.device)) r)
+  pub refused_as : (limit : ℕ) (old new : Device D) (x r : Refused M) → x ≡ r → (r.fault.kind ≢ kinds.Memory → (b : List ℕ) × Consumes (left old.device) (left new.device) b × ReadFailsTelling led_by ended rejects halted limit b (IsAtEnd (left new.device)) r)
       → (r.fault.kind ≡ kinds.Memory → (b piece : List ℕ) × Consumes (left old.device) (left new.device) (b ++ piece) × LineIsDue led_by ended limit b piece) → (r.fault.kind ≡ kinds.Read → IsTrue new.failed) → (IsTrue new.failed → r.fault.kind ≡ kinds.Read)
-      → FeedsMachineTelling led_by ended rejects halted left limit old new (Err r)
-  refused_as limit old new r told memory read note = record {
+      → FeedsMachineTelling led_by ended rejects halted left limit old new (Err x)
+  refused_as limit old new x r is told memory read note = subst (λ (y : Refused M). FeedsMachineTelling led_by ended rejects halted left limit old new (Err y)) (sym is) (record {
     plain = record {
       at_end = tt;
       reached = tt;
@@ -35,7 +34,7 @@ module _ {M D : Type 0} (led_by : List (List ℕ) → M → Type 0) (ended : M �
       note = (read, note);
     };
     told = told;
-  }
+  })
 
   -- what a reader at the end of its device finds wrong
   at_end : (limit : ℕ) (b : List ℕ) (End : Type 0) (r : Refused M) → End → r.fault.kind ≢ kinds.Read → ToldBy led_by ended rejects halted limit b r → ReadFailsTelling led_by ended rejects halted limit b End r
@@ -57,7 +56,7 @@ module _ {M D : Type 0} (led_by : List (List ℕ) → M → Type 0) (ended : M �
   }
   ended_so limit old new b r (Err e) h s t none same took over well =
       let not_read : e.fault.kind ≢ kinds.Read = λ is. (let x = h.plain.fault.read is in let y : None ≡ Some e.fault = sym none ∙ x in cc) in
-      refused_as limit old new e
+      refused_as limit old new e e refl
       (λ ne. (b, took, subst (λ (l : ℕ). ReadFailsTelling led_by ended rejects halted l b (IsAtEnd (left new.device)) e) same (at_end r.limit b (IsAtEnd (left new.device)) e over not_read (h.told ne b t))))
       (λ is. let x = h.plain.fault.memory is in let y : None ≡ Some e.fault = sym none ∙ x in absurd cc)
       (λ is. absurd (not_read is))
@@ -77,12 +76,11 @@ returns-in-Err g c =
     let r = c.loop-n.reader in
     let h = accepted_of g.M.Machine.led_by g.M.Machine.ended g.M.Machine.rejects r b v.fault v.read.2 in
     let e : Refused _ = record { fault = record { line = r.lines + 1; kind = kinds.Read }; machine = r.machine; found = r.found } in
-    subst (λ x. FeedsMachineTelling g.M.Machine.led_by g.M.Machine.ended g.M.Machine.rejects g.M.Machine.stopped g.R.Read.remaining c.args.reader.limit _ _ (Err x)) (sym c.refused.ensures)
-    (refused_as g.M.Machine.led_by g.M.Machine.ended g.M.Machine.rejects g.M.Machine.stopped g.R.Read.remaining c.args.reader.limit _ _ e
+    refused_as g.M.Machine.led_by g.M.Machine.ended g.M.Machine.rejects g.M.Machine.stopped g.R.Read.remaining c.args.reader.limit _ _ _ e c.refused.ensures
     (λ ne. (b, Consumes-kept _ _ _ b v.read.1 c.in-Err.ensures.bytes, told_unread r.machine h.reached (omega (arith, h.taken, r.within, v.limit)) (ap (λ (n : ℕ). n + 1) h.lines) refl))
-    (λ is. absurd (apart is))
+    (λ is. absurd {0} (apart is))
     (λ is. c.in-Err.ensures.note.0 refl)
-    (λ t. refl))
+    (λ t. refl)
 
 pub returns-then-taken-eq0 : goal.returns-then-taken-eq0
 returns-then-taken-eq0 g c =
@@ -91,21 +89,19 @@ returns-then-taken-eq0 g c =
     let whole : Consumes _ _ b = subst (Consumes _ _) (ap (λ (n : ℕ). b ++ take n c.take.new.buffer) c.if-taken-eq0.true ∙ append-nil b) (Consumes-trans _ _ _ b _ v.read.1 c.in-Ok.ensures.bytes.0) in
     ended_so g.M.Machine.led_by g.M.Machine.ended g.M.Machine.rejects g.M.Machine.stopped g.R.Read.remaining c.args.reader.limit _ _ b c.loop-n.reader c.finish_telling.result c.finish_telling.ensures v.read.2 v.read.3 v.fault v.limit whole (c.in-Ok.ensures.bytes.1 c.if-taken-eq0.true (let room = v.room in omega (arith, c.take.auto.buffer))) (λ t. let e = c.in-Ok.ensures.note.1 t in cc)
 
-pub returns-in-Err-2 : goal.returns-in-Err-2
-returns-in-Err-2 g c =
+pub returns-in-Err-feed : goal.returns-in-Err-feed
+returns-in-Err-feed g c =
     let v = c.loop-n.invariant in
     let b = v.read.0 in
-    let f = c.in-Err-2.fault in
+    let f = c.in-Err-feed.fault in
     let next = c.feed.new.self in
     let piece = take c.in-Ok.n c.take.new.buffer in
-    let takes = c.in-Err-2.ensures.takes in
-    let s = c.in-Err-2.ensures.telling b v.read.3 in
+    let takes = c.in-Err-feed.ensures.takes in
+    let s = c.in-Err-feed.ensures.telling b v.read.3 in
     let not_read : f.kind ≢ kinds.Read = λ e. (takes.kind v.fault).1 e in
-    let was : c.feed.result ≡ Err f = search rules in
     let e : Refused _ = record { fault = f; machine = next.machine; found = next.found } in
-    subst (λ x. FeedsMachineTelling g.M.Machine.led_by g.M.Machine.ended g.M.Machine.rejects g.M.Machine.stopped g.R.Read.remaining c.args.reader.limit _ _ (Err x)) (sym c.refused-in-Err-2.ensures)
-    (refused_as g.M.Machine.led_by g.M.Machine.ended g.M.Machine.rejects g.M.Machine.stopped g.R.Read.remaining c.args.reader.limit _ _ e
-    (λ ne. (b ++ piece, Consumes-trans _ _ _ b piece v.read.1 c.in-Ok.ensures.bytes.0, told_faulty (subst (λ (l : ℕ). FaultTold g.M.Machine.led_by g.M.Machine.ended g.M.Machine.rejects g.M.Machine.stopped l (b ++ piece) f next.machine next.found) (takes.limit ∙ v.limit) (told_of g.M.Machine.led_by g.M.Machine.ended g.M.Machine.rejects g.M.Machine.stopped next f (b ++ piece) (answer_err next.fault f (sym takes.answer ∙ was)) s ne)) not_read))
+    refused_as g.M.Machine.led_by g.M.Machine.ended g.M.Machine.rejects g.M.Machine.stopped g.R.Read.remaining c.args.reader.limit _ _ _ e c.refused-in-Err-feed.ensures
+    (λ ne. (b ++ piece, Consumes-trans _ _ _ b piece v.read.1 c.in-Ok.ensures.bytes.0, told_faulty (subst (λ (l : ℕ). FaultTold g.M.Machine.led_by g.M.Machine.ended g.M.Machine.rejects g.M.Machine.stopped l (b ++ piece) f next.machine next.found) (takes.limit ∙ v.limit) (told_of g.M.Machine.led_by g.M.Machine.ended g.M.Machine.rejects g.M.Machine.stopped next f (b ++ piece) (answer_err next.fault f (sym takes.answer)) s ne)) not_read))
     (λ is. (b, piece, Consumes-trans _ _ _ b piece v.read.1 c.in-Ok.ensures.bytes.0, subst (λ (l : ℕ). LineIsDue g.M.Machine.led_by g.M.Machine.ended l b piece) v.limit (takes.memory v.fault is b v.read.2)))
     (λ is. absurd (not_read is))
-    (λ t. let x = c.in-Ok.ensures.note.1 t in absurd cc))
+    (λ t. let x = c.in-Ok.ensures.note.1 t in absurd cc)

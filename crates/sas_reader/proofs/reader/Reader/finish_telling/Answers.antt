@@ -1,4 +1,4 @@
-use Rattle.std.proofs.Common.{arith, sym, ap, ◌≡◌, ◌∙◌, rules, Option}
+use Rattle.std.proofs.Common.{arith, sym, ap, ◌≡◌, ◌∙◌}
 use Rattle.std.specs.Prelude.{Some, None, Err}
 use Rattle.sas_reader.specs.declared.fault.Fault.{Fault}
 use Rattle.sas_reader.proofs.Standing.{accepted_of}
@@ -8,8 +8,8 @@ use Rattle.sas_reader.proofs.reader.Reader.finish_telling.Goals as goal
 of_some : (f g : Fault) → Some f ≡ Some g → f ≡ g
 of_some f g e = cc
 
-pub returns-in-None : goal.returns-in-None
-returns-in-None g c =
+pub returns : goal.returns
+returns g c =
     let r = c.args.self in
     let none = c.in-None.ensures.none in
     record {
@@ -26,7 +26,7 @@ pub returns-in-Some : goal.returns-in-Some
 returns-in-Some g c =
     let f = c.in-Some.fault in
     let end = c.in-Some.ensures in
-    let found = c.found_at_end.ensures in
+    let found = c.found_at_end-found.ensures in
     record {
       plain = record {
         at_end = tt;
@@ -34,5 +34,5 @@ returns-in-Some g c =
         fault = end.fault;
         kept = λ g e. ap (λ (x : Fault). Err x) (of_some f g (end.kept g e));
       };
-      told = told_at_end g.M.Machine.led_by g.M.Machine.ended g.M.Machine.rejects g.M.Machine.stopped c.args.self f c.found_at_end.result (λ g e. (of_some f g (end.kept g e), found.kept g e)) end.early found.early;
+      told = told_at_end g.M.Machine.led_by g.M.Machine.ended g.M.Machine.rejects g.M.Machine.stopped c.args.self f c.found_at_end-found.result (λ g e. (of_some f g (end.kept g e), found.kept g e)) end.early found.early;
     }

@@ -1,4 +1,4 @@
-use Rattle.std.proofs.Common.{◌≡◌, ◌∙◌, sym, subst, ℕ, List, refl}
+use Rattle.std.proofs.Common.{◌∙◌, sym, subst, ℕ, List, refl}
 use Rattle.sas_reader.specs.Found.{IsFoundOf}
 use Rattle.sas_reader.proofs.Advancing.{accepted_part, accepted_line, stopped_at}
 use Rattle.sas_reader.proofs.Pieces.{takes_bound}
