@@ -29,6 +29,7 @@ from axioms import settled_tasks, spoiled_tasks, text_of
 from families import grouped_tasks
 from following import called_runs
 from large import plan_text, wide_groups, wide_plans, wide_task
+from refusals import told_call
 from steps import initial, state_line, verdict
 from texts import as_bytes, changed_lines, early_end, table
 from walks import walked_calls, walked_plans
@@ -67,7 +68,7 @@ def written_cases():
         for group in groups:
             for given, answer in group["rows"]:
                 about = f"{group.get('about', '')} {as_bytes(given)[:60]!r}"
-                yield case(program, group["call"], given, answer, about)
+                yield case(program, group["call"], given, told_call(group["call"], given, answer), about)
 
 
 def task_cases():
@@ -133,6 +134,14 @@ def told_calls(ways, requests, told, read, answer, about):
         yield case(REQUESTS, f"run-told {request}", told, answer, about)
 
 
+def told_by(request, answer):
+    """Returns this answer as a request about a plan gives it: a trace begins with the initial state, and `plan-why` tells why a task
+    is refused, the one that a byte follows."""
+    if request == "trace":
+        return answer.replace("Ok(Yes)\n", f"Ok(Yes)\n{INITIAL}")
+    return told_call(request, ["|", MINIMAL, "x"], answer)
+
+
 def told_plan_cases():
     """Yields the same for `run` with a plan and its task. They could show a plan that is read before its task, too: the
     task's device comes to its end or fails before that."""
@@ -146,7 +155,7 @@ def told_plan_cases():
         ("!", [MINIMAL, "#x#~"], "Ok(No)\ntask refused: line 25: trailing\n\n"),
     ):
         for request in PLAN_OF_TASK:
-            said = answer.replace("Ok(Yes)\n", f"Ok(Yes)\n{INITIAL}") if request == "trace" else answer
+            said = told_by(request, answer)
             yield case(REQUESTS, f"run-told {request}", [plan, "|", task], said, f"{plan!r}")
 
 

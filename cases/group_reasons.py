@@ -76,7 +76,7 @@ def behind_groups(lines, text):
 
 
 def with_all_reasons(output, text):
-    """Returns the output about the file of a task with the lines behind it: those of its groups, or why it isn't layered."""
+    """Returns the output about a file with the lines behind it: those of its groups, why it isn't layered, or why it is refused."""
     said = as_bytes(output)
     if not said.startswith(b"group "):
         return with_reasons(output, text)

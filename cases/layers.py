@@ -1,5 +1,6 @@
 """Why a task isn't layered, computed from its file: the lines that `--why` prints behind the refusal. Two spaces stand in front of
-each. A task here is as in axioms.py; `fact` in a line represents `VARIABLE VALUE NAME`, with the name of the value.
+each. Why a file isn't well formed is computed in refusals.py. A task here is as in axioms.py; `fact` in a line represents
+`VARIABLE VALUE NAME`, with the name of the value.
 
     effect on derived variable    operator I NAME, effect E sets fact, on layer L: E is the operator's first such effect
     not on a derived variable     rule I gives fact
@@ -12,6 +13,7 @@ each. A task here is as in axioms.py; `fact` in a line represents `VARIABLE VALU
 import re
 
 from axioms import spoiled_tasks, task_of, value_name
+from refusals import behind_file
 from texts import as_bytes
 
 REFUSED = "task refused: "
@@ -76,15 +78,16 @@ def layer_reasons(task, fault):
 
 
 def behind_refusal(said, text):
-    """Returns the lines behind this line about the file of a task: none, unless it says that the task isn't layered."""
+    """Returns the lines behind this line about the file that it is about: none, unless it says that a task isn't layered, or that the
+    file isn't well formed."""
     fault = said.removeprefix(REFUSED)
     if fault == said or not fault.startswith(("operator ", "rule ")):
-        return []
+        return behind_file(said, text)
     return layer_reasons(task_of(as_bytes(text).decode("latin-1")), fault)
 
 
 def with_reasons(output, text):
-    """Returns the output about the file of a task with the lines behind it."""
+    """Returns the output about a file with the lines behind it."""
     said = as_bytes(output)
     lines = behind_refusal(said.decode("latin-1").removesuffix("\n"), text)
     return said + "".join(f"{line}\n" for line in lines).encode("latin-1")

@@ -145,7 +145,10 @@ def same_as_case(sas, case):
     if case["status"] > 1 or case.get("error") or any(word in case for word in LIMITED):
         return None
     files = [word for word in words if word != "--why"]
-    request += "_why" if "--why" in words and request in ("plan", "check", "mutex") else ""
+    if "--why" in words and request not in ("plan", "check", "mutex"):
+        # of these the library has no call with reasons, which they tell of a file that is refused alone
+        return None if b" refused: " in as_bytes(case["output"]) else same_as_case(sas, {**case, "words": [request, *files]})
+    request += "_why" if "--why" in words else ""
     if request not in (*REQUESTS, "plans") or any(word.startswith("-") and word != "-" for word in files):
         return None
     try:

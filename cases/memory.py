@@ -34,6 +34,7 @@ from large import plan_text, wide_plans, wide_task
 from layers import behind_refusal
 from many import lines_of, status_of
 from reasons import reasons
+from refusals import told_call
 from texts import CASES, TOP, as_bytes, table
 from traces import traced
 
@@ -100,7 +101,7 @@ def refused_calls(programs):
                     "command": [programs[name]],
                     "name": f"{group['call']} {as_bytes(given)[:40]!r}",
                     "given": b"%s 1\n%s" % (group["call"].encode(), as_bytes(given)),
-                    "answer": as_bytes(answer),
+                    "answer": as_bytes(told_call(group["call"], given, answer)),
                     "first": 1 + group["refused"],
                     "inputs": group.get("inputs", 2),
                 }
@@ -183,7 +184,8 @@ def refused_reasons(sas, folder):
         fault, behind = reasons(task, names, cost)
         yield asked(sas, ["plan", "--why", *files], 0 if fault.startswith("plan valid") else 1, told([fault, *behind]))
     for words, said in (*refusals(files[1]), ([MINIMAL, MINIMAL], "plan refused: line 1: keyword")):
-        yield asked(sas, ["plan", "--why", *words], 1, told([said, *behind_refusal(said, {"file": words[0]})]))
+        of = words[1] if said.startswith("plan ") else words[0]
+        yield asked(sas, ["plan", "--why", *words], 1, told([said, *behind_refusal(said, {"file": of})]))
     for request in ("check", "mutex"):
         said = "task refused: rule 0: layer order"
         yield asked(sas, [request, "--why", UNLAYERED], 1, told([said, *behind_refusal(said, {"file": UNLAYERED})]))

@@ -30,7 +30,8 @@ to `trace`; both have plans of their own, and so has many.py, for `plans`.
     initial      the initial state, and
     call         what the call `check_plan` answers; both for calls.py, and left out where a file is refused or too long
 
-large.py, idle.py, crowded.py, lengthy.py and plenty.py make large tasks and plans, as cases of program.json.
+large.py, idle.py, crowded.py, lengthy.py and plenty.py make large tasks and plans, as cases of program.json. refusals.py makes
+damaged ones, with `--why`.
 
 groups.json: tasks. Each is given to `mutex` as a file and as standard input, and there with CR LF at the end of each line
 too; those that families.py makes at random, and its larger ones, as standard input.
@@ -80,6 +81,7 @@ from layers import layer_cases
 from lengthy import lengthy_cases
 from many import plans_cases
 from plenty import plenty_cases
+from refusals import refusal_cases
 from texts import TOP, as_bytes, changed_lines, early_end, table
 from traces import trace_cases
 from walks import walked_plans
@@ -212,12 +214,21 @@ def family_cases():
         yield over_task(made["name"], "mutex", made["task"], made["output"], made["status"])
 
 
+def held_by(case):
+    """Returns what the file holds that a case is about."""
+    if "input" in case:
+        return case["input"]
+    if "files" in case:
+        return case["files"]["t.sas"]
+    with open(case["words"][-1], "rb") as file:
+        return file.read()
+
+
 def with_why(case):
-    """Returns a case with `--why`: no other answer is due, but for the reasons why a task isn't layered, or its groups aren't
-    exclusive. It could show one."""
+    """Returns a case with `--why`: no other answer is due, but for the reasons why a file is refused, a task isn't layered, or its
+    groups aren't exclusive. It could show one."""
     request, *words = case["words"]
-    task = case.get("input", case.get("files", {}).get("t.sas", ""))
-    output = with_all_reasons(case["output"], task)
+    output = with_all_reasons(case["output"], held_by(case))
     return {**case, "name": f"{case['name']}, with --why", "words": [request, "--why", *words], "output": output}
 
 
@@ -373,7 +384,8 @@ def main():
     with tempfile.TemporaryDirectory() as plans, tempfile.TemporaryDirectory() as folder:
         files = [*whole_cases(), *line_cases(), *plan_cases(plans), *group_cases()]
         plans = [*verdict_cases(), *why_cases(), *trace_cases(), *plans_cases()]
-        made = [*cut_cases(), *plans, *family_cases(), *reason_cases(), *layer_cases(), *table("program.json")]
+        told = [*reason_cases(), *layer_cases(), *refusal_cases()]
+        made = [*cut_cases(), *plans, *family_cases(), *told, *table("program.json")]
         # those that take longest first
         large = [*nets_cases(), *idle_cases(), *lengthy_cases(), *plenty_cases(), *crowded_cases(), *large_cases()]
         cases = [*large, *files, *map(with_why, files), *made]

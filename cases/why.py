@@ -17,7 +17,7 @@ import random
 
 from axioms import task_of, text_of
 from following import long_runs, run_over, turning_names, turning_task
-from layers import behind_refusal
+from layers import REFUSED, behind_refusal
 from reasons import reasons, reasons_of
 from steps import cost_of, holds
 from texts import as_bytes, changed_lines, table
@@ -78,8 +78,7 @@ def written_cases():
 
 
 def verdict_cases():
-    """Yields the plans of verdicts.json with `--why`, but for those that are too long. Nothing is told behind the refusal of a
-    file."""
+    """Yields the plans of verdicts.json with `--why`, but for those that are too long, and the refusals of files."""
     for made in table("verdicts.json"):
         task, plan = (as_bytes(made[it]).decode("latin-1") for it in ("task", "plan"))
         fault, behind = made["output"].removesuffix("\n"), []
@@ -87,16 +86,16 @@ def verdict_cases():
             fault, behind = reasons(task_of(task), *plan_of(plan))
             assert f"{fault}\n" == made["output"]
         if "call" in made or " refused: " in fault:
-            yield asked(made["name"], task, plan, [fault, *behind, *behind_refusal(fault, task)])
+            of = task if fault.startswith(REFUSED) else plan
+            yield asked(made["name"], task, plan, [fault, *behind, *behind_refusal(fault, of)])
 
 
 def refused_cases():
-    """Yields files that are refused, for the plan of a task or for its task: nothing is told behind that, but why a task isn't
-    layered."""
+    """Yields files that are refused, for the plan of a task or for its task."""
     for made in table("plans.json"):
         if made["status"]:
-            plan = as_bytes(made["plan"])
-            yield asked(f"{made['name']}, of a task", as_bytes(MINIMAL), plan, [made["output"].removesuffix("\n")])
+            plan, said = as_bytes(made["plan"]), made["output"].removesuffix("\n")
+            yield asked(f"{made['name']}, of a task", as_bytes(MINIMAL), plan, [said, *behind_refusal(said, plan)])
     for changed in changed_lines():
         if changed["fault"] or changed["layers"]:
             said = f"task refused: {changed['fault'] or changed['layers']}"

@@ -1,0 +1,462 @@
+"""Why a file is refused, computed from its bytes: the first fault of a task file or a plan file, and the lines that `--why` prints
+behind it. Two spaces stand in front of each.
+
+    at PLACE               where the refused line of a task stands
+    due DUE                what is due there; of a plan it follows from the kind of fault
+    word K may be A to B   of a task, for `value` on a line of several numbers: the first word whose number may not stand there
+    found TEXT             the line without its end; for `trailing` the one byte, and for `end` the unfinished rest, if there is any
+
+The lines of a task are read here by what is due on each, and not by anything of the program. What is due follows from the lines that
+came before.
+"""
+import random
+import re
+
+from texts import as_bytes, bytes_of_file, table
+
+# whether the program tells these lines: without them it says the line and the kind of fault alone
+TOLD = False
+
+SEED = 6
+# the tasks of which each line is changed, and each end; a plan, and how many tasks and plans are changed at random
+LINES_OF = ("cases/tasks/each_part.sas", "cases/tasks/door.sas")
+ENDS_OF = ("cases/tasks/trailing_space.sas", "cases/tasks/each_part.sas")
+PLAN = b"(go )\n(open door)\n; cost = 2 (unit cost)\n"
+TASKS, PLANS = 1500, 300
+# the greatest number of a task, and the greatest cost of a plan
+MOST, MOST_COST = 2**31 - 1, 2**64 - 1
+# how many bytes of what was found are told
+SHOWN = 64
+FACT, HEAD = "fact: VAR VALUE", "head: VAR OLD NEW"
+EFFECT = "effect: COUNT, COUNT times VAR VALUE, VAR OLD NEW"
+STEP, COST = "(NAME)", "; cost = N (unit cost) or ; cost = N (general cost)"
+# what is due in a plan, by the kind of fault
+PLAN_DUES = {"name": STEP, "shape": COST, "keyword": f"{STEP} or {COST}", "end": f"{STEP} or {COST}", "trailing": "nothing"}
+
+
+def spelled(word, most=MOST):
+    """Returns the number that these bytes spell, None where they spell none."""
+    is_number = re.fullmatch(rb"0|[1-9][0-9]{0,19}", word) and int(word) <= most
+    return int(word) if is_number else None
+
+
+def signed(word):
+    """Returns the same, where -1 may stand, too."""
+    return -1 if word == b"-1" else spelled(word)
+
+
+# What is due: its words, and how a line is judged by it. A judge returns None where the line may stand there; else the kind of
+# fault, and the lines about its words.
+
+
+def fixed(text):
+    """This word is due."""
+    return text, lambda line: None if line == text.encode() else ("keyword", [])
+
+
+def name():
+    """A name is due."""
+    return "a name", lambda line: None if line and b"\r" not in line else ("name", [])
+
+
+def number(least, most=MOST):
+    """A number is due, at least and at most this."""
+
+    def judge(line):
+        value = signed(line) if least < 0 else spelled(line)
+        if value is None:
+            return "shape", []
+        return None if least <= value <= most else ("value", [])
+
+    return f"number {least} to {most}", judge
+
+
+def numbers(due, ranges):
+    """A fact, a head or an effect is due, of variables with these ranges."""
+    return due, lambda line: words_fault(due, ranges, line.split(b" "))
+
+
+def values_of(due, words):
+    """Returns the numbers of a line, -1 where none stands for an old value; None where the line isn't made so."""
+    if due == EFFECT:
+        count = spelled(words[0])
+        size = None if count is None else 2 * count + 4
+    else:
+        size = 2 if due == FACT else 3
+    if len(words) != size:
+        return None
+    old = None if due == FACT else size - 2
+    values = [signed(word) if place == old else spelled(word) for place, word in enumerate(words)]
+    return None if None in values else values
+
+
+def limits(due, ranges, values):
+    """Yields of each word of a line the least and the most that it may be. Behind one that may not stand there nothing is asked."""
+    facts = {FACT: values, HEAD: [], EFFECT: values[1:-3]}[due]
+    if due == EFFECT:
+        yield 0, MOST
+    for var in facts[::2]:
+        yield 0, len(ranges) - 1
+        yield 0, ranges[var] - 1
+    if due != FACT:
+        yield 0, len(ranges) - 1
+        yield -1, ranges[values[-3]] - 1
+        yield 0, ranges[values[-3]] - 1
+
+
+def words_fault(due, ranges, words):
+    """Returns what is wrong with a line of several numbers."""
+    values = values_of(due, words)
+    if values is None:
+        return "shape", []
+    for place, (value, (least, most)) in enumerate(zip(values, limits(due, ranges, values)), 1):
+        if not least <= value <= most:
+            return "value", [f"word {place} may be {least} to {most}"]
+    return None
+
+
+# The slots of a file, in order: where a line stands, and what is due there. Each is sent the line that stands there.
+
+
+def counted(place, due):
+    """Yields the slots of a count, and of so many lines."""
+    for _ in range(int((yield place, number(0)))):
+        yield place, due
+
+
+def one_number(place, least, most):
+    """Yields the slots of a section that is one number."""
+    yield place, fixed(f"begin_{place}")
+    yield place, number(least, most)
+    yield place, fixed(f"end_{place}")
+
+
+def variable(place, ranges):
+    """Yields the slots of a variable, and notes its range."""
+    yield place, fixed("begin_variable")
+    yield place, name()
+    yield place, number(-1)
+    size = int((yield place, number(1)))
+    for _ in range(size):
+        yield place, name()
+    yield place, fixed("end_variable")
+    ranges.append(size)
+
+
+def group(place, ranges):
+    """Yields the slots of a mutex group."""
+    yield place, fixed("begin_mutex_group")
+    yield from counted(place, numbers(FACT, ranges))
+    yield place, fixed("end_mutex_group")
+
+
+def state(place, ranges):
+    """Yields the slots of the state."""
+    yield place, fixed("begin_state")
+    for size in ranges:
+        yield place, number(0, size - 1)
+    yield place, fixed("end_state")
+
+
+def goal(place, ranges):
+    """Yields the slots of the goal."""
+    yield place, fixed("begin_goal")
+    yield from counted(place, numbers(FACT, ranges))
+    yield place, fixed("end_goal")
+
+
+def operator(place, ranges):
+    """Yields the slots of an operator."""
+    yield place, fixed("begin_operator")
+    yield place, name()
+    yield from counted(place, numbers(FACT, ranges))
+    yield from counted(place, numbers(EFFECT, ranges))
+    yield place, number(0)
+    yield place, fixed("end_operator")
+
+
+def rule(place, ranges):
+    """Yields the slots of a rule."""
+    yield place, fixed("begin_rule")
+    yield from counted(place, numbers(FACT, ranges))
+    yield place, numbers(HEAD, ranges)
+    yield place, fixed("end_rule")
+
+
+def each(part, ranges, least=0):
+    """Yields the slots of a count, and of so many parts."""
+    one = part.__name__
+    for place in range(int((yield f"{one}s", number(least)))):
+        yield from part(f"{one} {place}", ranges)
+
+
+def task_slots():
+    """Yields the slots of a task."""
+    ranges = []
+    yield from one_number("version", 3, 3)
+    yield from one_number("metric", 0, 1)
+    yield from each(variable, ranges, 1)
+    yield from each(group, ranges)
+    yield from state("state", ranges)
+    yield from goal("goal", ranges)
+    yield from each(operator, ranges)
+    yield from each(rule, ranges)
+
+
+def plan_line(line):
+    """Judges a line of a plan."""
+    if line.startswith(b"("):
+        return None if re.fullmatch(rb"\([^\r\n]+\)", line) else ("name", [])
+    if not line.startswith(b"; cost = "):
+        return "keyword", []
+    cost = re.fullmatch(rb"; cost = ([0-9]+) \((unit|general) cost\)", line)
+    return None if cost and spelled(cost[1], MOST_COST) is not None else ("shape", [])
+
+
+def plan_slots():
+    """Yields the slots of a plan, which are alike, up to the line of its cost. What is due is told by the kind of fault."""
+    while not (yield "", ("", plan_line)).startswith(b";"):
+        pass
+
+
+def first_fault(slots, text):
+    """Follows some bytes through the slots. Returns the first fault: its line, its kind, where that stands, what is due there, what is
+    told of its words, and what was found; None where there is no fault."""
+    here, at, line = next(slots), 0, 1
+    while here:
+        place, (due, judge) = here
+        end = text.find(b"\n", at)
+        if end < 0:
+            return line, "end", place, due, [], text[at:]
+        held = text[at:end].removesuffix(b"\r")
+        wrong = judge(held)
+        if wrong:
+            kind, words = wrong
+            return line, kind, place, due, words, held
+        at, line = end + 1, line + 1
+        try:
+            here = slots.send(held)
+        except StopIteration:
+            here = None
+    return (line, "trailing", "the end", "nothing", [], text[at : at + 1]) if text[at:] else None
+
+
+def shown(text):
+    """Returns some bytes as they are shown."""
+    return "".join(chr(byte) if 32 <= byte <= 126 and byte != 92 else f"\\x{byte:02x}" for byte in text)
+
+
+def found_lines(kind, found):
+    """Returns the line that tells what was found, if there is one."""
+    if kind == "end" and not found:
+        return []
+    return [f"  found {shown(found[:SHOWN])}{' ..' if found[SHOWN:] else ''}"]
+
+
+def refusal(what, text):
+    """Returns the lines about a file that is refused, a task or a plan; None where it isn't."""
+    fault = first_fault(task_slots() if what == "task" else plan_slots(), text)
+    if fault is None:
+        return None
+    line, kind, place, due, words, found = fault
+    told = [f"at {place}", f"due {due}", *words] if what == "task" else [f"due {PLAN_DUES[kind]}"]
+    return [f"{what} refused: line {line}: {kind}", *(f"  {it}" for it in told), *found_lines(kind, found)]
+
+
+def behind_file(said, text):
+    """Returns the lines behind this line about a file: none, unless it says that the file isn't well formed, and the program tells
+    why."""
+    refused = re.fullmatch(r"(task|plan) refused: line [0-9]+: [a-z]+", said)
+    if not refused or not TOLD:
+        return []
+    first, *behind = refusal(refused[1], as_bytes(text))
+    assert first == said, (first, said)
+    return behind
+
+
+def told_call(call, given, answer):
+    """Returns the answer of a call of calls.json: where it is given a plan and a task, and asked for reasons, with those behind the
+    refusal of a file."""
+    if not call.endswith("plan-why"):
+        return answer
+    lines = as_bytes(answer).decode("latin-1").split("\n")
+    plan, task = as_bytes(given).split(b"|", 1)
+    return "\n".join(it for line in lines for it in (line, *behind_file(line, task if line.startswith("task ") else plan)))
+
+
+# ---- files that are damaged
+
+# bytes that aren't shown as they are, and those beside them
+ODD = bytes([0, 31, 32, 91, 92, 93, 126, 127, 128, 255])
+# what may stand nowhere but in the place of a name
+ANYWHERE = [b"", b"x", b"\t", ODD, b"\\", b"..", *(b"x" * size for size in (63, 64, 65)), b"\xff" * 64, ODD * 7, b"x" * 64 + b"\n"]
+# what may not stand in the place of a name either
+NAMELESS = [b"a\rb", b"\r\r", b"\rx", *(b"x" * size + b"\ry" for size in (61, 62, 63, 64)), b"\r" * 65 + b"x"]
+# what stands behind the end of a file
+MORE = [b"\n", b"\r", b"\r\n", b" ", b"x", b"0\n", b"xyz"]
+SPELLINGS = [b"-1", b"-0", b"-2", b"00", b"01", b"+1", b"1 ", b" 1", b"1 1", b"1.", b"2147483647", b"2147483648", b"18446744073709551616"]
+
+
+def near_word(due):
+    """Returns texts that are nearly this word."""
+    word = due.encode()
+    return [word[:-1], word[1:], word + b" ", b" " + word, word + b"s", word.upper(), word + b"\r\r", b"begin_goal", b"end_rule", b"0", b"-1"]
+
+
+def near_number(due):
+    """Returns texts that are nearly such a number."""
+    least, most = map(int, re.findall(r"-?[0-9]+", due))
+    return [*SPELLINGS, b"%d" % (least - 1), b"%d" % (most + 1), b"%d" % most, b"%d " % least, b"0%d" % most]
+
+
+def changes(variables, size):
+    """Returns heads of which the last words, or none, are wrong: of so many variables, and so many values of the first one."""
+    words = ((0, -1, 0), (variables, -1, 0), (0, size, 0), (0, -1, size), (0, size, size), (variables, size, size), (0, -2, 0), (-1, -1, 0))
+    return [*(b"%d %d %d" % it for it in (*words, (0, -1, -1), (MOST + 1, -1, 0))), b"0 -1", b"0 -1 0 0", b"0  -1 0", b"0 -1 0 "]
+
+
+def near_numbers(due, variables, size):
+    """Returns texts that are nearly a fact, a head or an effect."""
+    facts = [b"0 0", *(b"%d %d" % it for it in ((variables, 0), (0, size), (variables, size), (MOST, MOST), (0, MOST + 1), (-1, 0), (0, -1)))]
+    if due == FACT:
+        return [*facts, b"0", b"0 0 0", b"0  0", b" 0 0", b"0 0 ", b"00 0", b"0,0"]
+    heads = changes(variables, size)
+    if due == HEAD:
+        return heads
+    one = [b"%s %s" % (count, head) for head in heads for count in (b"0", b"1 0 0")]
+    two = [b"2 0 0 %s 0 -1 0" % fact for fact in facts] + [b"1 %s 0 %d %d" % (fact, size, size) for fact in facts]
+    return [*one, *two, b"1 0 -1 0", b"0 0 0 0 -1 0", b"2147483647 0 -1 0", b"2147483648 0 -1 0", b"-1 0 -1 0", b"1  0 -1 0"]
+
+
+def near(due, variables, size):
+    """Returns texts for the place of a line where this is due, most of which may not stand there."""
+    if due == "a name":
+        return [b"", *NAMELESS]
+    if due in (FACT, HEAD, EFFECT):
+        return dict.fromkeys([*ANYWHERE, *near_numbers(due, variables, size)])
+    return dict.fromkeys([*ANYWHERE, *NAMELESS, *(near_number(due) if due.startswith("number") else near_word(due))])
+
+
+def slots_of(text):
+    """Returns what is due on each line of a task."""
+    slots, dues = task_slots(), []
+    here = next(slots)
+    for line in text.splitlines():
+        dues.append(here[1][0])
+        try:
+            here = slots.send(line)
+        except StopIteration:
+            pass
+    return dues
+
+
+def with_text(lines, place, text, end):
+    """Returns a file with this text in the place of one line, and these ends of lines."""
+    return b"".join(line + end for line in (*lines[:place], text, *lines[place + 1 :]))
+
+
+def damaged_lines():
+    """Yields tasks with one line changed: each line of some, in each way."""
+    for file in LINES_OF:
+        lines = bytes_of_file(file).splitlines()
+        variables, size = int(lines[6]), int(lines[10])
+        for place, due in enumerate(slots_of(b"\n".join(lines) + b"\n")):
+            for number, text in enumerate(near(due, variables, size)):
+                end = (b"\n", b"\n", b"\r\n")[(place + number) % 3]
+                yield f"{file}, line {place + 1}: {text!r}", with_text(lines, place, text, end)
+
+
+def damaged_ends(held):
+    """Yields a file that goes on behind its end, or that ends early: in each of its bytes, or behind a line with these bytes."""
+    for more in (*MORE, *(bytes([byte]) for byte in ODD)):
+        yield f"and {more!r} behind", held + more
+    for length in range(len(held)):
+        yield f"{length} bytes", held[:length]
+    fronts = [place + 1 for place, byte in enumerate(held) if byte == 10][:-1]
+    for number, rest in enumerate((*ANYWHERE[:-1], *NAMELESS, *(bytes([byte]) for byte in ODD))):
+        front = fronts[number * 7 % len(fronts)]
+        yield f"{front} bytes and {rest!r}", held[:front] + rest
+
+
+def spoiled(chance, text):
+    """Returns a file of which something is changed: a byte, a line, a number, or some of these."""
+    lines, place = text.split(b"\n"), chance.randrange(len(text))
+    one, two = (chance.randrange(len(lines)) for _ in range(2))
+    kind = chance.randrange(8)
+    if kind == 0:
+        return text[:place] + chance.choice((b"", *MORE, bytes([chance.randrange(256)]))) + text[place + 1 :]
+    if kind == 1:
+        return text[:place] + chance.choice((b"\r", b"\n", b"\r\n", b" ", b"0", b"1")) + text[place:]
+    if kind == 2:
+        return b"\n".join(lines[:one] + lines[one + 1 :])
+    if kind == 3:
+        return b"\n".join([*lines[:one], lines[two], *lines[one:]])
+    if kind == 4:
+        lines[one], lines[two] = lines[two], lines[one]
+        return b"\n".join(lines)
+    if kind == 5:
+        lines[one] += b"\r" * chance.randint(1, 2)
+        return b"\n".join(lines)
+    if kind == 6:
+        found = chance.choice([*re.finditer(rb"[0-9]+", text)])
+        return text[: found.start()] + b"%d" % chance.choice((0, 1, 2, 3, 10, MOST, MOST + 1)) + text[found.end() :]
+    return spoiled(chance, spoiled(chance, text) or b"0")
+
+
+def near_steps():
+    """Returns lines of plans, most of which may not stand there."""
+    steps = [b"()", b"(", b")", b"(a", b"a)", b"(a\rb)", b"(\r)", b"(a) ", b" (a)", b"(a)\r", b"(a", b"(" + ODD, b"(" + ODD + b")"]
+    costs = (b"-1", b"01", b"00", b"", b"+1", b"1 ", b" 1", b"18446744073709551615", b"18446744073709551616", b"1" * 64)
+    ends = (b"", b" ", b" (unit cost", b" (Unit cost)", b" (unit cost) ", b"  (unit cost)", b"(unit cost)", b" (cost)", b" (general cost)\rx")
+    long = [front + b"\\" * size for front in (b"(", b"; cost = ", b";") for size in range(54, 66)]
+    made = [b"; cost = %s (unit cost)" % cost for cost in costs] + [b"; cost = 1%s" % end for end in ends]
+    return dict.fromkeys([*ANYWHERE, *NAMELESS, *steps, *made, *long, b"; cost =", b"; Cost = 1 (unit cost)", b";cost = 1 (unit cost)"])
+
+
+def damaged_plans():
+    """Yields plans that are damaged in each way."""
+    lines = PLAN.splitlines()
+    for place in range(len(lines)):
+        for number, text in enumerate(near_steps()):
+            yield f"line {place + 1}: {text!r}", with_text(lines, place, text, (b"\n", b"\r\n")[number % 2])
+    for ends, plan in (("LF", PLAN), ("CR LF", PLAN.replace(b"\n", b"\r\n"))):
+        yield from ((f"with {ends}, {about}", text) for about, text in damaged_ends(plan))
+    chance = random.Random(SEED)
+    yield from ((f"spoiled plan {number}", spoiled(chance, PLAN)) for number in range(PLANS))
+
+
+def damaged_tasks():
+    """Yields tasks that are damaged in each way."""
+    yield from damaged_lines()
+    for file in ENDS_OF:
+        for ends, end in (("LF", b"\n"), ("CR LF", b"\r\n")):
+            held = bytes_of_file(file).replace(b"\n", end)
+            yield from ((f"{file} with {ends}, {about}", text) for about, text in damaged_ends(held))
+    chance = random.Random(SEED)
+    for number in range(TASKS):
+        file = chance.choice(table("tasks.json"))["file"]
+        yield f"spoiled task {number}, {file}", spoiled(chance, bytes_of_file(file))
+
+
+def asked(name, words, lines, **inputs):
+    """Returns the case of a request about a file that is refused, with `--why`."""
+    output = "".join(f"{line}\n" for line in (lines if TOLD else lines[:1]))
+    return {"name": f"{name}, {' '.join(words)} --why", "words": [*words, "--why"], "output": output, "status": 1, **inputs}
+
+
+def refusal_cases():
+    """Yields files that are damaged, with `--why`: by each request in turn. They could show a fault that isn't the first one, a wrong
+    place, and what is due on another line."""
+    for number, (about, text) in enumerate(damaged_tasks()):
+        lines = refusal("task", text)
+        if lines:
+            request = ("check", "print", "show", "mutex", "plan")[number % 5]
+            words = [request, "-", "p.txt"] if request == "plan" else [request, "-"]
+            files = {"files": {"p.txt": "x"}} if request == "plan" else {}
+            yield asked(about, words, lines, input=text, **files)
+    for number, (about, text) in enumerate(damaged_plans()):
+        lines = refusal("plan", text)
+        if lines:
+            words = (["steps", "-"], ["plan", "t.sas", "-"])[number % 2]
+            files = {"files": {"t.sas": {"file": "cases/tasks/minimal.sas"}}} if number % 2 else {}
+            yield asked(f"plan, {about}", words, lines, input=text, **files)
