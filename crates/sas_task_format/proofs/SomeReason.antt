@@ -8,14 +8,14 @@ use Rattle.sas_lines.specs.Lines.{lines, unfinished}
 use Rattle.sas_reader.specs.declared.fault.Fault.{Fault}
 use Rattle.sas_reader.specs.declared.fault.Kind.{Kind}
 use Rattle.sas_reader.specs.declared.fault.Kind.TheVariants as kinds
-use Rattle.sas_reader.specs.Format.{lines_of, Reads, Next, EndOf}
+use Rattle.sas_reader.specs.Format.{lines_of, EndOf}
 use Rattle.sas_reader.specs.Limit.{most_bytes}
 use Rattle.sas_reader.specs.Telling.{IsAbout, of_line, of_byte, of_end}
 use Rattle.sas_task_format.specs.declared.marks.Due.{Due}
 use Rattle.sas_task_format.specs.declared.marks.Due.TheVariants as due
 use Rattle.sas_task_format.specs.declared.marks.Mark.{Mark}
 use Rattle.sas_task_format.specs.declared.marks.WrongWord.{WrongWord}
-use Rattle.sas_task_format.specs.TaskFormat.{TaskLine, word, name, number, signed, fact, effect, head, TaskSlot, word_slot, name_slot, number_slot, signed_slot, fact_slot, effect_slot, head_slot, task_slot, task_line_bytes, TaskLineFits, task_layout, HasShape, NumbersKind, no_shape, no_value, TaskKind, task_format}
+use Rattle.sas_task_format.specs.TaskFormat.{TaskLine, fact, effect, head, TaskSlot, word_slot, name_slot, number_slot, signed_slot, fact_slot, effect_slot, head_slot, task_slot, task_line_bytes, TaskLineFits, task_layout, NumbersKind, no_shape, no_value, TaskKind, task_format}
 use Rattle.sas_task_format.specs.Marks.{IsDue, slot_of_due}
 use Rattle.sas_task_format.specs.Tracker.{tracker_start, track, mark_in}
 use Rattle.sas_task_format.specs.WrongWords.{line_bounds, IsWrongBehind}
@@ -87,28 +87,38 @@ module _ (begun : List (List ℕ)) (m : Mark) (d : IsDue begun m) where
         }
 
     value_reason : AllStand (line_bounds d.task.variables i) ⊎ Splits (line_bounds d.task.variables i) → HasReason kinds.Value begun found
-    value_reason (inl all) = (m, None, record {
-      trailing = λ e. absurd cc;
-      due = λ n. d;
-      wrong_word = tt;
-      no_wrong_word = λ n e w b. none_wrong (line_bounds d.task.variables i) all (wrong_here w b);
-    })
+    value_reason (inl all) = (
+      m,
+      None,
+      record {
+        trailing = λ e. absurd cc;
+        due = λ n. d;
+        wrong_word = tt;
+        no_wrong_word = λ n e w b. none_wrong (line_bounds d.task.variables i) all (wrong_here w b);
+      },
+    )
     value_reason (inr s) =
-        let w : WrongWord = record { word = length s.before + 1; may_be_none = s.wrong.may_be_none; most = s.wrong.bound - 1 } in
-        (m, Some w, record {
-          trailing = λ e. absurd cc;
-          due = λ n. d;
-          wrong_word = (refl, record {
-            task = d.task;
-            more = d.more;
-            good = d.good;
-            lines = d.lines;
-            mark = m;
-            due = d;
-            wrong = record { item = i; belongs = belongs; fits = fits; spells = spells; before = s.before; wrong = s.wrong; behind = s.behind; words = s.words; earlier = s.earlier; stands_not = s.stands_not; word = refl; may_be_none = refl; most = refl };
-          });
-          no_wrong_word = λ n. absurd cc;
-        })
+        let w : WrongWord = record { word = length s.before + 1; may_be_none = s.wrong.may_be_none; most = s.wrong.bound - 1 } in (
+          m,
+          Some w,
+          record {
+            trailing = λ e. absurd cc;
+            due = λ n. d;
+            wrong_word = (
+              refl,
+              record {
+                task = d.task;
+                more = d.more;
+                good = d.good;
+                lines = d.lines;
+                mark = m;
+                due = d;
+                wrong = record { item = i; belongs = belongs; fits = fits; spells = spells; before = s.before; wrong = s.wrong; behind = s.behind; words = s.words; earlier = s.earlier; stands_not = s.stands_not; word = refl; may_be_none = refl; most = refl };
+              },
+            );
+            no_wrong_word = λ n. absurd cc;
+          },
+        )
 
 -- ---- a line that may not stand
 
