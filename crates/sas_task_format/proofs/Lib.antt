@@ -14,3 +14,4 @@ pub mod DueBehind
 pub mod DueAfter
 pub mod WrongWords
 pub mod MarkLaws
+pub mod SomeReason
