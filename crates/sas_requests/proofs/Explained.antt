@@ -21,7 +21,7 @@ use Rattle.sas_output.specs.Ending.{Output, IsDecided, IsWrite}
 use Rattle.sas_task_reasons.specs.WhyLayers.{with_reasons}
 use Rattle.sas_requests.specs.declared.answers.Answer.{Answer}
 use Rattle.sas_requests.specs.Answering.{Answers, AnswersFile, output_of}
-use Rattle.sas_plan_file.specs.declared.plan.PlanRefusal.{PlanRefusal}
+use Rattle.sas_plan_file.specs.declared.plan_refusal.PlanRefusal.{PlanRefusal}
 use Rattle.sas_task_format.proofs.TaskSections.{less, is_less}
 use Rattle.sas_task_format.specs.TaskReasons.{IsTaskReason}
 use Rattle.sas_task_reader.specs.declared.refusal.TaskRefusal.{TaskRefusal}

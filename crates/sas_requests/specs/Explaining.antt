@@ -6,7 +6,7 @@ use Rattle.sas_reader.specs.declared.fault.Fault.{Fault}
 use Rattle.sas_reader.specs.declared.fault.Kind.{Kind}
 use Rattle.sas_reader.specs.Format.{Format}
 use Rattle.sas_reader.specs.Found.{bytes_of}
-use Rattle.sas_plan_file.specs.declared.plan.PlanRefusal.{PlanRefusal}
+use Rattle.sas_plan_file.specs.declared.plan_refusal.PlanRefusal.{PlanRefusal}
 use Rattle.sas_plan_file.specs.PlanFormat.{plan_format}
 use Rattle.sas_task_format.specs.TaskFormat.{task_format}
 use Rattle.sas_task_reader.specs.declared.refusal.TaskRefusal.{TaskRefusal}
