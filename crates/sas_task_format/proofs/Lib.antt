@@ -7,3 +7,9 @@ pub mod TaskGrammar
 pub mod TaskExample
 pub mod TaskFilling
 pub mod TaskLaws
+pub mod Tracking
+pub mod TrackedSections
+pub mod TrackedTask
+pub mod DueBehind
+pub mod WrongWords
+pub mod MarkLaws

@@ -285,7 +285,7 @@ four a b c d = append_assoc (a ++ b) c d ∙ append_assoc a b (c ++ d)
 five : {A : Type 0} (a b c d e : List A) → a ++ b ++ c ++ d ++ e ≡ a ++ (b ++ (c ++ (d ++ e)))
 five a b c d e = append_assoc (a ++ b ++ c) d e ∙ four a b c (d ++ e)
 
-eight : {A : Type 0} (a b c d e f g h : List A) → a ++ b ++ c ++ d ++ e ++ f ++ g ++ h ≡ a ++ (b ++ (c ++ (d ++ (e ++ (f ++ (g ++ h))))))
+pub eight : {A : Type 0} (a b c d e f g h : List A) → a ++ b ++ c ++ d ++ e ++ f ++ g ++ h ≡ a ++ (b ++ (c ++ (d ++ (e ++ (f ++ (g ++ h))))))
 eight a b c d e f g h = four (a ++ b ++ c ++ d ++ e) f g h ∙ five (a ++ b) c d e (f ++ (g ++ h)) ∙ append_assoc a b (c ++ (d ++ (e ++ (f ++ (g ++ h)))))
 
 version_section : Section task_format TaskLineFits (λ _. version_lines) Always a_version

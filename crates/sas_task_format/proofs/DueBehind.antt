@@ -1,0 +1,217 @@
+-- What is due behind the first lines of a task, by a tracker over them.
+use Rattle.std.proofs.Common.{◌≡◌, ℕ, zero, suc, ◌<◌, ◌^◌, ◌+◌, List, [], ◌∷◌, ◌++◌, length, map, refl, sym, ap, subst, ◌∙◌, arith, slice_get, Some, None, Option}
+use Rattle.std.specs.List.{AllByRecursion}
+use Rattle.std.proofs.lemmas.List.{append-nil, map-append, length-map}
+use Rattle.sas_core.specs.declared.parts.Parts.{Parts}
+use Rattle.sas_core.specs.WellRanged.{WellRanged}
+use Rattle.sas_reader.specs.Format.{lines_of}
+use Rattle.sas_task_format.specs.declared.places.Place.{Place}
+use Rattle.sas_task_format.specs.declared.places.Place.TheVariants as place
+use Rattle.sas_task_format.specs.declared.marks.Due.{Due}
+use Rattle.sas_task_format.specs.declared.marks.Due.TheVariants as due
+use Rattle.sas_task_format.specs.declared.marks.FixedWord.TheVariants as fixed
+use Rattle.sas_task_format.specs.declared.marks.Location.{Location}
+use Rattle.sas_task_format.specs.declared.marks.Location.TheVariants as at
+use Rattle.sas_task_format.specs.declared.marks.Mark.{Mark}
+use Rattle.sas_task_format.specs.TaskFormat.{TaskLine, task_slot, task_line_bytes, task_layout, task_format}
+use Rattle.sas_task_format.specs.Marks.{any_number, positive_number, version_dues, metric_dues, variable_dues, group_dues, state_dues, goal_dues, operator_dues, rule_dues, there, numbered, slot_of_due, task_marks, IsDue}
+use Rattle.sas_task_format.specs.TaskReasons.{end_mark}
+use Rattle.sas_task_format.specs.Tracker.{Tracker, tracker_start, by_count, step, track, mark, mark_at, mark_in}
+use Rattle.sas_reader.proofs.Paths.{cut_at}
+use Rattle.sas_task_format.proofs.Tracking.{track_marks, IsBehindVariables, Known, Along, Scan}
+use Rattle.sas_task_format.proofs.TrackedTask.{ranges_in, behind_all, task_scan}
+
+-- ---- lines in two parts
+
+mark_at_line : (t : Tracker) (before : List TaskLine) (i : TaskLine) (more : List TaskLine) → slice_get (track_marks t (before ++ i ∷ more)) (length before) ≡ Some (mark_in (track t before))
+mark_at_line t [] i more = refl
+mark_at_line t (j ∷ before) i more = mark_at_line (step t j) before i more
+
+no_mark_at_end : (t : Tracker) (items : List TaskLine) → slice_get (track_marks t items) (length items) ≡ None
+no_mark_at_end t [] = refl
+no_mark_at_end t (j ∷ items) = no_mark_at_end (step t j) items
+
+along_rest : (ranges : List ℕ) (t : Tracker) (before more : List TaskLine) → Along ranges t (before ++ more) → Along ranges (track t before) more
+along_rest ranges t [] more h = h
+along_rest ranges t (i ∷ before) more h = along_rest ranges (step t i) before more h.2
+
+along_known : (ranges : List ℕ) (t : Tracker) (items : List TaskLine) → Along ranges t items → Known ranges t
+along_known ranges t [] h = h
+along_known ranges t (i ∷ items) h = h.0
+
+-- ---- behind lines that begin those of a task
+
+-- all lines have come
+pub record IsAtEnd (t : Tracker) : Type 0 where
+  pub place : t.place ≡ place.Rules
+  pub left : t.left ≡ 0
+  pub mark : mark_in t ≡ end_mark
+
+module _ (v : Parts) (good : WellRanged v) where
+  along_behind : (before more : List TaskLine) → task_layout v ≡ before ++ more → Along (ranges_in v.variables) (track tracker_start before) more
+  along_behind before more e = along_rest (ranges_in v.variables) tracker_start before more (subst (Along (ranges_in v.variables) tracker_start) e (task_scan v good).along)
+
+  -- the mark that the task has there
+  pub due_behind : (before : List TaskLine) (i : TaskLine) (more : List TaskLine) → task_layout v ≡ before ++ i ∷ more → slice_get (task_marks v) (length before) ≡ Some (mark_in (track tracker_start before))
+  due_behind before i more e =
+      ap (λ (x : List Mark). slice_get x (length before)) (sym (task_scan v good).marks)
+      ∙ ap (λ (x : List TaskLine). slice_get (track_marks tracker_start x) (length before)) e
+      ∙ mark_at_line tracker_start before i more
+
+  -- what is due belongs where the line does
+  pub belongs_behind : (before : List TaskLine) (i : TaskLine) (more : List TaskLine) → task_layout v ≡ before ++ i ∷ more → slot_of_due (mark_in (track tracker_start before)).due ≡ task_slot i
+  belongs_behind before i more e = (along_behind before (i ∷ more) e).1
+
+  -- all ranges are known, where lines speak of facts and where all have come, too
+  pub ranges_behind : (before more : List TaskLine) → task_layout v ≡ before ++ more → IsBehindVariables (track tracker_start before).place → (track tracker_start before).ranges ≡ map (λ x. length x.values) v.variables
+  ranges_behind before more e = along_known (ranges_in v.variables) (track tracker_start before) more (along_behind before more e)
+
+  all_behind : (items : List TaskLine) → task_layout v ≡ items → track tracker_start items ≡ behind_all v
+  all_behind items e = ap (track tracker_start) (sym e) ∙ (task_scan v good).ends
+
+  -- behind all lines nothing is due
+  pub whole_behind : (items : List TaskLine) → task_layout v ≡ items → IsAtEnd (track tracker_start items)
+  whole_behind items e =
+      let all = all_behind items e in
+      record { place = ap (λ (t : Tracker). t.place) all; left = ap (λ (t : Tracker). t.left) all; mark = ap mark_in all }
+
+  -- what is due by the tracker is due
+  pub is_due : (begun : List (List ℕ)) (items : List TaskLine) (i : TaskLine) (more : List TaskLine) → map task_line_bytes items ≡ begun → task_layout v ≡ items ++ i ∷ more → IsDue begun (mark_in (track tracker_start items))
+  is_due begun items i more s e =
+      let long : length items ≡ length begun = sym (length-map items task_line_bytes) ∙ ap length s in
+      record {
+        task = v;
+        more = map task_line_bytes (i ∷ more);
+        good = good;
+        lines = ap (map task_line_bytes) e ∙ map-append task_line_bytes items (i ∷ more) ∙ ap (λ (x : List (List ℕ)). x ++ map task_line_bytes (i ∷ more)) s;
+        marked = ap (slice_get (task_marks v)) (sym long) ∙ due_behind items i more e;
+      }
+
+-- facts, effects and heads speak of variables and their values
+abbrev pub SpeaksOfFacts : Due → Type 0
+SpeaksOfFacts due.Fact = Unit {0}
+SpeaksOfFacts due.Head = Unit {0}
+SpeaksOfFacts due.Effect = Unit {0}
+SpeaksOfFacts _ = ⊥
+
+no_facts : (n : ℕ) (m k : Mark) → (SpeaksOfFacts m.due → ⊥) → (SpeaksOfFacts k.due → ⊥) → SpeaksOfFacts (by_count n m k).due → ⊥
+no_facts zero m k f g h = f h
+no_facts (suc n) m k f g h = g h
+
+no_fact : (n : ℕ) (d e : Due) → (SpeaksOfFacts d → ⊥) → (SpeaksOfFacts e → ⊥) → SpeaksOfFacts (by_count n d e) → ⊥
+no_fact zero d e f g h = f h
+no_fact (suc n) d e f g h = g h
+
+facts_behind_variables : (p : Place) (t : Tracker) → SpeaksOfFacts (mark_at p t).due → IsBehindVariables p
+facts_behind_variables place.VersionBegin t h = h
+facts_behind_variables place.VersionNumber t h = h
+facts_behind_variables place.VersionEnd t h = h
+facts_behind_variables place.MetricBegin t h = h
+facts_behind_variables place.MetricNumber t h = h
+facts_behind_variables place.MetricEnd t h = h
+facts_behind_variables place.VariableCount t h = h
+facts_behind_variables place.Variables t h = no_facts t.left (mark at.Groups any_number) (mark (at.Variable t.variables) (due.Word fixed.BeginVariable)) (λ x. x) (λ x. x) h
+facts_behind_variables place.VariableName t h = h
+facts_behind_variables place.VariableLayer t h = h
+facts_behind_variables place.VariableRange t h = h
+facts_behind_variables place.VariableValues t h = no_fact t.more (due.Word fixed.EndVariable) due.Name (λ x. x) (λ x. x) h
+facts_behind_variables _ t h = tt
+
+-- such lines are due only behind the variables
+pub speaks_behind_variables : (t : Tracker) → SpeaksOfFacts (mark_in t).due → IsBehindVariables t.place
+speaks_behind_variables t h = facts_behind_variables t.place t h
+
+-- ---- what is due, by the tracker
+
+-- These lines begin a task's, and a line follows; what is due there is the mark of a tracker over them.
+pub record Standing (begun : List (List ℕ)) (m : Mark) : Type 0 where
+  pub task : Parts
+  pub good : WellRanged task
+  pub items : List TaskLine
+  pub item : TaskLine
+  pub more : List TaskLine
+  pub layout : task_layout task ≡ items ++ item ∷ more
+  pub spells : map task_line_bytes items ≡ begun
+  pub marked : m ≡ mark_in (track tracker_start items)
+
+module _ (begun : List (List ℕ)) (m : Mark) (v : Parts) (good : WellRanged v) where
+  standing_at : (items after : List TaskLine) → task_layout v ≡ items ++ after → map task_line_bytes items ≡ begun → slice_get (task_marks v) (length items) ≡ Some m → Standing begun m
+  standing_at items [] e s g =
+      let all : task_layout v ≡ items = e ∙ append-nil items in
+      let none : slice_get (task_marks v) (length items) ≡ None =
+      ap (λ (x : List Mark). slice_get x (length items)) (sym (task_scan v good).marks)
+      ∙ ap (λ (x : List TaskLine). slice_get (track_marks tracker_start x) (length items)) all
+      ∙ no_mark_at_end tracker_start items in
+      absurd cc
+  standing_at items (i ∷ more) e s g =
+      let there : slice_get (task_marks v) (length items) ≡ Some (mark_in (track tracker_start items)) = due_behind v good items i more e in
+      record { task = v; good = good; items = items; item = i; more = more; layout = e; spells = s; marked = cc }
+
+pub standing : (begun : List (List ℕ)) (m : Mark) → IsDue begun m → Standing begun m
+standing begun m d =
+    let c = cut_at task_line_bytes begun d.more (task_layout d.task) d.lines in
+    let long : length begun ≡ length c.before = ap length (sym c.front_is) ∙ length-map c.before task_line_bytes in
+    standing_at begun m d.task d.good c.before c.after c.whole c.front_is (ap (slice_get (task_marks d.task)) (sym long) ∙ d.marked)
+
+-- ---- the numbers are small
+
+-- the number of a variable, a group, an operator or a rule
+abbrev pub IsSmallAt : Location → Type 0
+IsSmallAt (at.Variable n) = n < 2 ^ 31
+IsSmallAt (at.Group n) = n < 2 ^ 31
+IsSmallAt (at.Operator n) = n < 2 ^ 31
+IsSmallAt (at.Rule n) = n < 2 ^ 31
+IsSmallAt _ = Unit {0}
+
+abbrev IsSmall : Mark → Type 0
+IsSmall m = IsSmallAt m.at
+
+record AllSmall (marks : List Mark) : Type 0 where
+  all : AllByRecursion IsSmall marks
+
+both_all : (a b : List Mark) → AllByRecursion IsSmall a → AllByRecursion IsSmall b → AllByRecursion IsSmall (a ++ b)
+both_all [] b h g = g
+both_all (m ∷ a) b h g = (h.0, both_all a b h.1 g)
+
+also : {a b : List Mark} → AllSmall a → AllSmall b → AllSmall (a ++ b)
+also {a = a} {b = b} h g = record { all = both_all a b h.all g.all }
+
+all_there : (l : Location) (dues : List Due) → IsSmallAt l → AllByRecursion IsSmall (there l dues)
+all_there l [] h = tt
+all_there l (d ∷ dues) h = (h, all_there l dues h)
+
+small_there : (l : Location) (dues : List Due) → IsSmallAt l → AllSmall (there l dues)
+small_there l dues h = record { all = all_there l dues h }
+
+small_numbered : {A : Type 0} (l : ℕ → Location) (dues : A → List Due) (n : ℕ) (xs : List A) → ((k : ℕ) → k < n + length xs → IsSmallAt (l k)) → AllSmall (numbered l dues n xs)
+small_numbered l dues n [] h = record { all = tt }
+small_numbered l dues n (x ∷ xs) h = also (small_there (l n) (dues x) (h n (omega arith))) (small_numbered l dues (n + 1) xs (λ k b. h k (omega arith)))
+
+got : (xs : List Mark) (k : ℕ) (m : Mark) → AllByRecursion IsSmall xs → slice_get xs k ≡ Some m → IsSmall m
+got [] k m h e = absurd cc
+got (x ∷ xs) zero m h e = let same : x ≡ m = cc in subst IsSmall same h.0
+got (x ∷ xs) (suc k) m h e = got xs k m h.1 e
+
+module _ (p : Parts) (good : WellRanged p) where
+  marks_small : AllSmall (task_marks p)
+  marks_small =
+      let variables : length p.variables < 2 ^ 31 = good.variables.count in
+      let groups : length p.groups < 2 ^ 31 = good.groups.count in
+      let operators : length p.operators < 2 ^ 31 = good.operators.count in
+      let rules : length p.rules < 2 ^ 31 = good.rules.count in
+      also (small_there at.Version version_dues tt)
+      (also (small_there at.Metric metric_dues tt)
+      (also (small_there at.Variables (positive_number ∷ []) tt)
+      (also (small_numbered at.Variable variable_dues 0 p.variables (λ k b. omega arith))
+      (also (small_there at.Groups (any_number ∷ []) tt)
+      (also (small_numbered at.Group group_dues 0 p.groups (λ k b. omega arith))
+      (also (small_there at.State (state_dues p.variables) tt)
+      (also (small_there at.Goal (goal_dues p.goal) tt)
+      (also (small_there at.Operators (any_number ∷ []) tt)
+      (also (small_numbered at.Operator operator_dues 0 p.operators (λ k b. omega arith))
+      (also (small_there at.Rules (any_number ∷ []) tt)
+      (small_numbered at.Rule rule_dues 0 p.rules (λ k b. omega arith))))))))))))
+
+-- each is a number that a file can say
+pub small_due : (begun : List (List ℕ)) (m : Mark) → IsDue begun m → IsSmallAt m.at
+small_due begun m d = got (task_marks d.task) (length begun) m (marks_small d.task d.good).all d.marked

@@ -1,0 +1,120 @@
+-- A tracker over all lines of a task: it says the marks of the task.
+use Rattle.std.proofs.Common.{◌≡◌, ℕ, zero, suc, ◌<◌, ◌+◌, ◌-◌, Bool, true, false, nat_lt, List, [], ◌∷◌, ◌++◌, length, map, refl, sym, ap, subst, ◌∙◌, append_assoc, append-nil, arith, codes, length-append, slice_index_or}
+use Rattle.std.specs.Prelude.{if◌then◌else◌}
+use Rattle.std.specs.List.{flat_map}
+use Rattle.std.proofs.lemmas.Bool.{lt-ltb, le-ltb}
+use Rattle.std.proofs.lemmas.List.{map-append, length-map, get_or-append-add}
+use Rattle.sas_core.specs.declared.parts.Variable.{Variable}
+use Rattle.sas_core.specs.declared.parts.Parts.{Parts}
+use Rattle.sas_core.specs.WellRanged.{WellRanged}
+use Rattle.sas_task_format.specs.declared.places.Place.TheVariants as place
+use Rattle.sas_task_format.specs.declared.marks.Due.{Due}
+use Rattle.sas_task_format.specs.declared.marks.Due.TheVariants as due
+use Rattle.sas_task_format.specs.declared.marks.FixedWord.TheVariants as fixed
+use Rattle.sas_task_format.specs.declared.marks.Location.TheVariants as at
+use Rattle.sas_task_format.specs.declared.marks.Mark.{Mark}
+use Rattle.sas_task_format.specs.Process.{Paired}
+use Rattle.sas_task_format.specs.TaskFormat.{TaskLine, word, number, task_slot, line, counted, version_lines, metric_lines, variable_lines, group_lines, state_lines, goal_lines, operator_lines, rule_lines, task_layout}
+use Rattle.sas_task_format.specs.Marks.{there, slot_of_due, value_due, state_dues, any_number, positive_number, numbered, variable_dues, group_dues, operator_dues, rule_dues, task_marks}
+use Rattle.sas_task_format.specs.Tracker.{Tracker, tracker_start, step, track, mark, mark_in}
+use Rattle.sas_task_format.proofs.TaskSections.{InRange, state_paired, eight}
+use Rattle.sas_task_format.proofs.Tracking.{Known, Scan, ◌then◌, marked, leading, spelled, one}
+use Rattle.sas_task_format.proofs.TrackedSections.{version_scan, metric_scan, variables_scan, groups_scan, goal_scan, operators_scan, rules_scan}
+
+-- the number of values of each variable
+abbrev pub ranges_in : List Variable → List ℕ
+ranges_in vs = map (λ v. length v.values) vs
+
+read_next : (done : List ℕ) (x : ℕ) (rest : List ℕ) → slice_index_or (done ++ x ∷ rest) (length done) 0 ≡ x
+read_next done x rest = let all : length done ≡ length done + 0 = omega arith in ap (λ (i : ℕ). slice_index_or (done ++ x ∷ rest) i 0) all ∙ get_or-append-add done (x ∷ rest) 0 0
+
+module _ (ranges : List ℕ) (t : Tracker) where
+  -- so many values have come
+  abbrev at_value : ℕ → Tracker
+  at_value n = record t { place = place.StateValues; left = 0; more = 0; ranges = ranges; valued = n }
+
+  value_scan : (done : List ℕ) (v : Variable) (vs : List Variable) (x : ℕ) → ranges ≡ done ++ ranges_in (v ∷ vs)
+      → Scan ranges (at_value (length done)) (number x ∷ []) (there at.State (value_due v ∷ [])) (at_value (length (done ++ length v.values ∷ [])))
+  value_scan done v vs x e =
+      let more : length ranges ≡ length done + length (ranges_in (v ∷ vs)) = ap length e ∙ length-append done (ranges_in (v ∷ vs)) in
+      let some : nat_lt (length done) (length ranges) ≡ true = lt-ltb (length done) (length ranges) (omega (arith, more)) in
+      let due_is : mark_in (at_value (length done)) ≡ mark at.State (value_due v) =
+      ap (λ (b : Bool). mark at.State (if b then due.Number 0 (slice_index_or ranges (length done) 0 - 1) else due.Word fixed.EndState)) some
+      ∙ ap (λ (r : List ℕ). mark at.State (due.Number 0 (slice_index_or r (length done) 0 - 1))) e
+      ∙ ap (λ (n : ℕ). mark at.State (due.Number 0 (n - 1))) (read_next done (length v.values) (ranges_in vs)) in
+      let next : length done + 1 ≡ length (done ++ length v.values ∷ []) = sym (length-append done (length v.values ∷ [])) in
+      let moves : step (at_value (length done)) (number x) ≡ at_value (length (done ++ length v.values ∷ [])) =
+      ap (λ (b : Bool). if b then at_value (length done + 1) else (record (at_value (length done)) { place = place.GoalBegin })) some
+      ∙ ap at_value next in
+      marked ranges (one ranges (number x) (λ h. refl) (ap (λ (m : Mark). slot_of_due m.due) due_is) moves (λ h. refl)) (ap (λ (m : Mark). m ∷ []) due_is)
+
+  values_scan : (done : List ℕ) (vs : List Variable) (xs : List ℕ) → Paired InRange vs xs → ranges ≡ done ++ ranges_in vs
+      → Scan ranges (at_value (length done)) (flat_map (line number) xs) (there at.State (map value_due vs)) (at_value (length ranges))
+  values_scan done [] [] p e = record { marks = refl; ends = ap (λ (x : List ℕ). at_value (length x)) (sym (append-nil done) ∙ sym e); along = λ h. refl }
+  values_scan done [] (x ∷ xs) p e = absurd p
+  values_scan done (v ∷ vs) [] p e = absurd p
+  values_scan done (v ∷ vs) (x ∷ xs) p e =
+      ◌then◌ ranges (value_scan done v vs x e) (values_scan (done ++ length v.values ∷ []) vs xs p.1 (e ∙ sym (append_assoc done (length v.values ∷ []) (ranges_in vs))))
+
+  end_scan : Scan ranges (at_value (length ranges)) (word (codes "end_state") ∷ []) (there at.State (due.Word fixed.EndState ∷ [])) (record (at_value (length ranges)) { place = place.GoalBegin })
+  end_scan =
+      let none : nat_lt (length ranges) (length ranges) ≡ false = le-ltb (length ranges) (length ranges) (omega arith) in
+      let due_is : mark_in (at_value (length ranges)) ≡ mark at.State (due.Word fixed.EndState) =
+      ap (λ (b : Bool). mark at.State (if b then due.Number 0 (slice_index_or ranges (length ranges) 0 - 1) else due.Word fixed.EndState)) none in
+      let moves : step (at_value (length ranges)) (word (codes "end_state")) ≡ record (at_value (length ranges)) { place = place.GoalBegin } =
+      ap (λ (b : Bool). if b then at_value (length ranges + 1) else (record (at_value (length ranges)) { place = place.GoalBegin })) none in
+      marked ranges (one ranges (word (codes "end_state")) (λ h. refl) (ap (λ (m : Mark). slot_of_due m.due) due_is) moves (λ h. refl)) (ap (λ (m : Mark). m ∷ []) due_is)
+
+  state_scan : (vs : List Variable) (xs : List ℕ) → Paired InRange vs xs → ranges ≡ ranges_in vs
+      → Scan ranges (record t { place = place.Groups; left = 0; more = 0; ranges = ranges; valued = 0 }) (state_lines xs) (there at.State (state_dues vs))
+      (record (at_value (length ranges)) { place = place.GoalBegin })
+  state_scan vs xs p e =
+      let begins : Scan ranges (record t { place = place.Groups; left = 0; more = 0; ranges = ranges; valued = 0 }) (word (codes "begin_state") ∷ []) (there at.State (due.Word fixed.BeginState ∷ [])) (at_value 0) = record { marks = refl; ends = refl; along = (λ h. refl, refl, λ h. refl) } in
+      marked ranges (◌then◌ ranges begins (◌then◌ ranges (values_scan [] vs xs p e) end_scan))
+      (ap (λ (x : List Mark). there at.State (due.Word fixed.BeginState ∷ []) ++ x) (sym (map-append (mark at.State) (map value_due vs) (due.Word fixed.EndState ∷ []))))
+
+-- ---- the task
+
+module _ (p : Parts) where
+  -- behind the variables, the state, and all lines
+  abbrev behind_variables : Tracker
+  behind_variables = record tracker_start { place = place.Variables; left = 0; ranges = ranges_in p.variables; variables = 0 + length p.variables }
+
+  abbrev behind_state : Tracker
+  behind_state = record behind_variables { place = place.GoalBegin; groups = 0 + length p.groups; valued = length (ranges_in p.variables) }
+
+  abbrev pub behind_all : Tracker
+  behind_all = record behind_state { place = place.Rules; operators = 0 + length p.operators; rules = 0 + length p.rules }
+
+  abbrev Scans : Tracker → List TaskLine → List Mark → Tracker → Type 0
+  Scans = Scan (ranges_in p.variables)
+
+  variables_part : Scans (record tracker_start { place = place.VariableCount }) (counted variable_lines p.variables) (mark at.Variables positive_number ∷ numbered at.Variable variable_dues 0 p.variables) behind_variables
+  variables_part =
+      let count : Scans (record tracker_start { place = place.VariableCount }) (number (length p.variables) ∷ []) (mark at.Variables positive_number ∷ []) (record tracker_start { place = place.Variables; left = length p.variables }) = record { marks = refl; ends = refl; along = (λ h. absurd h, refl, λ h. absurd h) } in
+      ◌then◌ (ranges_in p.variables) count (variables_scan (ranges_in p.variables) tracker_start p.variables)
+
+  groups_part : Scans behind_variables (counted group_lines p.groups) (mark at.Groups any_number ∷ numbered at.Group group_dues 0 p.groups) (record behind_variables { place = place.Groups; groups = 0 + length p.groups })
+  groups_part =
+      let count : Scans behind_variables (number (length p.groups) ∷ []) (mark at.Groups any_number ∷ []) (record behind_variables { place = place.Groups; left = length p.groups }) = record { marks = refl; ends = refl; along = (λ h. absurd h, refl, λ h. refl) } in
+      ◌then◌ (ranges_in p.variables) count (groups_scan (ranges_in p.variables) behind_variables refl 0 p.groups)
+
+  operators_part : Scans (record behind_state { place = place.OperatorCount }) (counted operator_lines p.operators) (mark at.Operators any_number ∷ numbered at.Operator operator_dues 0 p.operators) (record behind_state { place = place.Operators; operators = 0 + length p.operators })
+  operators_part =
+      let count : Scans (record behind_state { place = place.OperatorCount }) (number (length p.operators) ∷ []) (mark at.Operators any_number ∷ []) (record behind_state { place = place.Operators; left = length p.operators }) = record { marks = refl; ends = refl; along = (λ h. refl, refl, λ h. refl) } in
+      ◌then◌ (ranges_in p.variables) count (operators_scan (ranges_in p.variables) behind_state refl 0 p.operators)
+
+  rules_part : Scans (record behind_state { place = place.Operators; operators = 0 + length p.operators }) (counted rule_lines p.rules) (mark at.Rules any_number ∷ numbered at.Rule rule_dues 0 p.rules) behind_all
+  rules_part =
+      let t : Tracker = record behind_state { place = place.Operators; operators = 0 + length p.operators } in
+      let count : Scans t (number (length p.rules) ∷ []) (mark at.Rules any_number ∷ []) (record t { place = place.Rules; left = length p.rules }) = record { marks = refl; ends = refl; along = (λ h. refl, refl, λ h. refl) } in
+      ◌then◌ (ranges_in p.variables) count (rules_scan (ranges_in p.variables) t refl 0 p.rules)
+
+  -- a tracker says the marks of a task, line by line
+  pub task_scan : WellRanged p → Scan (ranges_in p.variables) tracker_start (task_layout p) (task_marks p) behind_all
+  task_scan good =
+      let r = ranges_in p.variables in
+      let state = state_scan r (record behind_variables { groups = 0 + length p.groups }) p.variables p.init (state_paired p.variables p.init good.init) refl in
+      let goal = goal_scan r behind_state refl p.goal in
+      spelled r (◌then◌ r (version_scan r) (◌then◌ r (metric_scan r p.metric) (◌then◌ r variables_part (◌then◌ r groups_part (◌then◌ r state (◌then◌ r goal (◌then◌ r operators_part rules_part)))))))
+      (sym (eight version_lines (metric_lines p.metric) (counted variable_lines p.variables) (counted group_lines p.groups) (state_lines p.init) (goal_lines p.goal) (counted operator_lines p.operators) (counted rule_lines p.rules)))
