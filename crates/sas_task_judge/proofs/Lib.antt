@@ -8,3 +8,4 @@ pub mod SectionLines
 pub mod SectionTracks
 pub mod SectionSteps
 pub mod Marking
+pub mod Reasons

@@ -13,9 +13,10 @@ use Rattle.sas_task_format.specs.declared.marks.WrongWord.{WrongWord}
 use Rattle.sas_task_format.specs.declared.places.Place.{Place}
 use Rattle.sas_task_format.specs.declared.places.Place.TheVariants as at
 use Rattle.sas_task_format.specs.Marks.{any_number, slot_of_due}
-use Rattle.sas_task_format.specs.TaskFormat.{TaskLine, word, name, number, signed, fact, effect, head, TaskSlot, word_slot, name_slot, number_slot, signed_slot, fact_slot, effect_slot, head_slot, task_slot}
+use Rattle.sas_task_format.specs.TaskFormat.{TaskLine, word, name, number, signed, fact, effect, head, task_slot}
 use Rattle.sas_task_format.specs.Tracker.{by_count, mark, mark_at}
 use Rattle.sas_task_format.proofs.DueBehind.{SpeaksOfFacts, IsSmallAt}
+use Rattle.sas_task_format.proofs.WrongWords.{HasBounds}
 use Rattle.sas_task_line.specs.declared.so_far.SoFar.{SoFar}
 use Rattle.sas_task_line.specs.FirstWrong.{first_wrong, words_in, IsFirstWrong, FirstWrong}
 use Rattle.sas_task_judge.specs.declared.task_judge.TaskJudge.{TaskJudge}
@@ -134,14 +135,7 @@ module _ (j : TaskJudge) (c : Counts) (l : Location) (place : Place) (here : j.p
 
 -- ---- words that are wrong
 
--- lines that speak of facts
-abbrev pub IsOfFacts : TaskSlot → Type 0
-IsOfFacts fact_slot = Unit {0}
-IsOfFacts effect_slot = Unit {0}
-IsOfFacts head_slot = Unit {0}
-IsOfFacts _ = ⊥
-
-wrong_speaks : (ranges : List ℕ) (i : TaskLine) (w : WrongWord) → first_wrong 1 (words_in ranges i) ≡ Some w → IsOfFacts (task_slot i)
+wrong_speaks : (ranges : List ℕ) (i : TaskLine) (w : WrongWord) → first_wrong 1 (words_in ranges i) ≡ Some w → HasBounds (task_slot i)
 wrong_speaks ranges (word x) w e = absurd (none-some w e)
 wrong_speaks ranges (name x) w e = absurd (none-some w e)
 wrong_speaks ranges (number x) w e = absurd (none-some w e)
@@ -150,7 +144,7 @@ wrong_speaks ranges (fact f) w e = tt
 wrong_speaks ranges (effect f) w e = tt
 wrong_speaks ranges (head var old new) w e = tt
 
-of_facts : (d : Due) → IsOfFacts (slot_of_due d) → SpeaksOfFacts d
+of_facts : (d : Due) → HasBounds (slot_of_due d) → SpeaksOfFacts d
 of_facts (due.Word w) h = h
 of_facts due.Name h = h
 of_facts (due.Number least most) h = h
@@ -162,7 +156,7 @@ of_facts due.Nothing h = h
 
 -- only where facts are due is a word wrong
 pub speaks_of_facts : (ranges : List ℕ) (d : Due) (line : List ℕ) (w : WrongWord) → IsFirstWrong ranges (slot_of_due d) line w → SpeaksOfFacts d
-speaks_of_facts ranges d line w h = of_facts d (subst IsOfFacts h.belongs (wrong_speaks ranges h.item w h.first))
+speaks_of_facts ranges d line w h = of_facts d (subst HasBounds h.belongs (wrong_speaks ranges h.item w h.first))
 
 pub quiet : (ranges : List ℕ) (d : Due) (line : List ℕ) → (SpeaksOfFacts d → ⊥) → FirstWrong ranges (slot_of_due d) line None
 quiet ranges d line no = λ w h. no (speaks_of_facts ranges d line w h)

@@ -9,10 +9,12 @@ use Rattle.sas_core.specs.declared.parts.Variable.{Variable}
 use Rattle.sas_core.specs.declared.parts.Effect.{Effect}
 use Rattle.sas_core.specs.Variables.{range_of}
 use Rattle.sas_task_format.specs.declared.marks.WrongWord.{WrongWord}
-use Rattle.sas_task_format.specs.TaskFormat.{TaskLine, word, name, number, signed, fact, effect, head, TaskSlot}
+use Rattle.sas_task_format.specs.TaskFormat.{TaskLine, word, name, number, signed, fact, effect, head, TaskSlot, task_slot}
 use Rattle.sas_task_format.specs.WrongWords.{Bounded, may_stand, free, fact_bounds, change_bounds, line_bounds, IsWrongWord}
-use Rattle.sas_task_line.specs.FirstWrong.{wrong_at, unless_stands, first_wrong, fact_words_in, change_words_in, effect_words_in, words_in, IsFirstWrong}
+use Rattle.sas_task_line.specs.FirstWrong.{wrong_at, unless_stands, first_wrong, fact_words_in, change_words_in, effect_words_in, words_in, IsFirstWrong, FirstWrong}
+use Rattle.sas_task_format.proofs.TaskGrammar.{task_grammar}
 use Rattle.sas_task_line.specs.TaskRanges.{ranges_of, range_in}
+use Rattle.sas_task_line.specs.TaskWords.{Spells}
 
 -- ---- what comes first
 
@@ -69,12 +71,13 @@ module _ (ranges : List ℕ) (e : Effect) where
     from_fact = ap (λ (fs : List Fact). first_wrong (2 * i + 2) (flat_map (fact_words_in ranges) fs ++ last)) (drop_get e.conditions i f got)
 
     pub fact_found : (w : WrongWord) → r ≡ Some w → wrong_from i ≡ Some w
-    fact_found w some = from_fact ∙ found_first (2 * i + 2) (fact_words_in ranges f) _ w r is some
+    fact_found w some = from_fact ∙ found_first (2 * i + 2) (fact_words_in ranges f) (flat_map (fact_words_in ranges) (drop (suc i) e.conditions) ++ last) w r is some
 
     pub fact_passed : r ≡ None → wrong_from i ≡ wrong_from (suc i)
     fact_passed none =
-        from_fact ∙ found_later (2 * i + 2) (fact_words_in ranges f) _ r is none
-        ∙ ap (λ (n : ℕ). first_wrong n (flat_map (fact_words_in ranges) (drop (suc i) e.conditions) ++ last)) (omega arith)
+        let two_on : 2 * i + 2 + 2 ≡ 2 * suc i + 2 = omega arith in
+        from_fact ∙ found_later (2 * i + 2) (fact_words_in ranges f) (flat_map (fact_words_in ranges) (drop (suc i) e.conditions) ++ last) r is none
+        ∙ ap (λ (n : ℕ). first_wrong n (flat_map (fact_words_in ranges) (drop (suc i) e.conditions) ++ last)) two_on
 
   pub change_left : (n : ℕ) → n ≡ length e.conditions → wrong_from n ≡ first_wrong (2 * n + 2) last
   change_left n is = ap (λ (fs : List Fact). first_wrong (2 * n + 2) (flat_map (fact_words_in ranges) fs ++ last)) (ap (λ (m : ℕ). drop m e.conditions) is ∙ drop_all e.conditions)
@@ -141,7 +144,8 @@ found_at n b bs w true is e later =
     record { before = b ∷ f.before; wrong = f.wrong; behind = f.behind; words = ap (λ xs. b ∷ xs) f.words; earlier = (is, f.earlier); stands_not = f.stands_not; is = f.is ∙ ap (λ (m : ℕ). wrong_at m f.wrong) (omega arith) }
 found_at n b bs w false is e later =
     let same : wrong_at n b ≡ w = cc in
-    record { before = []; wrong = b; behind = bs; words = refl; earlier = tt; stands_not = is; is = sym same }
+    let first : n ≡ 0 + n = omega arith in
+    record { before = []; wrong = b; behind = bs; words = refl; earlier = tt; stands_not = is; is = sym same ∙ ap (λ (m : ℕ). wrong_at m b) first }
 
 pub find_first : (n : ℕ) (bs : List Bounded) (w : WrongWord) → first_wrong n bs ≡ Some w → FoundAt n bs w
 find_first n [] w e = absurd (none-some w e)
@@ -149,11 +153,14 @@ find_first n (b ∷ bs) w e = found_at n b bs w (may_stand b) refl e (find_first
 
 -- where a word may not stand, and all before it may, it is the first
 pub is_first : (n : ℕ) (before : List Bounded) (wrong : Bounded) (behind : List Bounded) → AllByRecursion (λ b. IsTrue (may_stand b)) before → IsFalse (may_stand wrong) → first_wrong n (before ++ wrong ∷ behind) ≡ Some (wrong_at (length before + n) wrong)
-is_first n [] wrong behind earlier no = ap (λ (b : Bool). unless_stands b (wrong_at n wrong) (first_wrong (n + 1) behind)) no
-is_first n (b ∷ before) wrong behind earlier no =
+is_first n [] wrong behind earlier stands_not =
+    let first : n ≡ 0 + n = omega arith in
+    ap (λ (b : Bool). unless_stands b (wrong_at n wrong) (first_wrong (n + 1) behind)) stands_not ∙ ap (λ (m : ℕ). Some (wrong_at m wrong)) first
+is_first n (b ∷ before) wrong behind earlier stands_not =
+    let one_on : length before + (n + 1) ≡ length (b ∷ before) + n = omega arith in
     ap (λ (x : Bool). unless_stands x (wrong_at n b) (first_wrong (n + 1) (before ++ wrong ∷ behind))) earlier.0
-    ∙ is_first (n + 1) before wrong behind earlier.1 no
-    ∙ ap (λ (m : ℕ). Some (wrong_at m wrong)) (omega arith)
+    ∙ is_first (n + 1) before wrong behind earlier.1 stands_not
+    ∙ ap (λ (m : ℕ). Some (wrong_at m wrong)) one_on
 
 -- ---- the first wrong word
 
@@ -190,3 +197,10 @@ wrong_word_back vs slot line w h =
       spells = (h.fits, h.spells);
       first = ap (first_wrong 1) (words_same vs h.item ∙ h.words) ∙ is_first 1 h.before h.wrong h.behind h.earlier h.stands_not ∙ ap (λ (x : WrongWord). Some x) same;
     }
+
+-- what was found for what the line says is the first wrong word, if there is one
+pub first_is : (ranges : List ℕ) (slot : TaskSlot) (line : List ℕ) (i : TaskLine) (r : Option WrongWord) → task_slot i ≡ slot → Spells i line → r ≡ first_wrong 1 (words_in ranges i) → FirstWrong ranges slot line r
+first_is ranges slot line i None belongs spells e = λ w h.
+    let same : h.item ≡ i = task_grammar.one_item h.item i (h.belongs ∙ sym belongs) h.spells.0 spells.0 (h.spells.1 ∙ sym spells.1) in
+    none-some w (e ∙ ap (λ (x : TaskLine). first_wrong 1 (words_in ranges x)) (sym same) ∙ h.first)
+first_is ranges slot line i (Some w) belongs spells e = record { item = i; belongs = belongs; spells = spells; first = sym e }
