@@ -13,8 +13,9 @@ use Rattle.sas_reader.specs.declared.reader.Reader.{Reader}
 use Rattle.sas_reader.specs.declared.reader.Front.{Front}
 use Rattle.sas_reader.specs.Faults.{IsOfBytes}
 use Rattle.sas_reader.specs.Machine.{IsFront}
-use Rattle.sas_reader.specs.Reader.{Reached, Accepted, LineIsDue, FaultIn, TookFront, Stopped, Advances}
-use Rattle.sas_reader.proofs.Pieces.{takes_bound, front_of, lines_fed, unfinished_fed, reached_part, reached_line, due_first, due_wider, due_behind, fault_full, fault_over, fault_line, fault_wider}
+use Rattle.sas_reader.specs.Found.{IsFoundOf}
+use Rattle.sas_reader.specs.Reader.{Reached, Accepted, LineIsDue, FaultBehind, TookFront, Stopped, Advances}
+use Rattle.sas_reader.proofs.Pieces.{takes_bound, front_of, lines_fed, unfinished_fed, reached_part, reached_line, due_first, due_wider, due_behind, fault_full, fault_over, fault_line, fault_wider, fault_behind}
 
 is_false : (b : Bool) → not b ≡ true → b ≡ false
 is_false true h = absurd cc
@@ -100,14 +101,14 @@ module _ {M : Type 0} (led_by : List (List ℕ) → M → Type 0) (ended : M →
 
 -- ---- what a step says
 
-module _ {M : Type 0} (led_by : List (List ℕ) → M → Type 0) (ended : M → Type 0) (rejects : M → List ℕ → Kind → Type 0) where
+module _ {M : Type 0} (led_by : List (List ℕ) → M → Type 0) (ended : M → Type 0) (rejects : M → List ℕ → Kind → Type 0) (halted : M → List ℕ → Kind → M → Type 0) where
   -- nothing was taken
-  pub took_none : (r : Reader M) (piece : List ℕ) → TookFront led_by ended rejects r r piece 0
+  pub took_none : (r : Reader M) (piece : List ℕ) → TookFront led_by ended rejects halted r r piece 0
   took_none r piece = record { within = omega arith; count = omega arith; accepted = λ bytes h. subst (Accepted led_by ended r) (sym (append-nil bytes)) h }
 
   -- the first lines of the piece were taken, and nothing was pending
   pub took_lines : (r s : Reader M) (piece : List ℕ) (first : List (List ℕ)) (n : ℕ) → r.pending.pending ≡ [] → LinesStandFirst piece first n → ((before : List (List ℕ)) → led_by before r.machine → led_by (before ++ first) s.machine)
-      → s.pending ≡ r.pending → s.lines ≡ r.lines + length first → s.taken ≡ r.taken + n → TookFront led_by ended rejects r s piece n
+      → s.pending ≡ r.pending → s.lines ≡ r.lines + length first → s.taken ≡ r.taken + n → TookFront led_by ended rejects halted r s piece n
   took_lines r s piece first n nothing stand leads same_pending same_lines same_taken = record {
     within = stand.within;
     count = same_taken;
@@ -125,7 +126,7 @@ module _ {M : Type 0} (led_by : List (List ℕ) → M → Type 0) (ended : M →
 
   -- the first line of the piece was taken, and nothing was pending
   pub took_whole : (r s : Reader M) (piece line : List ℕ) (n : ℕ) → r.pending.pending ≡ [] → LineStandsFirst piece line n → ((before : List (List ℕ)) → led_by before r.machine → led_by (before ++ line ∷ []) s.machine)
-      → s.pending ≡ r.pending → s.lines ≡ r.lines + 1 → s.taken ≡ r.taken + n → TookFront led_by ended rejects r s piece n
+      → s.pending ≡ r.pending → s.lines ≡ r.lines + 1 → s.taken ≡ r.taken + n → TookFront led_by ended rejects halted r s piece n
   took_whole r s piece line n nothing whole leads same_pending same_lines same_taken = record {
     within = takes_bound piece n true whole.taken;
     count = same_taken;
@@ -134,26 +135,26 @@ module _ {M : Type 0} (led_by : List (List ℕ) → M → Type 0) (ended : M →
 
   -- the reader may not take the first line of the piece, or has no memory for it
   pub stopped_at : (r s : Reader M) (piece line : List ℕ) (n : ℕ) (complete : Bool) (next : Progress) (k : Kind) → 0 < length piece → (ended r.machine → ⊥) → not complete ≡ false → Fed r.pending.pending next piece n complete
-      → line ≡ next.line → r.taken + length piece ≤ r.limit → IsOfBytes k → (k ≢ kinds.Memory → rejects r.machine line k) → s.lines ≡ r.lines → Stopped led_by ended rejects r s piece k
-  stopped_at r s piece line n complete next k some going whole fed line_is fits of_bytes refused same =
+      → line ≡ next.line → r.taken + length piece ≤ r.limit → IsOfBytes k → (k ≢ kinds.Memory → rejects r.machine line k) → (k ≢ kinds.Memory → halted r.machine line k s.machine) → IsFoundOf line s.found → s.lines ≡ r.lines → Stopped led_by ended rejects halted r s piece k
+  stopped_at r s piece line n complete next k some going whole fed line_is fits of_bytes refused behind known same =
       let yes = is_true complete whole in
       let takes : TakesLine piece n true = subst (λ b. TakesLine piece n b) yes fed.taken in
       let one : lines (r.pending.pending ++ take n piece) ≡ line ∷ [] = fed.lines ∙ ap (λ b. completed b next.line) yes ∙ ap (λ (x : List ℕ). x ∷ []) (sym line_is) in
       let bound = takes_bound piece n complete fed.taken in
       record {
         kind = of_bytes;
-        fault = λ ne bytes h. fault_line led_by ended rejects r.limit r.machine bytes piece r.pending.pending line n (record { line = s.lines + 1; kind = k }) h.reached going takes h.pending one (omega (arith, h.taken, bound, fits)) (ap (λ (x : ℕ). x + 1) (same ∙ h.lines)) (refused ne);
+        fault = λ ne bytes h. fault_line led_by ended rejects halted r.limit r.machine bytes piece r.pending.pending line n (record { line = s.lines + 1; kind = k }) s.machine s.found h.reached going takes h.pending one (omega (arith, h.taken, bound, fits)) (ap (λ (x : ℕ). x + 1) (same ∙ h.lines)) (refused ne) (behind ne) known;
         memory = λ e bytes h. due_first led_by ended r.limit r.machine bytes piece some h.reached going (omega (arith, h.taken, some, fits));
       }
 
   -- the same where nothing is pending
   pub stopped_whole : (r s : Reader M) (piece line : List ℕ) (n : ℕ) (k : Kind) → 0 < length piece → (ended r.machine → ⊥) → r.pending.pending ≡ [] → LineStandsFirst piece line n
-      → r.taken + length piece ≤ r.limit → IsOfBytes k → (k ≢ kinds.Memory → rejects r.machine line k) → s.lines ≡ r.lines → Stopped led_by ended rejects r s piece k
-  stopped_whole r s piece line n k some going nothing whole fits of_bytes refused same =
-      stopped_at r s piece line n true (record { line = line; pending = [] }) k some going refl (fed_whole r.pending.pending piece line n nothing whole) refl fits of_bytes refused same
+      → r.taken + length piece ≤ r.limit → IsOfBytes k → (k ≢ kinds.Memory → rejects r.machine line k) → (k ≢ kinds.Memory → halted r.machine line k s.machine) → IsFoundOf line s.found → s.lines ≡ r.lines → Stopped led_by ended rejects halted r s piece k
+  stopped_whole r s piece line n k some going nothing whole fits of_bytes refused behind known same =
+      stopped_at r s piece line n true (record { line = line; pending = [] }) k some going refl (fed_whole r.pending.pending piece line n nothing whole) refl fits of_bytes refused behind known same
 
   -- memory was refused where a line is due
-  pub stopped_memory : (r s : Reader M) (piece : List ℕ) (k : Kind) → 0 < length piece → (ended r.machine → ⊥) → r.taken < r.limit → k ≡ kinds.Memory → Stopped led_by ended rejects r s piece k
+  pub stopped_memory : (r s : Reader M) (piece : List ℕ) (k : Kind) → 0 < length piece → (ended r.machine → ⊥) → r.taken < r.limit → k ≡ kinds.Memory → Stopped led_by ended rejects halted r s piece k
   stopped_memory r s piece k some going room is = record {
     kind = subst IsOfBytes (sym is) ((λ e. absurd cc), (λ e. absurd cc));
     fault = λ ne. absurd (ne is);
@@ -161,51 +162,51 @@ module _ {M : Type 0} (led_by : List (List ℕ) → M → Type 0) (ended : M →
   }
 
   -- no byte may follow at the limit
-  pub stopped_full : (r : Reader M) (piece : List ℕ) → 0 < length piece → r.taken ≡ r.limit → Stopped led_by ended rejects r r piece kinds.TooLong
+  pub stopped_full : (r : Reader M) (piece : List ℕ) → 0 < length piece → r.taken ≡ r.limit → Stopped led_by ended rejects halted r r piece kinds.TooLong
   stopped_full r piece some l = record {
     kind = ((λ e. absurd cc), (λ e. absurd cc));
-    fault = λ ne bytes h. fault_full led_by ended rejects r.limit r.machine bytes piece (record { line = r.lines + 1; kind = kinds.TooLong }) some h.reached (ap (λ (x : ℕ). x + 1) h.lines) (sym h.taken ∙ l) refl;
+    fault = λ ne bytes h. fault_full led_by ended rejects halted r.limit r.machine bytes piece (record { line = r.lines + 1; kind = kinds.TooLong }) r.machine r.found some h.reached (ap (λ (x : ℕ). x + 1) h.lines) (sym h.taken ∙ l) refl;
     memory = λ e. absurd cc;
   }
 
   -- and none where the machine has ended
-  pub stopped_over : (r : Reader M) (piece : List ℕ) → 0 < length piece → r.taken < r.limit → ended r.machine → Stopped led_by ended rejects r r piece kinds.Trailing
-  stopped_over r piece some room d = record {
+  pub stopped_over : (r s : Reader M) (piece : List ℕ) → 0 < length piece → r.taken < r.limit → ended r.machine → s.machine ≡ r.machine → s.lines ≡ r.lines → IsFoundOf (take 1 piece) s.found → Stopped led_by ended rejects halted r s piece kinds.Trailing
+  stopped_over r s piece some room d stays same known = record {
     kind = ((λ e. absurd cc), (λ e. absurd cc));
-    fault = λ ne bytes h. fault_over led_by ended rejects r.limit r.machine bytes piece (record { line = r.lines + 1; kind = kinds.Trailing }) some h.reached (ap (λ (x : ℕ). x + 1) h.lines) (omega (arith, h.taken, room)) d refl;
+    fault = λ ne bytes h. fault_over led_by ended rejects halted r.limit r.machine bytes piece (record { line = s.lines + 1; kind = kinds.Trailing }) s.machine s.found some h.reached (ap (λ (x : ℕ). x + 1) (same ∙ h.lines)) (omega (arith, h.taken, room)) d refl stays known;
     memory = λ e. absurd cc;
   }
 
   -- ---- a front of a piece
 
   -- what is so of the front of a piece is so of the piece
-  took_wider : (old new : Reader M) (piece : List ℕ) (room n : ℕ) → TookFront led_by ended rejects old new (take room piece) n → TookFront led_by ended rejects old new piece n
+  took_wider : (old new : Reader M) (piece : List ℕ) (room n : ℕ) → TookFront led_by ended rejects halted old new (take room piece) n → TookFront led_by ended rejects halted old new piece n
   took_wider old new piece room n h = record {
     within = omega (arith, h.within, length-take room piece);
     count = h.count;
     accepted = λ bytes a. subst (λ (x : List ℕ). Accepted led_by ended new (bytes ++ x)) (front_of room n piece h.within) (h.accepted bytes a);
   }
 
-  stopped_wider : (old new : Reader M) (piece : List ℕ) (room : ℕ) (k : Kind) → Stopped led_by ended rejects old new (take room piece) k → Stopped led_by ended rejects old new piece k
+  stopped_wider : (old new : Reader M) (piece : List ℕ) (room : ℕ) (k : Kind) → Stopped led_by ended rejects halted old new (take room piece) k → Stopped led_by ended rejects halted old new piece k
   stopped_wider old new piece room k h = record {
     kind = h.kind;
-    fault = λ ne bytes a. fault_wider led_by ended rejects old.limit bytes piece room (record { line = new.lines + 1; kind = k }) (h.fault ne bytes a);
+    fault = λ ne bytes a. fault_wider led_by ended rejects halted old.limit bytes piece room (record { line = new.lines + 1; kind = k }) new.machine new.found (h.fault ne bytes a);
     memory = λ e bytes a. due_wider led_by ended old.limit bytes piece room (h.memory e bytes a);
   }
 
-  pub advances_wider : (old new : Reader M) (piece front : List ℕ) (room : ℕ) (r : Result ℕ Kind) → front ≡ take room piece → Advances led_by ended rejects old front new r → Advances led_by ended rejects old piece new r
+  pub advances_wider : (old new : Reader M) (piece front : List ℕ) (room : ℕ) (r : Result ℕ Kind) → front ≡ take room piece → Advances led_by ended rejects halted old front new r → Advances led_by ended rejects halted old piece new r
   advances_wider old new piece front room (Ok n) e h =
-      record { took = took_wider old new piece room n (subst (λ (x : List ℕ). TookFront led_by ended rejects old new x n) e h.took); stopped = tt; fault = h.fault; limit = h.limit }
+      record { took = took_wider old new piece room n (subst (λ (x : List ℕ). TookFront led_by ended rejects halted old new x n) e h.took); stopped = tt; fault = h.fault; limit = h.limit }
   advances_wider old new piece front room (Err k) e h =
-      record { took = tt; stopped = stopped_wider old new piece room k (subst (λ (x : List ℕ). Stopped led_by ended rejects old new x k) e h.stopped); fault = h.fault; limit = h.limit }
+      record { took = tt; stopped = stopped_wider old new piece room k (subst (λ (x : List ℕ). Stopped led_by ended rejects halted old new x k) e h.stopped); fault = h.fault; limit = h.limit }
 
   -- what is handed on where a step stops
-  pub advances_no_more : (old new : Reader M) (piece : List ℕ) (r : Result ℕ Kind) (k : Kind) → r ≡ Err k → Advances led_by ended rejects old piece new (Err k) → Advances led_by ended rejects old piece new r
-  advances_no_more old new piece r k e h = subst (λ (x : Result ℕ Kind). Advances led_by ended rejects old piece new x) (sym e) h
+  pub advances_no_more : (old new : Reader M) (piece : List ℕ) (r : Result ℕ Kind) (k : Kind) → r ≡ Err k → Advances led_by ended rejects halted old piece new (Err k) → Advances led_by ended rejects halted old piece new r
+  advances_no_more old new piece r k e h = subst (λ (x : Result ℕ Kind). Advances led_by ended rejects halted old piece new x) (sym e) h
 
   -- ---- behind a front of the piece that was taken
 
-  pub took_behind : (old mid new : Reader M) (piece : List ℕ) (i n : ℕ) → TookFront led_by ended rejects old mid piece i → TookFront led_by ended rejects mid new (rest i piece) n → TookFront led_by ended rejects old new piece (i + n)
+  pub took_behind : (old mid new : Reader M) (piece : List ℕ) (i n : ℕ) → TookFront led_by ended rejects halted old mid piece i → TookFront led_by ended rejects halted mid new (rest i piece) n → TookFront led_by ended rejects halted old new piece (i + n)
   took_behind old mid new piece i n a b =
       let w : n ≤ length (drop i piece) = subst (λ (x : List ℕ). n ≤ length x) (rest_is i piece) b.within in
       record {
@@ -214,13 +215,13 @@ module _ {M : Type 0} (led_by : List (List ℕ) → M → Type 0) (ended : M →
         accepted = λ bytes h. subst (Accepted led_by ended new) (joined bytes piece i n) (b.accepted (bytes ++ take i piece) (a.accepted bytes h));
       }
 
-  pub stopped_behind : (old mid new : Reader M) (piece : List ℕ) (i : ℕ) (k : Kind) → TookFront led_by ended rejects old mid piece i → mid.limit ≡ old.limit → Stopped led_by ended rejects mid new (rest i piece) k → Stopped led_by ended rejects old new piece k
+  pub stopped_behind : (old mid new : Reader M) (piece : List ℕ) (i : ℕ) (k : Kind) → TookFront led_by ended rejects halted old mid piece i → mid.limit ≡ old.limit → Stopped led_by ended rejects halted mid new (rest i piece) k → Stopped led_by ended rejects halted old new piece k
   stopped_behind old mid new piece i k a same b = record {
     kind = b.kind;
     fault = λ ne bytes h.
         let f : Fault = record { line = new.lines + 1; kind = k } in
-        subst (λ (l : ℕ). FaultIn led_by ended rejects l (bytes ++ piece) f) same
-        (subst (λ (x : List ℕ). FaultIn led_by ended rejects mid.limit x f) (append_assoc bytes (take i piece) (rest i piece) ∙ ap (λ (x : List ℕ). bytes ++ x) (whole_is i piece)) (b.fault ne (bytes ++ take i piece) (a.accepted bytes h)));
+        subst (λ (l : ℕ). FaultBehind led_by ended rejects halted l bytes piece f new.machine new.found) same
+        (fault_behind led_by ended rejects halted mid.limit bytes piece (take i piece) (rest i piece) f new.machine new.found (whole_is i piece) (b.fault ne (bytes ++ take i piece) (a.accepted bytes h)));
     memory = λ e bytes h.
         due_behind led_by ended old.limit bytes piece i
         (subst (λ (l : ℕ). LineIsDue led_by ended l (bytes ++ take i piece) (drop i piece)) same

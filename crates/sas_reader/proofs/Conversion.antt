@@ -29,7 +29,7 @@ module _ {T V I S M : Type 0} (F : Format V I S) (Fits : I → Type 0) (node : T
   abbrev pub at : (m : M) (bytes : List ℕ) → Reached led_by Ended m bytes → At F Fits node start Ended rejects (lines bytes) m
   at m bytes h = follows (lines bytes) m h.led
 
-  path_of : (m : M) (bytes : List ℕ) (h : Reached led_by Ended m bytes) → Path F Fits node start (at m bytes h).state bytes
+  pub path_of : (m : M) (bytes : List ℕ) (h : Reached led_by Ended m bytes) → Path F Fits node start (at m bytes h).state bytes
   path_of m bytes h = let a = at m bytes h in record { leads = a.leads; ended = λ v d. h.rest (a.is_ended v d) }
 
   stopped : (limit : ℕ) (m : M) (bytes : List ℕ) (byte : ℕ) (f : Fault) → Reached led_by Ended m bytes → f.line ≡ length (lines bytes) + 1 → Stops led_by Ended rejects limit m bytes byte f.kind → FaultOf F limit (one_more bytes byte) f

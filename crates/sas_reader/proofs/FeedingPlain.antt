@@ -1,34 +1,23 @@
 -- What a reader took without CRs, and where it was stopped there, is so of the bytes with them.
-use Rattle.std.proofs.Common.{◌≡◌, ℕ, ◌+◌, ◌≤◌, Bool, true, false, not, cond, ◌==◌, List, [], ◌∷◌, ◌++◌, length, take, drop, get_or, refl, sym, ap, ap₂, subst, ◌∙◌, append_assoc, inl, inr, ◌⊎◌, arith, length-append, Result, Ok, Err}
+use Rattle.std.proofs.Common.{◌≡◌, ◌≢◌, ℕ, ◌+◌, ◌-◌, ◌≤◌, Bool, true, false, not, cond, ◌==◌, List, [], ◌∷◌, ◌++◌, length, take, drop, get_or, refl, sym, ap, ap₂, subst, ◌∙◌, append_assoc, inl, inr, arith, length-append, Result, Ok, Err}
+use Rattle.std.proofs.lemmas.Bool.{cases_eq}
 use Rattle.std.proofs.lemmas.List.{take_at, take_all, drop_more, take-append-drop}
 use Rattle.std.proofs.lemmas.List.Elements.{filter-append}
 use Rattle.std.proofs.Math.Seq.{drop-append_seam}
 use Rattle.sas_lines.specs.Lines.{without_return, lines, unfinished}
 use Rattle.sas_lines.specs.Progress.{Progress}
-use Rattle.sas_lines.proofs.Splitting.{lines-end}
+use Rattle.sas_lines.proofs.Splitting.{lines-append, unfinished-append, unfinished-plain_all, lines-end}
 use Rattle.sas_reader.specs.declared.fault.Fault.{Fault}
 use Rattle.sas_reader.specs.declared.fault.Kind.{Kind}
 use Rattle.sas_reader.specs.declared.reader.Reader.{Reader}
-use Rattle.sas_reader.specs.Reader.{Reached, Accepted, LineIsDue, full, over, rejected, FaultIn, TookFront, Stopped, Advances}
+use Rattle.sas_reader.specs.declared.found.Found.{Found}
+use Rattle.sas_reader.specs.Found.{bytes_of, IsFoundOf, behind_ends}
+use Rattle.sas_reader.specs.Reader.{Reached, Accepted, LineIsDue, told_full, told_over, told_rejected, FaultBehind, TookFront, Stopped, Advances}
 use Rattle.sas_reader.specs.Returns.{without_returns}
-use Rattle.sas_reader.proofs.Standing.{FaultIn-more}
+use Rattle.sas_reader.proofs.BehindEnds.{behind_front, no_end-without, no_lf}
 use Rattle.sas_reader.proofs.WithLfAlone.{EachEnds, lines_behind, rest_behind, nothing, return, FrontOf, front_of}
 
 -- ---- lists
-
--- some bytes and more, cut at a byte: it is among the first, or behind them
-abbrev Cut : List ℕ → List ℕ → List ℕ → ℕ → List ℕ → Type 0
-Cut bytes x before byte after = ((more : List ℕ) × (bytes ≡ before ++ byte ∷ more)) ⊎ ((a : List ℕ) × (before ≡ bytes ++ a) × (x ≡ a ++ byte ∷ after))
-
-cut : (bytes x before : List ℕ) (byte : ℕ) (after : List ℕ) → bytes ++ x ≡ before ++ byte ∷ after → Cut bytes x before byte after
-cut [] x before byte after e = inr (before, refl, e)
-cut (b ∷ bytes) x [] byte after e = inl (bytes, ap (λ (y : ℕ). y ∷ bytes) (ap (λ (l : List ℕ). get_or l 0 0) e))
-cut (b ∷ bytes) x (c ∷ before) byte after e =
-    let same : b ≡ c = ap (λ (l : List ℕ). get_or l 0 0) e in
-    elim (cut bytes x before byte after (ap (drop 1) e)) [
-      | inl r ↦ inl (r.0, ap₂ (λ (y : ℕ) (l : List ℕ). y ∷ l) same r.1)
-      | inr r ↦ inr (r.0, ap₂ (λ (y : ℕ) (l : List ℕ). y ∷ l) (sym same) r.1, r.2)
-    ]
 
 -- the last one and those in front of it
 last_same : (xs ys : List (List ℕ)) (p q : List ℕ) → xs ++ p ∷ [] ≡ ys ++ q ∷ [] → (xs ≡ ys) × (p ≡ q)
@@ -68,10 +57,10 @@ module _ (bytes a : List ℕ) (byte : ℕ) (r : FrontOf bytes a byte) where
   ]
 
   -- the byte with which it goes on
-  goes_on : (x : ℕ) × (more : List ℕ) × (r.between ++ byte ∷ r.after ≡ x ∷ more)
+  goes_on : (x : ℕ) × (more : List ℕ) × (r.between ++ byte ∷ r.after ≡ x ∷ more) × (byte ≢ 10 → x ≡ byte)
   goes_on = elim r.may [
-    | nothing e ↦ (byte, r.after, ap (λ (l : List ℕ). l ++ byte ∷ r.after) e)
-    | return e f ↦ (13, byte ∷ r.after, ap (λ (l : List ℕ). l ++ byte ∷ r.after) e)
+    | nothing e ↦ (byte, r.after, ap (λ (l : List ℕ). l ++ byte ∷ r.after) e, (λ ne. refl))
+    | return e f ↦ (13, byte ∷ r.after, ap (λ (l : List ℕ). l ++ byte ∷ r.after) e, (λ ne. absurd (ne f)))
   ]
 
   long : length bytes ≡ length r.front + (length r.between + (1 + length r.after))
@@ -117,62 +106,80 @@ module _ {M : Type 0} (led_by : List (List ℕ) → M → Type 0) (ended : M →
         room = omega (arith, l, room, ap length front, length-append before (take n bytes));
       }
 
-module _ {M : Type 0} (led_by : List (List ℕ) → M → Type 0) (ended : M → Type 0) (rejects : M → List ℕ → Kind → Type 0) where
-  module _ (limit : ℕ) (before bytes : List ℕ) (f : Fault) (whole : unfinished before ≡ []) (ends : EachEnds bytes) (room : length before + length bytes ≤ limit) where
-    fault_behind : (h : FaultIn led_by ended rejects limit (before ++ without_returns bytes) f) (a : List ℕ) → h.before ≡ before ++ a → without_returns bytes ≡ a ++ h.byte ∷ h.after → FaultIn led_by ended rejects limit (before ++ bytes) f
-    fault_behind h a is e =
+module _ {M : Type 0} (led_by : List (List ℕ) → M → Type 0) (ended : M → Type 0) (rejects : M → List ℕ → Kind → Type 0) (halted : M → List ℕ → Kind → M → Type 0) where
+  module _ (limit : ℕ) (before bytes : List ℕ) (f : Fault) (now : M) (found told : Found) (n : ℕ) (whole : unfinished before ≡ []) (ends : EachEnds bytes) (room : length before + length bytes ≤ limit) (count : n ≡ f.line - (length (lines before) + 1)) (of_byte : bytes_of found ≡ 10 ∷ [] → IsFoundOf (take 1 (behind_ends n bytes)) told) (of_rest : (bytes_of found ≡ 10 ∷ [] → ⊥) → told ≡ found) where
+    -- the byte behind whole lines
+    byte_told : (a : List ℕ) (byte : ℕ) (r : FrontOf bytes a byte) (x : ℕ) (more : List ℕ) → r.between ++ byte ∷ r.after ≡ x ∷ more → (byte ≢ 10 → x ≡ byte) → unfinished (before ++ a) ≡ [] → f.line ≡ length (lines (before ++ a)) + 1 → IsFoundOf (byte ∷ []) found → IsFoundOf (x ∷ []) told
+    byte_told a byte r x more next same rest line is =
+        let one : bytes_of found ≡ byte ∷ [] = is.front ∙ take_all 64 (byte ∷ []) (omega arith) in
+        elim (cases_eq byte 10) [
+          | inl lf ↦
+              let none : unfinished r.front ≡ [] = ap (λ (l : List ℕ). unfinished (l ++ r.front)) (sym whole) ∙ sym (unfinished-append before r.front) ∙ front_rest bytes a byte r before whole ∙ rest in
+              let split : lines (before ++ r.front) ≡ lines before ++ lines r.front = lines-append before r.front ∙ ap (λ (l : List ℕ). lines before ++ lines (l ++ r.front)) whole in
+              let many : n ≡ length (lines r.front) = omega (arith, count, line, ap length (front_lines bytes a byte r before whole), ap length split, length-append (lines before) (lines r.front)) in
+              let behind : behind_ends n bytes ≡ x ∷ more = ap (λ (k : ℕ). behind_ends k bytes) many ∙ ap (behind_ends (length (lines r.front))) (r.whole ∙ ap (λ (l : List ℕ). r.front ++ l) next) ∙ behind_front r.front (x ∷ more) none in
+              subst (λ (l : List ℕ). IsFoundOf l told) (ap (take 1) behind) (of_byte (one ∙ ap (λ (y : ℕ). y ∷ []) lf))
+          | inr ne ↦
+              let other : bytes_of found ≡ 10 ∷ [] → ⊥ = λ e. ne (ap (λ (l : List ℕ). get_or l 0 0) (sym one ∙ e)) in
+              subst (λ (y : ℕ). IsFoundOf (y ∷ []) told) (sym (same ne)) (subst (IsFoundOf (byte ∷ [])) (sym (of_rest other)) is)
+        ]
+
+    fault_plain : FaultBehind led_by ended rejects halted limit before (without_returns bytes) f now found → FaultBehind led_by ended rejects halted limit before bytes f now told
+    fault_plain h =
+        let a = h.front in
         let byte = h.byte in
-        let r = front_of bytes ends a byte h.after e in
+        let r = front_of bytes ends a byte h.after h.whole in
         let l = long bytes a byte r in
         elim h.stops [
-          | full at_limit k ↦ absurd (omega (arith, at_limit, room, ap length is, length-append before a, ap length e, length-append a (byte ∷ h.after), fewer bytes))
-          | over fits d k ↦
+          | told_full at_limit k ↦ absurd (omega (arith, at_limit, room, length-append before a, ap length h.whole, length-append a (byte ∷ h.after), fewer bytes))
+          | told_over fits d k stays is ↦
               let next = goes_on bytes a byte r in
-              let more_lines : lines (before ++ r.front) ≡ lines h.before = front_lines bytes a byte r before whole ∙ ap lines (sym is) in
-              let more_rest : unfinished (before ++ r.front) ≡ unfinished h.before = front_rest bytes a byte r before whole ∙ ap unfinished (sym is) in
+              let more_lines : lines (before ++ r.front) ≡ lines (before ++ a) = front_lines bytes a byte r before whole in
+              let more_rest : unfinished (before ++ r.front) ≡ unfinished (before ++ a) = front_rest bytes a byte r before whole in
               record {
                 machine = h.machine;
-                before = before ++ r.front;
+                front = r.front;
                 byte = next.0;
                 after = next.1;
-                whole = ap (λ (x : List ℕ). before ++ x) (r.whole ∙ ap (λ (x : List ℕ). r.front ++ x) next.2) ∙ sym (append_assoc before r.front (next.0 ∷ next.1));
-                reached = reached_same led_by ended h.machine h.before (before ++ r.front) more_lines more_rest h.reached;
+                whole = r.whole ∙ ap (λ (x : List ℕ). r.front ++ x) next.2;
+                reached = reached_same led_by ended h.machine (before ++ a) (before ++ r.front) more_lines more_rest h.reached;
                 line = h.line ∙ ap (λ (x : List (List ℕ)). length x + 1) (sym more_lines);
-                stops = over (omega (arith, l, room, length-append before r.front)) d k;
+                stops = told_over (omega (arith, l, room, length-append before r.front)) d k stays (byte_told a byte r next.0 next.1 next.2 next.3 (h.reached.rest d) h.line is);
               }
-          | rejected fits going lf refused ↦
-              let front = before ++ (r.front ++ r.between) in
+          | told_rejected fits going lf refused behind is ↦
+              let front = r.front ++ r.between in
+              let line = without_return (unfinished (before ++ a)) in
               let same = line_same bytes a byte r before whole lf in
-              let more_lines : lines front ≡ lines h.before = same.0 ∙ ap lines (sym is) in
-              let line_is : without_return (unfinished front) ≡ without_return (unfinished h.before) = same.1 ∙ ap (λ (x : List ℕ). without_return (unfinished x)) (sym is) in
+              let more_lines : lines (before ++ front) ≡ lines (before ++ a) = same.0 in
+              let line_is : without_return (unfinished (before ++ front)) ≡ line = same.1 in
+              let other : bytes_of found ≡ 10 ∷ [] → ⊥ = λ e. no_lf line (no_end-without (unfinished (before ++ a)) (unfinished-plain_all (before ++ a))) (sym is.front ∙ e) in
               record {
                 machine = h.machine;
-                before = front;
+                front = front;
                 byte = byte;
                 after = r.after;
-                whole = ap (λ (x : List ℕ). before ++ x) (r.whole ∙ sym (append_assoc r.front r.between (byte ∷ r.after))) ∙ sym (append_assoc before (r.front ++ r.between) (byte ∷ r.after));
+                whole = r.whole ∙ sym (append_assoc r.front r.between (byte ∷ r.after));
                 reached = record { led = subst (λ (x : List (List ℕ)). led_by x h.machine) (sym more_lines) h.reached.led; rest = λ d. absurd (going d) };
                 line = h.line ∙ ap (λ (x : List (List ℕ)). length x + 1) (sym more_lines);
-                stops = rejected (omega (arith, l, room, length-append before (r.front ++ r.between), length-append r.front r.between)) going lf (subst (λ (x : List ℕ). rejects h.machine x f.kind) (sym line_is) refused);
+                stops = told_rejected (omega (arith, l, room, length-append before front, length-append r.front r.between)) going lf (subst (λ (x : List ℕ). rejects h.machine x f.kind) (sym line_is) refused) (subst (λ (x : List ℕ). halted h.machine x f.kind now) (sym line_is) behind) (subst (λ (x : List ℕ). IsFoundOf x told) (sym line_is) (subst (IsFoundOf line) (sym (of_rest other)) is));
               }
         ]
 
-    fault_plain : FaultIn led_by ended rejects limit (before ++ without_returns bytes) f → FaultIn led_by ended rejects limit (before ++ bytes) f
-    fault_plain h = elim (cut before (without_returns bytes) h.before h.byte h.after h.whole) [
-      | inl r ↦ FaultIn-more led_by ended rejects limit before bytes f (record { machine = h.machine; before = h.before; byte = h.byte; after = r.0; whole = r.1; reached = h.reached; line = h.line; stops = h.stops })
-      | inr r ↦ fault_behind h r.0 r.1 r.2
-    ]
-
   module _ (old new : Reader M) (bytes : List ℕ) (none : old.pending.pending ≡ []) (ends : EachEnds bytes) where
-    pub stopped_plain : (k : Kind) → old.taken + length bytes ≤ old.limit → Stopped led_by ended rejects old new (without_returns bytes) k → Stopped led_by ended rejects old new bytes k
-    stopped_plain k room h = record {
+    pub stopped_plain : (mid : Reader M) (k : Kind) (n : ℕ) → old.taken + length bytes ≤ old.limit → Stopped led_by ended rejects halted old mid (without_returns bytes) k → new.machine ≡ mid.machine → new.lines ≡ mid.lines → n ≡ mid.lines - old.lines
+        → (bytes_of mid.found ≡ 10 ∷ [] → IsFoundOf (take 1 (behind_ends n bytes)) new.found) → ((bytes_of mid.found ≡ 10 ∷ [] → ⊥) → new.found ≡ mid.found) → Stopped led_by ended rejects halted old new bytes k
+    stopped_plain mid k n room h same_machine same_lines count of_byte of_rest = record {
       kind = h.kind;
-      fault = λ ne before a. fault_plain old.limit before bytes (record { line = new.lines + 1; kind = k }) (sym a.pending ∙ none) ends (omega (arith, a.taken, room)) (h.fault ne before a);
+      fault = λ ne before a.
+          let f : Fault = record { line = mid.lines + 1; kind = k } in
+          subst (λ (x : ℕ). FaultBehind led_by ended rejects halted old.limit before bytes (record { line = x + 1; kind = k }) new.machine new.found) (sym same_lines)
+          (subst (λ (x : M). FaultBehind led_by ended rejects halted old.limit before bytes f x new.found) (sym same_machine)
+          (fault_plain old.limit before bytes f mid.machine mid.found new.found n (sym a.pending ∙ none) ends (omega (arith, a.taken, room)) (omega (arith, count, a.lines)) of_byte of_rest (h.fault ne before a)));
       memory = λ e before a. due_plain led_by ended old.limit before bytes (sym a.pending ∙ none) ends (omega (arith, a.taken, room)) (h.memory e before a);
     }
 
-    pub took_plain : (mid : Reader M) (n : ℕ) → TookFront led_by ended rejects old mid (without_returns bytes) n → n ≡ length (without_returns bytes) → new.machine ≡ mid.machine → new.pending ≡ mid.pending → new.lines ≡ mid.lines → new.taken ≡ old.taken + length bytes
-        → TookFront led_by ended rejects old new bytes (length bytes)
+    pub took_plain : (mid : Reader M) (n : ℕ) → TookFront led_by ended rejects halted old mid (without_returns bytes) n → n ≡ length (without_returns bytes) → new.machine ≡ mid.machine → new.pending ≡ mid.pending → new.lines ≡ mid.lines → new.taken ≡ old.taken + length bytes
+        → TookFront led_by ended rejects halted old new bytes (length bytes)
     took_plain mid n h all same_machine same_pending more_lines count = record {
       within = omega arith;
       count = count;
@@ -200,8 +207,9 @@ pub record Alike {M : Type 0} (r s : Reader M) : Type 0 where
   pub taken : s.taken ≡ r.taken
   pub limit : s.limit ≡ r.limit
   pub fault : s.fault ≡ r.fault
+  pub found : s.found ≡ r.found
 
-module _ {M : Type 0} (led_by : List (List ℕ) → M → Type 0) (ended : M → Type 0) (rejects : M → List ℕ → Kind → Type 0) where
+module _ {M : Type 0} (led_by : List (List ℕ) → M → Type 0) (ended : M → Type 0) (rejects : M → List ℕ → Kind → Type 0) (halted : M → List ℕ → Kind → M → Type 0) where
   accepted_alike : (r s : Reader M) → Alike r s → (bytes : List ℕ) → Accepted led_by ended r bytes → Accepted led_by ended s bytes
   accepted_alike r s same bytes h = record {
     reached = subst (λ (x : M). Reached led_by ended x bytes) (sym same.machine) h.reached;
@@ -211,22 +219,25 @@ module _ {M : Type 0} (led_by : List (List ℕ) → M → Type 0) (ended : M →
   }
 
   module _ (old start mid new : Reader M) (first : Alike old start) (last : Alike mid new) (piece : List ℕ) where
-    took_alike : (n : ℕ) → TookFront led_by ended rejects start mid piece n → TookFront led_by ended rejects old new piece n
+    took_alike : (n : ℕ) → TookFront led_by ended rejects halted start mid piece n → TookFront led_by ended rejects halted old new piece n
     took_alike n h = record {
       within = h.within;
       count = omega (arith, h.count, first.taken, last.taken);
       accepted = λ bytes a. accepted_alike mid new last (bytes ++ take n piece) (h.accepted bytes (accepted_alike old start first bytes a));
     }
 
-    stopped_alike : (k : Kind) → Stopped led_by ended rejects start mid piece k → Stopped led_by ended rejects old new piece k
+    stopped_alike : (k : Kind) → Stopped led_by ended rejects halted start mid piece k → Stopped led_by ended rejects halted old new piece k
     stopped_alike k h = record {
       kind = h.kind;
       fault = λ ne bytes a.
-          subst (λ (l : ℕ). FaultIn led_by ended rejects l (bytes ++ piece) (record { line = new.lines + 1; kind = k })) first.limit
-          (subst (λ (n : ℕ). FaultIn led_by ended rejects start.limit (bytes ++ piece) (record { line = n + 1; kind = k })) (sym last.lines) (h.fault ne bytes (accepted_alike old start first bytes a)));
+          let f : Fault = record { line = new.lines + 1; kind = k } in
+          subst (λ (l : ℕ). FaultBehind led_by ended rejects halted l bytes piece f new.machine new.found) first.limit
+          (subst (λ (x : Found). FaultBehind led_by ended rejects halted start.limit bytes piece f new.machine x) (sym last.found)
+          (subst (λ (x : M). FaultBehind led_by ended rejects halted start.limit bytes piece f x mid.found) (sym last.machine)
+          (subst (λ (n : ℕ). FaultBehind led_by ended rejects halted start.limit bytes piece (record { line = n + 1; kind = k }) mid.machine mid.found) (sym last.lines) (h.fault ne bytes (accepted_alike old start first bytes a)))));
       memory = λ e bytes a. subst (λ (l : ℕ). LineIsDue led_by ended l bytes piece) first.limit (h.memory e bytes (accepted_alike old start first bytes a));
     }
 
-    pub advances_alike : (r : Result ℕ Kind) → Advances led_by ended rejects start piece mid r → Advances led_by ended rejects old piece new r
+    pub advances_alike : (r : Result ℕ Kind) → Advances led_by ended rejects halted start piece mid r → Advances led_by ended rejects halted old piece new r
     advances_alike (Ok n) h = record { took = took_alike n h.took; stopped = tt; fault = last.fault ∙ h.fault ∙ first.fault; limit = last.limit ∙ h.limit ∙ first.limit }
     advances_alike (Err k) h = record { took = tt; stopped = stopped_alike k h.stopped; fault = last.fault ∙ h.fault ∙ first.fault; limit = last.limit ∙ h.limit ∙ first.limit }

@@ -11,6 +11,10 @@ pub mod Advancing
 pub mod Conversion
 pub mod Reading
 pub mod Known
+pub mod Telling
+mod Ending
+mod Keeping
+mod BehindEnds
 mod Copying
 mod WithLfAlone
 mod FeedingPlain

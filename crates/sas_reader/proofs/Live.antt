@@ -93,7 +93,7 @@ module _ {T V I S : Type 0} (F : Format V I S) (Fits : I → Type 0) (node : T �
       let s = g.sound (h.leads.items ++ []) v (after_ends F Fits node start p v h.leads.items [] h.leads.after e) in
       record { good = s.0; lines = sym h.leads.spells ∙ ap (map F.spelled) (sym (append-nil h.leads.items) ∙ s.1); rest = h.ended v e }
 
-  done_dead : (limit : ℕ) (p : T) (v : V) (bytes : List ℕ) (byte : ℕ) → node p ≡ ended v → Path F Fits node start p bytes → Live F limit (one_more bytes byte) → ⊥
+  pub done_dead : (limit : ℕ) (p : T) (v : V) (bytes : List ℕ) (byte : ℕ) → node p ≡ ended v → Path F Fits node start p bytes → Live F limit (one_more bytes byte) → ⊥
   done_dead limit p v bytes byte d h x =
       elim (eqb_tells byte 10) [
         | inl y ↦ no_line p (lines bytes) (without_return (unfinished bytes)) h.leads (λ i is w a _. ended_stops F Fits (node p) v i (λ r. LeadsToEnd F Fits node r is w) d a) (subst (IsBegun F) (ap (λ (b : ℕ). lines (one_more bytes b)) y.1 ∙ lines-end bytes) x.begun)
@@ -119,12 +119,15 @@ module _ {T V I S : Type 0} (F : Format V I S) (Fits : I → Type 0) (node : T �
   begins p s ok next v [] e a = absurd cc
   begins p s ok next v (i ∷ is) e a = (i, is, refl, ((subst (λ n. OneLine F Fits n i (λ r. LeadsToEnd F Fits node r is v)) e a).0).slot)
 
-  next_slot : (p : T) (s : S) (ok : I → Bool) (next : I → T) (ls : List (List ℕ)) → node p ≡ before s ok next → Leads F Fits node start ls p → Next F ls s
+  pub next_slot : (p : T) (s : S) (ok : I → Bool) (next : I → T) (ls : List (List ℕ)) → node p ≡ before s ok next → Leads F Fits node start ls p → Next F ls s
   next_slot p s ok next ls e h =
       let c = g.fillable h.items p h.after in
       let w = g.sound (h.items ++ c.0) c.1 (after_ends F Fits node start p c.1 h.items c.0 h.after c.2) in
       let b = begins p s ok next c.1 c.0 e c.2 in
       record { value = c.1; before = h.items; item = b.0; more = b.1; good = w.0; layout = sym w.1 ∙ ap (λ x. h.items ++ x) b.2; spells = h.spells; slot = b.3 }
+
+  pub line_dead : (limit : ℕ) (p : T) (s : S) (ok : I → Bool) (next : I → T) (bytes : List ℕ) (k : Kind) → node p ≡ before s ok next → Path F Fits node start p bytes → Judged F Fits s ok (without_return (unfinished bytes)) k → Live F limit (one_more bytes 10) → ⊥
+  line_dead limit p s ok next bytes k e h j x = no_line p (lines bytes) (without_return (unfinished bytes)) h.leads (λ i is v a q. j.none i ((subst (λ n. OneLine F Fits n i (λ r. LeadsToEnd F Fits node r is v)) e a).0) q) (subst (IsBegun F) (lines-end bytes) x.begun)
 
   pub fault_line : (limit : ℕ) (p : T) (s : S) (ok : I → Bool) (next : I → T) (bytes : List ℕ) (f : Fault) → node p ≡ before s ok next → Path F Fits node start p bytes → Judged F Fits s ok (without_return (unfinished bytes)) f.kind → length bytes + 1 ≤ limit → f.line ≡ length (lines bytes) + 1 → FaultOf F limit (one_more bytes 10) f
   fault_line limit p s ok next bytes f e h j l n = record {
@@ -134,12 +137,12 @@ module _ {T V I S : Type 0} (F : Format V I S) (Fits : I → Type 0) (node : T �
     whole = refl;
     line = n;
     live = live limit p bytes (omega arith) h;
-    dead = λ x. no_line p (lines bytes) (without_return (unfinished bytes)) h.leads (λ i is v a q. j.none i ((subst (λ n. OneLine F Fits n i (λ r. LeadsToEnd F Fits node r is v)) e a).0) q) (subst (IsBegun F) (lines-end bytes) x.begun);
+    dead = line_dead limit p s ok next bytes f.kind e h j;
     kind = wrong l (without_return (unfinished bytes)) (lines-end bytes) s (next_slot p s ok next (lines bytes) e h.leads) j.kind;
   }
 
   -- a line that the node rejects
-  rejected_as : (n : Node T V I S) (line : List ℕ) (k : Kind) → Rejects F Fits n line k → (s : S) × (ok : I → Bool) × (next : I → T) × (n ≡ before s ok next) × Judged F Fits s ok line k
+  pub rejected_as : (n : Node T V I S) (line : List ℕ) (k : Kind) → Rejects F Fits n line k → (s : S) × (ok : I → Bool) × (next : I → T) × (n ≡ before s ok next) × Judged F Fits s ok line k
   rejected_as (ended v) line k r = absurd r
   rejected_as (before s ok next) line k r = (s, ok, next, refl, r)
 

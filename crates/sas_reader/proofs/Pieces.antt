@@ -9,8 +9,9 @@ use Rattle.sas_lines.proofs.Splitting.{lines-none, unfinished-none, lines-append
 use Rattle.sas_reader.specs.declared.fault.Fault.{Fault}
 use Rattle.sas_reader.specs.declared.fault.Kind.{Kind}
 use Rattle.sas_reader.specs.declared.fault.Kind.TheVariants as kinds
-use Rattle.sas_reader.specs.Reader.{Reached, Stops, full, over, rejected, FaultIn, LineIsDue}
-use Rattle.sas_reader.proofs.Standing.{FaultIn-more}
+use Rattle.sas_reader.specs.declared.found.Found.{Found}
+use Rattle.sas_reader.specs.Found.{IsFoundOf}
+use Rattle.sas_reader.specs.Reader.{Reached, LineIsDue, StopsTelling, told_full, told_over, told_rejected, FaultBehind}
 
 -- ---- the front of a piece
 
@@ -90,37 +91,72 @@ module _ {M : Type 0} (led_by : List (List ℕ) → M → Type 0) (ended : M →
         room = subst (λ (x : List ℕ). length x < limit) same d.room;
       }
 
-module _ {M : Type 0} (led_by : List (List ℕ) → M → Type 0) (ended : M → Type 0) (rejects : M → List ℕ → Kind → Type 0) where
+module _ {M : Type 0} (led_by : List (List ℕ) → M → Type 0) (ended : M → Type 0) (rejects : M → List ℕ → Kind → Type 0) (halted : M → List ℕ → Kind → M → Type 0) where
   -- the first byte of a piece is one too many
-  fault_first : (limit : ℕ) (m : M) (bytes piece : List ℕ) (f : Fault) → 0 < length piece → Reached led_by ended m bytes → f.line ≡ length (lines bytes) + 1 → ((byte : ℕ) → Stops led_by ended rejects limit m bytes byte f.kind) → FaultIn led_by ended rejects limit (bytes ++ piece) f
-  fault_first limit m bytes [] f some h line stops = absurd (omega arith)
-  fault_first limit m bytes (byte ∷ after) f some h line stops = record { machine = m; before = bytes; byte = byte; after = after; whole = refl; reached = h; line = line; stops = stops byte }
+  fault_first : (limit : ℕ) (m : M) (bytes piece : List ℕ) (f : Fault) (now : M) (found : Found) → 0 < length piece → Reached led_by ended m bytes → f.line ≡ length (lines bytes) + 1 → ((byte : ℕ) → take 1 piece ≡ byte ∷ [] → StopsTelling led_by ended rejects halted limit m bytes byte f.kind now found) → FaultBehind led_by ended rejects halted limit bytes piece f now found
+  fault_first limit m bytes [] f now found some h line stops = absurd (omega arith)
+  fault_first limit m bytes (byte ∷ after) f now found some h line stops =
+      let same : bytes ≡ bytes ++ [] = sym (append-nil bytes) in
+      record {
+        machine = m;
+        front = [];
+        byte = byte;
+        after = after;
+        whole = refl;
+        reached = subst (Reached led_by ended m) same h;
+        line = subst (λ (x : List ℕ). f.line ≡ length (lines x) + 1) same line;
+        stops = subst (λ (x : List ℕ). StopsTelling led_by ended rejects halted limit m x byte f.kind now found) same (stops byte refl);
+      }
 
-  pub fault_full : (limit : ℕ) (m : M) (bytes piece : List ℕ) (f : Fault) → 0 < length piece → Reached led_by ended m bytes → f.line ≡ length (lines bytes) + 1 → length bytes ≡ limit → f.kind ≡ kinds.TooLong → FaultIn led_by ended rejects limit (bytes ++ piece) f
-  fault_full limit m bytes piece f some h line l k = fault_first limit m bytes piece f some h line (λ byte. full l k)
+  pub fault_full : (limit : ℕ) (m : M) (bytes piece : List ℕ) (f : Fault) (now : M) (found : Found) → 0 < length piece → Reached led_by ended m bytes → f.line ≡ length (lines bytes) + 1 → length bytes ≡ limit → f.kind ≡ kinds.TooLong → FaultBehind led_by ended rejects halted limit bytes piece f now found
+  fault_full limit m bytes piece f now found some h line l k = fault_first limit m bytes piece f now found some h line (λ byte e. told_full l k)
 
-  pub fault_over : (limit : ℕ) (m : M) (bytes piece : List ℕ) (f : Fault) → 0 < length piece → Reached led_by ended m bytes → f.line ≡ length (lines bytes) + 1 → length bytes + 1 ≤ limit → ended m → f.kind ≡ kinds.Trailing → FaultIn led_by ended rejects limit (bytes ++ piece) f
-  fault_over limit m bytes piece f some h line l d k = fault_first limit m bytes piece f some h line (λ byte. over l d k)
+  pub fault_over : (limit : ℕ) (m : M) (bytes piece : List ℕ) (f : Fault) (now : M) (found : Found) → 0 < length piece → Reached led_by ended m bytes → f.line ≡ length (lines bytes) + 1 → length bytes + 1 ≤ limit → ended m → f.kind ≡ kinds.Trailing → now ≡ m → IsFoundOf (take 1 piece) found → FaultBehind led_by ended rejects halted limit bytes piece f now found
+  fault_over limit m bytes piece f now found some h line l d k stays is = fault_first limit m bytes piece f now found some h line (λ byte e. told_over l d k stays (subst (λ (x : List ℕ). IsFoundOf x found) e is))
 
   -- its first line is rejected
-  pub fault_line : (limit : ℕ) (m : M) (bytes piece pending line : List ℕ) (n : ℕ) (f : Fault) → Reached led_by ended m bytes → (ended m → ⊥) → TakesLine piece n true → pending ≡ unfinished bytes → lines (pending ++ take n piece) ≡ line ∷ [] → length bytes + n ≤ limit → f.line ≡ length (lines bytes) + 1 → rejects m line f.kind → FaultIn led_by ended rejects limit (bytes ++ piece) f
-  fault_line limit m bytes piece pending line n f h going t p e room at_line r =
+  pub fault_line : (limit : ℕ) (m : M) (bytes piece pending line : List ℕ) (n : ℕ) (f : Fault) (now : M) (found : Found) → Reached led_by ended m bytes → (ended m → ⊥) → TakesLine piece n true → pending ≡ unfinished bytes → lines (pending ++ take n piece) ≡ line ∷ [] → length bytes + n ≤ limit → f.line ≡ length (lines bytes) + 1
+      → rejects m line f.kind → halted m line f.kind now → IsFoundOf line found → FaultBehind led_by ended rejects halted limit bytes piece f now found
+  fault_line limit m bytes piece pending line n f now found h going t p e room at_line r behind known =
       let front = t.0 in
       let taken : take n piece ≡ front ++ 10 ∷ [] = ap (λ (x : ℕ). take x piece) t.4 ∙ ap (take (length front + 1)) t.3 ∙ take-append-add front (10 ∷ t.1) 1 in
       let same : lines (bytes ++ front) ≡ lines bytes = lines-part bytes front t.2 in
       let is : line ≡ without_return (unfinished (bytes ++ front)) = line_is bytes front line t.2 (ap (λ (x : List ℕ). lines (unfinished bytes ++ x)) (sym taken) ∙ ap (λ (x : List ℕ). lines (x ++ take n piece)) (sym p) ∙ e) in
       record {
         machine = m;
-        before = bytes ++ front;
+        front = front;
         byte = 10;
         after = t.1;
-        whole = ap (λ (x : List ℕ). bytes ++ x) t.3 ∙ sym (append_assoc bytes front (10 ∷ t.1));
+        whole = t.3;
         reached = record { led = subst (λ (l : List (List ℕ)). led_by l m) (sym same) h.led; rest = λ d. absurd (going d) };
         line = at_line ∙ ap (λ (l : List (List ℕ)). length l + 1) (sym same);
-        stops = rejected (omega (arith, length-append bytes front, room, t.4)) going refl (subst (λ (x : List ℕ). rejects m x f.kind) is r);
+        stops = told_rejected (omega (arith, length-append bytes front, room, t.4)) going refl (subst (λ (x : List ℕ). rejects m x f.kind) is r) (subst (λ (x : List ℕ). halted m x f.kind now) is behind) (subst (λ (x : List ℕ). IsFoundOf x found) is known);
       }
 
   -- a fault in the front of a piece
-  pub fault_wider : (limit : ℕ) (bytes piece : List ℕ) (m : ℕ) (f : Fault) → FaultIn led_by ended rejects limit (bytes ++ take m piece) f → FaultIn led_by ended rejects limit (bytes ++ piece) f
-  fault_wider limit bytes piece m f h =
-      subst (λ (x : List ℕ). FaultIn led_by ended rejects limit x f) (append_assoc bytes (take m piece) (drop m piece) ∙ ap (λ (x : List ℕ). bytes ++ x) (take-append-drop m piece)) (FaultIn-more led_by ended rejects limit (bytes ++ take m piece) (drop m piece) f h)
+  pub fault_wider : (limit : ℕ) (bytes piece : List ℕ) (m : ℕ) (f : Fault) (now : M) (found : Found) → FaultBehind led_by ended rejects halted limit bytes (take m piece) f now found → FaultBehind led_by ended rejects halted limit bytes piece f now found
+  fault_wider limit bytes piece m f now found h = record {
+    machine = h.machine;
+    front = h.front;
+    byte = h.byte;
+    after = h.after ++ drop m piece;
+    whole = sym (take-append-drop m piece) ∙ ap (λ (x : List ℕ). x ++ drop m piece) h.whole ∙ append_assoc h.front (h.byte ∷ h.after) (drop m piece);
+    reached = h.reached;
+    line = h.line;
+    stops = h.stops;
+  }
+
+  -- a fault behind the front of a piece
+  pub fault_behind : (limit : ℕ) (bytes piece front rest : List ℕ) (f : Fault) (now : M) (found : Found) → front ++ rest ≡ piece → FaultBehind led_by ended rejects halted limit (bytes ++ front) rest f now found → FaultBehind led_by ended rejects halted limit bytes piece f now found
+  fault_behind limit bytes piece front rest f now found is h =
+      let same : (bytes ++ front) ++ h.front ≡ bytes ++ (front ++ h.front) = append_assoc bytes front h.front in
+      record {
+        machine = h.machine;
+        front = front ++ h.front;
+        byte = h.byte;
+        after = h.after;
+        whole = sym is ∙ ap (λ (x : List ℕ). front ++ x) h.whole ∙ sym (append_assoc front h.front (h.byte ∷ h.after));
+        reached = subst (Reached led_by ended h.machine) same h.reached;
+        line = subst (λ (x : List ℕ). f.line ≡ length (lines x) + 1) same h.line;
+        stops = subst (λ (x : List ℕ). StopsTelling led_by ended rejects halted limit h.machine x h.byte f.kind now found) same h.stops;
+      }

@@ -66,7 +66,7 @@ meet (z ∷ d) (w ∷ e) x y a b q =
       | inr (inr m) ↦ inr (inr (record { more = m.more; is = ap (λ (v : ℕ). v ∷ d) h ∙ ap (λ (v : List ℕ). w ∷ v) m.is }))
     ]
 
-one_line : (ls : List (List ℕ)) (a b : List ℕ) → ls ++ a ∷ [] ≡ ls ++ b ∷ [] → a ≡ b
+pub one_line : (ls : List (List ℕ)) (a b : List ℕ) → ls ++ a ∷ [] ≡ ls ++ b ∷ [] → a ≡ b
 one_line ls a b e = let c = append_cancel_left ls (a ∷ []) (b ∷ []) e in cc
 
 same_fault : (f g : Fault) → f.line ≡ g.line → f.kind ≡ g.kind → f ≡ g
@@ -185,6 +185,15 @@ module _ {T V I S : Type 0} (F : Format V I S) (Fits : I → Type 0) (node : T �
 
   not_longer : (limit : ℕ) (bytes : List ℕ) (f h : Fault) (a : FaultOf F limit bytes f) (b : FaultOf F limit bytes h) → Longer a.before a.byte b.before → ⊥
   not_longer limit bytes f h a b m = a.dead (live-front limit (a.before ++ a.byte ∷ []) m.more (subst (Live F limit) m.is b.live))
+
+  -- and at one place
+  pub one_place : (limit : ℕ) (bytes : List ℕ) (f : Fault) (h k : FaultOf F limit bytes f) → (h.before ≡ k.before) × (h.byte ≡ k.byte)
+  one_place limit bytes f h k =
+      elim (meet h.before k.before h.byte k.byte h.after k.after (sym h.whole ∙ k.whole)) [
+        | inl m ↦ m
+        | inr (inl m) ↦ absurd (not_longer limit bytes f f h k m)
+        | inr (inr m) ↦ absurd (not_longer limit bytes f f k h m)
+      ]
 
   at_one : (limit : ℕ) (bytes : List ℕ) (f h : Fault) (a : FaultOf F limit bytes f) (b : FaultOf F limit bytes h) → a.before ≡ b.before → a.byte ≡ b.byte → f ≡ h
   at_one limit bytes f h a b p q =

@@ -1,4 +1,5 @@
 pub mod Faults
+pub mod Found
 pub mod Format
 pub mod Laws
 pub mod System
@@ -7,4 +8,5 @@ pub mod Machine
 pub mod Reader
 pub mod Reading
 pub mod Devices
+pub mod Telling
 pub mod Returns

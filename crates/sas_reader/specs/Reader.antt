@@ -1,14 +1,22 @@
 -- What a reader that takes a text in pieces represents.
 use Rattle.std.specs.Prelude.{◌≡◌, ◌≢◌, ◌⊎◌, ◌↔◌, ℕ, ◌+◌, ◌<◌, ◌≤◌, List, [], ◌∷◌, ◌++◌, length, take}
-use Rattle.std.specs.Prelude.{Option, Some, None, Result, Err, IfOk, IfErr, OnOk, IsErrAnd, IsTrue}
+use Rattle.std.specs.Prelude.{Option, Some, None, Result, Ok, Err, IfOk, IfErr, OnOk, IsErrAnd, IsTrue}
 use Rattle.std.specs.Io.KnownBytes.{Consumes, IsAtEnd}
 use Rattle.sas_lines.specs.Device.{Device}
 use Rattle.sas_lines.specs.Lines.{lines, unfinished, without_return}
 use Rattle.sas_reader.specs.declared.fault.Fault.{Fault}
 use Rattle.sas_reader.specs.declared.fault.Kind.{Kind}
 use Rattle.sas_reader.specs.declared.fault.Kind.TheVariants as kinds
+use Rattle.sas_reader.specs.declared.found.Found.{Found}
 use Rattle.sas_reader.specs.declared.reader.Reader.{Reader}
+use Rattle.sas_reader.specs.declared.reader.Refused.{Refused}
 use Rattle.sas_reader.specs.Faults.{IsOfBytes, answer}
+use Rattle.sas_reader.specs.Found.{IsFoundOf}
+
+-- a result without what a refusal tells beside its fault
+abbrev pub fault_alone : {M : Type 0} → Result M (Refused M) → Result M Fault
+fault_alone (Ok m) = Ok m
+fault_alone (Err r) = Err r.fault
 
 -- A machine M is led somewhere by lines, may have ended there, and rejects lines that don't lead
 -- on.
@@ -76,32 +84,6 @@ module _ {M : Type 0} (led_by : List (List ℕ) → M → Type 0) (ended : M →
   unfoldable pub Stands : Reader M → List ℕ → Type 0
   Stands r bytes = StandsAt r.fault r bytes
 
-  -- ---- steps
-
-  -- the reader took the first n bytes of the piece
-  pub record TookFront (old new : Reader M) (piece : List ℕ) (n : ℕ) : Type 0 where
-    pub within : n ≤ length piece
-    pub count : new.taken ≡ old.taken + n
-    pub accepted : (bytes : List ℕ) → Accepted led_by ended old bytes
-        → Accepted led_by ended new (bytes ++ take n piece)
-
-  -- the reader was stopped in the piece: a byte of it may not follow, or memory
-  -- was refused where a line is due
-  pub record Stopped (old new : Reader M) (piece : List ℕ) (k : Kind) : Type 0 where
-    pub kind : IsOfBytes k
-    pub fault : k ≢ kinds.Memory → (bytes : List ℕ) → Accepted led_by ended old bytes
-        → FaultIn old.limit (bytes ++ piece) (record { line = new.lines + 1; kind = k })
-    pub memory : k ≡ kinds.Memory → (bytes : List ℕ) → Accepted led_by ended old bytes
-        → LineIsDue led_by ended old.limit bytes piece
-
-  -- what a step of a reader promises: it took so many bytes of the piece, or was stopped
-  pub record Advances (old : Reader M) (piece : List ℕ) (new : Reader M)
-      (result : Result ℕ Kind) : Type 0 where
-    pub took : IfOk result (λ n. TookFront old new piece n)
-    pub stopped : IfErr result (λ k. Stopped old new piece k)
-    pub fault : new.fault ≡ old.fault
-    pub limit : new.limit ≡ old.limit
-
   -- ---- all pieces
 
   -- what a call promises that feeds a reader with a piece
@@ -165,3 +147,121 @@ module _ {M : Type 0} (led_by : List (List ℕ) → M → Type 0) (ended : M →
           × Consumes (left old.device) (left new.device) (b ++ piece)
           × LineIsDue led_by ended limit b piece)
       pub note : IsErrAnd result (λ f. f.kind ≡ kinds.Read) ↔ IsTrue new.failed
+
+-- `halted` relates a machine, a line that it refused with this kind, and the machine behind that.
+module _ {M : Type 0} (led_by : List (List ℕ) → M → Type 0) (ended : M → Type 0)
+    (rejects : M → List ℕ → Kind → Type 0) (halted : M → List ℕ → Kind → M → Type 0) where
+  -- Why the byte may not follow these bytes, which led the machine here, what stood there, and
+  -- where the machine stands then: the byte behind a whole text, the line that was refused. At the
+  -- limit neither is told.
+  pub data StopsTelling (limit : ℕ) (machine : M) (bytes : List ℕ) (byte : ℕ) (k : Kind)
+      (now : M) (found : Found) : Type 0 where
+    told_full : length bytes ≡ limit → k ≡ kinds.TooLong
+        → StopsTelling limit machine bytes byte k now found
+    told_over : length bytes + 1 ≤ limit → ended machine → k ≡ kinds.Trailing → now ≡ machine
+        → IsFoundOf (byte ∷ []) found → StopsTelling limit machine bytes byte k now found
+    told_rejected : length bytes + 1 ≤ limit → (ended machine → ⊥) → byte ≡ 10
+        → rejects machine (without_return (unfinished bytes)) k
+        → halted machine (without_return (unfinished bytes)) k now
+        → IsFoundOf (without_return (unfinished bytes)) found
+        → StopsTelling limit machine bytes byte k now found
+
+  -- the bytes have this fault, this stood there, and there the machine stands now
+  pub record FaultTold (limit : ℕ) (bytes : List ℕ) (f : Fault) (now : M)
+      (found : Found) : Type 0 where
+    pub machine : M
+    pub before : List ℕ
+    pub byte : ℕ
+    pub after : List ℕ
+    pub whole : bytes ≡ before ++ byte ∷ after
+    pub reached : Reached led_by ended machine before
+    pub line : f.line ≡ length (lines before) + 1
+    pub stops : StopsTelling limit machine before byte f.kind now found
+
+  -- the bytes end where more was due, this is their rest, and there the machine stands
+  pub record EndTold (limit : ℕ) (bytes : List ℕ) (f : Fault) (now : M)
+      (found : Found) : Type 0 where
+    pub early : EndsEarly led_by ended limit bytes f
+    pub stays : now ≡ early.machine
+    pub rest : IsFoundOf (unfinished bytes) found
+
+  abbrev pub StandsTellingAt : Option Fault → Reader M → List ℕ → Type 0
+  StandsTellingAt None r bytes = Accepted led_by ended r bytes
+  StandsTellingAt (Some f) r bytes = f.kind ≢ kinds.Memory
+      → FaultTold r.limit bytes f r.machine r.found
+
+  -- as `Stands`, and with a fault the reader has what stood there
+  unfoldable pub StandsTelling : Reader M → List ℕ → Type 0
+  StandsTelling r bytes = StandsTellingAt r.fault r bytes
+
+  -- ---- steps
+
+  -- the reader took the first n bytes of the piece
+  pub record TookFront (old new : Reader M) (piece : List ℕ) (n : ℕ) : Type 0 where
+    pub within : n ≤ length piece
+    pub count : new.taken ≡ old.taken + n
+    pub accepted : (bytes : List ℕ) → Accepted led_by ended old bytes
+        → Accepted led_by ended new (bytes ++ take n piece)
+
+  -- as `FaultTold`, of these bytes and a piece behind them that has the byte
+  pub record FaultBehind (limit : ℕ) (bytes piece : List ℕ) (f : Fault) (now : M)
+      (found : Found) : Type 0 where
+    pub machine : M
+    pub front : List ℕ
+    pub byte : ℕ
+    pub after : List ℕ
+    pub whole : piece ≡ front ++ byte ∷ after
+    pub reached : Reached led_by ended machine (bytes ++ front)
+    pub line : f.line ≡ length (lines (bytes ++ front)) + 1
+    pub stops : StopsTelling limit machine (bytes ++ front) byte f.kind now found
+
+  -- the reader was stopped in the piece: a byte of it may not follow, or memory
+  -- was refused where a line is due
+  pub record Stopped (old new : Reader M) (piece : List ℕ) (k : Kind) : Type 0 where
+    pub kind : IsOfBytes k
+    pub fault : k ≢ kinds.Memory → (bytes : List ℕ) → Accepted led_by ended old bytes
+        → FaultBehind old.limit bytes piece (record { line = new.lines + 1; kind = k })
+        new.machine new.found
+    pub memory : k ≡ kinds.Memory → (bytes : List ℕ) → Accepted led_by ended old bytes
+        → LineIsDue led_by ended old.limit bytes piece
+
+  -- what a step of a reader promises: it took so many bytes of the piece, or was stopped
+  pub record Advances (old : Reader M) (piece : List ℕ) (new : Reader M)
+      (result : Result ℕ Kind) : Type 0 where
+    pub took : IfOk result (λ n. TookFront old new piece n)
+    pub stopped : IfErr result (λ k. Stopped old new piece k)
+    pub fault : new.fault ≡ old.fault
+    pub limit : new.limit ≡ old.limit
+
+  -- ---- the end, and a device
+
+  -- the bytes have this fault, or end too early, and the refusal tells of it
+  abbrev pub ToldBy : ℕ → List ℕ → Refused M → Type 0
+  ToldBy limit bytes r = FaultTold limit bytes r.fault r.machine r.found
+      ⊎ EndTold limit bytes r.fault r.machine r.found
+
+  -- what a reader promises at the end that tells of its fault
+  pub record ReachesEndTelling (r : Reader M) (result : Result M (Refused M)) : Type 0 where
+    pub plain : ReachesEnd led_by ended rejects r (fault_alone result)
+    pub told : IfErr result (λ e. e.fault.kind ≢ kinds.Memory → (bytes : List ℕ)
+        → StandsTelling r bytes → ToldBy r.limit bytes e)
+
+  -- as `ReadFails`, where the refusal tells of it
+  pub data ReadFailsTelling (limit : ℕ) (bytes : List ℕ) (at_end : Type 0)
+      (r : Refused M) : Type 0 where
+    told_unread : (machine : M) → Reached led_by ended machine bytes → length bytes ≤ limit
+        → r.fault.line ≡ length (lines bytes) + 1 → r.fault.kind ≡ kinds.Read
+        → ReadFailsTelling limit bytes at_end r
+    told_early : at_end → EndTold limit bytes r.fault r.machine r.found
+        → ReadFailsTelling limit bytes at_end r
+    told_faulty : FaultTold limit bytes r.fault r.machine r.found → r.fault.kind ≢ kinds.Read
+        → ReadFailsTelling limit bytes at_end r
+
+  module _ {D : Type 0} (left : D → Option (List ℕ)) where
+    -- what a call promises that feeds a machine from a device, and tells of the fault
+    pub record FeedsMachineTelling (limit : ℕ) (old new : Device D)
+        (result : Result M (Refused M)) : Type 0 where
+      pub plain : FeedsMachine led_by ended rejects left limit old new (fault_alone result)
+      pub told : IfErr result (λ r. r.fault.kind ≢ kinds.Memory → (b : List ℕ)
+          × Consumes (left old.device) (left new.device) b
+          × ReadFailsTelling limit b (IsAtEnd (left new.device)) r)

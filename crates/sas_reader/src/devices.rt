@@ -1,10 +1,10 @@
 // Reads a device to its end.
 ghost use Rattle.std.specs.Prelude.{◌≡◌, ◌<◌, ◌≤◌, [], None, false, length};
 ghost use Rattle.sas_reader.specs.Limit.{most_bytes};
-ghost use Rattle.sas_reader.specs.Reader.{FeedsMachine, Stands};
+ghost use Rattle.sas_reader.specs.Reader.{FeedsMachine, FeedsMachineTelling, Stands, StandsTelling};
 
 use crate::fault::{Fault, Kind};
-use crate::reader::{Machine, Reader};
+use crate::reader::{Machine, Reader, Refused};
 use sas_lines::Watched;
 use std::alloc::Global;
 use std::io::Read;
@@ -26,8 +26,10 @@ pub fn read_all<M: Machine, R: Read>(
     ensures { FeedsMachine M.led_by M.ended M.rejects R.remaining limit
         device.old device.new result }
 {
-    let mut buffer = [0u8; 4096];
-    feed_all(Reader::new(alloc, machine, limit), device, &mut buffer)
+    match read_all_telling(alloc, machine, limit, device) {
+        Ok(machine) => Ok(machine),
+        Err(refused) => Err(refused.fault),
+    }
 }
 
 /// Reads as `read_all` does, in pieces of at most 65,536 bytes. Where memory for such a piece is refused, it reads in smaller
@@ -44,13 +46,49 @@ pub fn read_all_large<M: Machine, R: Read>(
     ensures { FeedsMachine M.led_by M.ended M.rejects R.remaining limit
         device.old device.new result }
 {
+    match read_all_large_telling(alloc, machine, limit, device) {
+        Ok(machine) => Ok(machine),
+        Err(refused) => Err(refused.fault),
+    }
+}
+
+/// Reads as `read_all` does, and tells of a fault what stood there, and where the machine stands behind it.
+pub fn read_all_telling<M: Machine, R: Read>(
+    alloc: Global,
+    machine: M,
+    limit: u64,
+    device: &mut Watched<R>,
+) -> Result<M, Refused<M>>
+    requires note { device.old.failed ≡ false }
+    requires small { limit ≤ most_bytes }
+    requires start { M.led_by [] machine }
+    ensures { FeedsMachineTelling M.led_by M.ended M.rejects M.stopped R.remaining limit
+        device.old device.new result }
+{
+    let mut buffer = [0u8; 4096];
+    feed_all(Reader::new(alloc, machine, limit), device, &mut buffer)
+}
+
+/// Reads as `read_all_large` does, and tells of a fault what stood there, and where the machine stands behind it.
+pub fn read_all_large_telling<M: Machine, R: Read>(
+    alloc: Global,
+    machine: M,
+    limit: u64,
+    device: &mut Watched<R>,
+) -> Result<M, Refused<M>>
+    requires note { device.old.failed ≡ false }
+    requires small { limit ≤ most_bytes }
+    requires start { M.led_by [] machine }
+    ensures { FeedsMachineTelling M.led_by M.ended M.rejects M.stopped R.remaining limit
+        device.old device.new result }
+{
     match vec![in alloc; 0u8; LARGE] {
         Ok(mut buffer) => feed_all(
             Reader::new(alloc, machine, limit),
             device,
             buffer.as_mut_slice(),
         ),
-        Err(_) => read_all(alloc, machine, limit, device),
+        Err(_) => read_all_telling(alloc, machine, limit, device),
     }
 }
 
@@ -59,27 +97,31 @@ fn feed_all<M: Machine, R: Read>(
     mut reader: Reader<M>,
     device: &mut Watched<R>,
     buffer: &mut [u8],
-) -> Result<M, Fault>
+) -> Result<M, Refused<M>>
     requires note { device.old.failed ≡ false }
     requires room { 0 < length buffer.old }
     requires stands { Stands M.led_by M.ended M.rejects reader [] }
+    requires telling { StandsTelling M.led_by M.ended M.rejects M.stopped reader [] }
     requires fault { reader.fault ≡ None }
-    ensures { FeedsMachine M.led_by M.ended M.rejects R.remaining reader.limit
+    ensures { FeedsMachineTelling M.led_by M.ended M.rejects M.stopped R.remaining reader.limit
         device.old device.new result }
 {
     loop {
         let taken = match device.take(buffer) {
             Ok(n) => n,
             Err(_) => {
-                return Err(Fault {
-                    line: reader.lines + 1,
+                let line = reader.lines + 1;
+                return Err(reader.refused(Fault {
+                    line,
                     kind: Kind::Read,
-                });
+                }));
             }
         };
         if taken == 0 {
-            return reader.finish();
+            return reader.finish_telling();
         }
-        reader.feed(&buffer[..taken])?;
+        if let Err(fault) = reader.feed(&buffer[..taken]) {
+            return Err(reader.refused(fault));
+        }
     }
 }

@@ -6,6 +6,7 @@ ghost use Rattle.sas_reader.specs.Limit.{most_bytes};
 ghost use Rattle.sas_reader.specs.Machine.{AcceptsAhead};
 
 use crate::fault::{Fault, Kind};
+use crate::found::{Found, as_it_stood};
 use crate::returns::copy_with_lf_alone;
 use sas_lines::{Lines, first_line};
 use std::alloc::Global;
@@ -39,6 +40,9 @@ pub trait Machine: Drop {
     /// The line may not follow, and the kind of its fault.
     ghost rejects: { Self → List ℕ → Kind → Type 0 };
 
+    /// The machine refused the line with this kind of fault, and so it stands behind that.
+    ghost stopped: { Self → List ℕ → Kind → Self → Type 0 };
+
     /// Returns whether the last line has come.
     fn has_ended(&self) -> bool
         ensures { IsTrue result ↔ ended self.now };
@@ -50,6 +54,8 @@ pub trait Machine: Drop {
             ((before : List (List ℕ)) → led_by before self.old
             → led_by (before ++ line.now ∷ []) self.new) }
         ensures rejects { IfErr result (λ k. k ≢ Kind.Memory → rejects self.old line.now k) }
+        ensures stopped { IfErr result (λ k. k ≢ Kind.Memory
+            → stopped self.old line.now k self.new) }
         ensures kind { IfErr result IsOfBytes };
 
     /// Takes one or more of the first lines of the bytes where it is quick to see that they may stand here, and returns
@@ -81,6 +87,15 @@ fn without_last_return(bytes: &[u8]) -> &[u8]
     }
 }
 
+/// Why a text was refused: its first fault, the machine as it stands behind that, and what stood at the fault: a line that
+/// may not stand there, the byte behind a whole text, or the rest where the text ends early.
+#[derive(Drop)]
+pub struct Refused<M> {
+    pub fault: Fault,
+    pub machine: M,
+    pub found: Found,
+}
+
 /// A text that comes in pieces: where its lines have led, the line that has begun, and the first fault.
 #[derive(Drop)]
 pub struct Reader<M> {
@@ -94,19 +109,24 @@ pub struct Reader<M> {
     pub fault: Option<Fault>,
     /// Memory for a piece without its CRs.
     pub plain: Vec<u8>,
+    /// What stood at the fault, once it has come.
+    pub found: Found,
     ghost within: { taken ≤ limit },
     ghost small: { limit ≤ most_bytes },
     ghost few: { lines ≤ taken },
 }
 
 impl<M: Machine> Reader<M> {
-    ghost use Rattle.sas_reader.specs.Reader.{Stands, Advances, TakesPiece, FaultAtEnd, ReachesEnd};
+    ghost use Rattle.sas_reader.specs.Found.{IsFoundOf};
+    ghost use Rattle.sas_reader.specs.Reader.{Stands, StandsTelling, Advances, TakesPiece, FaultAtEnd};
+    ghost use Rattle.sas_reader.specs.Reader.{ReachesEnd, ReachesEndTelling};
 
     /// Makes a reader that has taken nothing yet, and takes at most `limit` bytes.
     pub fn new(alloc: Global, machine: M, limit: u64) -> Self
         requires small { limit ≤ most_bytes }
         requires start { M.led_by [] machine }
         ensures stands { Stands M.led_by M.ended M.rejects result [] }
+        ensures telling { StandsTelling M.led_by M.ended M.rejects M.stopped result [] }
         ensures limit { result.limit ≡ limit }
         ensures fault { result.fault ≡ None }
     {
@@ -119,6 +139,7 @@ impl<M: Machine> Reader<M> {
             limit,
             fault: None,
             plain: Vec::new(alloc),
+            found: Found::NONE,
         }
     }
 
@@ -127,7 +148,7 @@ impl<M: Machine> Reader<M> {
         requires some { 0 < length piece.now }
         requires room { self.old.taken + length piece.now ≤ self.old.limit }
         requires going { M.ended self.old.machine → ⊥ }
-        ensures advances { Advances M.led_by M.ended M.rejects self.old piece.now self.new result }
+        ensures advances { Advances M.led_by M.ended M.rejects M.stopped self.old piece.now self.new result }
         ensures some { IfOk result (λ n. 0 < n) }
     {
         let fed = self.pending.feed(piece)?;
@@ -135,10 +156,17 @@ impl<M: Machine> Reader<M> {
             self.taken += fed.taken as u64;
             return Ok(fed.taken);
         }
-        self.machine.accept(self.pending.line())?;
-        self.lines += 1;
-        self.taken += fed.taken as u64;
-        Ok(fed.taken)
+        match self.machine.accept(self.pending.line()) {
+            Ok(()) => {
+                self.lines += 1;
+                self.taken += fed.taken as u64;
+                Ok(fed.taken)
+            }
+            Err(kind) => {
+                self.found = Found::of(self.pending.line());
+                Err(kind)
+            }
+        }
     }
 
     /// Returns the bytes of the piece that the limit leaves room for.
@@ -153,7 +181,7 @@ impl<M: Machine> Reader<M> {
     /// it took.
     fn take_line(&mut self, piece: &[u8]) -> Result<usize, Kind>
         requires some { 0 < length piece.now }
-        ensures advances { Advances M.led_by M.ended M.rejects self.old piece.now self.new result }
+        ensures advances { Advances M.led_by M.ended M.rejects M.stopped self.old piece.now self.new result }
         ensures some { IfOk result (λ n. 0 < n) }
     {
         let within = self.within_limit(piece);
@@ -161,6 +189,7 @@ impl<M: Machine> Reader<M> {
             return Err(Kind::TooLong);
         }
         if self.machine.has_ended() {
+            self.found = Found::of(&within[..1]);
             return Err(Kind::Trailing);
         }
         // A line that stands whole in the piece is judged there. Only a line that is cut is copied.
@@ -170,10 +199,17 @@ impl<M: Machine> Reader<M> {
         let Some(first) = first_line(within) else {
             return self.go_on(within);
         };
-        self.machine.accept(first.line)?;
-        self.lines += 1;
-        self.taken += first.taken as u64;
-        Ok(first.taken)
+        match self.machine.accept(first.line) {
+            Ok(()) => {
+                self.lines += 1;
+                self.taken += first.taken as u64;
+                Ok(first.taken)
+            }
+            Err(kind) => {
+                self.found = Found::of(first.line);
+                Err(kind)
+            }
+        }
     }
 
     /// Takes some of the first lines of the piece if the machine is quick to see that they may stand here, else
@@ -182,7 +218,7 @@ impl<M: Machine> Reader<M> {
         requires some { 0 < length piece.now }
         requires room { self.old.taken + length piece.now ≤ self.old.limit }
         requires whole { self.old.pending.pending ≡ [] }
-        ensures advances { Advances M.led_by M.ended M.rejects self.old piece.now self.new result }
+        ensures advances { Advances M.led_by M.ended M.rejects M.stopped self.old piece.now self.new result }
         ensures pending { self.new.pending ≡ self.old.pending }
     {
         if self.machine.has_ended() {
@@ -199,7 +235,7 @@ impl<M: Machine> Reader<M> {
 
     /// Takes lines ahead, as long as that goes and the limit leaves room. Returns how many bytes it took.
     fn go_ahead(&mut self, piece: &[u8]) -> Result<usize, Kind>
-        ensures { Advances M.led_by M.ended M.rejects self.old piece.now self.new result }
+        ensures { Advances M.led_by M.ended M.rejects M.stopped self.old piece.now self.new result }
     {
         if !self.pending.pending().is_empty() {
             return Ok(0);
@@ -220,7 +256,7 @@ impl<M: Machine> Reader<M> {
     /// how many it took.
     fn advance(&mut self, piece: &[u8]) -> Result<usize, Kind>
         requires some { 0 < length piece.now }
-        ensures advances { Advances M.led_by M.ended M.rejects self.old piece.now self.new result }
+        ensures advances { Advances M.led_by M.ended M.rejects M.stopped self.old piece.now self.new result }
         ensures some { IfOk result (λ n. 0 < n) }
     {
         let ahead = self.go_ahead(piece)?;
@@ -233,7 +269,7 @@ impl<M: Machine> Reader<M> {
     /// Takes all of the bytes.
     #[inline(always)]
     fn run(&mut self, bytes: &[u8]) -> Result<usize, Kind>
-        ensures advances { Advances M.led_by M.ended M.rejects self.old bytes.now self.new result }
+        ensures advances { Advances M.led_by M.ended M.rejects M.stopped self.old bytes.now self.new result }
         ensures all { IfOk result (λ n. n ≡ length bytes.now) }
     {
         let mut at = 0;
@@ -245,7 +281,7 @@ impl<M: Machine> Reader<M> {
 
     /// Takes the bytes up to and with the first LF, or all of them, where a line has begun. Returns how many it took.
     fn end_line(&mut self, piece: &[u8]) -> Result<usize, Kind>
-        ensures { Advances M.led_by M.ended M.rejects self.old piece.now self.new result }
+        ensures { Advances M.led_by M.ended M.rejects M.stopped self.old piece.now self.new result }
     {
         if piece.is_empty() || self.pending.pending().is_empty() {
             return Ok(0);
@@ -256,7 +292,7 @@ impl<M: Machine> Reader<M> {
     /// Takes the piece with LF alone, where it begins with a line that ends with CR LF, and each CR in it ends a line. A
     /// CR at its end is left, as LF may come next. Returns how many bytes of the piece it took: none of any other piece.
     fn run_copy(&mut self, piece: &[u8], plain: &mut Vec<u8>) -> Result<usize, Kind>
-        ensures { Advances M.led_by M.ended M.rejects self.old piece.now self.new result }
+        ensures { Advances M.led_by M.ended M.rejects M.stopped self.old piece.now self.new result }
     {
         if !self.pending.pending().is_empty()
             || self.within_limit(piece).len() < piece.len()
@@ -268,16 +304,24 @@ impl<M: Machine> Reader<M> {
         let Some(kept) = copy_with_lf_alone(bytes, plain) else {
             return Ok(0);
         };
-        self.run(&plain[..kept])?;
-        self.taken += (bytes.len() - kept) as u64;
-        Ok(bytes.len())
+        let lines = self.lines;
+        match self.run(&plain[..kept]) {
+            Ok(_) => {
+                self.taken += (bytes.len() - kept) as u64;
+                Ok(bytes.len())
+            }
+            Err(kind) => {
+                self.found = as_it_stood(self.found, bytes, self.lines.saturating_sub(lines));
+                Err(kind)
+            }
+        }
     }
 
     /// The same, with the memory of the reader for the copy. It isn't inlined, so that the way through lines with LF
     /// stays short.
     #[inline(never)]
     fn run_with_lf_alone(&mut self, piece: &[u8]) -> Result<usize, Kind>
-        ensures { Advances M.led_by M.ended M.rejects self.old piece.now self.new result }
+        ensures { Advances M.led_by M.ended M.rejects M.stopped self.old piece.now self.new result }
     {
         let mut plain = mem::replace(&mut self.plain, Vec::new(self.alloc));
         let taken = self.run_copy(piece, &mut plain);
@@ -287,7 +331,7 @@ impl<M: Machine> Reader<M> {
 
     /// Takes all of the piece.
     fn take_piece(&mut self, piece: &[u8]) -> Result<usize, Kind>
-        ensures advances { Advances M.led_by M.ended M.rejects self.old piece.now self.new result }
+        ensures advances { Advances M.led_by M.ended M.rejects M.stopped self.old piece.now self.new result }
         ensures all { IfOk result (λ n. n ≡ length piece.now) }
     {
         let begun = self.end_line(piece)?;
@@ -297,7 +341,10 @@ impl<M: Machine> Reader<M> {
 
     /// Takes the next piece. Once there is a fault, this call and each later one return the first fault.
     pub fn feed(&mut self, piece: &[u8]) -> Result<(), Fault>
-        ensures { TakesPiece M.led_by M.ended M.rejects self.old piece.now self.new result }
+        ensures takes { TakesPiece M.led_by M.ended M.rejects self.old piece.now self.new result }
+        ensures telling { (bytes : List ℕ)
+            → StandsTelling M.led_by M.ended M.rejects M.stopped self.old bytes
+            → StandsTelling M.led_by M.ended M.rejects M.stopped self.new (bytes ++ piece.now) }
     {
         if let Some(fault) = self.fault {
             return Err(fault);
@@ -320,6 +367,8 @@ impl<M: Machine> Reader<M> {
         ensures none { IfNone result (M.ended self.now.machine × (self.now.fault ≡ None)) }
         ensures fault { IfSome result (λ f. FaultAtEnd M.led_by M.ended M.rejects self.now f) }
         ensures kept { (f : Fault) → self.now.fault ≡ Some f → result ≡ Some f }
+        ensures early { self.now.fault ≡ None → IfSome result (λ f. (M.ended self.now.machine → ⊥)
+            × (f.line ≡ self.now.lines + 1) × (f.kind ≡ Kind.End)) }
     {
         if let Some(fault) = self.fault {
             return Some(fault);
@@ -333,16 +382,58 @@ impl<M: Machine> Reader<M> {
         })
     }
 
-    /// Returns the machine, led by all lines, once the last one has come. Else returns the fault.
-    pub fn finish(self) -> Result<M, Fault>
-        ensures { ReachesEnd M.led_by M.ended M.rejects self result }
+    /// Returns the fault that there is, with the machine and with what stood there.
+    pub fn refused(self, fault: Fault) -> Refused<M>
+        ensures { result
+            ≡ record { fault = fault; machine = self.machine; found = self.found } }
+    {
+        let Reader { machine, found, .. } = self;
+        Refused {
+            fault,
+            machine,
+            found,
+        }
+    }
+
+    /// Returns what stands at the fault if nothing more comes: what stood there, or what is pending.
+    fn found_at_end(&self) -> Found
+        ensures early { self.now.fault ≡ None → IsFoundOf self.now.pending.pending result }
+        ensures kept { (f : Fault) → self.now.fault ≡ Some f → result ≡ self.now.found }
+    {
+        match self.fault {
+            Some(_) => self.found,
+            None => Found::of(self.pending.pending()),
+        }
+    }
+
+    /// Returns the machine, led by all lines, once the last one has come. Else returns the fault, with what stood there.
+    pub fn finish_telling(self) -> Result<M, Refused<M>>
+        ensures { ReachesEndTelling M.led_by M.ended M.rejects M.stopped self result }
     {
         match self.end_fault() {
-            Some(fault) => Err(fault),
+            Some(fault) => {
+                let found = self.found_at_end();
+                let Reader { machine, .. } = self;
+                Err(Refused {
+                    fault,
+                    machine,
+                    found,
+                })
+            }
             None => {
                 let Reader { machine, .. } = self;
                 Ok(machine)
             }
+        }
+    }
+
+    /// Returns the machine, led by all lines, once the last one has come. Else returns the fault.
+    pub fn finish(self) -> Result<M, Fault>
+        ensures { ReachesEnd M.led_by M.ended M.rejects self result }
+    {
+        match self.finish_telling() {
+            Ok(machine) => Ok(machine),
+            Err(refused) => Err(refused.fault),
         }
     }
 }

@@ -1,4 +1,4 @@
-use Rattle.std.proofs.Common.{ℕ, ◌+◌, refl, ap, arith, inl, inr}
+use Rattle.std.proofs.Common.{ℕ, ◌+◌, ◌≡◌, ◌∙◌, sym, Some, None, refl, ap, arith, inl, inr}
 use Rattle.sas_reader.proofs.Standing.{accepted_of, fault_of}
 use Rattle.sas_reader.proofs.reader.Reader.end_fault.Goals as goal
 
@@ -21,3 +21,9 @@ returns-clause-fault g c = record {
         kind = refl;
       });
 }
+
+pub returns-in-Some-clause-early : goal.returns-in-Some-clause-early
+returns-in-Some-clause-early g c = λ none. let x : None ≡ Some c.in-Some.fault = sym none ∙ c.in-Some.is in absurd cc
+
+pub returns-clause-early : goal.returns-clause-early
+returns-clause-early g c = λ none. ((λ d. let e = c.if-has_ended.ensures.1 d in cc), refl, refl)

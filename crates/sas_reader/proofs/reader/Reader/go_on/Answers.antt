@@ -1,5 +1,6 @@
-use Rattle.std.proofs.Common.{◌≡◌, refl, rules, Err}
-use Rattle.sas_reader.proofs.Advancing.{advances_no_more, accepted_part, accepted_line, stopped_at}
+use Rattle.std.proofs.Common.{◌∙◌, sym, subst, ℕ, List, refl}
+use Rattle.sas_reader.specs.Found.{IsFoundOf}
+use Rattle.sas_reader.proofs.Advancing.{accepted_part, accepted_line, stopped_at}
 use Rattle.sas_reader.proofs.Pieces.{takes_bound}
 use Rattle.sas_reader.proofs.reader.Reader.go_on.Goals as goal
 
@@ -18,27 +19,27 @@ returns-then-not-fed-clause-advances g c =
       limit = refl;
     }
 
-pub returns-in_err-accept-clause-advances : goal.returns-in_err-accept-clause-advances
-returns-in_err-accept-clause-advances g c =
+pub returns-in-Err-clause-advances : goal.returns-in-Err-clause-advances
+returns-in-Err-clause-advances g c =
     let fed = c.in_ok-fed.ensures in
-    let same : c.from_residual-in_err-accept.result ≡ Err c.in_err-accept.field-0.0 = search rules in
-    advances_no_more g.M.Machine.led_by g.M.Machine.ended g.M.Machine.rejects c.args.self.now _ c.args.piece.now _ _ same (record {
+    record {
       took = tt;
-      stopped = stopped_at g.M.Machine.led_by g.M.Machine.ended g.M.Machine.rejects c.args.self.now _ c.args.piece.now c.line.result.now c.in_ok-fed.fed.taken c.in_ok-fed.fed.complete c.feed.new.self _ c.requires.some c.requires.going c.if-not-fed.false
-          (record { taken = fed.taken; lines = fed.lines; rest = fed.pending }) c.line.ensures c.requires.room c.in_err-accept.ensures.kind c.in_err-accept.ensures.rejects refl;
+      stopped = stopped_at g.M.Machine.led_by g.M.Machine.ended g.M.Machine.rejects g.M.Machine.stopped c.args.self.now _ c.args.piece.now c.line.result.now c.in_ok-fed.fed.taken c.in_ok-fed.fed.complete c.feed.new.self _ c.requires.some c.requires.going c.if-not-fed.false
+          (record { taken = fed.taken; lines = fed.lines; rest = fed.pending }) c.line.ensures c.requires.room c.in-Err.ensures.kind c.in-Err.ensures.rejects c.in-Err.ensures.stopped
+          (subst (λ (x : List ℕ). IsFoundOf x c.of-self.result) (c.line-in-Err.ensures ∙ sym c.line.ensures) c.of-self.ensures) refl;
       fault = refl;
       limit = refl;
-    })
+    }
 
-pub returns-clause-advances : goal.returns-clause-advances
-returns-clause-advances g c =
+pub returns-in-Ok-clause-advances : goal.returns-in-Ok-clause-advances
+returns-in-Ok-clause-advances g c =
     let fed = c.in_ok-fed.ensures in
     record {
       took = record {
         within = takes_bound _ _ _ fed.taken;
         count = refl;
         accepted = λ bytes h. accepted_line g.M.Machine.led_by g.M.Machine.ended c.args.self.now _ bytes c.args.piece.now c.line.result.now c.in_ok-fed.fed.taken c.in_ok-fed.fed.complete c.accept.new.self c.feed.new.self h c.if-not-fed.false
-            (record { taken = fed.taken; lines = fed.lines; rest = fed.pending }) fed.complete c.line.ensures c.in_ok-accept.ensures.led refl refl refl refl;
+            (record { taken = fed.taken; lines = fed.lines; rest = fed.pending }) fed.complete c.line.ensures c.in-Ok.ensures.led refl refl refl refl;
       };
       stopped = tt;
       fault = refl;

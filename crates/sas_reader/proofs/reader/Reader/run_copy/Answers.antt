@@ -1,54 +1,55 @@
-use Rattle.std.proofs.Common.{◌≡◌, ◌+◌, ◌-◌, ◌≤◌, [], length, take, refl, ap, subst, ◌∙◌, rules, Ok, Err, arith}
+use Rattle.std.proofs.Common.{◌≡◌, ◌+◌, ◌-◌, ◌≤◌, [], length, take, refl, ap, subst, ◌∙◌, Ok, Err, arith}
 use Rattle.std.proofs.lemmas.List.{nil_from_length, length-take, length-take-le}
 use Rattle.std.proofs.lemmas.Bool.Decides.{nat_tests}
 use Rattle.sas_reader.specs.Reader.{TookFront, Stopped}
 use Rattle.sas_reader.specs.Returns.{without_returns}
-use Rattle.sas_reader.proofs.Advancing.{advances_no_more, advances_wider, within_fits}
+use Rattle.sas_reader.proofs.Advancing.{advances_wider, within_fits}
 use Rattle.sas_reader.proofs.FeedingPlain.{fewer, stopped_plain, took_plain}
 use Rattle.sas_reader.proofs.WithLfAlone.{each_ends}
 use Rattle.sas_reader.proofs.reader.Reader.run_copy.Goals as goal
 
-pub returns-in_err-run : goal.returns-in_err-run
-returns-in_err-run g c =
+pub returns-in-Err : goal.returns-in-Err
+returns-in-Err g c =
     let old = c.args.self.now in
+    let mid = c.run.new.self in
     let bytes = c.without_last_return-bytes.result.now in
     let front = c.without_last_return-bytes.ensures in
-    let step = c.in_err-run.ensures.advances in
+    let step = c.in-Err.ensures.advances in
     let nothing : old.pending.pending ≡ [] = nil_from_length _ (grind (arith, nat_tests)) in
     let fits = within_fits _ _ c.args.piece.now _ c.within_limit.ensures old.within in
     let room : old.taken + length bytes ≤ old.limit = omega (arith, fits, c.if-within_limit-piece.false, ap length front.1, length-take front.0 c.args.piece.now) in
     let copy = c.in-Some.ensures in
     let is : take c.in-Some.kept c.deref.result.now ≡ without_returns bytes = ap (take c.in-Some.kept) c.deref.ensures.value ∙ copy.front in
-    let k = c.in_err-run.field-0.0 in
-    let same : c.from_residual.result ≡ Err k = search rules in
-    advances_no_more g.M.Machine.led_by g.M.Machine.ended g.M.Machine.rejects old _ c.args.piece.now _ _ same (advances_wider g.M.Machine.led_by g.M.Machine.ended g.M.Machine.rejects old c.run.new.self c.args.piece.now bytes front.0 (Err k) front.1 (record {
+    let k = c.in-Err.kind in
+    let told = c.as_it_stood-self.ensures in
+    advances_wider g.M.Machine.led_by g.M.Machine.ended g.M.Machine.rejects g.M.Machine.stopped old _ c.args.piece.now bytes front.0 (Err k) front.1 (record {
       took = tt;
-      stopped = stopped_plain g.M.Machine.led_by g.M.Machine.ended g.M.Machine.rejects old c.run.new.self bytes nothing (each_ends bytes copy.ends) k room (subst (λ x. Stopped g.M.Machine.led_by g.M.Machine.ended g.M.Machine.rejects old c.run.new.self x k) is step.stopped);
+      stopped = stopped_plain g.M.Machine.led_by g.M.Machine.ended g.M.Machine.rejects g.M.Machine.stopped old _ bytes nothing (each_ends bytes copy.ends) mid k c.saturating_sub.result room (subst (λ x. Stopped g.M.Machine.led_by g.M.Machine.ended g.M.Machine.rejects g.M.Machine.stopped old mid x k) is step.stopped) refl refl c.saturating_sub.ensures told.byte told.same;
       fault = step.fault;
       limit = step.limit;
-    }))
+    })
 
 pub overflow_sub-self : goal.overflow_sub-self
 overflow_sub-self g c =
     let copy = c.in-Some.ensures in
     omega (arith, ap length copy.front, length-take-le c.in-Some.kept _ copy.within, fewer c.without_last_return-bytes.result.now)
 
-pub returns : goal.returns
-returns g c =
+pub returns-in-Ok : goal.returns-in-Ok
+returns-in-Ok g c =
     let old = c.args.self.now in
     let bytes = c.without_last_return-bytes.result.now in
     let front = c.without_last_return-bytes.ensures in
-    let step = c.in_ok-run.ensures.advances in
+    let step = c.in-Ok.ensures.advances in
     let nothing : old.pending.pending ≡ [] = nil_from_length _ (grind (arith, nat_tests)) in
     let copy = c.in-Some.ensures in
     let kept = c.in-Some.kept in
     let is : take kept c.deref.result.now ≡ without_returns bytes = ap (take kept) c.deref.ensures.value ∙ copy.front in
-    let n = c.in_ok-run.field-0 in
-    let all : n ≡ length (without_returns bytes) = c.in_ok-run.ensures.all ∙ ap length is in
+    let n = c.in-Ok.field-0 in
+    let all : n ≡ length (without_returns bytes) = c.in-Ok.ensures.all ∙ ap length is in
     let long = length-take-le kept _ copy.within in
     let count : c.run.new.self.taken + (length bytes - kept) ≡ old.taken + length bytes = omega (arith, step.took.count, all, ap length copy.front, long, fewer bytes) in
-    advances_wider g.M.Machine.led_by g.M.Machine.ended g.M.Machine.rejects old _ c.args.piece.now bytes front.0 (Ok (length bytes)) front.1 (record {
-      took = took_plain g.M.Machine.led_by g.M.Machine.ended g.M.Machine.rejects old _ bytes nothing (each_ends bytes copy.ends) c.run.new.self n (subst (λ x. TookFront g.M.Machine.led_by g.M.Machine.ended g.M.Machine.rejects old c.run.new.self x n) is step.took) all refl refl refl count;
+    advances_wider g.M.Machine.led_by g.M.Machine.ended g.M.Machine.rejects g.M.Machine.stopped old _ c.args.piece.now bytes front.0 (Ok (length bytes)) front.1 (record {
+      took = took_plain g.M.Machine.led_by g.M.Machine.ended g.M.Machine.rejects g.M.Machine.stopped old _ bytes nothing (each_ends bytes copy.ends) c.run.new.self n (subst (λ x. TookFront g.M.Machine.led_by g.M.Machine.ended g.M.Machine.rejects g.M.Machine.stopped old c.run.new.self x n) is step.took) all refl refl refl count;
       stopped = tt;
       fault = step.fault;
       limit = step.limit;

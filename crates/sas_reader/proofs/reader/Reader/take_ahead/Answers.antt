@@ -23,7 +23,7 @@ pub returns-clause-advances : goal.returns-clause-advances
 returns-clause-advances g c =
     let found = c.in_ok-front.ensures.took (omega (arith, c.if-front-eq0.false)) in
     record {
-      took = took_lines g.M.Machine.led_by g.M.Machine.ended g.M.Machine.rejects c.args.self.now _ c.args.piece.now found.0 c.in_ok-front.front.bytes c.requires.whole found.1.stand found.2 refl (ap (λ n. c.args.self.now.lines + n) (sym found.1.many)) refl;
+      took = took_lines g.M.Machine.led_by g.M.Machine.ended g.M.Machine.rejects g.M.Machine.stopped c.args.self.now _ c.args.piece.now found.0 c.in_ok-front.front.bytes c.requires.whole found.1.stand found.2 refl (ap (λ n. c.args.self.now.lines + n) (sym found.1.many)) refl;
       stopped = tt;
       fault = refl;
       limit = refl;

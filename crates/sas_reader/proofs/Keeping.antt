@@ -1,0 +1,14 @@
+-- What is kept of a text.
+use Rattle.std.proofs.Common.{refl, ap, ◌∙◌, arith, ◌≡◌, take, ℕ, length, List, ◌++◌}
+use Rattle.std.proofs.Math.Dec.{ltb}
+use Rattle.std.proofs.lemmas.Bool.{lt-ltb, ltb-true}
+use Rattle.std.proofs.lemmas.List.{take_at, length-take}
+use Rattle.sas_reader.specs.Found.{IsFoundOf}
+
+pub kept : (t new rest : List ℕ) (m : ℕ) → take m t ≡ take 64 t → new ≡ take m t → IsFoundOf t (record { bytes = new ++ rest; count = length (take m t); more = ltb (length (take m t)) (length t) })
+kept t new rest m same is =
+    let long = ap length same ∙ length-take 64 t in
+    record {
+      front = ap (λ (x : List ℕ). take (length (take m t)) (x ++ rest)) is ∙ take_at (take m t) rest (length (take m t)) refl ∙ same;
+      longer = ((λ e. let l = ltb-true _ _ e in omega (arith, l, long)), (λ l. lt-ltb _ _ (omega (arith, l, long))));
+    }

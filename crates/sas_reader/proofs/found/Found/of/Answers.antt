@@ -1,0 +1,12 @@
+use Rattle.std.proofs.Common.{ap, ◌∙◌, take, ℕ, length}
+use Rattle.std.proofs.lemmas.List.{take_min}
+use Rattle.std.proofs.Math.Nat.{min_comm}
+use Rattle.sas_reader.proofs.Keeping.{kept}
+use Rattle.sas_reader.proofs.found.Found.of.Goals as goal
+
+pub returns : goal.returns
+returns c =
+    let t = c.args.text.now in
+    let m = c.min.result in
+    let is = c.min.ensures ∙ min_comm (length t) 64 in
+    kept t _ _ m (ap (λ (n : ℕ). take n t) is ∙ take_min 64 t) c.copy_from_slice.ensures.after

@@ -1,0 +1,18 @@
+-- What stood at a fault, as far as it is kept.
+use Rattle.std.specs.Prelude.{◌≡◌, ◌<◌, ◌-◌, ◌↔◌, ◌==◌, if◌then◌else◌, ℕ, List, [], ◌∷◌, length, take, IsTrue}
+use Rattle.sas_reader.specs.declared.found.Found.{Found}
+
+-- the bytes that are kept
+abbrev pub bytes_of : Found → List ℕ
+bytes_of found = take found.count found.bytes
+
+-- this is kept of the text: its first 64 bytes, and whether it has more
+pub record IsFoundOf (text : List ℕ) (found : Found) : Type 0 where
+  pub front : bytes_of found ≡ take 64 text
+  pub longer : IsTrue found.more ↔ (64 < length text)
+
+-- what stands behind the first so many LFs of the bytes
+abbrev pub behind_ends : ℕ → List ℕ → List ℕ
+behind_ends n [] = []
+behind_ends n (b ∷ bytes) =
+    if n == 0 then b ∷ bytes else behind_ends (if b == 10 then n - 1 else n) bytes
