@@ -159,7 +159,7 @@ pub speaks_of_facts : (ranges : List ℕ) (d : Due) (line : List ℕ) (w : Wrong
 speaks_of_facts ranges d line w h = of_facts d (subst HasBounds h.belongs (wrong_speaks ranges h.item w h.first))
 
 pub quiet : (ranges : List ℕ) (d : Due) (line : List ℕ) → (SpeaksOfFacts d → ⊥) → FirstWrong ranges (slot_of_due d) line None
-quiet ranges d line no = λ w h. no (speaks_of_facts ranges d line w h)
+quiet ranges d line silent = λ w h. silent (speaks_of_facts ranges d line w h)
 
 -- what is due there, and so where the line belongs
 pub where_due : (j : TaskJudge) (d : Due) (line : List ℕ) (r : Option WrongWord) → DueIs j d → FirstWrong j.ranges (slot_of_due d) line r → FirstWrong j.ranges (due_slot j) line r

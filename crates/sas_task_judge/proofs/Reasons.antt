@@ -6,7 +6,7 @@ use Rattle.sas_core.specs.WellRanged.{WellRanged}
 use Rattle.sas_reader.specs.declared.fault.Kind.{Kind}
 use Rattle.sas_reader.specs.declared.fault.Kind.TheVariants as kinds
 use Rattle.sas_reader.specs.System.{LeadsToEnd}
-use Rattle.sas_reader.proofs.Paths.{cut_at, after_ends}
+use Rattle.sas_reader.proofs.Paths.{cut_at, map-append, after_ends}
 use Rattle.sas_task_format.specs.declared.marks.Counts.{Counts}
 use Rattle.sas_task_format.specs.declared.marks.Mark.{Mark}
 use Rattle.sas_task_format.specs.declared.marks.WrongWord.{WrongWord}
@@ -156,12 +156,11 @@ module _ {K : Type 0} (keeps : List (List ℕ) → SoFar → K → Type 0) (line
           let c = completed in
           let at_slot : IsFirstWrong m.judge.ranges (slot_of_due mark_tracked.due) line w = subst (λ (s : TaskSlot). IsFirstWrong m.judge.ranges s line w) slot_tracked f in
           let ranges = ranges_are c.task c.good h.leads.items (c.item ∷ c.more) c.layout refl (speaks_of_facts m.judge.ranges mark_tracked.due line w at_slot) in
-          let d = is_due c.task c.good lines h.leads.items c.item c.more h.leads.spells c.layout in
           record {
-            task = d.task;
-            more = d.more;
-            good = d.good;
-            lines = d.lines;
+            task = c.task;
+            more = map task_line_bytes (c.item ∷ c.more);
+            good = c.good;
+            lines = ap (map task_line_bytes) c.layout ∙ map-append task_line_bytes h.leads.items (c.item ∷ c.more) ∙ ap (λ (ls : List (List ℕ)). ls ++ map task_line_bytes (c.item ∷ c.more)) h.leads.spells;
             mark = mark_tracked;
             due = due_tracked;
             wrong = wrong_word_is c.task.variables (slot_of_due mark_tracked.due) line w (subst (λ (rs : List ℕ). IsFirstWrong rs (slot_of_due mark_tracked.due) line w) ranges at_slot);

@@ -163,13 +163,15 @@ impl<K: Keeper> TaskMachine<K> {
 
 impl<K: Keeper> Machine for TaskMachine<K> {
     ghost use Rattle.sas_task_judge.specs.TaskJudge.{HasEnded, RejectsLine};
-    ghost use Rattle.sas_task_judge.specs.TaskMachine.{LedBy};
+    ghost use Rattle.sas_task_judge.specs.TaskMachine.{LedBy, Stopped};
 
     ghost led_by = { LedBy K.keeps };
 
     ghost ended = { λ m. HasEnded m.judge };
 
     ghost rejects = { λ m line k. RejectsLine m.judge line k };
+
+    ghost stopped = { Stopped };
 
     fn has_ended(&self) -> bool {
         self.judge.has_ended()
