@@ -1,4 +1,4 @@
-use Rattle.std.proofs.Common.{refl}
+use Rattle.std.proofs.Common.{refl, None}
 use Rattle.sas_task_format.specs.declared.marks.Due.TheVariants as due
 use Rattle.sas_task_judge.proofs.Marking.{where_due, where_due_if, quiet, not_speaks}
 use Rattle.sas_task_judge.proofs.task_judge.TaskJudge.wrong_word.Goals as goal
@@ -14,6 +14,6 @@ returns-in-Effect-clause-word c = where_due_if c.args.self.now due.Effect c.args
 
 pub returns-in_default : goal.returns-in_default
 returns-in_default c = record {
-  word = where_due c.args.self.now c.due.result c.args.line.now _ c.due.ensures (quiet c.args.self.now.ranges c.due.result c.args.line.now (λ s. not_speaks c.due.result c.in_default.not-Fact c.in_default.not-Head c.in_default.not-Effect s));
+  word = where_due c.args.self.now c.due.result c.args.line.now None c.due.ensures (quiet c.args.self.now.ranges c.due.result c.args.line.now (λ s. not_speaks c.due.result c.in_default.not-Fact c.in_default.not-Head c.in_default.not-Effect s));
   stands = refl;
 }
