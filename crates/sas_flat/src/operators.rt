@@ -136,7 +136,7 @@ impl Operators {
     }
 
     /// Returns the number of operators.
-    pub(crate) fn len(&self) -> usize
+    pub fn len(&self) -> usize
         ensures { result ≡ length self.now }
     {
         self.columns.heads.len()

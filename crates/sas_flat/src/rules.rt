@@ -37,7 +37,7 @@ impl Rules {
     }
 
     /// Returns the number of rules.
-    pub(crate) fn len(&self) -> usize
+    pub fn len(&self) -> usize
         ensures { result ≡ length self.now }
     {
         self.effects.len()

@@ -20,21 +20,16 @@ use Rattle.sas_task_judge.specs.declared.task_judge.TaskJudge.{TaskJudge}
 use Rattle.sas_task_judge.specs.declared.task_judge.sections.Section.TheVariants as section
 use Rattle.sas_task_judge.specs.declared.task_machine.TaskMachine.{TaskMachine}
 use Rattle.sas_task_judge.specs.Sections.{behind_variable, behind_group, behind_operator, behind_rule}
-use Rattle.sas_task_judge.specs.TaskJudge.{state_at, state_of, KnownTo, SectionDue}
+use Rattle.sas_task_format.specs.Tracker.{Tracker, tracker_start, track}
+use Rattle.sas_task_judge.specs.TaskJudge.{state_at, state_of, tracker_of, KnownTo, SectionDue}
 use Rattle.sas_task_judge.specs.TaskMachine.{LedBy}
 use Rattle.sas_task_judge.proofs.TaskMoves.{next_of}
+use Rattle.sas_task_judge.proofs.Stepping.{track_append}
+use Rattle.sas_task_judge.proofs.SectionTracks.{behind_section, behind_values, variable_tracked, group_tracked, operator_tracked, rule_tracked}
 use Rattle.sas_task_judge.proofs.TaskRanges.{ranges_push}
 use Rattle.sas_task_judge.proofs.SectionLines.{GoesOn, AllFit, variable_on, group_on, operator_items, operator_lines_are, operator_on, rule_items, rule_lines_are, rule_on}
 
 -- ---- the judge
-
--- the judge behind the section that was due
-abbrev pub behind_section : TaskJudge → TaskJudge
-behind_section j = record j { left = j.left - 1 }
-
--- the judge behind the variable that was due, which has so many values
-abbrev pub behind_values : TaskJudge → ℕ → TaskJudge
-behind_values j range = record j { ranges = j.ranges ++ range ∷ []; left = j.left - 1 }
 
 -- the state before the section that is due
 before_section : (j : TaskJudge) (s : SoFar) (place : Place) → j.place ≡ place → 0 < j.left → state_of j s ≡ state_at place (suc (j.left - 1)) j.more s
@@ -44,6 +39,7 @@ before_section j s place here left = ap (λ (p : Place). state_at p j.left j.mor
 pub record SectionLeads (j k : TaskJudge) (s : SoFar) (items : List TaskLine) (t : SoFar) : Type 0 where
   pub known : KnownTo t k
   pub on : GoesOn (state_of j s) items (state_of k t)
+  pub tracked : track (tracker_of j s) items ≡ tracker_of k t
 
 -- what the judge knows stays, where the place is that of a section
 known_behind : (j : TaskJudge) (s t : SoFar) → t.parts.variables ≡ s.parts.variables → t.parts.init ≡ s.parts.init → (j.place ≡ at.VariableValues → ⊥) → KnownTo s j → KnownTo t (behind_section j)
@@ -70,6 +66,7 @@ variable_leads j s v range due f good many fits = record {
   };
   on = at_place j s (behind_variable s v) at.Variables (variable_lines v) (variable_lines v) due.0 due.1 refl
       (variable_on (λ a. state_at at.Variables (j.left - 1) j.more (behind_variable s a)) v good fits);
+  tracked = variable_tracked j s v range due.0 due.1 many;
 }
 
 pub group_leads : (j : TaskJudge) (s : SoFar) (facts : List Fact) → SectionDue j section.Group → KnownTo s j → IsTrue (list_all (fact_in_ranges j.ranges) facts) → AllFit (group_lines facts) → SectionLeads j (behind_section j) s (group_lines facts) (behind_group s facts)
@@ -77,6 +74,7 @@ group_leads j s facts due f good fits = record {
   known = known_behind j s (behind_group s facts) refl refl (λ h. let other = sym due.0 ∙ h in cc) f;
   on = at_place j s (behind_group s facts) at.Groups (group_lines facts) (group_lines facts) due.0 due.1 refl
       (group_on s.parts.variables (λ a. state_at at.Groups (j.left - 1) j.more (behind_group s a)) facts (subst (λ (rs : List ℕ). IsTrue (list_all (fact_in_ranges rs) facts)) f.ranges good) fits);
+  tracked = group_tracked j s facts due.0 due.1;
 }
 
 pub operator_leads : (j : TaskJudge) (s : SoFar) (o : Operator) → SectionDue j section.Operator → KnownTo s j → OperatorInRanges j.ranges o → AllFit (operator_lines o) → SectionLeads j (behind_section j) s (operator_lines o) (behind_operator s o)
@@ -84,6 +82,7 @@ operator_leads j s o due f good fits = record {
   known = known_behind j s (behind_operator s o) refl refl (λ h. let other = sym due.0 ∙ h in cc) f;
   on = at_place j s (behind_operator s o) at.Operators (operator_items o) (operator_lines o) due.0 due.1 (operator_lines_are o)
       (operator_on s.parts.variables (λ a. state_at at.Operators (j.left - 1) j.more (behind_operator s a)) o (subst (λ (rs : List ℕ). OperatorInRanges rs o) f.ranges good) (subst AllFit (operator_lines_are o) fits));
+  tracked = ap (λ (l : List TaskLine). track (tracker_of j s) l) (operator_lines_are o) ∙ operator_tracked j s o due.0 due.1;
 }
 
 pub rule_leads : (j : TaskJudge) (s : SoFar) (r : Rule) → SectionDue j section.Rule → KnownTo s j → RuleInRanges j.ranges r → AllFit (rule_lines r) → SectionLeads j (behind_section j) s (rule_lines r) (behind_rule s r)
@@ -91,6 +90,7 @@ rule_leads j s r due f good fits = record {
   known = known_behind j s (behind_rule s r) refl refl (λ h. let other = sym due.0 ∙ h in cc) f;
   on = at_place j s (behind_rule s r) at.Rules (rule_items r) (rule_lines r) due.0 due.1 (rule_lines_are r)
       (rule_on s.parts.variables (λ a. state_at at.Rules (j.left - 1) j.more (behind_rule s a)) r (subst (λ (rs : List ℕ). RuleInRanges rs r) f.ranges good) (subst AllFit (rule_lines_are r) fits));
+  tracked = ap (λ (l : List TaskLine). track (tracker_of j s) l) (rule_lines_are r) ∙ rule_tracked j s r due.0 due.1;
 }
 
 -- ---- the machine
@@ -98,7 +98,7 @@ rule_leads j s r due f good fits = record {
 module _ {K : Type 0} (keeps : List (List ℕ) → SoFar → K → Type 0) (m : TaskMachine K) (next : TaskJudge) (kept : K) (items : List TaskLine) (behind : SoFar → SoFar)
     (leads : (s : SoFar) → KnownTo s m.judge → SectionLeads m.judge next s items (behind s)) (keeps_on : (lines : List (List ℕ)) (s : SoFar) → keeps lines s m.kept → keeps (lines ++ spelled items) (behind s) kept) where
   -- where the keeper keeps the section, its lines lead the machine too
-  led_behind : (before : List (List ℕ)) → LedBy keeps before m → LedBy keeps (before ++ spelled items) (record { judge = next; kept = kept })
+  led_behind : (before : List (List ℕ)) → LedBy keeps before m → LedBy keeps (before ++ spelled items) (record m { judge = next; kept = kept })
   led_behind before h =
       let led = leads h.so_far h.known in
       record {
@@ -109,13 +109,14 @@ module _ {K : Type 0} (keeps : List (List ℕ) → SoFar → K → Type 0) (m : 
           spells = map-append task_line_bytes h.leads.items items ∙ ap (λ (l : List (List ℕ)). l ++ spelled items) h.leads.spells;
         };
         known = led.known;
+        tracked = track_append tracker_start h.leads.items items ∙ ap (λ (x : Tracker). track x items) h.tracked ∙ led.tracked;
         kept = keeps_on before h.so_far h.kept;
       }
 
   -- and the machine accepts it
-  pub accepts : (j : TaskJudge) (bytes : List ℕ) (front : Front) → j ≡ next → 0 < front.bytes → IsFront (spelled items) bytes front → AcceptsAhead (LedBy keeps) m bytes (record { judge = j; kept = kept }) (Ok front)
+  pub accepts : (j : TaskJudge) (bytes : List ℕ) (front : Front) → j ≡ next → 0 < front.bytes → IsFront (spelled items) bytes front → AcceptsAhead (LedBy keeps) m bytes (record m { judge = j; kept = kept }) (Ok front)
   accepts j bytes front is some stands = record {
-    took = λ _. (spelled items, stands, λ before h. subst (λ (x : TaskJudge). LedBy keeps (before ++ spelled items) (record { judge = x; kept = kept })) (sym is) (led_behind before h));
+    took = λ _. (spelled items, stands, λ before h. subst (λ (x : TaskJudge). LedBy keeps (before ++ spelled items) (record m { judge = x; kept = kept })) (sym is) (led_behind before h));
     none = λ zero. absurd (omega (arith, zero, some));
     memory = tt;
   }

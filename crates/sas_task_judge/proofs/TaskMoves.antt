@@ -19,7 +19,8 @@ use Rattle.sas_task_format.specs.declared.places.Place.{Place}
 use Rattle.sas_task_format.specs.declared.places.Place.TheVariants as at
 use Rattle.sas_task_judge.specs.declared.task_judge.TaskJudge.{TaskJudge}
 use Rattle.sas_task_judge.specs.TaskPlaces.{state_values, state_values_of, goal_begin}
-use Rattle.sas_task_judge.specs.TaskJudge.{state_at, state_of, KnownTo, LeadsOn, RejectsLine, TakesMemory, Moves, MovesBy, MovesAhead}
+use Rattle.sas_task_format.specs.Tracker.{step}
+use Rattle.sas_task_judge.specs.TaskJudge.{state_at, state_of, tracker_of, KnownTo, LeadsOn, RejectsLine, StandsAsBefore, TakesMemory, Moves, MovesBy, MovesAhead}
 use Rattle.sas_core.specs.declared.parts.Effect.{Effect}
 use Rattle.sas_lines.specs.FirstLines.{LineStandsFirst}
 use Rattle.sas_core.specs.declared.grounded.Change.{Change}
@@ -32,9 +33,14 @@ use Rattle.sas_task_judge.proofs.VariablesBehind.{behind}
 use Rattle.sas_task_format.specs.TaskProcess.{TaskProcess, a_word, a_number, number_in, effect_in}
 
 -- a line that may stand leads on
-pub on : (p q : TaskProcess) (slot : TaskSlot) (test : TaskLine → Bool) (next : TaskLine → TaskProcess) (i : TaskLine) (line : List ℕ)
-    → p ≡ read slot test next → Takes task_format TaskLineFits slot test i × (task_line_bytes i ≡ line) → next i ≡ q → LeadsOn p line q
-on p q slot test next i line at says n = (i, subst (λ (t : TaskProcess). OneLine task_format TaskLineFits (process_node t) i (λ r. r ≡ q)) (sym at) (says.0, n), says.1)
+pub on : (j k : TaskJudge) (s t : SoFar) (slot : TaskSlot) (test : TaskLine → Bool) (next : TaskLine → TaskProcess) (i : TaskLine) (line : List ℕ)
+    → state_of j s ≡ read slot test next → Takes task_format TaskLineFits slot test i × (task_line_bytes i ≡ line) → next i ≡ state_of k t → step (tracker_of j s) i ≡ tracker_of k t → LeadsOn j s line k t
+on j k s t slot test next i line at says n steps = record {
+  item = i;
+  leads = subst (λ (p : TaskProcess). OneLine task_format TaskLineFits (process_node p) i (λ r. r ≡ state_of k t)) (sym at) (says.0, n);
+  spells = says.1;
+  steps = steps;
+}
 
 -- a line that may not stand is rejected
 pub off : (p : TaskProcess) (slot : TaskSlot) (test : TaskLine → Bool) (next : TaskLine → TaskProcess) (line : List ℕ) (kind : Kind)
@@ -86,18 +92,20 @@ some_or other None = other
 some_or other (Some kind) = kind
 
 -- a line that the judge refuses
-pub refused : (j k : TaskJudge) (line : List ℕ) (r : Result Event Kind) (kind : Kind) → result_err r ≡ Some kind → IsOfBytes kind × (kind ≡ kinds.Memory → TakesMemory j) × (kind ≢ kinds.Memory → RejectsLine j line kind) → Moves j line k r
+pub refused : (j k : TaskJudge) (line : List ℕ) (r : Result Event Kind) (kind : Kind) → result_err r ≡ Some kind → IsOfBytes kind × (kind ≡ kinds.Memory → TakesMemory j) × (kind ≢ kinds.Memory → RejectsLine j line kind) × (kind ≢ kinds.Memory → StandsAsBefore j k) → Moves j line k r
 refused j k line (Ok event) kind e h = absurd (none-some kind e)
-refused j k line (Err other) kind e h = subst (λ (x : Kind). IsOfBytes x × (x ≡ kinds.Memory → TakesMemory j) × (x ≢ kinds.Memory → RejectsLine j line x)) (sym (ap (some_or other) e)) h
+refused j k line (Err other) kind e h = subst (λ (x : Kind). IsOfBytes x × (x ≡ kinds.Memory → TakesMemory j) × (x ≢ kinds.Memory → RejectsLine j line x) × (x ≢ kinds.Memory → StandsAsBefore j k)) (sym (ap (some_or other) e)) h
 
 -- a line that may not stand, where no memory is taken
-pub refused_line : (j k : TaskJudge) (line : List ℕ) (r : Result Event Kind) (kind : Kind) → result_err r ≡ Some kind → IsOfLine kind → RejectsLine j line kind → Moves j line k r
-refused_line j k line r kind e of_line rejects = refused j k line r kind e (of_line.0, λ m. absurd (of_line.1 m), λ n. rejects)
+pub refused_line : (j k : TaskJudge) (line : List ℕ) (r : Result Event Kind) (kind : Kind) → result_err r ≡ Some kind → IsOfLine kind → RejectsLine j line kind → StandsAsBefore j k → Moves j line k r
+refused_line j k line r kind e of_line rejects before = refused j k line r kind e (of_line.0, λ m. absurd (of_line.1 m), λ n. rejects, λ n. before)
 
 -- ---- what was said before doesn't matter
 
 pub said_apart : (j k : TaskJudge) (said : Said) (line : List ℕ) (event : Event) → Moves (record j { said = said }) line k (Ok event) → Moves j line k (Ok event)
-said_apart j k said line event moves = λ s f. moves s (record { ranges = f.ranges; valued = f.valued; range = f.range })
+said_apart j k said line event moves = λ s f.
+    let moved = moves s (record { ranges = f.ranges; valued = f.valued; range = f.range }) in
+    (moved.0, record { item = moved.1.item; leads = moved.1.leads; spells = moved.1.spells; steps = moved.1.steps })
 
 -- ---- the first line of some bytes
 

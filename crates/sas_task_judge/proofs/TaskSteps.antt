@@ -1,35 +1,51 @@
 -- One line more of a task moves the machine on.
-use Rattle.std.proofs.Common.{◌≡◌, ℕ, List, [], ◌∷◌, ◌++◌, subst, Ok}
-use Rattle.sas_reader.specs.System.{After, Leads}
+use Rattle.std.proofs.Common.{◌≡◌, ℕ, List, [], ◌∷◌, ◌++◌, ap, ◌∙◌, Ok}
+use Rattle.sas_reader.specs.System.{Leads}
 use Rattle.sas_task_format.specs.Process.{process_node}
-use Rattle.sas_task_format.specs.TaskFormat.{TaskLine, task_line_bytes, task_format, TaskLineFits}
+use Rattle.sas_task_format.specs.TaskFormat.{task_line_bytes, task_format, TaskLineFits}
+use Rattle.sas_task_format.specs.Tracker.{Tracker, tracker_start, track, step}
 use Rattle.sas_task_format.specs.TaskProcess.{TaskProcess, task_start}
 use Rattle.sas_task_line.specs.declared.so_far.SoFar.{SoFar}
 use Rattle.sas_task_line.specs.declared.task_events.Event.{Event}
 use Rattle.sas_task_line.specs.declared.task_events.Said.{Said}
 use Rattle.sas_task_judge.specs.declared.task_judge.TaskJudge.{TaskJudge}
 use Rattle.sas_task_line.specs.TaskEvents.{after}
-use Rattle.sas_task_judge.specs.TaskJudge.{state_of, Moves}
+use Rattle.sas_task_judge.specs.TaskJudge.{state_of, tracker_of, LeadsOn, Moves}
 use Rattle.sas_task_judge.specs.declared.task_machine.TaskMachine.{TaskMachine}
 use Rattle.sas_task_judge.specs.TaskMachine.{LedBy}
-use Rattle.sas_reader.proofs.Live.{leads_line}
+use Rattle.sas_reader.proofs.Paths.{map-append, after_append}
+use Rattle.sas_task_judge.proofs.Stepping.{track_append}
 
 -- the lines lead from the start to the state
 abbrev pub TaskLed : List (List ℕ) → TaskProcess → Type 0
 TaskLed lines p = Leads task_format TaskLineFits process_node task_start lines p
 
+-- so do they, and the tracker is where the judge is
+pub record Tracked (lines : List (List ℕ)) (k : TaskJudge) (t : SoFar) : Type 0 where
+  pub leads : TaskLed lines (state_of k t)
+  pub tracked : track tracker_start leads.items ≡ tracker_of k t
+
 -- a line that leads on
-pub line_led : (before : List (List ℕ)) (p q : TaskProcess) (i : TaskLine) (line : List ℕ) → TaskLed before p → After task_format TaskLineFits process_node p (i ∷ []) q → task_line_bytes i ≡ line → TaskLed (before ++ line ∷ []) q
-line_led before p q i line h g e = subst (λ (l : List ℕ). TaskLed (before ++ l ∷ []) q) e (leads_line task_format TaskLineFits process_node task_start p q before i h g)
+pub line_led : (before : List (List ℕ)) (j k : TaskJudge) (s t : SoFar) (line : List ℕ) (h : TaskLed before (state_of j s)) → LeadsOn j s line k t → track tracker_start h.items ≡ tracker_of j s → Tracked (before ++ line ∷ []) k t
+line_led before j k s t line h on tracked = record {
+  leads = record {
+    items = h.items ++ on.item ∷ [];
+    after = after_append task_format TaskLineFits process_node task_start (state_of j s) (state_of k t) h.items (on.item ∷ []) h.after on.leads;
+    spells = map-append task_line_bytes h.items (on.item ∷ []) ∙ ap (λ (l : List (List ℕ)). l ++ task_line_bytes on.item ∷ []) h.spells ∙ ap (λ (l : List ℕ). before ++ l ∷ []) on.spells;
+  };
+  tracked = track_append tracker_start h.items (on.item ∷ []) ∙ ap (λ (x : Tracker). step x on.item) tracked ∙ on.steps;
+}
 
 -- a machine that a line moves on is led by it too, whatever becomes of what was said
 pub led_on : {K : Type 0} (keeps : List (List ℕ) → SoFar → K → Type 0) (before : List (List ℕ)) (m : TaskMachine K) (j : TaskJudge) (said : Said) (kept : K) (event : Event) (line : List ℕ) → LedBy keeps before m → Moves m.judge line j (Ok event)
-    → ((lines : List (List ℕ)) (s : SoFar) → keeps lines s m.kept → keeps (lines ++ line ∷ []) (after s event j.said line) kept) → LedBy keeps (before ++ line ∷ []) (record { judge = record j { said = said }; kept = kept })
+    → ((lines : List (List ℕ)) (s : SoFar) → keeps lines s m.kept → keeps (lines ++ line ∷ []) (after s event j.said line) kept) → LedBy keeps (before ++ line ∷ []) (record m { judge = record j { said = said }; kept = kept })
 led_on keeps before m j said kept event line h moves keeps_on =
     let moved = moves h.so_far h.known in
+    let led = line_led before m.judge j h.so_far (after h.so_far event j.said line) line h.leads moved.1 h.tracked in
     record {
       so_far = after h.so_far event j.said line;
-      leads = line_led before (state_of m.judge h.so_far) (state_of j (after h.so_far event j.said line)) moved.1.0 line h.leads moved.1.1 moved.1.2;
+      leads = led.leads;
       known = record { ranges = moved.0.ranges; valued = moved.0.valued; range = moved.0.range };
+      tracked = led.tracked;
       kept = keeps_on before h.so_far h.kept;
     }

@@ -2,3 +2,4 @@ pub mod TaskPlaces
 pub mod TaskJudge
 pub mod TaskMachine
 pub mod Sections
+pub mod Marks

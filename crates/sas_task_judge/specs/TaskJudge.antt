@@ -1,5 +1,5 @@
 -- What the judge of the lines of a task file represents: what may still come, by what has come.
-use Rattle.std.specs.Prelude.{◌≡◌, ◌≢◌, ◌⊎◌, ◌<◌, ℕ, ◌+◌, ◌-◌, Bool, List, length, take, Result, Ok, Err, codes}
+use Rattle.std.specs.Prelude.{◌≡◌, ◌≢◌, ◌⊎◌, ◌<◌, ℕ, ◌+◌, ◌-◌, Bool, List, [], ◌∷◌, ◌++◌, length, take, Result, Ok, Err, codes}
 use Rattle.sas_core.specs.declared.parts.Variable.{Variable}
 use Rattle.sas_lines.specs.FirstLines.{LineStandsFirst}
 use Rattle.sas_reader.specs.declared.fault.Kind.{Kind}
@@ -14,6 +14,8 @@ use Rattle.sas_task_judge.specs.declared.task_judge.TaskJudge.{TaskJudge}
 use Rattle.sas_reader.specs.Faults.{IsOfBytes}
 use Rattle.sas_task_format.specs.Process.{process_node, ◌>>◌}
 use Rattle.sas_reader.specs.System.{OneLine, Rejects, Takes}
+use Rattle.sas_task_format.specs.declared.marks.Counts.{Counts}
+use Rattle.sas_task_format.specs.Tracker.{Tracker, step}
 use Rattle.sas_task_line.specs.TaskEvents.{after}
 use Rattle.sas_task_format.specs.TaskFormat.{TaskLine, task_slot, task_line_bytes, task_format, TaskLineFits}
 use Rattle.sas_task_format.specs.TaskProcess.{TaskProcess, TaskPart, a_word}
@@ -60,6 +62,51 @@ state_at at.RuleEnd left more s = a_word (codes "end_rule") >> rule_begin left s
 abbrev pub state_of : TaskJudge → SoFar → TaskProcess
 state_of j s = state_at j.place j.left j.more s
 
+-- ---- what is due
+
+-- how many are left in a list that has begun; elsewhere a list that was kept whole leaves an old
+-- number
+abbrev pub more_in : Place → ℕ → ℕ
+more_in at.VariableValues more = more
+more_in at.GroupFacts more = more
+more_in at.GoalFacts more = more
+more_in at.Prevail more = more
+more_in at.Effects more = more
+more_in at.RuleConditions more = more
+more_in _ more = 0
+
+-- the number of values of each variable, with that of a variable that has begun
+abbrev pub ranges_in : Place → List ℕ → ℕ → List ℕ
+ranges_in at.VariableValues ranges range = ranges ++ range ∷ []
+ranges_in _ ranges range = ranges
+
+-- how many groups, operators and rules have come
+abbrev pub counts_of : SoFar → Counts
+counts_of s = record {
+  groups = length s.parts.groups;
+  operators = length s.parts.operators;
+  rules = length s.parts.rules;
+}
+
+-- the tracker at a place, with so many left and so many more, of what the judge holds and of these
+-- counts
+abbrev pub tracker_at : Place → ℕ → ℕ → TaskJudge → ℕ → Counts → Tracker
+tracker_at place left more j variables counts = record {
+  place = place;
+  left = left;
+  more = more_in place more;
+  ranges = ranges_in place j.ranges j.range;
+  variables = variables;
+  valued = j.valued;
+  groups = counts.groups;
+  operators = counts.operators;
+  rules = counts.rules;
+}
+
+-- the tracker where the judge is, behind what has come
+abbrev pub tracker_of : TaskJudge → SoFar → Tracker
+tracker_of j s = tracker_at j.place j.left j.more j (length j.ranges) (counts_of s)
+
 -- all has come
 abbrev pub HasEnded : TaskJudge → Type 0
 HasEnded j = (j.place ≡ at.Rules) × (j.left ≡ 0)
@@ -99,19 +146,24 @@ pub record KnownTo (s : SoFar) (j : TaskJudge) : Type 0 where
   -- the range of a variable counts its values, those that have come and those that are left
   pub range : j.place ≡ at.VariableValues → j.range ≡ length s.values + j.more
 
--- A part is due that yields an A. Behind it the judge is where `next` leads, and what has come is
--- what `adds` makes of it.
-abbrev pub Due : {A : Type 0} → TaskJudge → (List Variable → TaskPart A) → (A → TaskJudge)
-    → (A → SoFar → SoFar)
+-- A part is due that yields an A, which a line says. Behind it the judge is where `next` leads, and
+-- what has come is what `adds` makes of it. So is the tracker.
+abbrev pub Due : {A : Type 0} → TaskJudge → (List Variable → TaskPart A) → (A → TaskLine)
+    → (A → TaskJudge) → (A → SoFar → SoFar)
     → Type 0
-Due j part next adds = (s : SoFar) → KnownTo s j
-    → state_of j s ≡ part s.parts.variables (λ a. state_of (next a) (adds a s))
+Due {A} j part says next adds = (s : SoFar) → KnownTo s j
+    → (state_of j s ≡ part s.parts.variables (λ a. state_of (next a) (adds a s)))
+    × ((a : A) → step (tracker_of j s) (says a) ≡ tracker_of (next a) (adds a s))
 
--- the line leads from one state to the other
-abbrev pub LeadsOn : TaskProcess → List ℕ → TaskProcess → Type 0
-LeadsOn p line q = (i : TaskLine)
-    × OneLine task_format TaskLineFits (process_node p) i (λ r. r ≡ q)
-    × (task_line_bytes i ≡ line)
+-- the line leads from the state of a judge behind what has come to that of another, and so does it
+-- the tracker
+pub record LeadsOn (j : TaskJudge) (s : SoFar) (line : List ℕ) (k : TaskJudge)
+    (t : SoFar) : Type 0 where
+  pub item : TaskLine
+  pub leads : OneLine task_format TaskLineFits (process_node (state_of j s)) item
+      (λ r. r ≡ state_of k t)
+  pub spells : task_line_bytes item ≡ line
+  pub steps : step (tracker_of j s) item ≡ tracker_of k t
 
 -- the line may not follow, and the kind of its fault
 abbrev pub RejectsLine : TaskJudge → List ℕ → Kind → Type 0
@@ -124,16 +176,21 @@ abbrev pub TakesMemory : TaskJudge → Type 0
 TakesMemory j = ((j.place ≡ at.VariableValues) × (j.more ≡ 0))
     ⊎ ((j.place ≡ at.Effects) × (0 < j.more))
 
+-- the judge stands where the other does, whatever was said
+abbrev pub StandsAsBefore : TaskJudge → TaskJudge → Type 0
+StandsAsBefore j k = k ≡ record j { said = k.said }
+
 -- The line leads from what has come to that with what it adds; or it may not follow, and the kind
 -- is that of its fault; or memory was refused, where some is taken.
 abbrev pub Moves : TaskJudge → List ℕ → TaskJudge → Result Event Kind → Type 0
 Moves j line k (Ok event) = (s : SoFar) → KnownTo s j
     → KnownTo (after s event k.said line) k
-    × LeadsOn (state_of j s) line (state_of k (after s event k.said line))
+    × LeadsOn j s line k (after s event k.said line)
 Moves j line k (Err kind) =
     IsOfBytes kind
     × (kind ≡ kinds.Memory → TakesMemory j)
     × (kind ≢ kinds.Memory → RejectsLine j line kind)
+    × (kind ≢ kinds.Memory → StandsAsBefore j k)
 
 -- a line that holds this moves the judge on, where it may stand under the test
 abbrev pub MovesBy : TaskJudge → (TaskLine → Bool) → TaskLine → TaskJudge → Event → Type 0

@@ -9,8 +9,10 @@ use Rattle.sas_task_format.specs.Process.{process_node}
 use Rattle.sas_reader.specs.System.{Leads}
 use Rattle.sas_task_format.specs.TaskFormat.{task_format, TaskLineFits}
 use Rattle.sas_task_format.specs.TaskProcess.{task_start}
+use Rattle.sas_task_format.specs.Tracker.{track, tracker_start}
 use Rattle.sas_task_line.specs.TaskEvents.{nothing_yet}
-use Rattle.sas_task_judge.specs.TaskJudge.{KnownTo, state_of, HasEnded, RejectsLine}
+use Rattle.sas_task_judge.specs.TaskJudge.{KnownTo, state_of, tracker_of, HasEnded, RejectsLine, StandsAsBefore}
+use Rattle.sas_task_judge.specs.Marks.{WrongWordIn}
 
 module _ {K : Type 0} (keeps : List (List ℕ) → SoFar → K → Type 0) where
   -- so much has come with these lines, the judge holds of it what it needs, and this is kept
@@ -19,6 +21,7 @@ module _ {K : Type 0} (keeps : List (List ℕ) → SoFar → K → Type 0) where
     pub leads : Leads task_format TaskLineFits process_node task_start lines
         (state_of m.judge so_far)
     pub known : KnownTo so_far m.judge
+    pub tracked : track tracker_start leads.items ≡ tracker_of m.judge so_far
     pub kept : keeps lines so_far m.kept
 
   -- it keeps what is asked for where nothing has come
@@ -34,3 +37,10 @@ EndedAt m = HasEnded m.judge
 
 abbrev pub RejectsAt : TaskMachine SoFar → List ℕ → Kind → Type 0
 RejectsAt m line kind = RejectsLine m.judge line kind
+
+-- the machine that refused a line stands as before, and knows which word of it is wrong
+pub record Stopped {K : Type 0} (m : TaskMachine K) (line : List ℕ) (kind : Kind)
+    (n : TaskMachine K) : Type 0 where
+  pub judge : StandsAsBefore m.judge n.judge
+  pub kept : n.kept ≡ m.kept
+  pub wrong : WrongWordIn m.judge line kind n.wrong

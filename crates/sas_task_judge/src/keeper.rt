@@ -1,8 +1,10 @@
 // Stores what is asked for of the lines of a task file.
 ghost use Rattle.std.specs.Prelude.{◌≡◌, ◌++◌, ◌∷◌, [], List, ℕ, OnOk, IfErr};
 
+use crate::task_judge::counted;
 use sas_core::Items;
 use sas_reader::{Front, Kind};
+use sas_task_format::Counts;
 use sas_task_line::{Event, Said, SoFar};
 
 /// What a keeper reports of a variable that it kept: how many lines and bytes it takes up, and how many values it has.
@@ -16,10 +18,16 @@ pub struct VariableKept {
 pub trait Keeper: Drop {
     ghost use Rattle.sas_task_line.specs.declared.so_far.SoFar.{SoFar};
     ghost use Rattle.sas_task_line.specs.TaskEvents.{after};
+    ghost use Rattle.sas_task_judge.specs.Marks.{counts_within};
     ghost use Rattle.sas_task_judge.specs.Sections.{KeepsVariable, KeepsGroup, KeepsOperator, KeepsRule};
 
     /// The keeper holds what it is asked to keep of these lines, with which so much of a task has come.
     ghost keeps: { List (List ℕ) → SoFar → Self → Type 0 };
+
+    /// Returns how many groups, operators and rules have come, as far as 32 bits count.
+    fn counts(&self) -> Counts
+        ensures { (lines : List (List ℕ)) (s : SoFar) → keeps lines s self.now
+            → result ≡ counts_within s };
 
     /// Keeps what the next line adds. It may move it out of `said`.
     fn keep(&mut self, line: &[u8], event: Event, said: &mut Said) -> Result<(), Kind>
@@ -68,6 +76,14 @@ impl Keeper for SoFar {
     ghost use Rattle.std.specs.Prelude.{◌≡◌};
 
     ghost keeps = { λ lines s kept. kept ≡ s };
+
+    fn counts(&self) -> Counts {
+        Counts {
+            groups: counted(self.parts.groups.len()),
+            operators: counted(self.parts.operators.len()),
+            rules: counted(self.parts.rules.len()),
+        }
+    }
 
     fn keep(&mut self, line: &[u8], event: Event, said: &mut Said) -> Result<(), Kind> {
         self.add(line, event, said)

@@ -7,6 +7,7 @@ ghost use Rattle.sas_task_line.specs.TaskRanges.{range_in, fact_in_ranges, effec
 ghost use Rattle.sas_task_judge.specs.TaskJudge.{Due, Moves, MovesBy, HasEnded, IsBehindGroups};
 
 mod ahead;
+mod marks;
 mod sections;
 
 use sas_core::{Change, Fact, Items};
@@ -16,6 +17,7 @@ use sas_task_line::{
     Event, Said, effect_at, fact_at, head_at, name_at, number_at, number_below, positive_at,
     signed_at, version_at, word_at,
 };
+pub use marks::counted;
 pub use sections::Section;
 use std::alloc::Global;
 
@@ -41,6 +43,7 @@ impl TaskJudge {
     /// Makes a judge that has taken no line.
     pub fn new(alloc: Global) -> Self
         ensures place { result.place ≡ Place.VersionBegin }
+        ensures left { result.left ≡ 0 }
         ensures ranges { result.ranges ≡ [] }
         ensures valued { result.valued ≡ 0 }
     {
@@ -65,7 +68,7 @@ impl TaskJudge {
     /// Takes a fixed word.
     fn word(&mut self, line: &[u8], word: &[u8], next: Place) -> Result<Event, Kind>
         requires apart { next ≢ Place.VariableValues }
-        requires due { Due self.old (λ _. a_word word.now)
+        requires due { Due self.old (λ _. a_word word.now) (λ _. format.word word.now)
             (λ _. record self.old { place = next }) (λ _ s. s) }
         ensures { Moves self.old line.now self.new result }
     {
@@ -78,7 +81,7 @@ impl TaskJudge {
     fn begin(&mut self, line: &[u8], word: &[u8], next: Place) -> Result<Event, Kind>
         requires apart { next ≢ Place.VariableValues }
         requires left { 0 < self.old.left }
-        requires due { Due self.old (λ _. a_word word.now)
+        requires due { Due self.old (λ _. a_word word.now) (λ _. format.word word.now)
             (λ _. record self.old { left = self.old.left - 1; place = next }) (λ _ s. s) }
         ensures { Moves self.old line.now self.new result }
     {
@@ -91,7 +94,7 @@ impl TaskJudge {
     /// Takes the number of groups, operators or rules.
     fn count(&mut self, line: &[u8], next: Place) -> Result<Event, Kind>
         requires apart { next ≢ Place.VariableValues }
-        requires due { Due self.old (λ _. a_number any)
+        requires due { Due self.old (λ _. a_number any) format.number
             (λ n. record self.old { left = n; place = next }) (λ _ s. s) }
         ensures { Moves self.old line.now self.new result }
     {
@@ -184,7 +187,7 @@ impl TaskJudge {
     /// Goes on behind the number of facts that are due next, or of conditions.
     fn took_fact_count(&mut self, count: u32, next: Place) -> Event
         requires apart { next ≢ Place.VariableValues }
-        requires due { Due self.old (λ _. a_number any)
+        requires due { Due self.old (λ _. a_number any) format.number
             (λ n. record self.old { more = n; place = next }) (λ _ s. record s { facts = [] }) }
         ensures { MovesBy self.old (λ i. any (number_in i)) (format.number count) self.new result }
     {
@@ -196,7 +199,7 @@ impl TaskJudge {
     /// Takes the number of facts that are due next, or of conditions.
     fn fact_count(&mut self, line: &[u8], next: Place) -> Result<Event, Kind>
         requires apart { next ≢ Place.VariableValues }
-        requires due { Due self.old (λ _. a_number any)
+        requires due { Due self.old (λ _. a_number any) format.number
             (λ n. record self.old { more = n; place = next }) (λ _ s. record s { facts = [] }) }
         ensures { Moves self.old line.now self.new result }
     {
@@ -208,7 +211,7 @@ impl TaskJudge {
     fn took_fact(&mut self, fact: Fact) -> Event
         requires apart { self.old.place ≢ Place.VariableValues }
         requires more { 0 < self.old.more }
-        requires due { Due self.old a_fact
+        requires due { Due self.old a_fact format.fact
             (λ _. record self.old { more = self.old.more - 1 })
             (λ f s. record s { facts = s.facts ++ f ∷ [] }) }
         ensures { MovesBy self.old (λ i. fact_in_ranges self.old.ranges (fact_in i))
@@ -224,7 +227,7 @@ impl TaskJudge {
     fn fact(&mut self, line: &[u8]) -> Result<Event, Kind>
         requires apart { self.old.place ≢ Place.VariableValues }
         requires more { 0 < self.old.more }
-        requires due { Due self.old a_fact
+        requires due { Due self.old a_fact format.fact
             (λ _. record self.old { more = self.old.more - 1 })
             (λ f s. record s { facts = s.facts ++ f ∷ [] }) }
         ensures { Moves self.old line.now self.new result }

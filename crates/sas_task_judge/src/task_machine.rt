@@ -1,9 +1,10 @@
 // Takes the lines of a task file: it judges each, and keeps what is asked for of what they hold.
-ghost use Rattle.std.specs.Prelude.{◌≡◌};
+ghost use Rattle.std.specs.Prelude.{◌≡◌, ◌≢◌, ℕ, List, length};
 
 use crate::keeper::Keeper;
 use crate::task_judge::{Section, TaskJudge};
 use sas_reader::{Front, Kind, Machine};
+use sas_task_format::{Mark, WrongWord};
 use std::alloc::Global;
 
 /// The judge of the lines, and what is kept of them.
@@ -11,13 +12,16 @@ use std::alloc::Global;
 pub struct TaskMachine<K> {
     pub judge: TaskJudge,
     pub kept: K,
+    /// Which word of the line is wrong that was refused for a number.
+    pub wrong: Option<WrongWord>,
 }
 
 impl<K: Keeper> TaskMachine<K> {
     ghost use Rattle.std.specs.Prelude.{[]};
     ghost use Rattle.sas_reader.specs.Machine.{AcceptsAhead};
     ghost use Rattle.sas_task_judge.specs.TaskJudge.{HasEnded, SectionDue};
-    ghost use Rattle.sas_task_judge.specs.TaskMachine.{LedBy, IsFresh};
+    ghost use Rattle.sas_task_judge.specs.Marks.{capped, mark_of, counts_within};
+    ghost use Rattle.sas_task_judge.specs.TaskMachine.{LedBy, IsFresh, Stopped};
 
     /// Makes a machine that has taken no line, with this keeper.
     pub fn new(alloc: Global, kept: K) -> Self
@@ -27,6 +31,7 @@ impl<K: Keeper> TaskMachine<K> {
         TaskMachine {
             judge: TaskJudge::new(alloc),
             kept,
+            wrong: None,
         }
     }
 
@@ -36,6 +41,44 @@ impl<K: Keeper> TaskMachine<K> {
     {
         let TaskMachine { kept, .. } = self;
         kept
+    }
+
+    /// Returns where the next line stands and what is due there.
+    #[cold]
+    pub fn mark(&self) -> Mark
+        ensures { (lines : List (List ℕ)) (led : LedBy K.keeps lines self.now)
+            → result ≡ mark_of self.now.judge (capped (length self.now.judge.ranges))
+            (counts_within led.so_far) }
+    {
+        self.judge.mark(self.kept.counts())
+    }
+
+    /// Notes which word of a line is wrong that was refused for a number.
+    fn find_wrong_word(&mut self, line: &[u8]) -> Kind
+        ensures kind { result ≢ Kind.Memory → result ≡ Kind.Value }
+        ensures stopped { result ≢ Kind.Memory → Stopped self.old line.now Kind.Value self.new }
+    {
+        match self.judge.wrong_word(line) {
+            Ok(word) => {
+                self.wrong = word;
+                Kind::Value
+            }
+            Err(_) => Kind::Memory,
+        }
+    }
+
+    /// Notes which word of a line is wrong that was refused. Returns the kind of its fault, or that of want of memory.
+    #[cold]
+    fn refuse(&mut self, line: &[u8], kind: Kind) -> Kind
+        ensures kind { result ≢ Kind.Memory → result ≡ kind }
+        ensures stopped { result ≢ Kind.Memory → Stopped self.old line.now kind self.new }
+        ensures some { kind ≡ Kind.Memory → result ≡ Kind.Memory }
+    {
+        self.wrong = None;
+        match kind {
+            Kind::Value => self.find_wrong_word(line),
+            other => other,
+        }
     }
 
     /// Lets the keeper keep the variable that is due, where it stands first in the bytes, and goes on behind it.
@@ -120,7 +163,7 @@ impl<K: Keeper> TaskMachine<K> {
 
 impl<K: Keeper> Machine for TaskMachine<K> {
     ghost use Rattle.sas_task_judge.specs.TaskJudge.{HasEnded, RejectsLine};
-    ghost use Rattle.sas_task_judge.specs.TaskMachine.{LedBy};
+    ghost use Rattle.sas_task_judge.specs.TaskMachine.{LedBy, Stopped};
 
     ghost led_by = { LedBy K.keeps };
 
@@ -128,13 +171,17 @@ impl<K: Keeper> Machine for TaskMachine<K> {
 
     ghost rejects = { λ m line k. RejectsLine m.judge line k };
 
+    ghost stopped = { Stopped };
+
     fn has_ended(&self) -> bool {
         self.judge.has_ended()
     }
 
     fn accept(&mut self, line: &[u8]) -> Result<(), Kind> {
-        let event = self.judge.take(line)?;
-        self.kept.keep(line, event, &mut self.judge.said)
+        match self.judge.take(line) {
+            Ok(event) => self.kept.keep(line, event, &mut self.judge.said),
+            Err(kind) => Err(self.refuse(line, kind)),
+        }
     }
 
     fn accept_ahead(&mut self, bytes: &[u8]) -> Result<Front, Kind> {

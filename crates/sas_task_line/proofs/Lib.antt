@@ -3,3 +3,4 @@ pub mod TaskJudging
 mod Digits
 mod AheadReading
 mod LinesReading
+pub mod WrongWords

@@ -5,3 +5,4 @@ pub mod Ahead
 pub mod Sections
 pub mod LinesBefore
 pub mod TaskEvents
+pub mod FirstWrong

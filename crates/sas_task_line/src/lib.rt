@@ -8,6 +8,7 @@ mod so_far;
 mod task_events;
 mod task_line;
 mod variables_and_groups;
+mod wrong_word;
 
 pub use ahead::{
     Ahead, effect_ahead, fact_ahead, head_ahead, name_ahead, number_ahead, word_ahead,
@@ -20,3 +21,6 @@ pub use task_line::{
     signed_at, value_in, version_at, word_at,
 };
 pub use variables_and_groups::{VariableFound, group_found, variable_found};
+pub use wrong_word::{
+    change_wrong, effect_wrong, fact_wrong, wrong_in_effect, wrong_in_fact, wrong_in_head,
+};

@@ -182,7 +182,7 @@ fn is_over(parts: &mut Numbers<'_>) -> bool
 }
 
 /// Returns the fact that the line spells, whether it exists or not.
-fn fact_of(line: &[u8]) -> Option<Fact>
+pub(crate) fn fact_of(line: &[u8]) -> Option<Fact>
     ensures found { IfSome result (λ f. Spells (format.fact f) line.now) }
     ensures none { IfNone result ((f : Fact) → Spells (format.fact f) line.now → ⊥) }
 {
@@ -198,7 +198,7 @@ fn fact_of(line: &[u8]) -> Option<Fact>
 }
 
 /// Takes the effect that the line spells, whether its facts exist or not, and returns whether it spells one.
-fn effect_of(effect: &mut Effect, line: &[u8]) -> Result<bool, AllocError>
+pub(crate) fn effect_of(effect: &mut Effect, line: &[u8]) -> Result<bool, AllocError>
     ensures found { IfOk result
         (λ found. IsTrue found → Spells (format.effect effect.exit.now) line.now) }
     ensures none { IfOk result
@@ -221,7 +221,7 @@ fn effect_of(effect: &mut Effect, line: &[u8]) -> Result<bool, AllocError>
 }
 
 /// Returns the change that the line spells, whether its values exist or not.
-fn change_of(line: &[u8]) -> Option<Change>
+pub(crate) fn change_of(line: &[u8]) -> Option<Change>
     ensures found { IfSome result
         (λ (c : Change). Spells (format.head c.var c.old c.new) line.now) }
     ensures none { IfNone result

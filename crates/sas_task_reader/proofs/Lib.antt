@@ -1,2 +1,4 @@
 mod TaskStanding
 mod Outlines
+mod Counting
+mod Reasons

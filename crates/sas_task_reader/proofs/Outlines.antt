@@ -1,5 +1,9 @@
 -- What is kept for an outline, behind what a line says and behind a variable.
-use Rattle.std.proofs.Common.{◌≡◌, ℕ, List, refl, ap, ◌∙◌}
+use Rattle.std.proofs.Common.{◌≡◌, ◌-◌, ◌^◌, ℕ, List, length, refl, ap, ◌∙◌, arith}
+use Rattle.std.specs.Prelude.{min}
+use Rattle.sas_core.specs.Numbers.{IsNumber}
+use Rattle.sas_core.specs.WellRanged.{WellRanged}
+use Rattle.sas_flat.specs.Outlines.{outline_of}
 use Rattle.sas_core.specs.declared.parts.Variable.{Variable}
 use Rattle.sas_task_line.specs.declared.task_events.Event.{Event}
 use Rattle.sas_task_line.specs.declared.task_events.Event.TheVariants as event
@@ -8,7 +12,7 @@ use Rattle.sas_task_line.specs.declared.so_far.SoFar.{SoFar}
 use Rattle.sas_task_line.specs.TaskEvents.{after}
 use Rattle.sas_task_judge.specs.Sections.{behind_variable}
 use Rattle.sas_task_reader.specs.declared.task_outline.Seen.{Seen}
-use Rattle.sas_task_reader.specs.TaskOutline.{kept_of}
+use Rattle.sas_task_reader.specs.TaskOutline.{outline_in, kept_of}
 
 -- a line about none of what is only counted changes the rest alone
 pub record IsOfRest (e : Event) : Type 0 where
@@ -48,3 +52,14 @@ module _ (kept : Seen) (new s : SoFar) (is : kept ≡ kept_of s) where
 
   pub seen_variable : (v : Variable) → new ≡ behind_variable (kept_of s).rest v → record kept { rest = new } ≡ kept_of (behind_variable s v)
   seen_variable v then = rest_changed (behind_variable (kept_of s).rest v) then
+
+-- a number is counted as it is
+counted_number : (n : ℕ) → IsNumber n → min n (2 ^ 32 - 1) ≡ n
+counted_number n h = omega (arith, h)
+
+-- of a task that is well ranged the outline is what was seen of it
+pub outline_is : (s : SoFar) → WellRanged s.parts → outline_in (kept_of s) ≡ outline_of s.parts
+outline_is s w =
+    ap (λ (n : ℕ). record (outline_in (kept_of s)) { groups = n }) (counted_number (length s.parts.groups) w.groups.count)
+    ∙ ap (λ (n : ℕ). record (outline_in (kept_of s)) { groups = length s.parts.groups; operators = n }) (counted_number (length s.parts.operators) w.operators.count)
+    ∙ ap (λ (n : ℕ). record (outline_of s.parts) { rules = n }) (counted_number (length s.parts.rules) w.rules.count)

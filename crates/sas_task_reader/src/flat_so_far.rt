@@ -18,7 +18,8 @@ use sas_core::{Change, Fact, Items};
 use sas_flat::{Effects, FlatTask, Operators, Outline, Rules, TaskColumns, Variables};
 use sas_lists::Lists;
 use sas_reader::{Front, Kind};
-use sas_task_judge::{Keeper, VariableKept};
+use sas_task_format::Counts;
+use sas_task_judge::{Keeper, VariableKept, counted};
 use sas_task_line::{
     Event, Gathered, Said, group_found, operator_found, rule_found, variable_found,
 };
@@ -318,6 +319,14 @@ impl Keeper for FlatSoFar {
     ghost use Rattle.std.specs.Prelude.{◌≡◌};
 
     ghost keeps = { λ lines s kept. kept ≡ s };
+
+    fn counts(&self) -> Counts {
+        Counts {
+            groups: counted(self.columns.groups.len()),
+            operators: counted(self.columns.operators.len()),
+            rules: counted(self.columns.rules.len()),
+        }
+    }
 
     fn keep(&mut self, line: &[u8], event: Event, said: &mut Said) -> Result<(), Kind> {
         self.add(line, event, said)?;

@@ -13,6 +13,7 @@ use crate::fronts::{group_front, operator_front, rule_front};
 use sas_core::Items;
 use sas_flat::Outline;
 use sas_reader::{Front, Kind};
+use sas_task_format::Counts;
 use sas_task_judge::{Keeper, VariableKept};
 use sas_task_line::{Event, Gathered, Said};
 use std::alloc::Global;
@@ -106,6 +107,14 @@ impl Keeper for TaskOutline {
     ghost use Rattle.sas_task_reader.specs.TaskOutline.{kept_of};
 
     ghost keeps = { λ _ s kept. kept ≡ kept_of s };
+
+    fn counts(&self) -> Counts {
+        Counts {
+            groups: self.seen.groups,
+            operators: self.seen.operators,
+            rules: self.seen.rules,
+        }
+    }
 
     fn keep(&mut self, line: &[u8], event: Event, said: &mut Said) -> Result<(), Kind> {
         match event {

@@ -3,6 +3,7 @@
 ghost use Rattle.std.specs.Prelude.{◌≡◌, ◌≢◌, ◌<◌, ◌≤◌, ◌-◌, ◌^◌, length, [], ◌∷◌, ◌++◌, IfSome, IfNone};
 ghost use Rattle.sas_core.specs.Names.{IsName};
 ghost use Rattle.sas_task_line.specs.declared.so_far.SoFar.{SoFar};
+ghost use Rattle.sas_task_format.specs.TaskFormat as format;
 ghost use Rattle.sas_task_format.specs.TaskProcess.{a_word, a_name, a_number, a_fact, any};
 ghost use Rattle.sas_task_judge.specs.TaskJudge.{Due, MovesAhead, HasEnded};
 
@@ -18,7 +19,7 @@ impl TaskJudge {
     fn word_ahead(&mut self, bytes: &[u8], word: &[u8], next: Place) -> Option<Ahead<Event>>
         requires name { IsName word.now }
         requires apart { next ≢ Place.VariableValues }
-        requires due { Due self.old (λ _. a_word word.now)
+        requires due { Due self.old (λ _. a_word word.now) (λ _. format.word word.now)
             (λ _. record self.old { place = next }) (λ _ s. s) }
         ensures some { IfSome result (λ a. MovesAhead self.old bytes.now self.new a.said a.taken) }
         ensures none { IfNone result (self.new ≡ self.old) }
@@ -36,7 +37,7 @@ impl TaskJudge {
         requires name { IsName word.now }
         requires apart { next ≢ Place.VariableValues }
         requires left { 0 < self.old.left }
-        requires due { Due self.old (λ _. a_word word.now)
+        requires due { Due self.old (λ _. a_word word.now) (λ _. format.word word.now)
             (λ _. record self.old { left = self.old.left - 1; place = next }) (λ _ s. s) }
         ensures some { IfSome result (λ a. MovesAhead self.old bytes.now self.new a.said a.taken) }
         ensures none { IfNone result (self.new ≡ self.old) }
@@ -53,7 +54,7 @@ impl TaskJudge {
     /// Takes the name of a variable or an operator.
     fn name_ahead(&mut self, bytes: &[u8], next: Place) -> Option<Ahead<Event>>
         requires apart { next ≢ Place.VariableValues }
-        requires due { Due self.old (λ _. a_name)
+        requires due { Due self.old (λ _. a_name) format.name
             (λ _. record self.old { place = next }) (λ name s. record s { name = name }) }
         ensures some { IfSome result (λ a. MovesAhead self.old bytes.now self.new a.said a.taken) }
         ensures none { IfNone result (self.new ≡ self.old) }
@@ -84,7 +85,7 @@ impl TaskJudge {
     /// Takes the number of facts that are due next, or of conditions.
     fn fact_count_ahead(&mut self, bytes: &[u8], next: Place) -> Option<Ahead<Event>>
         requires apart { next ≢ Place.VariableValues }
-        requires due { Due self.old (λ _. a_number any)
+        requires due { Due self.old (λ _. a_number any) format.number
             (λ n. record self.old { more = n; place = next }) (λ _ s. record s { facts = [] }) }
         ensures some { IfSome result (λ a. MovesAhead self.old bytes.now self.new a.said a.taken) }
         ensures none { IfNone result (self.new ≡ self.old) }
@@ -100,7 +101,7 @@ impl TaskJudge {
     fn fact_ahead(&mut self, bytes: &[u8]) -> Option<Ahead<Event>>
         requires apart { self.old.place ≢ Place.VariableValues }
         requires more { 0 < self.old.more }
-        requires due { Due self.old a_fact
+        requires due { Due self.old a_fact format.fact
             (λ _. record self.old { more = self.old.more - 1 })
             (λ f s. record s { facts = s.facts ++ f ∷ [] }) }
         ensures some { IfSome result (λ a. MovesAhead self.old bytes.now self.new a.said a.taken) }

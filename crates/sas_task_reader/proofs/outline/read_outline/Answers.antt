@@ -1,9 +1,5 @@
-use Rattle.std.proofs.Common.{◌≡◌, ◌-◌, ◌^◌, List, ℕ, length, arith, ap, ◌∙◌, sym, subst, rules, Err}
-use Rattle.std.specs.Prelude.{min}
-use Rattle.sas_core.specs.Numbers.{IsNumber}
-use Rattle.sas_core.specs.WellRanged.{WellRanged}
+use Rattle.std.proofs.Common.{◌≡◌, List, ℕ, ap, ◌∙◌, sym, subst, rules, Err}
 use Rattle.sas_task_reader.specs.declared.task_outline.Seen.{Seen}
-use Rattle.sas_flat.specs.Outlines.{outline_of}
 use Rattle.sas_task_reader.specs.Outline.{OutlineOf}
 use Rattle.sas_task_reader.specs.TaskOutline.{outline_in, kept_of}
 use Rattle.sas_reader.specs.Devices.{ReadsAll}
@@ -12,6 +8,7 @@ use Rattle.sas_task_line.specs.declared.so_far.SoFar.{SoFar}
 use Rattle.sas_task_judge.specs.declared.task_machine.TaskMachine.{TaskMachine}
 use Rattle.sas_task_judge.specs.TaskJudge.{HasEnded, RejectsLine}
 use Rattle.sas_task_judge.specs.TaskMachine.{LedBy}
+use Rattle.sas_task_reader.proofs.Outlines.{outline_is}
 use Rattle.sas_task_reader.proofs.TaskStanding.{machine_follows, reads_so_far}
 use Rattle.sas_task_format.specs.Process.{process_node}
 use Rattle.sas_task_format.specs.TaskFormat.{task_format, TaskLineFits}
@@ -29,17 +26,6 @@ Ended m = HasEnded m.judge
 
 abbrev Refused : TaskMachine Seen → List ℕ → Kind → Type 0
 Refused m line kind = RejectsLine m.judge line kind
-
--- a number is counted as it is
-counted_number : (n : ℕ) → IsNumber n → min n (2 ^ 32 - 1) ≡ n
-counted_number n h = omega (arith, h)
-
--- of a task that is well ranged the outline is what was seen of it
-outline_is : (s : SoFar) → WellRanged s.parts → outline_in (kept_of s) ≡ outline_of s.parts
-outline_is s w =
-    ap (λ (n : ℕ). record (outline_in (kept_of s)) { groups = n }) (counted_number (length s.parts.groups) w.groups.count)
-    ∙ ap (λ (n : ℕ). record (outline_in (kept_of s)) { groups = length s.parts.groups; operators = n }) (counted_number (length s.parts.operators) w.operators.count)
-    ∙ ap (λ (n : ℕ). record (outline_of s.parts) { rules = n }) (counted_number (length s.parts.rules) w.rules.count)
 
 pub new-start-requires : goal.new-start-requires
 new-start-requires g c = (c.args.alloc, c.new.ensures)

@@ -12,6 +12,6 @@ returns-clause-some c =
       before_end = spells.before_end;
       moves = λ s f. (
         record { ranges = f.ranges; valued = f.valued; range = λ h. absurd (c.requires.apart h) },
-        on _ _ _ _ _ (name c.in_ok-name.name.now) _ (c.requires.due s f) (record { slot = refl; fits = tt; good = c.in_ok-name.ensures.0 }, refl) refl,
+        on _ _ _ _ _ _ _ (name c.in_ok-name.name.now) _ (c.requires.due s f).0 (record { slot = refl; fits = tt; good = c.in_ok-name.ensures.0 }, refl) refl ((c.requires.due s f).1 _),
       );
     }

@@ -6,3 +6,6 @@ returns-clause-valued c = search rules
 
 pub returns-clause-ranges : goal.returns-clause-ranges
 returns-clause-ranges c = search rules
+
+pub returns-clause-left : goal.returns-clause-left
+returns-clause-left c = search rules

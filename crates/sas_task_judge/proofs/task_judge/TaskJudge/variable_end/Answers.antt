@@ -4,6 +4,7 @@ use Rattle.sas_task_line.specs.TaskRanges.{ranges_of}
 use Rattle.sas_task_judge.specs.TaskPlaces.{variable_values}
 use Rattle.sas_task_judge.proofs.TaskMoves.{on}
 use Rattle.sas_task_judge.proofs.TaskRanges.{ranges_push}
+use Rattle.sas_task_judge.proofs.Stepping.{variable_end_steps}
 use Rattle.sas_task_judge.proofs.task_judge.TaskJudge.variable_end.Goals as goal
 
 pub returns : goal.returns
@@ -13,5 +14,5 @@ returns c = λ s f. (
     valued = f.valued;
     range = λ h. absurd cc;
   },
-  on _ _ _ _ _ _ _ ((ap (λ place. state_at place c.args.self.now.left c.args.self.now.more s) c.requires.place) ∙ ap (λ more. variable_values c.args.self.now.left s.parts s.name s.layer more s.values) c.requires.all) c.in_ok-word_at.ensures refl,
+  on _ _ _ _ _ _ _ _ _ ((ap (λ place. state_at place c.args.self.now.left c.args.self.now.more s) c.requires.place) ∙ ap (λ more. variable_values c.args.self.now.left s.parts s.name s.layer more s.values) c.requires.all) c.in_ok-word_at.ensures refl (variable_end_steps c.args.self.now s _ _ c.requires.place c.requires.all c.in_ok-push.ensures.ok),
 )

@@ -7,5 +7,5 @@ on_ok : {X E : Type 0} (r : Result X E) (P Q : Type 0) → OnOk r P → (P → Q
 on_ok (Ok x) P Q h f = f h
 on_ok (Err e) P Q h f = tt
 
-pub returns-clause-led : goal.returns-clause-led
-returns-clause-led g c = on_ok c.keep.result _ _ c.keep.ensures.kept (λ keeps_on before h. led_on _ before c.args.self.now c.take.new.self _ c.keep.new.self c.in_ok-event.event c.args.line.now h c.in_ok-event.ensures keeps_on)
+pub returns-in-Ok-clause-led : goal.returns-in-Ok-clause-led
+returns-in-Ok-clause-led g c = on_ok c.keep.result _ _ c.keep.ensures.kept (λ keeps_on before h. led_on _ before c.args.self.now c.take.new.self _ c.keep.new.self c.in-Ok.event c.args.line.now h c.in-Ok.ensures keeps_on)

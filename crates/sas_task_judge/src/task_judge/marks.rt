@@ -1,0 +1,175 @@
+// Where the judge stands and what is due there. It is asked for where a line is refused, and only then.
+ghost use Rattle.std.specs.Prelude.{◌≡◌, ◌-◌, length, IfOk};
+ghost use Rattle.std.specs.Prelude.{slice_index_or};
+ghost use Rattle.sas_task_line.specs.FirstWrong.{FirstWrong};
+ghost use Rattle.sas_task_judge.specs.TaskJudge.{IsBehindGroups, StandsAsBefore};
+ghost use Rattle.sas_task_judge.specs.Marks.{capped, mark_of, due_slot, LocationIs, DueIs};
+
+use super::TaskJudge;
+use sas_task_format::{Counts, Due, FixedWord, Location, Mark, Place, WrongWord};
+use sas_task_line::{wrong_in_effect, wrong_in_fact, wrong_in_head};
+use std::alloc::AllocError;
+
+/// The greatest number of a task file.
+const MOST: u32 = 2_147_483_647;
+
+/// Returns the number as far as 32 bits count.
+pub fn counted(n: usize) -> u32
+    ensures { result ≡ capped n }
+{
+    if n < u32::MAX as usize {
+        n as u32
+    } else {
+        u32::MAX
+    }
+}
+
+impl TaskJudge {
+    /// Returns the greatest value of the variable whose value in the state comes next.
+    fn next_most(&self) -> u32
+        ensures { result ≡ slice_index_or self.now.ranges self.now.valued 0 - 1 }
+    {
+        match self.ranges.get(self.valued) {
+            Some(&range) => range.saturating_sub(1),
+            None => 0,
+        }
+    }
+
+    /// Returns where the next line stands.
+    fn location(&self, counts: Counts) -> Location
+        ensures { LocationIs self.now counts result }
+    {
+        match self.place {
+            Place::VersionBegin => Location::Version,
+            Place::VersionNumber => Location::Version,
+            Place::VersionEnd => Location::Version,
+            Place::MetricBegin => Location::Metric,
+            Place::MetricNumber => Location::Metric,
+            Place::MetricEnd => Location::Metric,
+            Place::VariableCount => Location::Variables,
+            Place::Variables if self.left == 0 => Location::Groups,
+            Place::Variables => Location::Variable(counted(self.ranges.len())),
+            Place::VariableName => Location::Variable(counted(self.ranges.len())),
+            Place::VariableLayer => Location::Variable(counted(self.ranges.len())),
+            Place::VariableRange => Location::Variable(counted(self.ranges.len())),
+            Place::VariableValues => Location::Variable(counted(self.ranges.len())),
+            Place::Groups if self.left == 0 => Location::State,
+            Place::Groups => Location::Group(counts.groups),
+            Place::GroupSize => Location::Group(counts.groups),
+            Place::GroupFacts => Location::Group(counts.groups),
+            _ => self.location_behind_groups(counts),
+        }
+    }
+
+    /// Returns where the next line stands, where the mutex groups have come.
+    fn location_behind_groups(&self, counts: Counts) -> Location
+        requires { IsBehindGroups self.now.place }
+        ensures { LocationIs self.now counts result }
+    {
+        match self.place {
+            Place::StateValues => Location::State,
+            Place::GoalBegin => Location::Goal,
+            Place::GoalSize => Location::Goal,
+            Place::GoalFacts => Location::Goal,
+            Place::OperatorCount => Location::Operators,
+            Place::Operators if self.left == 0 => Location::Rules,
+            Place::Operators => Location::Operator(counts.operators),
+            Place::OperatorName => Location::Operator(counts.operators),
+            Place::PrevailCount => Location::Operator(counts.operators),
+            Place::Prevail => Location::Operator(counts.operators),
+            Place::Effects => Location::Operator(counts.operators),
+            Place::OperatorEnd => Location::Operator(counts.operators.saturating_sub(1)),
+            Place::Rules if self.left == 0 => Location::End,
+            Place::Rules => Location::Rule(counts.rules),
+            Place::RuleSize => Location::Rule(counts.rules),
+            Place::RuleConditions => Location::Rule(counts.rules),
+            Place::RuleEnd => Location::Rule(counts.rules.saturating_sub(1)),
+            _ => unreachable!(),
+        }
+    }
+
+    /// Returns what is due on the next line.
+    fn due(&self) -> Due
+        ensures { DueIs self.now result }
+    {
+        match self.place {
+            Place::VersionBegin => Due::Word(FixedWord::BeginVersion),
+            Place::VersionNumber => Due::Number { least: 3, most: 3 },
+            Place::VersionEnd => Due::Word(FixedWord::EndVersion),
+            Place::MetricBegin => Due::Word(FixedWord::BeginMetric),
+            Place::MetricNumber => Due::Number { least: 0, most: 1 },
+            Place::MetricEnd => Due::Word(FixedWord::EndMetric),
+            Place::VariableCount => Due::Number { least: 1, most: MOST },
+            Place::Variables if self.left == 0 => Due::Number { least: 0, most: MOST },
+            Place::Variables => Due::Word(FixedWord::BeginVariable),
+            Place::VariableName => Due::Name,
+            Place::VariableLayer => Due::Layer,
+            Place::VariableRange => Due::Number { least: 1, most: MOST },
+            Place::VariableValues if self.more == 0 => Due::Word(FixedWord::EndVariable),
+            Place::VariableValues => Due::Name,
+            Place::Groups if self.left == 0 => Due::Word(FixedWord::BeginState),
+            Place::Groups => Due::Word(FixedWord::BeginMutexGroup),
+            Place::GroupSize => Due::Number { least: 0, most: MOST },
+            Place::GroupFacts if self.more == 0 => Due::Word(FixedWord::EndMutexGroup),
+            Place::GroupFacts => Due::Fact,
+            _ => self.due_behind_groups(),
+        }
+    }
+
+    /// Returns what is due on the next line, where the mutex groups have come.
+    fn due_behind_groups(&self) -> Due
+        requires { IsBehindGroups self.now.place }
+        ensures { DueIs self.now result }
+    {
+        match self.place {
+            Place::StateValues if self.has_state() => Due::Word(FixedWord::EndState),
+            Place::StateValues => Due::Number { least: 0, most: self.next_most() },
+            Place::GoalBegin => Due::Word(FixedWord::BeginGoal),
+            Place::GoalSize => Due::Number { least: 0, most: MOST },
+            Place::GoalFacts if self.more == 0 => Due::Word(FixedWord::EndGoal),
+            Place::GoalFacts => Due::Fact,
+            Place::OperatorCount => Due::Number { least: 0, most: MOST },
+            Place::Operators if self.left == 0 => Due::Number { least: 0, most: MOST },
+            Place::Operators => Due::Word(FixedWord::BeginOperator),
+            Place::OperatorName => Due::Name,
+            Place::PrevailCount => Due::Number { least: 0, most: MOST },
+            Place::Prevail if self.more == 0 => Due::Number { least: 0, most: MOST },
+            Place::Prevail => Due::Fact,
+            Place::Effects if self.more == 0 => Due::Number { least: 0, most: MOST },
+            Place::Effects => Due::Effect,
+            Place::OperatorEnd => Due::Word(FixedWord::EndOperator),
+            Place::Rules if self.left == 0 => Due::Nothing,
+            Place::Rules => Due::Word(FixedWord::BeginRule),
+            Place::RuleSize => Due::Number { least: 0, most: MOST },
+            Place::RuleConditions if self.more == 0 => Due::Head,
+            Place::RuleConditions => Due::Fact,
+            Place::RuleEnd => Due::Word(FixedWord::EndRule),
+            _ => unreachable!(),
+        }
+    }
+
+    /// Returns where the next line stands and what is due there, where so many groups, operators and rules have come.
+    #[cold]
+    pub fn mark(&self, counts: Counts) -> Mark
+        ensures { result ≡ mark_of self.now (capped (length self.now.ranges)) counts }
+    {
+        Mark {
+            at: self.location(counts),
+            due: self.due(),
+        }
+    }
+
+    /// Reads a line again that was refused for a number, and returns the first word whose number may not stand there. What
+    /// the last effect said is lost.
+    pub fn wrong_word(&mut self, line: &[u8]) -> Result<Option<WrongWord>, AllocError>
+        ensures word { IfOk result (FirstWrong self.old.ranges (due_slot self.old) line.now) }
+        ensures stands { StandsAsBefore self.old self.new }
+    {
+        match self.due() {
+            Due::Fact => Ok(wrong_in_fact(&self.ranges, line)),
+            Due::Head => Ok(wrong_in_head(&self.ranges, line)),
+            Due::Effect => wrong_in_effect(&mut self.said.effect, &self.ranges, line),
+            _ => Ok(None),
+        }
+    }
+}

@@ -1,0 +1,7 @@
+use Rattle.std.proofs.Common.{refl}
+use Rattle.sas_task_format.specs.TaskFormat.{effect}
+use Rattle.sas_task_line.proofs.WrongWords.{first_is}
+use Rattle.sas_task_line.proofs.wrong_word.wrong_in_effect.Goals as goal
+
+pub returns : goal.returns
+returns c = first_is _ _ c.args.line.now (effect c.effect_of.new.effect) _ refl (c.in_ok-found.ensures.found c.if-not-found.false) c.effect_wrong.ensures

@@ -1,0 +1,172 @@
+// The first word of a line whose number may not stand there. It is asked for where a line is refused, and only then.
+ghost use Rattle.std.specs.Prelude.{◌≡◌, ◌<◌, ◌^◌, ◌-◌, length, [], ◌∷◌, true, false, Option, Some, IfOk};
+ghost use Rattle.sas_task_format.specs.TaskFormat.{fact_slot, effect_slot, head_slot};
+ghost use Rattle.sas_task_line.specs.FirstWrong.{first_wrong, value_of, old_of, variable_in, fact_words_in, change_words_in, effect_words_in, FirstWrong};
+ghost use Rattle.sas_task_line.specs.TaskRanges.{range_in};
+
+use crate::task_line::{change_of, effect_of, fact_of};
+use sas_core::{Change, Effect, Fact, Items};
+use sas_task_format::WrongWord;
+use std::alloc::AllocError;
+
+/// Returns how many values the variable has, 0 if there is no such variable.
+fn range_of(ranges: &Items<u32>, var: u32) -> u32
+    ensures { result ≡ range_in ranges.now var }
+{
+    match ranges.get(var as usize) {
+        Some(&range) => range,
+        None => 0,
+    }
+}
+
+/// Checks the number of a variable.
+fn variable_wrong(ranges: &Items<u32>, var: u32, word: u64) -> Option<WrongWord>
+    ensures { result ≡ first_wrong word (variable_in ranges.now var ∷ []) }
+{
+    let count = ranges.len();
+    if (var as usize) < count {
+        return None;
+    }
+    Some(WrongWord {
+        word,
+        may_be_none: false,
+        most: count.saturating_sub(1) as u32,
+    })
+}
+
+/// Checks the value of a variable.
+fn value_wrong(ranges: &Items<u32>, var: u32, value: u32, word: u64) -> Option<WrongWord>
+    ensures { result ≡ first_wrong word (value_of ranges.now var value ∷ []) }
+{
+    let range = range_of(ranges, var);
+    if value < range {
+        return None;
+    }
+    Some(WrongWord {
+        word,
+        may_be_none: false,
+        most: range.saturating_sub(1),
+    })
+}
+
+/// Checks the old value of a variable, which may be none.
+fn old_wrong(ranges: &Items<u32>, var: u32, old: Option<u32>, word: u64) -> Option<WrongWord>
+    ensures { result ≡ first_wrong word (old_of ranges.now var old ∷ []) }
+{
+    let Some(value) = old else {
+        return None;
+    };
+    let range = range_of(ranges, var);
+    if value < range {
+        return None;
+    }
+    Some(WrongWord {
+        word,
+        may_be_none: true,
+        most: range.saturating_sub(1),
+    })
+}
+
+/// Checks a fact whose variable is the word of this number.
+fn fact_wrong_from(ranges: &Items<u32>, fact: Fact, word: u64) -> Option<WrongWord>
+    requires { word < 2 ^ 63 }
+    ensures { result ≡ first_wrong word (fact_words_in ranges.now fact) }
+{
+    match variable_wrong(ranges, fact.var, word) {
+        Some(wrong) => Some(wrong),
+        None => value_wrong(ranges, fact.var, fact.value, word + 1),
+    }
+}
+
+/// Checks the old value and the new one, of which the old one is the word of this number.
+fn values_wrong_from(ranges: &Items<u32>, change: Change, word: u64) -> Option<WrongWord>
+    requires { word < 2 ^ 63 }
+    ensures { result ≡ first_wrong word
+        (old_of ranges.now change.var change.old ∷ value_of ranges.now change.var change.new ∷ []) }
+{
+    match old_wrong(ranges, change.var, change.old, word) {
+        Some(wrong) => Some(wrong),
+        None => value_wrong(ranges, change.var, change.new, word + 1),
+    }
+}
+
+/// Checks a change whose variable is the word of this number.
+fn change_wrong_from(ranges: &Items<u32>, change: Change, word: u64) -> Option<WrongWord>
+    requires { word < 2 ^ 62 }
+    ensures { result ≡ first_wrong word (change_words_in ranges.now change.var change.old change.new) }
+{
+    match variable_wrong(ranges, change.var, word) {
+        Some(wrong) => Some(wrong),
+        None => values_wrong_from(ranges, change, word + 1),
+    }
+}
+
+/// Returns the first wrong word of a fact, if there is one.
+pub fn fact_wrong(ranges: &Items<u32>, fact: Fact) -> Option<WrongWord>
+    ensures { result ≡ first_wrong 1 (fact_words_in ranges.now fact) }
+{
+    fact_wrong_from(ranges, fact, 1)
+}
+
+/// Returns the first wrong word of the head of a rule, if there is one.
+pub fn change_wrong(ranges: &Items<u32>, change: Change) -> Option<WrongWord>
+    ensures { result ≡ first_wrong 1 (change_words_in ranges.now change.var change.old change.new) }
+{
+    change_wrong_from(ranges, change, 1)
+}
+
+/// Returns the first wrong word of an effect, if there is one. The count of its conditions is the first of all its words.
+pub fn effect_wrong(ranges: &Items<u32>, effect: &Effect) -> Option<WrongWord>
+    requires { length effect.now.conditions < 2 ^ 31 }
+    ensures { result ≡ first_wrong 1 (effect_words_in ranges.now effect.now) }
+{
+    let count = effect.conditions.len();
+    for i in 0..count {
+        if let Some(&fact) = effect.conditions.get(i) {
+            if let Some(wrong) = fact_wrong_from(ranges, fact, 2 * i as u64 + 2) {
+                return Some(wrong);
+            }
+        }
+    }
+    let change = Change {
+        var: effect.var,
+        old: effect.old,
+        new: effect.new,
+    };
+    change_wrong_from(ranges, change, 2 * count as u64 + 2)
+}
+
+/// Reads the line as a fact, and returns its first wrong word, if there is one.
+pub fn wrong_in_fact(ranges: &Items<u32>, line: &[u8]) -> Option<WrongWord>
+    ensures { FirstWrong ranges.now fact_slot line.now result }
+{
+    match fact_of(line) {
+        Some(fact) => fact_wrong(ranges, fact),
+        None => None,
+    }
+}
+
+/// Reads the line as the head of a rule likewise.
+pub fn wrong_in_head(ranges: &Items<u32>, line: &[u8]) -> Option<WrongWord>
+    ensures { FirstWrong ranges.now head_slot line.now result }
+{
+    match change_of(line) {
+        Some(change) => change_wrong(ranges, change),
+        None => None,
+    }
+}
+
+/// Reads the line as an effect likewise. The effect is stored.
+pub fn wrong_in_effect(
+    effect: &mut Effect,
+    ranges: &Items<u32>,
+    line: &[u8],
+) -> Result<Option<WrongWord>, AllocError>
+    ensures { IfOk result (FirstWrong ranges.now effect_slot line.now) }
+{
+    let found = effect_of(effect, line)?;
+    if !found {
+        return Ok(None);
+    }
+    Ok(effect_wrong(ranges, effect))
+}

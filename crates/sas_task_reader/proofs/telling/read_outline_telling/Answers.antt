@@ -1,0 +1,42 @@
+use Rattle.std.proofs.Common.{◌≡◌, List, ℕ, ap, ◌∙◌}
+use Rattle.sas_task_reader.specs.declared.task_outline.Seen.{Seen}
+use Rattle.sas_task_reader.specs.Outline.{OutlineOf}
+use Rattle.sas_task_reader.specs.TaskOutline.{outline_in, kept_of}
+use Rattle.sas_reader.specs.declared.fault.Kind.{Kind}
+use Rattle.sas_task_line.specs.declared.so_far.SoFar.{SoFar}
+use Rattle.sas_task_judge.specs.declared.task_machine.TaskMachine.{TaskMachine}
+use Rattle.sas_task_judge.specs.TaskJudge.{HasEnded, RejectsLine}
+use Rattle.sas_task_judge.specs.TaskMachine.{LedBy, Stopped}
+use Rattle.sas_task_reader.proofs.Outlines.{outline_is}
+use Rattle.sas_task_reader.proofs.TaskStanding.{machine_follows, reads_so_far}
+use Rattle.sas_task_format.specs.Process.{process_node}
+use Rattle.sas_task_format.specs.TaskFormat.{task_format, TaskLineFits}
+use Rattle.sas_task_format.specs.TaskProcess.{task_start}
+use Rattle.sas_task_format.proofs.TaskGrammar.{task_grammar}
+use Rattle.sas_reader.proofs.Telling.{reads_all_telling, refuses_all_telling}
+use Rattle.sas_task_reader.specs.Telling.{fault_in, found_in, TellsReason}
+use Rattle.sas_task_reader.proofs.telling.read_outline_telling.Goals as goal
+
+-- what the machine keeps
+abbrev Keeps : List (List ℕ) → SoFar → Seen → Type 0
+Keeps lines s kept = kept ≡ kept_of s
+
+abbrev Ended : TaskMachine Seen → Type 0
+Ended m = HasEnded m.judge
+
+abbrev Refused : TaskMachine Seen → List ℕ → Kind → Type 0
+Refused m line kind = RejectsLine m.judge line kind
+
+pub new-start-requires : goal.new-start-requires
+new-start-requires g c = (c.args.alloc, c.new.ensures)
+
+pub returns-in-Ok : goal.returns-in-Ok
+returns-in-Ok g c =
+    reads_all_telling task_format TaskLineFits process_node task_start task_grammar (LedBy Keeps) Ended Refused Stopped (machine_follows Keeps) fault_in found_in TellsReason g.R.Read.remaining _ _ _ c.in-Ok.machine _ c.in-Ok.ensures (λ b reached short.
+    let reads = reads_so_far Keeps c.in-Ok.machine b reached c.in-Ok.ensures.plain.at_end in
+    (reached.led.so_far.parts, (reads, short), c.into_outline.ensures ∙ ap outline_in (c.into_kept.ensures ∙ reached.led.kept) ∙ outline_is reached.led.so_far reads.good))
+
+pub returns-in-Err : goal.returns-in-Err
+returns-in-Err g c =
+    refuses_all_telling task_format TaskLineFits process_node task_start task_grammar (LedBy Keeps) Ended Refused Stopped (machine_follows Keeps) fault_in found_in TellsReason g.R.Read.remaining _ _ _
+    c.in-Err.refused _ c.refusal_of.ensures.fault c.refusal_of.ensures.found c.refusal_of.ensures.reason c.in-Err.ensures
