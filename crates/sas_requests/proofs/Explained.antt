@@ -24,7 +24,7 @@ use Rattle.sas_requests.specs.Answering.{Answers, AnswersFile, output_of}
 use Rattle.sas_plan_file.specs.declared.plan_refusal.PlanRefusal.{PlanRefusal}
 use Rattle.sas_task_format.proofs.TaskSections.{less, is_less}
 use Rattle.sas_task_format.specs.TaskReasons.{IsTaskReason}
-use Rattle.sas_task_reader.specs.declared.refusal.TaskRefusal.{TaskRefusal}
+use Rattle.sas_task_reader.specs.declared.telling.TaskRefusal.{TaskRefusal}
 use Rattle.sas_file_reasons.specs.PlanDue.{plan_reason_lines}
 use Rattle.sas_file_reasons.specs.TaskDue.{task_reason_lines}
 use Rattle.sas_requests.specs.Explaining.{FileOutWhy, IsRefusedWith, task_refusal_lines, plan_refusal_lines}

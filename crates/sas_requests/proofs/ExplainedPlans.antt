@@ -1,4 +1,4 @@
--- How an answer about a task and a plan with reasons comes about.
+-- How an answer with reasons to each request comes about.
 use Rattle.std.proofs.Common.{◌≡◌, ◌≢◌, ℕ, List, [], codes, false, refl, sym, ap, subst, ◌∙◌, Option, Some, None, Result, Ok, Err}
 use Rattle.std.specs.Prelude.{IfOk, IfErr}
 use Rattle.sas_core.specs.declared.parts.Parts.{Parts}
@@ -13,19 +13,20 @@ use Rattle.sas_reader.specs.declared.fault.Fault.{Fault}
 use Rattle.sas_reader.specs.Devices.{ValueOf, ReadsAll}
 use Rattle.sas_reader.specs.Format.{ReadsAs}
 use Rattle.sas_reader.specs.Limit.{most_bytes}
+use Rattle.sas_plan_file.specs.PlanFormat.{plan_format}
 use Rattle.sas_task_format.specs.TaskFormat.{task_format}
 use Rattle.sas_task_format.proofs.TaskLaws.{task_laws_hold}
 use Rattle.sas_output.specs.declared.ending.ToolFault.{ToolFault}
 use Rattle.sas_output.specs.declared.ending.ToolFault.TheVariants as tool_fault
 use Rattle.sas_output.specs.Ending.{Output}
 use Rattle.sas_explain.specs.Verdict.{WhyVerdict}
-use Rattle.sas_task_reasons.specs.WhyLayers.{why_refusal}
+use Rattle.sas_task_reasons.specs.WhyLayers.{why_refusal, WhyCheckAnswer, WhyMutexAnswer}
 use Rattle.sas_requests.specs.declared.answers.Answer.{Answer}
-use Rattle.sas_requests.specs.declared.Request.TheVariants.{Plan}
+use Rattle.sas_requests.specs.declared.Request.TheVariants.{Show, Print, Steps, Check, Plan, Mutex}
 use Rattle.sas_requests.specs.Answering.{AnswersFiles, output_of}
 use Rattle.sas_requests.specs.Explaining.{TaskOutWhy, PlanOutWhy}
 use Rattle.sas_requests.specs.FileReasons.{ReadReasons, TellsTask, LayersFileReasons, JudgedFileReasons}
-use Rattle.sas_requests.specs.Output.{IsAnswerOrRefusal}
+use Rattle.sas_requests.specs.Output.{IsAnswerOrRefusal, ShowAnswer, PrintAnswer}
 use Rattle.sas_requests.specs.Why.{OutWhy}
 use Rattle.sas_requests.proofs.PlanAnswers.{NoAnswer, told_fault, refused_out, judged_out, unlayered_out, refused_layers_by, starved_files_by}
 use Rattle.sas_requests.proofs.RefusalReasons.{no_reasons}
@@ -82,3 +83,20 @@ module _ {T P : Type 0} (left_task : T → Option (List ℕ)) (left_plan : P →
       let is_first = first (told_fault fault refusal.plain refusal.is) in
       refused_layers_by left_task left_plan (OutWhy Plan) old new p read plan working a (λ b c reads. unlayered_why p fault b c (output_of a) reads is_first told)
   unlayered_files_why plan fault (Err why) working first told starved = starved_files_by left_task left_plan (OutWhy Plan) old new p read plan working why starved
+
+-- ---- the requests that read one file
+
+pub show_why : (b c : List ℕ) (o : Option Output) → TaskOutWhy ShowAnswer b o → OutWhy Show b c o
+show_why b c o out = record { of_read = out.of_read; reasons = out.reasons; is_out = out.is_out; are_reasons = out.are_reasons; whole = out.whole }
+
+pub print_why : (b c : List ℕ) (o : Option Output) → TaskOutWhy (PrintAnswer task_format) b o → OutWhy Print b c o
+print_why b c o out = record { of_read = out.of_read; reasons = out.reasons; is_out = out.is_out; are_reasons = out.are_reasons; whole = out.whole }
+
+pub steps_why : (b c : List ℕ) (o : Option Output) → PlanOutWhy (PrintAnswer plan_format) c o → OutWhy Steps b c o
+steps_why b c o out = record { of_read = out.of_read; reasons = out.reasons; is_out = out.is_out; are_reasons = out.are_reasons; whole = out.whole }
+
+pub check_why : (b c : List ℕ) (o : Option Output) → TaskOutWhy WhyCheckAnswer b o → OutWhy Check b c o
+check_why b c o out = record { of_read = out.of_read; reasons = out.reasons; is_out = out.is_out; are_reasons = out.are_reasons; whole = out.whole }
+
+pub mutex_why : (b c : List ℕ) (o : Option Output) → TaskOutWhy WhyMutexAnswer b o → OutWhy Mutex b c o
+mutex_why b c o out = record { of_read = out.of_read; reasons = out.reasons; is_out = out.is_out; are_reasons = out.are_reasons; whole = out.whole }

@@ -40,7 +40,7 @@ abbrev pub NoAnswer : Parts → Output → Type 0
 NoAnswer p output = ⊥
 
 -- an answer of one output is one of another that follows from it
-answers_by : (A B : Option Output → Type 0) → ((o : Option Output) → A o → B o) → (r : Result Answer ToolFault) → Answers A r → Answers B r
+pub answers_by : (A B : Option Output → Type 0) → ((o : Option Output) → A o → B o) → (r : Result Answer ToolFault) → Answers A r → Answers B r
 answers_by A B to (Ok answer) is = to (Some (output_of answer)) is
 answers_by A B to (Err why) is = λ long. to None (is long)
 

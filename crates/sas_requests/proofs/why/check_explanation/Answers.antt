@@ -1,8 +1,14 @@
-use Rattle.std.proofs.Common.{codes, Ok, refl}
+use Rattle.std.proofs.Common.{codes}
+use Rattle.sas_reader.specs.Devices.{ValueOf, TextOf}
 use Rattle.sas_task_format.specs.TaskFormat.{task_format}
+use Rattle.sas_task_reader.specs.Outline.{OutlineOf}
+use Rattle.sas_task_reader.specs.Telling.{fault_in, found_in, TellsReason}
+use Rattle.sas_requests.specs.Explaining.{task_refusal_lines}
+use Rattle.sas_requests.specs.FileReasons.{TellsTask}
+use Rattle.sas_requests.proofs.Explained.{explains_value, explains_refusal, task_refusal_tells}
+use Rattle.sas_requests.proofs.RefusalLaws.{task_telling}
 use Rattle.sas_task_reasons.specs.WhyLayers.{WhyCheckAnswer}
 use Rattle.sas_requests.proofs.LayerLengths.{layers_fit}
-use Rattle.sas_requests.proofs.Outputs.{answers_value, answers_refusal}
 use Rattle.sas_requests.proofs.why.check_explanation.Goals as goal
 
 pub explain_check-requires : goal.explain_check-requires
@@ -10,8 +16,11 @@ explain_check-requires g c = let read = c.in-Ok.ensures.read in layers_fit read.
 
 pub returns : goal.returns
 returns g c =
-    answers_value g.R.Read.remaining task_format _ (codes "task") WhyCheckAnswer _ _ c.in-Ok.task _ c.in-Ok.ensures
-    (λ b value. (Ok c.in-Ok.task, value, (_, rw c.answer_of.ensures c.in_ok-explain_check.ensures, refl)))
+    explains_value g.R.Read.remaining task_format task_telling TellsTask (ValueOf task_format) fault_in found_in TellsReason (codes "task") WhyCheckAnswer _ _ c.in-Ok.task _ c.in-Ok.ensures
+    (λ b value. (c.in-Ok.task, value, rw c.answer_of.ensures c.in_ok-explain_check.ensures))
 
 pub returns-in-Err : goal.returns-in-Err
-returns-in-Err g c = answers_refusal g.R.Read.remaining task_format _ (codes "task") WhyCheckAnswer _ _ c.in-Err.fault c.refuse.result c.in-Err.ensures c.refuse.ensures.ok c.refuse.ensures.long.0 c.refuse.ensures.read c.refuse.ensures.writes
+returns-in-Err g c =
+    explains_refusal g.R.Read.remaining task_format task_telling TellsTask (ValueOf task_format) fault_in found_in TellsReason (codes "task") WhyCheckAnswer
+    c.in-Err.refusal (task_refusal_lines c.in-Err.refusal) (task_refusal_tells c.in-Err.refusal) _ _ c.in-Err.ensures c.explain_task_refusal.result
+    c.explain_task_refusal.ensures.ok c.explain_task_refusal.ensures.long.0 c.explain_task_refusal.ensures.read c.explain_task_refusal.ensures.writes

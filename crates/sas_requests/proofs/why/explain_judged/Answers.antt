@@ -1,9 +1,13 @@
-use Rattle.std.proofs.Common.{codes, refl, Ok}
-use Rattle.sas_reader.specs.Devices.{ValueOf}
+use Rattle.std.proofs.Common.{codes, refl}
+use Rattle.sas_reader.specs.Devices.{ValueOf, TextOf}
 use Rattle.sas_plan_file.specs.PlanFormat.{plan_format}
+use Rattle.sas_plan_file.specs.PlanRefusal.{fault_of, found_of, nothing_else}
+use Rattle.sas_requests.specs.Explaining.{plan_refusal_lines}
+use Rattle.sas_requests.specs.FileReasons.{TellsPlan}
+use Rattle.sas_requests.proofs.Explained.{explains_value, explains_refusal, plan_refusal_tells}
+use Rattle.sas_requests.proofs.RefusalLaws.{plan_telling}
 use Rattle.sas_explain.specs.Verdict.{WhyVerdict}
-use Rattle.sas_requests.specs.declared.answers.Answer.TheVariants.{Explained}
-use Rattle.sas_requests.proofs.Outputs.{answers_value, answers_refusal}
+use Rattle.sas_requests.specs.declared.answers.Answer.TheVariants.{Text, Explained}
 use Rattle.sas_requests.proofs.WhyFits.{reasons_fit}
 use Rattle.sas_requests.proofs.why.explain_judged.Goals as goal
 
@@ -13,8 +17,11 @@ explain_plan-requires g c = reasons_fit _ _ _ _ c.requires.task.1 c.in-Ok.ensure
 pub returns-in-Explained : goal.returns-in-Explained
 returns-in-Explained g c =
     let told = rw c.in-Explained.is at c.in_ok-told-in-Ok.ensures in
-    answers_value g.P.Read.remaining plan_format (ValueOf plan_format) (codes "plan") (WhyVerdict c.args.layered) _ _ c.in-Ok.read (Explained c.in-Explained.explained) c.in-Ok.ensures
-    (λ b value. (Ok c.in-Ok.read, value, (_, told, refl)))
+    explains_value g.P.Read.remaining plan_format plan_telling TellsPlan (ValueOf plan_format) fault_of found_of nothing_else (codes "plan") (WhyVerdict c.args.layered) _ _ c.in-Ok.read (Explained c.in-Explained.explained) c.in-Ok.ensures
+    (λ b value. (c.in-Ok.read, value, told))
 
 pub returns-in-Err : goal.returns-in-Err
-returns-in-Err g c = answers_refusal g.P.Read.remaining plan_format _ (codes "plan") (WhyVerdict c.args.layered) _ _ c.in-Err.fault c.refuse.result c.in-Err.ensures c.refuse.ensures.ok c.refuse.ensures.long.0 c.refuse.ensures.read c.refuse.ensures.writes
+returns-in-Err g c =
+    explains_refusal g.P.Read.remaining plan_format plan_telling TellsPlan (ValueOf plan_format) fault_of found_of nothing_else (codes "plan") (WhyVerdict c.args.layered)
+    c.in-Err.refusal (plan_refusal_lines c.in-Err.refusal) (λ accepted text is other. plan_refusal_tells c.in-Err.refusal accepted text is) _ _ c.in-Err.ensures c.explain_plan_refusal.result
+    c.explain_plan_refusal.ensures.ok c.explain_plan_refusal.ensures.long.0 c.explain_plan_refusal.ensures.read c.explain_plan_refusal.ensures.writes

@@ -1,11 +1,17 @@
 use Rattle.std.proofs.Common.{codes}
-use Rattle.sas_task_reasons.specs.WhyLayers.{why_refusal}
 use Rattle.sas_explain.specs.Verdict.{WhyVerdict}
+use Rattle.sas_reader.specs.Devices.{ValueOf}
 use Rattle.sas_task_format.specs.TaskFormat.{task_format}
-use Rattle.sas_requests.proofs.Outputs.{answers_refusal}
-use Rattle.sas_requests.proofs.PlanAnswers.{NoAnswer, refused_files, judged_files, unlayered_files}
+use Rattle.sas_task_reader.specs.Telling.{fault_in, found_in, TellsReason}
+use Rattle.sas_requests.specs.declared.Request.TheVariants.{Plan}
+use Rattle.sas_requests.specs.Explaining.{TaskOutWhy, PlanOutWhy, task_refusal_lines}
+use Rattle.sas_requests.specs.FileReasons.{TellsTask}
+use Rattle.sas_requests.specs.Why.{OutWhy}
+use Rattle.sas_requests.proofs.Explained.{plain_read, explains_refusal, task_refusal_tells}
+use Rattle.sas_requests.proofs.ExplainedPlans.{refused_why, judged_why, unlayered_files_why}
 use Rattle.sas_requests.proofs.LayerLengths.{layers_fit}
-use Rattle.sas_requests.proofs.WhyAnswers.{why_refuses}
+use Rattle.sas_requests.proofs.PlanAnswers.{NoAnswer, refused_files_by, judged_files_by}
+use Rattle.sas_requests.proofs.RefusalLaws.{task_telling}
 use Rattle.sas_requests.proofs.why.plan_explanation.Goals as goal
 
 pub explain_judged-requires-clause-task : goal.explain_judged-requires-clause-task
@@ -15,13 +21,17 @@ explain_judged-requires-clause-task g c =
 
 pub returns-in-Err : goal.returns-in-Err
 returns-in-Err g c =
-    refused_files WhyVerdict why_refusal g.T.Read.remaining g.P.Read.remaining _ _ _ c.refuse.result c.requires.plan
-    (answers_refusal g.T.Read.remaining task_format _ (codes "task") NoAnswer _ _ c.in-Err.fault c.refuse.result c.in-Err.ensures c.refuse.ensures.ok c.refuse.ensures.long.0 c.refuse.ensures.read c.refuse.ensures.writes)
+    refused_files_by g.T.Read.remaining g.P.Read.remaining (OutWhy Plan) (TaskOutWhy NoAnswer) refused_why _ _ _ c.explain_task_refusal.result c.requires.plan
+    (explains_refusal g.T.Read.remaining task_format task_telling TellsTask (ValueOf task_format) fault_in found_in TellsReason (codes "task") NoAnswer
+    c.in-Err.refusal (task_refusal_lines c.in-Err.refusal) (task_refusal_tells c.in-Err.refusal) _ _ c.in-Err.ensures c.explain_task_refusal.result
+    c.explain_task_refusal.ensures.ok c.explain_task_refusal.ensures.long.0 c.explain_task_refusal.ensures.read c.explain_task_refusal.ensures.writes)
 
 pub returns-in-Ok-new : goal.returns-in-Ok-new
 returns-in-Ok-new g c =
-    judged_files WhyVerdict why_refusal g.T.Read.remaining g.P.Read.remaining _ _ c.in-Ok.read c.in-Ok.ensures _ _ c.explain_judged.result
-    (rw c.in-Ok-new.ensures.task at c.in-Ok-new.ensures.layered) (rw c.in-Ok-new.ensures.task at c.explain_judged.ensures)
+    let read = plain_read g.T.Read.remaining task_format task_telling TellsTask (ValueOf task_format) fault_in found_in TellsReason (codes "task") NoAnswer _ _ c.in-Ok.read c.in-Ok.ensures in
+    let layered = rw c.in-Ok-new.ensures.task at c.in-Ok-new.ensures.layered in
+    judged_files_by g.T.Read.remaining g.P.Read.remaining (OutWhy Plan) _ _ c.in-Ok.read read (PlanOutWhy (WhyVerdict c.in-Ok.read)) (λ b c' reads o out. judged_why c.in-Ok.read layered b c' reads o out) _ _ c.explain_judged.result layered
+    (rw c.in-Ok-new.ensures.task at c.explain_judged.ensures)
 
 pub explain_refused-requires : goal.explain_refused-requires
 explain_refused-requires g c =
@@ -30,6 +40,7 @@ explain_refused-requires g c =
 
 pub returns-in-Err-new : goal.returns-in-Err-new
 returns-in-Err-new g c =
+    let read = plain_read g.T.Read.remaining task_format task_telling TellsTask (ValueOf task_format) fault_in found_in TellsReason (codes "task") NoAnswer _ _ c.in-Ok.read c.in-Ok.ensures in
     let told = rw c.in-Err-new.ensures.handed_back at c.explain_refused.ensures.ok in
-    unlayered_files WhyVerdict why_refusal g.T.Read.remaining g.P.Read.remaining _ _ c.in-Ok.read c.in-Ok.ensures why_refuses _ c.in-Err-new.fault c.explain_refused.result c.requires.plan
+    unlayered_files_why g.T.Read.remaining g.P.Read.remaining _ _ c.in-Ok.read read _ c.in-Err-new.fault c.explain_refused.result c.requires.plan
     c.in-Err-new.ensures.first told c.explain_refused.ensures.err
