@@ -6,6 +6,7 @@ use Rattle.sas_core.specs.declared.parts.Parts.{Parts}
 use Rattle.sas_core.specs.WellRanged.{WellRanged}
 use Rattle.sas_reader.specs.declared.fault.Kind.{Kind}
 use Rattle.sas_reader.specs.declared.fault.Kind.TheVariants as kinds
+use Rattle.sas_reader.specs.Format.{lines_of}
 use Rattle.sas_reader.specs.System.{After, LeadsToEnd}
 use Rattle.sas_task_format.specs.declared.marks.Due.{Due}
 use Rattle.sas_task_format.specs.declared.marks.Due.TheVariants as due
@@ -69,26 +70,21 @@ speaks (due.Number least most) h = h
 speaks due.Layer h = h
 speaks due.Nothing h = h
 
-module _ (begun : List (List ℕ)) (m : Mark) (d : IsDue begun m) where
-  -- behind the lines that such a mark is due behind, all ranges are known
-  ranges_there : (v : Parts) → WellRanged v → (items more : List TaskLine) → task_layout v ≡ items ++ more → map task_line_bytes items ≡ begun → HasBounds (slot_of_due m.due)
-      → (track tracker_start items).ranges ≡ map (λ (x : Variable). length x.values) v.variables
-  ranges_there v good items more e s h =
-      let a = standing begun m d in
-      let same : a.items ≡ items = same_items a.task v a.good good a.items (a.item ∷ a.more) items more a.layout e (a.spells ∙ sym s) in
-      let mark : m ≡ mark_in (track tracker_start items) = a.marked ∙ ap (λ (x : List TaskLine). mark_in (track tracker_start x)) same in
-      ranges_behind v good items more e (speaks_behind_variables (track tracker_start items) (subst (λ (x : Mark). SpeaksOfFacts x.due) mark (speaks m.due h)))
+-- behind the lines that such a mark is due behind, all ranges are known, of each task that begins with them
+pub ranges_there : (begun : List (List ℕ)) (m : Mark) (d : IsDue begun m) (v : Parts) → WellRanged v → (more : List (List ℕ)) → lines_of task_format v ≡ begun ++ more → HasBounds (slot_of_due m.due)
+    → (track tracker_start (standing begun m d).items).ranges ≡ map (λ (x : Variable). length x.values) v.variables
+ranges_there begun m d v good more e h =
+    let a = standing begun m d in
+    let c = cut_at task_line_bytes begun more (task_layout v) e in
+    let items : a.items ≡ c.before = same_items a.task v a.good good a.items (a.item ∷ a.more) c.before c.after a.layout c.whole (a.spells ∙ sym c.front_is) in
+    let whole : task_layout v ≡ a.items ++ c.after = c.whole ∙ ap (λ (x : List TaskLine). x ++ c.after) (sym items) in
+    ranges_behind v good a.items c.after whole (speaks_behind_variables (track tracker_start a.items) (subst (λ (x : Mark). SpeaksOfFacts x.due) a.marked (speaks m.due h)))
 
 pub one_wrong_word : OneWrongWord
 one_wrong_word begun line w x a b =
     let mark : b.mark ≡ a.mark = one_due begun b.mark a.mark b.due a.due in
-    let c = cut_at task_line_bytes begun a.more (task_layout a.task) a.lines in
-    let d = cut_at task_line_bytes begun b.more (task_layout b.task) b.lines in
-    let items : c.before ≡ d.before = same_items a.task b.task a.good b.good c.before c.after d.before d.after c.whole d.whole (c.front_is ∙ sym d.front_is) in
     one_word a.task.variables b.task.variables (slot_of_due a.mark.due) line w x
-    (λ h. sym (ranges_there begun a.mark a.due a.task a.good c.before c.after c.whole c.front_is h)
-    ∙ ap (λ (y : List TaskLine). (track tracker_start y).ranges) items
-    ∙ ranges_there begun a.mark a.due b.task b.good d.before d.after d.whole d.front_is h)
+    (λ h. sym (ranges_there begun a.mark a.due a.task a.good a.more a.lines h) ∙ ranges_there begun a.mark a.due b.task b.good b.more b.lines h)
     a.wrong (subst (λ (y : Mark). IsWrongWord b.task.variables (slot_of_due y.due) line x) mark b.wrong)
 
 -- ---- one reason

@@ -11,8 +11,6 @@ use Rattle.sas_reader.specs.declared.fault.Kind.TheVariants as kinds
 use Rattle.sas_reader.specs.Format.{lines_of, EndOf}
 use Rattle.sas_reader.specs.Limit.{most_bytes}
 use Rattle.sas_reader.specs.Telling.{IsAbout, of_line, of_byte, of_end}
-use Rattle.sas_task_format.specs.declared.marks.Due.{Due}
-use Rattle.sas_task_format.specs.declared.marks.Due.TheVariants as due
 use Rattle.sas_task_format.specs.declared.marks.Mark.{Mark}
 use Rattle.sas_task_format.specs.declared.marks.WrongWord.{WrongWord}
 use Rattle.sas_task_format.specs.TaskFormat.{TaskLine, fact, effect, head, TaskSlot, word_slot, name_slot, number_slot, signed_slot, fact_slot, effect_slot, head_slot, task_slot, task_line_bytes, TaskLineFits, task_layout, NumbersKind, no_shape, no_value, TaskKind, task_format}
@@ -22,9 +20,9 @@ use Rattle.sas_task_format.specs.WrongWords.{line_bounds, IsWrongBehind}
 use Rattle.sas_task_format.specs.TaskReasons.{end_mark, IsTaskReason}
 use Rattle.sas_reader.proofs.Paths.{cut_at}
 use Rattle.sas_task_format.proofs.TaskLines.{one_task_line}
-use Rattle.sas_task_format.proofs.DueBehind.{ranges_behind, is_due, SpeaksOfFacts, speaks_behind_variables, standing}
+use Rattle.sas_task_format.proofs.DueBehind.{is_due}
 use Rattle.sas_task_format.proofs.WrongWords.{Splits, AllStand, first_wrong, none_wrong, HasBounds, ranges_decide}
-use Rattle.sas_task_format.proofs.MarkLaws.{same_items, one_due, some_due}
+use Rattle.sas_task_format.proofs.MarkLaws.{one_due, some_due, ranges_there}
 
 -- a text is refused for a reason
 abbrev HasReason : Kind → List (List ℕ) → List ℕ → Type 0
@@ -36,33 +34,13 @@ due_reason kind begun found m d t v = (m, None, record { trailing = λ e. absurd
 
 -- ---- a number that may not stand
 
-speaks : (d : Due) → HasBounds (slot_of_due d) → SpeaksOfFacts d
-speaks due.Fact h = tt
-speaks due.Head h = tt
-speaks due.Effect h = tt
-speaks (due.Word w) h = h
-speaks due.Name h = h
-speaks (due.Number least most) h = h
-speaks due.Layer h = h
-speaks due.Nothing h = h
-
 module _ (begun : List (List ℕ)) (m : Mark) (d : IsDue begun m) where
-  -- the ranges that have come, of each task that begins with these lines
-  ranges_of : (v : Parts) → WellRanged v → (more : List (List ℕ)) → lines_of task_format v ≡ begun ++ more → HasBounds (slot_of_due m.due)
-      → (track tracker_start (standing begun m d).items).ranges ≡ map (λ (x : Variable). length x.values) v.variables
-  ranges_of v good more e h =
-      let a = standing begun m d in
-      let c = cut_at task_line_bytes begun more (task_layout v) e in
-      let items : a.items ≡ c.before = same_items a.task v a.good good a.items (a.item ∷ a.more) c.before c.after a.layout c.whole (a.spells ∙ sym c.front_is) in
-      let whole : task_layout v ≡ a.items ++ c.after = c.whole ∙ ap (λ (x : List TaskLine). x ++ c.after) (sym items) in
-      ranges_behind v good a.items c.after whole (speaks_behind_variables (track tracker_start a.items) (subst (λ (x : Mark). SpeaksOfFacts x.due) a.marked (speaks m.due h)))
-
-  -- so they bound a line in the same way
+  -- each task that begins with these lines bounds the next one in the same way
   same_bounds : (v : Parts) → WellRanged v → (more : List (List ℕ)) → lines_of task_format v ≡ begun ++ more → (i : TaskLine) → task_slot i ≡ slot_of_due m.due → line_bounds d.task.variables i ≡ line_bounds v.variables i
   same_bounds v good more e i s = bounds i s
     where
       same : HasBounds (slot_of_due m.due) → map (λ (x : Variable). length x.values) d.task.variables ≡ map (λ (x : Variable). length x.values) v.variables
-      same h = sym (ranges_of d.task d.good d.more d.lines h) ∙ ranges_of v good more e h
+      same h = sym (ranges_there begun m d d.task d.good d.more d.lines h) ∙ ranges_there begun m d v good more e h
 
       bounds : (i : TaskLine) → task_slot i ≡ slot_of_due m.due → line_bounds d.task.variables i ≡ line_bounds v.variables i
       bounds (fact f) s = ranges_decide d.task.variables v.variables (same (subst HasBounds s tt)) (fact f)
