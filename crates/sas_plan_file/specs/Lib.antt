@@ -4,5 +4,4 @@ pub mod PlanMachine
 pub mod PlanLine
 pub mod PlanReader
 pub mod PlanText
-pub mod PlanDue
 pub mod PlanRefusal

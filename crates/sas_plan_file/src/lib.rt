@@ -3,7 +3,6 @@
 
 mod laws;
 mod plan;
-mod plan_due;
 mod plan_line;
 mod plan_machine;
 mod plan_reader;
@@ -17,7 +16,6 @@ pub use plan::{
     flat_plan_of, flat_plan_of_telling, read_flat_plan, read_flat_plan_telling, read_plan,
     read_plan_text, read_plan_text_telling,
 };
-pub use plan_due::{PlanDue, due_of};
 pub use plan_machine::PlanMachine;
 pub use plan_reader::PlanReader;
 pub use plan_refusal::PlanRefusal;
