@@ -1,2 +1,2 @@
-mod ReasonLines
-mod ReasonLengths
+pub mod ReasonLines
+pub mod ReasonLengths
