@@ -294,13 +294,14 @@ ANYWHERE = [b"", b"x", b"\t", ODD, b"\\", b"..", *(b"x" * size for size in (63, 
 NAMELESS = [b"a\rb", b"\r\r", b"\rx", *(b"x" * size + b"\ry" for size in (61, 62, 63, 64)), b"\r" * 65 + b"x"]
 # what stands behind the end of a file
 MORE = [b"\n", b"\r", b"\r\n", b" ", b"x", b"0\n", b"xyz"]
-SPELLINGS = [b"-1", b"-0", b"-2", b"00", b"01", b"+1", b"1 ", b" 1", b"1 1", b"1.", b"2147483647", b"2147483648", b"18446744073709551616"]
+SPELLINGS = [b"-1", b"-0", b"-2", b"00", b"01", b"+1", b"1 ", b" 1", b"1 1", b"1.", b"2147483647", b"2147483648", b"9" * 20, b"9" * 99]
 
 
 def near_word(due):
     """Returns texts that are nearly this word."""
     word = due.encode()
-    return [word[:-1], word[1:], word + b" ", b" " + word, word + b"s", word.upper(), word + b"\r\r", b"begin_goal", b"end_rule", b"0", b"-1"]
+    near = [word[:-1], word[1:], word + b" ", b" " + word, word + b"s", word.upper(), word + b"\r\r"]
+    return [*near, b"begin_goal", b"end_rule", b"0", b"-1"]
 
 
 def near_number(due):
@@ -311,13 +312,15 @@ def near_number(due):
 
 def changes(variables, size):
     """Returns heads of which the last words, or none, are wrong: of so many variables, and so many values of the first one."""
-    words = ((0, -1, 0), (variables, -1, 0), (0, size, 0), (0, -1, size), (0, size, size), (variables, size, size), (0, -2, 0), (-1, -1, 0))
-    return [*(b"%d %d %d" % it for it in (*words, (0, -1, -1), (MOST + 1, -1, 0))), b"0 -1", b"0 -1 0 0", b"0  -1 0", b"0 -1 0 "]
+    wrong = [(variables, -1, 0), (0, size, 0), (0, -1, size), (0, size, size), (variables, size, size), (MOST, MOST, MOST)]
+    misspelled = [(0, -2, 0), (-1, -1, 0), (0, -1, -1), (MOST + 1, -1, 0)]
+    return [*(b"%d %d %d" % it for it in (*wrong, *misspelled)), b"0 -1", b"0 -1 0 0", b"0  -1 0", b"0 -1 0 "]
 
 
 def near_numbers(due, variables, size):
     """Returns texts that are nearly a fact, a head or an effect."""
-    facts = [b"0 0", *(b"%d %d" % it for it in ((variables, 0), (0, size), (variables, size), (MOST, MOST), (0, MOST + 1), (-1, 0), (0, -1)))]
+    wrong = ((0, 0), (variables, 0), (0, size), (variables, size), (MOST, MOST), (0, MOST + 1), (-1, 0), (0, -1))
+    facts = [b"%d %d" % fact for fact in wrong]
     if due == FACT:
         return [*facts, b"0", b"0 0 0", b"0  0", b" 0 0", b"0 0 ", b"00 0", b"0,0"]
     heads = changes(variables, size)
@@ -407,10 +410,11 @@ def near_steps():
     """Returns lines of plans, most of which may not stand there."""
     steps = [b"()", b"(", b")", b"(a", b"a)", b"(a\rb)", b"(\r)", b"(a) ", b" (a)", b"(a)\r", b"(a", b"(" + ODD, b"(" + ODD + b")"]
     costs = (b"-1", b"01", b"00", b"", b"+1", b"1 ", b" 1", b"18446744073709551615", b"18446744073709551616", b"1" * 64)
-    ends = (b"", b" ", b" (unit cost", b" (Unit cost)", b" (unit cost) ", b"  (unit cost)", b"(unit cost)", b" (cost)", b" (general cost)\rx")
+    kinds = (b"(unit cost", b"(Unit cost)", b"(unit cost) ", b" (unit cost)", b"(cost)", b"(general cost)\rx", b"")
     long = [front + b"\\" * size for front in (b"(", b"; cost = ", b";") for size in range(54, 66)]
-    made = [b"; cost = %s (unit cost)" % cost for cost in costs] + [b"; cost = 1%s" % end for end in ends]
-    return dict.fromkeys([*ANYWHERE, *NAMELESS, *steps, *made, *long, b"; cost =", b"; Cost = 1 (unit cost)", b";cost = 1 (unit cost)"])
+    made = [b"; cost = %s (unit cost)" % cost for cost in costs] + [b"; cost = 1 %s" % kind for kind in kinds]
+    neither = [b"; cost =", b"; cost = 1(unit cost)", b"; Cost = 1 (unit cost)", b";cost = 1 (unit cost)"]
+    return dict.fromkeys([*ANYWHERE, *NAMELESS, *steps, *made, *long, *neither])
 
 
 def damaged_plans():

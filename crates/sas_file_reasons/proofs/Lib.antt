@@ -1,2 +1,2 @@
 pub mod ReasonLines
-mod ReasonLengths
+pub mod ReasonLengths

@@ -1,8 +1,8 @@
 // What was found in place of what was due, as it is told.
-ghost use Rattle.std.specs.Prelude.{◌≡◌, ◌<◌, ◌+◌, [], ◌∷◌, ◌++◌, length, take, nat_lt, IsTrue, IsFalse, OnOk};
+ghost use Rattle.std.specs.Prelude.{◌≡◌, ◌<◌, [], ◌∷◌, ◌++◌, length, take, nat_lt, OnOk};
 ghost use Rattle.sas_lines.specs.Lines.{text};
-ghost use Rattle.sas_file_reasons.specs.Found.{found_line, found_lines, lines_told, line_told, is_shown};
-ghost use Rattle.sas_file_reasons.specs.Found.{hex_digit_of, rest_lines, shown, shown_byte};
+ghost use Rattle.sas_file_reasons.specs.Found.{hex_digit_of, is_shown, line_told, lines_told};
+ghost use Rattle.sas_file_reasons.specs.Found.{rest_lines, shown, shown_byte};
 
 use sas_lines::push_line;
 use sas_reader::Kind;
