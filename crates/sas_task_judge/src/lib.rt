@@ -8,5 +8,5 @@ mod task_machine;
 
 pub use keeper::{Keeper, VariableKept};
 pub use sas_task_format::Place;
-pub use task_judge::{Section, TaskJudge};
+pub use task_judge::{Section, TaskJudge, counted};
 pub use task_machine::TaskMachine;

@@ -1,4 +1,5 @@
 mod TaskStanding
 mod Outlines
-mod Counting
+mod CountsStay
 mod Reasons
+mod WholeTexts

@@ -23,8 +23,8 @@ use Rattle.sas_task_reader.specs.Telling.{StandsRefused}
 -- ---- a line that may not stand isn't behind the last one
 
 numbers_apart : (slot : TaskSlot) (line : List ℕ) (k : Kind) → NumbersKind slot line k → k ≢ kinds.Trailing
-numbers_apart slot line kinds.Shape (no_shape h) = λ e. cc
-numbers_apart slot line kinds.Value (no_value h) = λ e. cc
+numbers_apart slot line k (no_shape h) = λ e. cc
+numbers_apart slot line k (no_value h) = λ e. cc
 
 kind_apart : (slot : TaskSlot) (line : List ℕ) (k : Kind) → TaskKind slot line k → k ≢ kinds.Trailing
 kind_apart (word_slot w) line k h = λ e. let other : kinds.Keyword ≡ kinds.Trailing = sym h ∙ e in cc

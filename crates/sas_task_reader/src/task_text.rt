@@ -65,15 +65,16 @@ impl TaskText {
         text
     }
 
-    /// Takes so many of the bytes, which are whole lines.
-    fn take(&mut self, bytes: &[u8], count: usize) -> Result<(), Kind>
+    /// Takes so many of the bytes, which are whole lines, with which so many groups, operators and rules have come.
+    fn take(&mut self, bytes: &[u8], count: usize, counts: Counts) -> Result<(), Kind>
         requires { count ≤ length bytes.now }
         ensures ok { OnOk result
             (self.new.text.items ≡ self.old.text.items ++ take count bytes.now) }
-        ensures counts { self.new.counts ≡ self.old.counts }
+        ensures counts { OnOk result (self.new.counts ≡ counts) }
         ensures err { IfErr result (λ k. k ≡ Kind.Memory) }
     {
         self.written.text.extend_from_slice(&bytes[..count])?;
+        self.written.counts = counts;
         Ok(())
     }
 }
@@ -100,7 +101,7 @@ impl Keeper for TaskText {
         let Some(kept) = variable_front(bytes, &mut self.gathered)? else {
             return Ok(NO_VARIABLE);
         };
-        self.take(bytes, kept.front.bytes)?;
+        self.take(bytes, kept.front.bytes, self.written.counts)?;
         Ok(kept)
     }
 
@@ -108,8 +109,7 @@ impl Keeper for TaskText {
         let Some(front) = group_front(ranges, bytes, &mut self.gathered)? else {
             return Ok(Front::EMPTY);
         };
-        self.take(bytes, front.bytes)?;
-        self.written.counts = group_more(self.written.counts);
+        self.take(bytes, front.bytes, group_more(self.written.counts))?;
         Ok(front)
     }
 
@@ -117,8 +117,7 @@ impl Keeper for TaskText {
         let Some(front) = operator_front(ranges, bytes, &mut self.gathered)? else {
             return Ok(Front::EMPTY);
         };
-        self.take(bytes, front.bytes)?;
-        self.written.counts = operator_more(self.written.counts);
+        self.take(bytes, front.bytes, operator_more(self.written.counts))?;
         Ok(front)
     }
 
@@ -126,8 +125,7 @@ impl Keeper for TaskText {
         let Some(front) = rule_front(ranges, bytes, &mut self.gathered)? else {
             return Ok(Front::EMPTY);
         };
-        self.take(bytes, front.bytes)?;
-        self.written.counts = rule_more(self.written.counts);
+        self.take(bytes, front.bytes, rule_more(self.written.counts))?;
         Ok(front)
     }
 }

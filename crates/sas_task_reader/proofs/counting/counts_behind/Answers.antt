@@ -1,5 +1,5 @@
 use Rattle.std.proofs.Common.{◌∙◌, sym}
-use Rattle.sas_task_reader.proofs.Counting.{counts_stay}
+use Rattle.sas_task_reader.proofs.CountsStay.{counts_stay}
 use Rattle.sas_task_reader.proofs.counting.counts_behind.Goals as goal
 
 pub returns-in_default : goal.returns-in_default

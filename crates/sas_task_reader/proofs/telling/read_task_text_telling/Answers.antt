@@ -27,7 +27,7 @@ abbrev Refused : TaskMachine Written → List ℕ → Kind → Type 0
 Refused m line kind = RejectsLine m.judge line kind
 
 pub new-start-requires : goal.new-start-requires
-new-start-requires g c = (c.args.alloc, c.new.ensures.text, c.new.ensures.counts)
+new-start-requires g c = (c.args.alloc, (c.new.ensures.text, c.new.ensures.counts))
 
 -- where the machine has ended, it holds the text of what was read
 pub returns-in-Ok : goal.returns-in-Ok
