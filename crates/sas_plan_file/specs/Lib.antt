@@ -4,3 +4,5 @@ pub mod PlanMachine
 pub mod PlanLine
 pub mod PlanReader
 pub mod PlanText
+pub mod PlanDue
+pub mod PlanRefusal

@@ -3,6 +3,7 @@ use Rattle.std.specs.Prelude.{◌≡◌, ℕ, Bool, true, List, [], ◌∷◌, �
 use Rattle.sas_core.specs.declared.plan.CostKind.{CostKind}
 use Rattle.sas_core.specs.Names.{is_name}
 use Rattle.sas_core.specs.PlanParts.{PlanParts}
+use Rattle.sas_reader.specs.declared.fault.Kind.{Kind}
 use Rattle.sas_plan_file.specs.PlanFormat.{PlanLine, step, cost}
 use Rattle.sas_reader.specs.System.{Node, ended, before}
 
@@ -36,6 +37,10 @@ plan_state steps (Some c) = closed (record { steps = steps; cost = c.0; kind = c
 abbrev pub HasCost : PlanState → Type 0
 HasCost (going steps) = ⊥
 HasCost (closed p) = Unit {0}
+
+-- a line that is refused leaves all as it was
+abbrev pub plan_stays : PlanState → List ℕ → Kind → PlanState → Type 0
+plan_stays old line k new = new ≡ old
 
 -- the name is one step more
 abbrev pub StepsOn : PlanState → List ℕ → PlanState → Type 0

@@ -3,14 +3,17 @@ ghost use Rattle.std.specs.Prelude.{◌≡◌, ◌≢◌, false, Ok, Err, IfOk, 
 ghost use Rattle.sas_reader.specs.Devices.{ReadsAll, ValueOf, TextOf};
 ghost use Rattle.sas_reader.specs.Format.{ReadsAs};
 ghost use Rattle.sas_reader.specs.Limit.{most_bytes};
+ghost use Rattle.sas_reader.specs.Telling.{IsTold};
 ghost use Rattle.sas_plan_file.specs.PlanFormat.{plan_format};
+ghost use Rattle.sas_plan_file.specs.PlanRefusal.{ReadsPlan, TellsOfPlan};
 
 use crate::plan_machine::PlanMachine;
+use crate::plan_refusal::PlanRefusal;
 use crate::plan_text::PlanText;
 use sas_core::Plan;
 use sas_flat::FlatPlan;
 use sas_lines::Watched;
-use sas_reader::{Fault, Kind, LIMIT, Reader, read_all, read_all_large};
+use sas_reader::{Fault, Kind, LIMIT, Reader, read_all, read_all_large, read_all_large_telling};
 use std::alloc::Global;
 use std::io::Read;
 
@@ -36,15 +39,52 @@ pub fn read_flat_plan<R: Read>(alloc: Global, reader: &mut Watched<R>) -> Result
     Ok(machine.into_flat_plan())
 }
 
+/// Reads as `read_flat_plan` does, and tells of a fault what stood there.
+pub fn read_flat_plan_telling<R: Read>(
+    alloc: Global,
+    reader: &mut Watched<R>,
+) -> Result<FlatPlan, PlanRefusal>
+    requires { reader.old.failed ≡ false }
+    ensures { ReadsPlan R.remaining (ValueOf plan_format) reader.old reader.new result }
+{
+    match read_all_large_telling(alloc, PlanMachine::new_flat(alloc), LIMIT, reader) {
+        Ok(machine) => Ok(machine.into_flat_plan()),
+        Err(refused) => Err(PlanRefusal {
+            fault: refused.fault,
+            found: refused.found,
+        }),
+    }
+}
+
 /// Reads a plan from bytes that are all at hand, as `read_flat_plan` does from a device. It takes no memory for pieces of them.
 pub fn flat_plan_of(alloc: Global, bytes: &[u8]) -> Result<FlatPlan, Fault>
     ensures read { IfOk result (λ plan. ReadsAs plan_format most_bytes bytes.now (Ok plan)) }
     ensures fault { IfErr result (λ f. f.kind ≢ Kind.Memory
         → ReadsAs plan_format most_bytes bytes.now (Err f)) }
 {
+    match flat_plan_of_telling(alloc, bytes) {
+        Ok(plan) => Ok(plan),
+        Err(refusal) => Err(refusal.fault),
+    }
+}
+
+/// Reads as `flat_plan_of` does, and tells of a fault what stood there.
+pub fn flat_plan_of_telling(alloc: Global, bytes: &[u8]) -> Result<FlatPlan, PlanRefusal>
+    ensures read { IfOk result (λ plan. ReadsAs plan_format most_bytes bytes.now (Ok plan)) }
+    ensures fault { IfErr result (λ r. r.fault.kind ≢ Kind.Memory
+        → ReadsAs plan_format most_bytes bytes.now (Err r.fault)) }
+    ensures about { IfErr result (λ r. IsTold r.fault.kind → TellsOfPlan bytes.now r) }
+{
     let mut reader = Reader::new(alloc, PlanMachine::new_flat(alloc), LIMIT);
-    reader.feed(bytes)?;
-    Ok(reader.finish()?.into_flat_plan())
+    // A fault is kept, and told at the end.
+    let _ = reader.feed(bytes);
+    match reader.finish_telling() {
+        Ok(machine) => Ok(machine.into_flat_plan()),
+        Err(refused) => Err(PlanRefusal {
+            fault: refused.fault,
+            found: refused.found,
+        }),
+    }
 }
 
 /// Reads a plan from a device as `read_plan` does, in pieces of at most 65,536 bytes, and returns its text: its lines, each
@@ -56,4 +96,22 @@ pub fn read_plan_text<R: Read>(alloc: Global, reader: &mut Watched<R>) -> Result
 {
     let machine = read_all_large(alloc, PlanText::new(alloc), LIMIT, reader)?;
     Ok(machine.into_text())
+}
+
+/// Reads as `read_plan_text` does, and tells of a fault what stood there.
+pub fn read_plan_text_telling<R: Read>(
+    alloc: Global,
+    reader: &mut Watched<R>,
+) -> Result<Vec<u8>, PlanRefusal>
+    requires { reader.old.failed ≡ false }
+    ensures { ReadsPlan R.remaining (λ b t. TextOf plan_format b t.items)
+        reader.old reader.new result }
+{
+    match read_all_large_telling(alloc, PlanText::new(alloc), LIMIT, reader) {
+        Ok(machine) => Ok(machine.into_text()),
+        Err(refused) => Err(PlanRefusal {
+            fault: refused.fault,
+            found: refused.found,
+        }),
+    }
 }

@@ -115,7 +115,7 @@ impl PlanMachine<Lists<u8>> {
 
 impl<S: StepNames> Machine for PlanMachine<S> {
     ghost use Rattle.sas_plan_file.specs.PlanFormat.{plan_format, PlanLineFits};
-    ghost use Rattle.sas_plan_file.specs.PlanMachine.{plan_node, plan_start, HasCost};
+    ghost use Rattle.sas_plan_file.specs.PlanMachine.{plan_node, plan_start, HasCost, plan_stays};
     ghost use Rattle.sas_reader.specs.System.{Leads, Rejects};
 
     ghost led_by = { λ lines m. Leads plan_format PlanLineFits plan_node plan_start lines m };
@@ -123,6 +123,8 @@ impl<S: StepNames> Machine for PlanMachine<S> {
     ghost ended = { HasCost };
 
     ghost rejects = { λ m line k. Rejects plan_format PlanLineFits (plan_node m) line k };
+
+    ghost stopped = { plan_stays };
 
     fn has_ended(&self) -> bool {
         self.cost.is_some()

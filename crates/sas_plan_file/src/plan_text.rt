@@ -50,7 +50,7 @@ impl Machine for PlanText {
     ghost use Rattle.std.specs.Prelude.{IsTrue};
     ghost use Rattle.sas_plan_file.specs.PlanFormat.{plan_format, PlanLineFits};
     ghost use Rattle.sas_plan_file.specs.PlanMachine.{plan_line_ok};
-    ghost use Rattle.sas_plan_file.specs.PlanText.{KeepsLines};
+    ghost use Rattle.sas_plan_file.specs.PlanText.{KeepsLines, text_stays};
     ghost use Rattle.sas_reader.specs.System.{Judged};
 
     ghost led_by = { KeepsLines };
@@ -58,6 +58,8 @@ impl Machine for PlanText {
     ghost ended = { λ m. IsTrue m.closed };
 
     ghost rejects = { λ m line k. Judged plan_format PlanLineFits tt plan_line_ok line k };
+
+    ghost stopped = { text_stays };
 
     fn has_ended(&self) -> bool {
         self.closed

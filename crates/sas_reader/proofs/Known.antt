@@ -11,13 +11,13 @@ use Rattle.sas_reader.specs.Limit.{most_bytes}
 use Rattle.sas_reader.proofs.Live.{fault_stays}
 
 -- what was read is their front
-front_read : (known new : Option (List ℕ)) (input bytes : List ℕ) → known ≡ Some input → Consumes known new bytes → (rest : List ℕ) × (bytes ++ rest ≡ input)
+pub front_read : (known new : Option (List ℕ)) (input bytes : List ℕ) → known ≡ Some input → Consumes known new bytes → (rest : List ℕ) × (bytes ++ rest ≡ input)
 front_read None new input bytes e c = absurd cc
 front_read (Some x) None input bytes e c = absurd c
 front_read (Some x) (Some rest) input bytes e c = (rest, sym c ∙ (let q : x ≡ input = cc in q))
 
 -- and all of it at their end
-all_read : (known new : Option (List ℕ)) (input bytes : List ℕ) → known ≡ Some input → Consumes known new bytes → IsAtEnd new → bytes ≡ input
+pub all_read : (known new : Option (List ℕ)) (input bytes : List ℕ) → known ≡ Some input → Consumes known new bytes → IsAtEnd new → bytes ≡ input
 all_read None new input bytes e c d = absurd cc
 all_read (Some x) None input bytes e c d = absurd c
 all_read (Some x) (Some rest) input bytes e c d = sym (append-nil bytes) ∙ ap (λ (y : List ℕ). bytes ++ y) (sym d) ∙ sym c ∙ (let q : x ≡ input = cc in q)

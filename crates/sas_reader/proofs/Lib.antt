@@ -12,6 +12,7 @@ pub mod Conversion
 pub mod Reading
 pub mod Known
 pub mod Telling
+pub mod KnownTelling
 mod Ending
 mod Keeping
 mod BehindEnds

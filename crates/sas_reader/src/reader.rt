@@ -148,7 +148,8 @@ impl<M: Machine> Reader<M> {
         requires some { 0 < length piece.now }
         requires room { self.old.taken + length piece.now ≤ self.old.limit }
         requires going { M.ended self.old.machine → ⊥ }
-        ensures advances { Advances M.led_by M.ended M.rejects M.stopped self.old piece.now self.new result }
+        ensures advances { Advances M.led_by M.ended M.rejects M.stopped
+            self.old piece.now self.new result }
         ensures some { IfOk result (λ n. 0 < n) }
     {
         let fed = self.pending.feed(piece)?;
@@ -181,7 +182,8 @@ impl<M: Machine> Reader<M> {
     /// it took.
     fn take_line(&mut self, piece: &[u8]) -> Result<usize, Kind>
         requires some { 0 < length piece.now }
-        ensures advances { Advances M.led_by M.ended M.rejects M.stopped self.old piece.now self.new result }
+        ensures advances { Advances M.led_by M.ended M.rejects M.stopped
+            self.old piece.now self.new result }
         ensures some { IfOk result (λ n. 0 < n) }
     {
         let within = self.within_limit(piece);
@@ -218,7 +220,8 @@ impl<M: Machine> Reader<M> {
         requires some { 0 < length piece.now }
         requires room { self.old.taken + length piece.now ≤ self.old.limit }
         requires whole { self.old.pending.pending ≡ [] }
-        ensures advances { Advances M.led_by M.ended M.rejects M.stopped self.old piece.now self.new result }
+        ensures advances { Advances M.led_by M.ended M.rejects M.stopped
+            self.old piece.now self.new result }
         ensures pending { self.new.pending ≡ self.old.pending }
     {
         if self.machine.has_ended() {
@@ -235,7 +238,8 @@ impl<M: Machine> Reader<M> {
 
     /// Takes lines ahead, as long as that goes and the limit leaves room. Returns how many bytes it took.
     fn go_ahead(&mut self, piece: &[u8]) -> Result<usize, Kind>
-        ensures { Advances M.led_by M.ended M.rejects M.stopped self.old piece.now self.new result }
+        ensures { Advances M.led_by M.ended M.rejects M.stopped
+            self.old piece.now self.new result }
     {
         if !self.pending.pending().is_empty() {
             return Ok(0);
@@ -256,7 +260,8 @@ impl<M: Machine> Reader<M> {
     /// how many it took.
     fn advance(&mut self, piece: &[u8]) -> Result<usize, Kind>
         requires some { 0 < length piece.now }
-        ensures advances { Advances M.led_by M.ended M.rejects M.stopped self.old piece.now self.new result }
+        ensures advances { Advances M.led_by M.ended M.rejects M.stopped
+            self.old piece.now self.new result }
         ensures some { IfOk result (λ n. 0 < n) }
     {
         let ahead = self.go_ahead(piece)?;
@@ -269,7 +274,8 @@ impl<M: Machine> Reader<M> {
     /// Takes all of the bytes.
     #[inline(always)]
     fn run(&mut self, bytes: &[u8]) -> Result<usize, Kind>
-        ensures advances { Advances M.led_by M.ended M.rejects M.stopped self.old bytes.now self.new result }
+        ensures advances { Advances M.led_by M.ended M.rejects M.stopped
+            self.old bytes.now self.new result }
         ensures all { IfOk result (λ n. n ≡ length bytes.now) }
     {
         let mut at = 0;
@@ -281,7 +287,8 @@ impl<M: Machine> Reader<M> {
 
     /// Takes the bytes up to and with the first LF, or all of them, where a line has begun. Returns how many it took.
     fn end_line(&mut self, piece: &[u8]) -> Result<usize, Kind>
-        ensures { Advances M.led_by M.ended M.rejects M.stopped self.old piece.now self.new result }
+        ensures { Advances M.led_by M.ended M.rejects M.stopped
+            self.old piece.now self.new result }
     {
         if piece.is_empty() || self.pending.pending().is_empty() {
             return Ok(0);
@@ -292,7 +299,8 @@ impl<M: Machine> Reader<M> {
     /// Takes the piece with LF alone, where it begins with a line that ends with CR LF, and each CR in it ends a line. A
     /// CR at its end is left, as LF may come next. Returns how many bytes of the piece it took: none of any other piece.
     fn run_copy(&mut self, piece: &[u8], plain: &mut Vec<u8>) -> Result<usize, Kind>
-        ensures { Advances M.led_by M.ended M.rejects M.stopped self.old piece.now self.new result }
+        ensures { Advances M.led_by M.ended M.rejects M.stopped
+            self.old piece.now self.new result }
     {
         if !self.pending.pending().is_empty()
             || self.within_limit(piece).len() < piece.len()
@@ -321,7 +329,8 @@ impl<M: Machine> Reader<M> {
     /// stays short.
     #[inline(never)]
     fn run_with_lf_alone(&mut self, piece: &[u8]) -> Result<usize, Kind>
-        ensures { Advances M.led_by M.ended M.rejects M.stopped self.old piece.now self.new result }
+        ensures { Advances M.led_by M.ended M.rejects M.stopped
+            self.old piece.now self.new result }
     {
         let mut plain = mem::replace(&mut self.plain, Vec::new(self.alloc));
         let taken = self.run_copy(piece, &mut plain);
@@ -331,7 +340,8 @@ impl<M: Machine> Reader<M> {
 
     /// Takes all of the piece.
     fn take_piece(&mut self, piece: &[u8]) -> Result<usize, Kind>
-        ensures advances { Advances M.led_by M.ended M.rejects M.stopped self.old piece.now self.new result }
+        ensures advances { Advances M.led_by M.ended M.rejects M.stopped
+            self.old piece.now self.new result }
         ensures all { IfOk result (λ n. n ≡ length piece.now) }
     {
         let begun = self.end_line(piece)?;
@@ -367,8 +377,8 @@ impl<M: Machine> Reader<M> {
         ensures none { IfNone result (M.ended self.now.machine × (self.now.fault ≡ None)) }
         ensures fault { IfSome result (λ f. FaultAtEnd M.led_by M.ended M.rejects self.now f) }
         ensures kept { (f : Fault) → self.now.fault ≡ Some f → result ≡ Some f }
-        ensures early { self.now.fault ≡ None → IfSome result (λ f. (M.ended self.now.machine → ⊥)
-            × (f.line ≡ self.now.lines + 1) × (f.kind ≡ Kind.End)) }
+        ensures early { self.now.fault ≡ None → IfSome result
+            (λ f. (M.ended self.now.machine → ⊥) × (f.line ≡ self.now.lines + 1) × (f.kind ≡ Kind.End)) }
     {
         if let Some(fault) = self.fault {
             return Some(fault);

@@ -8,5 +8,5 @@ use Rattle.sas_plan_file.proofs.plan_reader.PlanReader.feed.Goals as goal
 
 pub returns : goal.returns
 returns c =
-    let f = feeds plan_format PlanLineFits plan_node plan_start plan_grammar plan_led HasCost plan_rejects plan_follows _ _ _ _ c.feed.ensures in
+    let f = feeds plan_format PlanLineFits plan_node plan_start plan_grammar plan_led HasCost plan_rejects plan_follows _ _ _ _ c.feed.ensures.takes in
     record { stands = f.stands; live = f.live; fault = f.fault; answer = f.answer; kept = f.kept; kind = f.kind; memory = f.memory; limit = f.limit }

@@ -8,5 +8,5 @@ pub returns : goal.returns
 returns c =
     let t = c.args.text.now in
     let m = c.min.result in
-    let is = c.min.ensures ∙ min_comm (length t) 64 in
-    kept t _ _ m (ap (λ (n : ℕ). take n t) is ∙ take_min 64 t) c.copy_from_slice.ensures.after
+    let is = c.min.ensures ∙ min_comm (length t) _ in
+    kept t _ _ m (ap (λ (n : ℕ). take n t) is ∙ take_min _ t) c.copy_from_slice.ensures.after

@@ -1,0 +1,17 @@
+use Rattle.std.proofs.Common.{refl}
+use Rattle.sas_reader.proofs.Telling.{reads_all_telling, refuses_all_telling}
+use Rattle.sas_plan_file.specs.PlanFormat.{plan_format, PlanLineFits}
+use Rattle.sas_plan_file.specs.PlanMachine.{plan_node, plan_start, HasCost, plan_stays}
+use Rattle.sas_plan_file.specs.PlanReader.{plan_led, plan_rejects}
+use Rattle.sas_plan_file.specs.PlanRefusal.{fault_of, found_of, nothing_else}
+use Rattle.sas_plan_file.proofs.PlanGrammar.{plan_grammar}
+use Rattle.sas_plan_file.proofs.PlanStanding.{plan_follows, read_plan_parts}
+use Rattle.sas_plan_file.proofs.plan.read_flat_plan_telling.Goals as goal
+
+pub returns-in-Ok : goal.returns-in-Ok
+returns-in-Ok g c =
+    reads_all_telling plan_format PlanLineFits plan_node plan_start plan_grammar plan_led HasCost plan_rejects plan_stays plan_follows fault_of found_of nothing_else g.R.Read.remaining _ _ _ _ _ c.in-Ok.ensures (λ b reached short. read_plan_parts _ c.in-Ok.machine c.into_flat_plan.result b c.into_flat_plan.ensures (reached, short))
+
+pub returns-in-Err : goal.returns-in-Err
+returns-in-Err g c =
+    refuses_all_telling plan_format PlanLineFits plan_node plan_start plan_grammar plan_led HasCost plan_rejects plan_stays plan_follows fault_of found_of nothing_else g.R.Read.remaining _ _ _ c.in-Err.refused _ refl refl (λ a t s. tt) c.in-Err.ensures

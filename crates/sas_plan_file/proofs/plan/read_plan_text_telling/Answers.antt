@@ -1,0 +1,21 @@
+use Rattle.std.proofs.Common.{◌∙◌, refl}
+use Rattle.sas_reader.proofs.Conversion.{some_read}
+use Rattle.sas_reader.proofs.Telling.{reads_all_telling, refuses_all_telling}
+use Rattle.sas_plan_file.specs.PlanFormat.{plan_format, PlanLineFits}
+use Rattle.sas_plan_file.specs.PlanMachine.{plan_node, plan_start}
+use Rattle.sas_plan_file.specs.PlanRefusal.{fault_of, found_of, nothing_else}
+use Rattle.sas_plan_file.specs.PlanText.{KeepsLines, text_stays}
+use Rattle.sas_plan_file.proofs.PlanGrammar.{plan_grammar}
+use Rattle.sas_plan_file.proofs.PlanKeeping.{text_ended, text_rejects, text_follows, text_is}
+use Rattle.sas_plan_file.proofs.plan.read_plan_text_telling.Goals as goal
+
+-- where the machine has ended, it holds the text of what was read
+pub returns-in-Ok : goal.returns-in-Ok
+returns-in-Ok g c =
+    reads_all_telling plan_format PlanLineFits plan_node plan_start plan_grammar KeepsLines text_ended text_rejects text_stays text_follows fault_of found_of nothing_else g.R.Read.remaining _ _ _ _ _ c.in-Ok.ensures (λ b reached short.
+    let r = some_read plan_format PlanLineFits plan_node plan_start plan_grammar KeepsLines text_ended text_rejects text_follows c.in-Ok.machine b reached c.in-Ok.ensures.plain.at_end in
+    (r.0, (r.1, short), c.into_text.ensures ∙ text_is c.in-Ok.machine b r.0 reached.led r.1))
+
+pub returns-in-Err : goal.returns-in-Err
+returns-in-Err g c =
+    refuses_all_telling plan_format PlanLineFits plan_node plan_start plan_grammar KeepsLines text_ended text_rejects text_stays text_follows fault_of found_of nothing_else g.R.Read.remaining _ _ _ c.in-Err.refused _ refl refl (λ a t s. tt) c.in-Err.ensures

@@ -1,0 +1,28 @@
+-- A plan that is read, or is refused with what stood at its fault.
+use Rattle.std.specs.Prelude.{ℕ, List, Option, Result}
+use Rattle.sas_lines.specs.Device.{Device}
+use Rattle.sas_reader.specs.declared.fault.Fault.{Fault}
+use Rattle.sas_reader.specs.declared.found.Found.{Found}
+use Rattle.sas_reader.specs.Telling.{TellsAbout, ReadsAllTelling}
+use Rattle.sas_plan_file.specs.declared.plan_refusal.PlanRefusal.{PlanRefusal}
+use Rattle.sas_plan_file.specs.PlanFormat.{plan_format}
+
+abbrev pub fault_of : PlanRefusal → Fault
+fault_of r = r.fault
+
+abbrev pub found_of : PlanRefusal → Found
+found_of r = r.found
+
+-- nothing else is told
+abbrev pub nothing_else : List (List ℕ) → List ℕ → PlanRefusal → Type 0
+nothing_else accepted text r = Unit {0}
+
+-- what a call promises that reads a plan of a device, or tells what stood at its fault
+abbrev pub ReadsPlan : {D A : Type 0} → (D → Option (List ℕ)) → (List ℕ → A → Type 0) → Device D
+    → Device D → Result A PlanRefusal → Type 0
+ReadsPlan left Gives old new result =
+    ReadsAllTelling plan_format fault_of found_of nothing_else left Gives old new result
+
+-- the refusal tells what the fault of these bytes is about
+abbrev pub TellsOfPlan : List ℕ → PlanRefusal → Type 0
+TellsOfPlan bytes r = TellsAbout plan_format fault_of found_of nothing_else bytes r
