@@ -1,10 +1,9 @@
 -- What is due behind the first lines of a task, by a tracker over them.
-use Rattle.std.proofs.Common.{◌≡◌, ℕ, zero, suc, ◌<◌, ◌^◌, ◌+◌, List, [], ◌∷◌, ◌++◌, length, map, refl, sym, ap, subst, ◌∙◌, arith, slice_get, Some, None, Option}
+use Rattle.std.proofs.Common.{◌≡◌, ℕ, zero, suc, ◌<◌, ◌^◌, ◌+◌, List, [], ◌∷◌, ◌++◌, length, map, refl, sym, ap, subst, ◌∙◌, arith, slice_get, Some, None}
 use Rattle.std.specs.List.{AllByRecursion}
 use Rattle.std.proofs.lemmas.List.{append-nil, map-append, length-map}
 use Rattle.sas_core.specs.declared.parts.Parts.{Parts}
 use Rattle.sas_core.specs.WellRanged.{WellRanged}
-use Rattle.sas_reader.specs.Format.{lines_of}
 use Rattle.sas_task_format.specs.declared.places.Place.{Place}
 use Rattle.sas_task_format.specs.declared.places.Place.TheVariants as place
 use Rattle.sas_task_format.specs.declared.marks.Due.{Due}
@@ -13,12 +12,12 @@ use Rattle.sas_task_format.specs.declared.marks.FixedWord.TheVariants as fixed
 use Rattle.sas_task_format.specs.declared.marks.Location.{Location}
 use Rattle.sas_task_format.specs.declared.marks.Location.TheVariants as at
 use Rattle.sas_task_format.specs.declared.marks.Mark.{Mark}
-use Rattle.sas_task_format.specs.TaskFormat.{TaskLine, task_slot, task_line_bytes, task_layout, task_format}
+use Rattle.sas_task_format.specs.TaskFormat.{TaskLine, task_slot, task_line_bytes, task_layout}
 use Rattle.sas_task_format.specs.Marks.{any_number, positive_number, version_dues, metric_dues, variable_dues, group_dues, state_dues, goal_dues, operator_dues, rule_dues, there, numbered, slot_of_due, task_marks, IsDue}
 use Rattle.sas_task_format.specs.TaskReasons.{end_mark}
 use Rattle.sas_task_format.specs.Tracker.{Tracker, tracker_start, by_count, step, track, mark, mark_at, mark_in}
 use Rattle.sas_reader.proofs.Paths.{cut_at}
-use Rattle.sas_task_format.proofs.Tracking.{track_marks, IsBehindVariables, Known, Along, Scan}
+use Rattle.sas_task_format.proofs.Tracking.{track_marks, IsBehindVariables, Known, Along}
 use Rattle.sas_task_format.proofs.TrackedTask.{ranges_in, behind_all, task_scan}
 
 -- ---- lines in two parts

@@ -11,5 +11,6 @@ pub mod Tracking
 pub mod TrackedSections
 pub mod TrackedTask
 pub mod DueBehind
+pub mod DueAfter
 pub mod WrongWords
 pub mod MarkLaws

@@ -1,6 +1,6 @@
 -- Behind the same lines of a task one thing is due, a line has one first wrong word at most, and so there is one reason why it
 -- is refused.
-use Rattle.std.proofs.Common.{◌≡◌, ◌≢◌, ℕ, List, [], ◌∷◌, ◌++◌, length, map, refl, sym, ap, subst, ◌∙◌, Option, Some, None}
+use Rattle.std.proofs.Common.{◌≡◌, ◌≢◌, ℕ, List, ◌∷◌, ◌++◌, length, map, refl, sym, ap, subst, ◌∙◌, Option, Some, None}
 use Rattle.sas_core.specs.declared.parts.Variable.{Variable}
 use Rattle.sas_core.specs.declared.parts.Parts.{Parts}
 use Rattle.sas_core.specs.WellRanged.{WellRanged}
@@ -16,11 +16,10 @@ use Rattle.sas_task_format.specs.TaskFormat.{TaskLine, TaskLineFits, task_line_b
 use Rattle.sas_task_format.specs.TaskProcess.{TaskProcess, task_start}
 use Rattle.sas_task_format.specs.Marks.{slot_of_due, IsDue, OneDue, SomeDue}
 use Rattle.sas_task_format.specs.Tracker.{tracker_start, track, mark_in}
-use Rattle.sas_task_format.specs.WrongWords.{IsWrongWord, IsWrongBehind, OneWrongWord}
+use Rattle.sas_task_format.specs.WrongWords.{IsWrongWord, OneWrongWord}
 use Rattle.sas_task_format.specs.TaskReasons.{end_mark, IsTaskReason, OneTaskReason}
 use Rattle.sas_reader.proofs.Paths.{cut_at, ends_split, same_path}
 use Rattle.sas_task_format.proofs.TaskGrammar.{task_grammar}
-use Rattle.sas_task_format.proofs.Tracking.{IsBehindVariables}
 use Rattle.sas_task_format.proofs.DueBehind.{belongs_behind, ranges_behind, is_due, SpeaksOfFacts, speaks_behind_variables, standing}
 use Rattle.sas_task_format.proofs.WrongWords.{HasBounds, one_word}
 

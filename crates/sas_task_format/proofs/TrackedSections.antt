@@ -1,25 +1,23 @@
 -- A tracker over the sections of a task: it says the marks of each, and what it has counted behind it.
-use Rattle.std.proofs.Common.{◌≡◌, ℕ, zero, suc, ◌<◌, ◌+◌, ◌-◌, Bool, true, false, nat_lt, List, [], ◌∷◌, ◌++◌, length, map, refl, sym, ap, subst, ◌∙◌, append_assoc, append-nil, arith, codes}
+use Rattle.std.proofs.Common.{◌≡◌, ℕ, suc, ◌+◌, ◌-◌, Bool, List, [], ◌∷◌, ◌++◌, length, map, refl, sym, ap, ◌∙◌, append_assoc, append-nil, arith, codes}
 use Rattle.std.specs.List.{flat_map}
 use Rattle.std.proofs.lemmas.List.{map-append}
 use Rattle.sas_core.specs.declared.parts.Fact.{Fact}
 use Rattle.sas_core.specs.declared.parts.Variable.{Variable}
-use Rattle.sas_core.specs.declared.parts.Effect.{Effect}
 use Rattle.sas_core.specs.declared.parts.Operator.{Operator}
 use Rattle.sas_core.specs.declared.parts.Rule.{Rule}
 use Rattle.sas_task_format.specs.declared.places.Place.{Place}
 use Rattle.sas_task_format.specs.declared.places.Place.TheVariants as place
 use Rattle.sas_task_format.specs.declared.marks.Due.{Due}
 use Rattle.sas_task_format.specs.declared.marks.Due.TheVariants as due
-use Rattle.sas_task_format.specs.declared.marks.FixedWord.{FixedWord}
 use Rattle.sas_task_format.specs.declared.marks.FixedWord.TheVariants as fixed
 use Rattle.sas_task_format.specs.declared.marks.Location.{Location}
 use Rattle.sas_task_format.specs.declared.marks.Location.TheVariants as at
 use Rattle.sas_task_format.specs.declared.marks.Mark.{Mark}
-use Rattle.sas_task_format.specs.TaskFormat.{TaskLine, word, name, number, signed, fact, effect, head, task_slot, line, between, counted, version_lines, metric_lines, variable_lines, group_lines, goal_lines, operator_lines, rule_lines}
+use Rattle.sas_task_format.specs.TaskFormat.{TaskLine, word, name, number, signed, fact, effect, head, task_slot, line, version_lines, metric_lines, variable_lines, group_lines, goal_lines, operator_lines, rule_lines}
 use Rattle.sas_task_format.specs.Marks.{for_each, there, slot_of_due, any_number, version_dues, metric_dues, variable_dues, group_dues, goal_dues, operator_dues, rule_dues, numbered}
-use Rattle.sas_task_format.specs.Tracker.{Tracker, tracker_start, step, track, mark, mark_in}
-use Rattle.sas_task_format.proofs.Tracking.{track_marks, IsBehindVariables, Known, Along, Scan, ◌then◌, marked, leading, spelled, one}
+use Rattle.sas_task_format.specs.Tracker.{Tracker, tracker_start, step, mark, mark_in}
+use Rattle.sas_task_format.proofs.Tracking.{IsBehindVariables, Known, Scan, ◌then◌, marked, leading, spelled, one}
 
 operator_marks : (f : Due → Mark) (a b : List Due) (c w : Due) → map f a ++ (f c ∷ (map f b ++ f c ∷ f w ∷ [])) ≡ map f ((a ++ c ∷ (b ++ c ∷ [])) ++ w ∷ [])
 operator_marks f a b c w = sym (
@@ -74,14 +72,14 @@ module _ (ranges : List ℕ) where
       }
 
   -- behind a variable
-  abbrev behind_variable : Tracker → Variable → Tracker
+  abbrev pub behind_variable : Tracker → Variable → Tracker
   behind_variable t v = record t { ranges = t.ranges ++ length v.values ∷ []; variables = t.variables + 1 }
 
   variable_ends : (t : Tracker) → Scan ranges (record t { place = place.VariableValues; more = 0 }) (word (codes "end_variable") ∷ []) (there (at.Variable t.variables) (due.Word fixed.EndVariable ∷ []))
       (record t { place = place.Variables; more = 0; variables = t.variables + 1 })
   variable_ends t = record { marks = refl; ends = refl; along = (λ h. absurd h, refl, λ h. absurd h) }
 
-  variable_scan : (t : Tracker) (n : ℕ) (v : Variable)
+  pub variable_scan : (t : Tracker) (n : ℕ) (v : Variable)
       → Scan ranges (record t { place = place.Variables; left = suc n; more = 0 }) (variable_lines v) (there (at.Variable t.variables) (variable_dues v))
       (record (behind_variable t v) { place = place.Variables; left = n; more = 0 })
   variable_scan t n v =
@@ -149,7 +147,7 @@ module _ (ranges : List ℕ) where
     group_ends : (left n : ℕ) → Scan ranges (record (at_group left n) { place = place.GroupFacts }) (word (codes "end_mutex_group") ∷ []) (there (at.Group n) (due.Word fixed.EndMutexGroup ∷ [])) (at_group left (n + 1))
     group_ends left n = record { marks = refl; ends = refl; along = (λ h. k, refl, λ h. k) }
 
-    group_scan : (left n : ℕ) (facts : List Fact) → Scan ranges (at_group (suc left) n) (group_lines facts) (there (at.Group n) (group_dues facts)) (at_group left (n + 1))
+    pub group_scan : (left n : ℕ) (facts : List Fact) → Scan ranges (at_group (suc left) n) (group_lines facts) (there (at.Group n) (group_dues facts)) (at_group left (n + 1))
     group_scan left n facts =
         marked ranges (◌then◌ ranges (group_begins left n facts) (◌then◌ ranges
         (each_scan fact place.GroupFacts (at.Group n) due.Fact (record t { left = left; groups = n }) (λ n i. refl) (λ n. refl) (λ a. refl) (λ h. k) facts)
@@ -187,7 +185,7 @@ module _ (ranges : List ℕ) where
           along = (λ h. k, refl, (λ h. k, refl, λ h. k));
         }
 
-    operator_scan : (left n : ℕ) (o : Operator) → Scan ranges (at_operator (suc left) n) (operator_lines o) (there (at.Operator n) (operator_dues o)) (at_operator left (n + 1))
+    pub operator_scan : (left n : ℕ) (o : Operator) → Scan ranges (at_operator (suc left) n) (operator_lines o) (there (at.Operator n) (operator_dues o)) (at_operator left (n + 1))
     operator_scan left n o =
         let u : Tracker = record t { left = left; operators = n } in
         let prevail = each_scan fact place.Prevail (at.Operator n) due.Fact u (λ n i. refl) (λ n. refl) (λ a. refl) (λ h. k) o.prevail in
@@ -222,7 +220,7 @@ module _ (ranges : List ℕ) where
           along = (λ h. k, refl, (λ h. k, refl, λ h. k));
         }
 
-    rule_scan : (left n : ℕ) (r : Rule) → Scan ranges (at_rule (suc left) n) (rule_lines r) (there (at.Rule n) (rule_dues r)) (at_rule left (n + 1))
+    pub rule_scan : (left n : ℕ) (r : Rule) → Scan ranges (at_rule (suc left) n) (rule_lines r) (there (at.Rule n) (rule_dues r)) (at_rule left (n + 1))
     rule_scan left n r =
         let conditions = each_scan fact place.RuleConditions (at.Rule n) due.Fact (record t { left = left; rules = n }) (λ n i. refl) (λ n. refl) (λ a. refl) (λ h. k) r.conditions in
         marked ranges (spelled ranges (◌then◌ ranges (rule_begins left n r) (◌then◌ ranges conditions (rule_ends left n r))) (simp append_assoc))

@@ -1,24 +1,23 @@
 -- A tracker over all lines of a task: it says the marks of the task.
-use Rattle.std.proofs.Common.{◌≡◌, ℕ, zero, suc, ◌<◌, ◌+◌, ◌-◌, Bool, true, false, nat_lt, List, [], ◌∷◌, ◌++◌, length, map, refl, sym, ap, subst, ◌∙◌, append_assoc, append-nil, arith, codes, length-append, slice_index_or}
+use Rattle.std.proofs.Common.{◌≡◌, ℕ, ◌+◌, ◌-◌, Bool, true, false, nat_lt, List, [], ◌∷◌, ◌++◌, length, map, refl, sym, ap, ◌∙◌, append_assoc, append-nil, arith, codes, length-append, slice_index_or}
 use Rattle.std.specs.Prelude.{if◌then◌else◌}
 use Rattle.std.specs.List.{flat_map}
 use Rattle.std.proofs.lemmas.Bool.{lt-ltb, le-ltb}
-use Rattle.std.proofs.lemmas.List.{map-append, length-map, get_or-append-add}
+use Rattle.std.proofs.lemmas.List.{map-append, get_or-append-add}
 use Rattle.sas_core.specs.declared.parts.Variable.{Variable}
 use Rattle.sas_core.specs.declared.parts.Parts.{Parts}
 use Rattle.sas_core.specs.WellRanged.{WellRanged}
 use Rattle.sas_task_format.specs.declared.places.Place.TheVariants as place
-use Rattle.sas_task_format.specs.declared.marks.Due.{Due}
 use Rattle.sas_task_format.specs.declared.marks.Due.TheVariants as due
 use Rattle.sas_task_format.specs.declared.marks.FixedWord.TheVariants as fixed
 use Rattle.sas_task_format.specs.declared.marks.Location.TheVariants as at
 use Rattle.sas_task_format.specs.declared.marks.Mark.{Mark}
 use Rattle.sas_task_format.specs.Process.{Paired}
-use Rattle.sas_task_format.specs.TaskFormat.{TaskLine, word, number, task_slot, line, counted, version_lines, metric_lines, variable_lines, group_lines, state_lines, goal_lines, operator_lines, rule_lines, task_layout}
+use Rattle.sas_task_format.specs.TaskFormat.{TaskLine, word, number, line, counted, version_lines, metric_lines, variable_lines, group_lines, state_lines, goal_lines, operator_lines, rule_lines, task_layout}
 use Rattle.sas_task_format.specs.Marks.{there, slot_of_due, value_due, state_dues, any_number, positive_number, numbered, variable_dues, group_dues, operator_dues, rule_dues, task_marks}
-use Rattle.sas_task_format.specs.Tracker.{Tracker, tracker_start, step, track, mark, mark_in}
+use Rattle.sas_task_format.specs.Tracker.{Tracker, tracker_start, step, mark, mark_in}
 use Rattle.sas_task_format.proofs.TaskSections.{InRange, state_paired, eight}
-use Rattle.sas_task_format.proofs.Tracking.{Known, Scan, ◌then◌, marked, leading, spelled, one}
+use Rattle.sas_task_format.proofs.Tracking.{Scan, ◌then◌, marked, spelled, one}
 use Rattle.sas_task_format.proofs.TrackedSections.{version_scan, metric_scan, variables_scan, groups_scan, goal_scan, operators_scan, rules_scan}
 
 -- the number of values of each variable

@@ -1,19 +1,11 @@
 -- A tracker says what is due on each line of a task: the marks of a section are what it says line by line.
-use Rattle.std.proofs.Common.{◌≡◌, ℕ, zero, suc, ◌<◌, ◌+◌, ◌-◌, Bool, true, false, nat_lt, List, [], ◌∷◌, ◌++◌, length, map, refl, sym, ap, subst, ◌∙◌, append_assoc, arith, codes}
-use Rattle.std.specs.List.{flat_map}
-use Rattle.std.proofs.lemmas.List.{map-append}
+use Rattle.std.proofs.Common.{◌≡◌, ℕ, List, [], ◌∷◌, ◌++◌, refl, sym, ap, subst, ◌∙◌}
 use Rattle.sas_task_format.specs.declared.places.Place.{Place}
 use Rattle.sas_task_format.specs.declared.places.Place.TheVariants as place
-use Rattle.sas_task_format.specs.declared.marks.Due.{Due}
-use Rattle.sas_task_format.specs.declared.marks.Due.TheVariants as due
-use Rattle.sas_task_format.specs.declared.marks.FixedWord.{FixedWord}
-use Rattle.sas_task_format.specs.declared.marks.FixedWord.TheVariants as fixed
-use Rattle.sas_task_format.specs.declared.marks.Location.{Location}
-use Rattle.sas_task_format.specs.declared.marks.Location.TheVariants as at
 use Rattle.sas_task_format.specs.declared.marks.Mark.{Mark}
-use Rattle.sas_task_format.specs.TaskFormat.{TaskLine, word, name, number, signed, task_slot, line, between, version_lines, metric_lines}
-use Rattle.sas_task_format.specs.Marks.{for_each, there, slot_of_due, version_dues, metric_dues}
-use Rattle.sas_task_format.specs.Tracker.{Tracker, tracker_start, step, track, mark, mark_in}
+use Rattle.sas_task_format.specs.TaskFormat.{TaskLine, task_slot}
+use Rattle.sas_task_format.specs.Marks.{slot_of_due}
+use Rattle.sas_task_format.specs.Tracker.{Tracker, step, track, mark_in}
 
 -- the marks of lines behind a tracker
 abbrev pub track_marks : Tracker → List TaskLine → List Mark
@@ -42,12 +34,22 @@ IsBehindVariables place.RuleConditions = Unit {0}
 IsBehindVariables place.RuleEnd = Unit {0}
 IsBehindVariables _ = ⊥
 
+-- ---- lines behind lines: where they lead, and their marks
+
+pub track-append : (t : Tracker) (a b : List TaskLine) → track t (a ++ b) ≡ track (track t a) b
+track-append t [] b = refl
+track-append t (i ∷ a) b = track-append (step t i) a b
+
+pub track_marks-append : (t : Tracker) (a b : List TaskLine) → track_marks t (a ++ b) ≡ track_marks t a ++ track_marks (track t a) b
+track_marks-append t [] b = refl
+track_marks-append t (i ∷ a) b = ap (λ (x : List Mark). mark_in t ∷ x) (track_marks-append (step t i) a b)
+
 module _ (ranges : List ℕ) where
   -- behind the last variable all ranges have come
   abbrev pub Known : Tracker → Type 0
   Known t = IsBehindVariables t.place → t.ranges ≡ ranges
 
-  -- each line belongs where a line is due
+  -- each line belongs where one is due, and behind the last variable all ranges have come
   abbrev pub Along : Tracker → List TaskLine → Type 0
   Along t [] = Known t
   Along t (i ∷ items) = Known t × (slot_of_due (mark_in t).due ≡ task_slot i) × Along (step t i) items
@@ -58,15 +60,7 @@ module _ (ranges : List ℕ) where
     pub ends : track t items ≡ u
     pub along : Along t items
 
-  -- ---- lines behind lines
-
-  pub track-append : (t : Tracker) (a b : List TaskLine) → track t (a ++ b) ≡ track (track t a) b
-  track-append t [] b = refl
-  track-append t (i ∷ a) b = track-append (step t i) a b
-
-  pub track_marks-append : (t : Tracker) (a b : List TaskLine) → track_marks t (a ++ b) ≡ track_marks t a ++ track_marks (track t a) b
-  track_marks-append t [] b = refl
-  track_marks-append t (i ∷ a) b = ap (λ (x : List Mark). mark_in t ∷ x) (track_marks-append (step t i) a b)
+  -- ---- scans behind scans
 
   pub along-append : (t : Tracker) (a b : List TaskLine) → Along t a → Along (track t a) b → Along t (a ++ b)
   along-append t [] b h g = g

@@ -1,17 +1,12 @@
 -- The first wrong word of a line: there is one where a number may not stand, and one at most.
-use Rattle.std.proofs.Common.{◌≡◌, ℕ, zero, suc, ◌+◌, ◌-◌, Bool, true, false, IsTrue, IsFalse, List, [], ◌∷◌, ◌++◌, length, map, refl, sym, ap, subst, ◌∙◌, arith, ◌⊎◌, inl, inr, Option, slice_get, Some, None}
+use Rattle.std.proofs.Common.{◌≡◌, ℕ, zero, suc, ◌+◌, ◌-◌, Bool, true, false, IsTrue, IsFalse, List, [], ◌∷◌, ◌++◌, length, map, refl, sym, ap, subst, ◌∙◌, ◌⊎◌, inl, inr, Option, Some}
 use Rattle.std.specs.List.{flat_map, AllByRecursion}
-use Rattle.std.specs.Option.{option_map_or}
 use Rattle.std.proofs.lemmas.List.{length-map}
 use Rattle.sas_core.specs.declared.parts.Fact.{Fact}
 use Rattle.sas_core.specs.declared.parts.Variable.{Variable}
-use Rattle.sas_core.specs.declared.parts.Effect.{Effect}
 use Rattle.sas_core.specs.Variables.{range_of}
-use Rattle.sas_task_format.specs.declared.marks.Due.{Due}
-use Rattle.sas_task_format.specs.declared.marks.Due.TheVariants as due
 use Rattle.sas_task_format.specs.declared.marks.WrongWord.{WrongWord}
-use Rattle.sas_task_format.specs.TaskFormat.{TaskLine, word, name, number, signed, fact, effect, head, TaskSlot, word_slot, name_slot, number_slot, signed_slot, fact_slot, effect_slot, head_slot, task_slot}
-use Rattle.sas_task_format.specs.Marks.{slot_of_due}
+use Rattle.sas_task_format.specs.TaskFormat.{TaskLine, fact, effect, head, TaskSlot, fact_slot, effect_slot, head_slot, task_slot}
 use Rattle.sas_task_format.specs.WrongWords.{Bounded, may_stand, free, fact_bounds, change_bounds, line_bounds, IsWrongWord}
 use Rattle.sas_task_format.proofs.TaskLines.{one_task_line}
 
@@ -141,6 +136,24 @@ pub ranges_decide : (vs us : List Variable) → map (λ v. length v.values) vs �
 ranges_decide vs us e i =
     let range_in : Variable → ℕ = λ v. length v.values in
     same_bounds vs us (sym (length-map vs range_in) ∙ ap length e ∙ length-map us range_in) (range_same vs us e) i
+
+-- so a word is wrong among these where it is wrong among those
+pub wrong_among : (vs us : List Variable) (slot : TaskSlot) (line : List ℕ) (w : WrongWord) → map (λ v. length v.values) vs ≡ map (λ v. length v.values) us → IsWrongWord vs slot line w → IsWrongWord us slot line w
+wrong_among vs us slot line w e a = record {
+  item = a.item;
+  belongs = a.belongs;
+  fits = a.fits;
+  spells = a.spells;
+  before = a.before;
+  wrong = a.wrong;
+  behind = a.behind;
+  words = sym (ranges_decide vs us e a.item) ∙ a.words;
+  earlier = a.earlier;
+  stands_not = a.stands_not;
+  word = a.word;
+  may_be_none = a.may_be_none;
+  most = a.most;
+}
 
 -- where a line has bounds the same ranges decide them
 pub one_word : (vs us : List Variable) (slot : TaskSlot) (line : List ℕ) (w x : WrongWord) → (HasBounds slot → map (λ v. length v.values) vs ≡ map (λ v. length v.values) us) → IsWrongWord vs slot line w → IsWrongWord us slot line x → w ≡ x

@@ -1,0 +1,50 @@
+-- What is due behind lines that lead the process of task files to a state.
+use Rattle.std.proofs.Common.{◌≡◌, Bool, List, [], ◌∷◌, ◌++◌, map, refl, sym, subst, ◌∙◌}
+use Rattle.std.proofs.lemmas.List.{append-nil}
+use Rattle.sas_core.specs.declared.parts.Parts.{Parts}
+use Rattle.sas_core.specs.WellRanged.{WellRanged}
+use Rattle.sas_reader.specs.System.{before, ended, OneLine, After, LeadsToEnd}
+use Rattle.sas_task_format.specs.Process.{process_node}
+use Rattle.sas_task_format.specs.TaskFormat.{TaskLine, TaskLineFits, TaskSlot, task_line_bytes, task_layout, task_format}
+use Rattle.sas_task_format.specs.TaskProcess.{TaskProcess, task_start}
+use Rattle.sas_task_format.specs.Marks.{slot_of_due, IsDue}
+use Rattle.sas_task_format.specs.Tracker.{tracker_start, track, mark_in}
+use Rattle.sas_reader.proofs.Paths.{after_ends}
+use Rattle.sas_task_format.proofs.TaskGrammar.{task_grammar}
+use Rattle.sas_task_format.proofs.DueBehind.{belongs_behind, is_due, IsAtEnd, whole_behind}
+
+abbrev Leads : TaskProcess → List TaskLine → TaskProcess → Type 0
+Leads p items q = After task_format TaskLineFits process_node p items q
+
+abbrev Runs : TaskProcess → List TaskLine → Parts → Type 0
+Runs p items v = LeadsToEnd task_format TaskLineFits process_node p items v
+
+-- Behind these lines a line is due at the slot, and a task has one there.
+pub record DueAfter (items : List TaskLine) (s : TaskSlot) : Type 0 where
+  pub task : Parts
+  pub good : WellRanged task
+  pub item : TaskLine
+  pub more : List TaskLine
+  pub layout : task_layout task ≡ items ++ item ∷ more
+  pub due : IsDue (map task_line_bytes items) (mark_in (track tracker_start items))
+  pub slot : slot_of_due (mark_in (track tracker_start items)).due ≡ s
+
+module _ (items : List TaskLine) (p : TaskProcess) (s : TaskSlot) (ok : TaskLine → Bool) (next : TaskLine → TaskProcess) (h : Leads task_start items p) (n : process_node p ≡ before s ok next) where
+  due_with : (more : List TaskLine) (v : Parts) → Runs p more v → WellRanged v → task_layout v ≡ items ++ more → DueAfter items s
+  due_with [] v r good e = absurd cc
+  due_with (i ∷ more) v r good e =
+      let takes : OneLine task_format TaskLineFits (before s ok next) i (λ q. Runs q more v) = subst (λ x. OneLine task_format TaskLineFits x i (λ q. Runs q more v)) n r in
+      record { task = v; good = good; item = i; more = more; layout = e; due = is_due v good (map task_line_bytes items) items i more refl e; slot = belongs_behind v good items i more e ∙ takes.0.slot }
+
+  pub due_after : DueAfter items s
+  due_after =
+      let f = task_grammar.fillable items p h in
+      let good = task_grammar.sound (items ++ f.0) f.1 (after_ends task_format TaskLineFits process_node task_start p f.1 items f.0 h f.2) in
+      due_with f.0 f.1 f.2 good.0 (sym good.1)
+
+-- at the end of the process all lines have come
+pub whole_after : (items : List TaskLine) (p : TaskProcess) (v : Parts) → Leads task_start items p → process_node p ≡ ended v → IsAtEnd (track tracker_start items)
+whole_after items p v h n =
+    let runs = after_ends task_format TaskLineFits process_node task_start p v items [] h n in
+    let good = task_grammar.sound (items ++ []) v runs in
+    whole_behind v good.0 items (sym good.1 ∙ append-nil items)
