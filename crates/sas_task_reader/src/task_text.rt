@@ -109,7 +109,8 @@ impl Keeper for TaskText {
         let Some(front) = group_front(ranges, bytes, &mut self.gathered)? else {
             return Ok(Front::EMPTY);
         };
-        self.take(bytes, front.bytes, group_more(self.written.counts))?;
+        let counts = group_more(self.written.counts);
+        self.take(bytes, front.bytes, counts)?;
         Ok(front)
     }
 
@@ -117,7 +118,8 @@ impl Keeper for TaskText {
         let Some(front) = operator_front(ranges, bytes, &mut self.gathered)? else {
             return Ok(Front::EMPTY);
         };
-        self.take(bytes, front.bytes, operator_more(self.written.counts))?;
+        let counts = operator_more(self.written.counts);
+        self.take(bytes, front.bytes, counts)?;
         Ok(front)
     }
 
@@ -125,7 +127,8 @@ impl Keeper for TaskText {
         let Some(front) = rule_front(ranges, bytes, &mut self.gathered)? else {
             return Ok(Front::EMPTY);
         };
-        self.take(bytes, front.bytes, rule_more(self.written.counts))?;
+        let counts = rule_more(self.written.counts);
+        self.take(bytes, front.bytes, counts)?;
         Ok(front)
     }
 }
