@@ -1,5 +1,5 @@
 -- Why a line is refused: what is due where the machine stands, and which word of the line is wrong.
-use Rattle.std.proofs.Common.{◌≡◌, ◌≢◌, ◌⊎◌, inl, inr, ℕ, ◌<◌, ◌-◌, ◌^◌, List, [], ◌∷◌, ◌++◌, length, map, Option, Some, None, refl, sym, ap, subst, ◌∙◌}
+use Rattle.std.proofs.Common.{◌≡◌, ◌≢◌, ◌⊎◌, inl, inr, ℕ, List, [], ◌∷◌, ◌++◌, length, map, Option, Some, None, refl, sym, ap, subst, ◌∙◌}
 use Rattle.std.specs.Prelude.{IfSome}
 use Rattle.sas_core.specs.declared.parts.Parts.{Parts}
 use Rattle.sas_core.specs.WellRanged.{WellRanged}
@@ -7,7 +7,6 @@ use Rattle.sas_reader.specs.declared.fault.Kind.{Kind}
 use Rattle.sas_reader.specs.declared.fault.Kind.TheVariants as kinds
 use Rattle.sas_reader.specs.System.{LeadsToEnd}
 use Rattle.sas_reader.proofs.Paths.{cut_at, map-append, after_ends}
-use Rattle.sas_task_format.specs.declared.marks.Counts.{Counts}
 use Rattle.sas_task_format.specs.declared.marks.Mark.{Mark}
 use Rattle.sas_task_format.specs.declared.marks.WrongWord.{WrongWord}
 use Rattle.sas_task_format.specs.declared.places.Place.{Place}
@@ -18,7 +17,7 @@ use Rattle.sas_task_format.specs.TaskFormat.{TaskLine, TaskSlot, task_line_bytes
 use Rattle.sas_task_format.specs.TaskProcess.{task_start}
 use Rattle.sas_task_format.specs.TaskReasons.{end_mark, IsTaskReason}
 use Rattle.sas_task_format.specs.Tracker.{Tracker, tracker_start, track, mark_in, mark_at}
-use Rattle.sas_task_format.specs.WrongWords.{IsWrongWord, IsWrongBehind}
+use Rattle.sas_task_format.specs.WrongWords.{IsWrongBehind}
 use Rattle.sas_task_format.proofs.DueBehind.{ranges_behind, is_due, small_due, speaks_behind_variables, SpeaksOfFacts}
 use Rattle.sas_task_format.proofs.MarkLaws.{same_items, one_due}
 use Rattle.sas_task_format.proofs.TaskGrammar.{task_grammar}
@@ -31,7 +30,7 @@ use Rattle.sas_task_line.proofs.WrongWords.{wrong_word_is, wrong_word_back}
 use Rattle.sas_task_judge.specs.declared.task_judge.TaskJudge.{TaskJudge}
 use Rattle.sas_task_judge.specs.declared.task_machine.TaskMachine.{TaskMachine}
 use Rattle.sas_task_judge.specs.Marks.{capped, counts_within, mark_of, due_slot, WrongWordIn}
-use Rattle.sas_task_judge.specs.TaskJudge.{state_of, counts_of, tracker_at, tracker_of, ranges_in, StandsAsBefore, HasEnded}
+use Rattle.sas_task_judge.specs.TaskJudge.{state_of, counts_of, tracker_at, tracker_of, ranges_in, HasEnded}
 use Rattle.sas_task_judge.specs.TaskMachine.{LedBy, Stopped}
 use Rattle.sas_task_judge.proofs.Marking.{due_same, exact_mark, speaks_of_facts}
 use Rattle.sas_task_judge.proofs.TaskEnds.{done_is, ended_if_done}
@@ -173,7 +172,7 @@ module _ {K : Type 0} (keeps : List (List ℕ) → SoFar → K → Type 0) (line
           let cut = cut_at task_line_bytes lines b.more (task_layout b.task) b.lines in
           let same : cut.before ≡ h.leads.items = same_items b.task c.task b.good c.good cut.before cut.after h.leads.items (c.item ∷ c.more) cut.whole c.layout (cut.front_is ∙ sym h.leads.spells) in
           let there : IsFirstWrong (ranges_of b.task.variables) (slot_of_due mark_tracked.due) line w =
-              subst (λ (k : Mark). IsFirstWrong (ranges_of b.task.variables) (slot_of_due k.due) line w) marks (wrong_word_back b.task.variables (slot_of_due b.mark.due) line w b.wrong) in
+          subst (λ (k : Mark). IsFirstWrong (ranges_of b.task.variables) (slot_of_due k.due) line w) marks (wrong_word_back b.task.variables (slot_of_due b.mark.due) line w b.wrong) in
           let ranges = ranges_are b.task b.good cut.before cut.after cut.whole same (speaks_of_facts (ranges_of b.task.variables) mark_tracked.due line w there) in
           subst (λ (s : TaskSlot). IsFirstWrong m.judge.ranges s line w) (sym slot_tracked)
           (subst (λ (rs : List ℕ). IsFirstWrong rs (slot_of_due mark_tracked.due) line w) (sym ranges) there)

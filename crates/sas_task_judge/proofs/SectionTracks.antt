@@ -1,5 +1,5 @@
 -- What is due behind a whole section: the tracker follows all its lines.
-use Rattle.std.proofs.Common.{◌≡◌, ℕ, zero, suc, ◌<◌, ◌+◌, ◌-◌, List, [], ◌∷◌, ◌++◌, length, refl, sym, ap, ◌∙◌, arith, codes}
+use Rattle.std.proofs.Common.{◌≡◌, ℕ, suc, ◌<◌, ◌-◌, List, [], ◌∷◌, ◌++◌, length, refl, sym, ap, ◌∙◌, arith, codes}
 use Rattle.std.specs.List.{flat_map}
 use Rattle.sas_core.specs.declared.parts.Fact.{Fact}
 use Rattle.sas_core.specs.declared.parts.Operator.{Operator}
@@ -8,7 +8,7 @@ use Rattle.sas_core.specs.declared.parts.Variable.{Variable}
 use Rattle.sas_task_format.specs.declared.places.Place.{Place}
 use Rattle.sas_task_format.specs.declared.places.Place.TheVariants as at
 use Rattle.sas_task_format.specs.TaskFormat.{TaskLine, word, name, number, signed, fact, effect, head, line, variable_lines, group_lines}
-use Rattle.sas_task_format.specs.Tracker.{Tracker, step, step_at, track}
+use Rattle.sas_task_format.specs.Tracker.{Tracker, track}
 use Rattle.sas_task_line.specs.declared.so_far.SoFar.{SoFar}
 use Rattle.sas_task_judge.specs.declared.task_judge.TaskJudge.{TaskJudge}
 use Rattle.sas_task_judge.specs.Sections.{behind_variable, behind_group, behind_operator, behind_rule}

@@ -10,6 +10,7 @@ mod ahead;
 mod marks;
 mod sections;
 
+pub use marks::counted;
 use sas_core::{Change, Fact, Items};
 use sas_reader::Kind;
 use sas_task_format::Place;
@@ -17,7 +18,6 @@ use sas_task_line::{
     Event, Said, effect_at, fact_at, head_at, name_at, number_at, number_below, positive_at,
     signed_at, version_at, word_at,
 };
-pub use marks::counted;
 pub use sections::Section;
 use std::alloc::Global;
 

@@ -187,9 +187,9 @@ wrong_word_is vs slot line w h =
 pub wrong_word_back : (vs : List Variable) (slot : TaskSlot) (line : List ℕ) (w : WrongWord) → IsWrongWord vs slot line w → IsFirstWrong (ranges_of vs) slot line w
 wrong_word_back vs slot line w h =
     let same : wrong_at (length h.before + 1) h.wrong ≡ w = (
-      ap (λ (n : ℕ). record { word = n; may_be_none = h.wrong.may_be_none; most = h.wrong.bound - 1 }) (sym h.word)
-      ∙ ap (λ (b : Bool). record { word = w.word; may_be_none = b; most = h.wrong.bound - 1 }) (sym h.may_be_none)
-      ∙ ap (λ (n : ℕ). record { word = w.word; may_be_none = w.may_be_none; most = n }) (sym h.most)
+    ap (λ (n : ℕ). record { word = n; may_be_none = h.wrong.may_be_none; most = h.wrong.bound - 1 }) (sym h.word)
+    ∙ ap (λ (b : Bool). record { word = w.word; may_be_none = b; most = h.wrong.bound - 1 }) (sym h.may_be_none)
+    ∙ ap (λ (n : ℕ). record { word = w.word; may_be_none = w.may_be_none; most = n }) (sym h.most)
     ) in
     record {
       item = h.item;

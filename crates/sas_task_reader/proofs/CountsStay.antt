@@ -1,7 +1,5 @@
 -- How many mutex groups, operators and rules have come, behind one more.
-use Rattle.std.proofs.Common.{◌≡◌, ◌≢◌, ℕ, List, [], ◌∷◌, ◌++◌, length, length-append, refl, ap, ◌∙◌, arith}
-use Rattle.std.specs.Prelude.{min}
-use Rattle.sas_task_format.specs.declared.marks.Counts.{Counts}
+use Rattle.std.proofs.Common.{◌≡◌, ◌≢◌, ℕ, List, refl}
 use Rattle.sas_task_line.specs.declared.so_far.SoFar.{SoFar}
 use Rattle.sas_task_line.specs.declared.task_events.Event.{Event}
 use Rattle.sas_task_line.specs.declared.task_events.Event.TheVariants as event

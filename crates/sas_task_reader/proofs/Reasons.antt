@@ -1,5 +1,5 @@
 -- A task file is refused for the reason that its machine knows.
-use Rattle.std.proofs.Common.{◌≡◌, ◌≢◌, ℕ, length, List, Option, None, refl, sym, ap, subst, ◌∙◌}
+use Rattle.std.proofs.Common.{◌≡◌, ◌≢◌, ℕ, length, List, Option, None, sym, subst, ◌∙◌}
 use Rattle.sas_core.specs.declared.parts.Parts.{Parts}
 use Rattle.sas_reader.specs.declared.fault.Kind.{Kind}
 use Rattle.sas_reader.specs.declared.fault.Kind.TheVariants as kinds

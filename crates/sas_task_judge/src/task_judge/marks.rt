@@ -13,6 +13,18 @@ use std::alloc::AllocError;
 /// The greatest number of a task file.
 const MOST: u32 = 2_147_483_647;
 
+/// A number that may be any.
+const ANY_NUMBER: Due = Due::Number {
+    least: 0,
+    most: MOST,
+};
+
+/// A number that isn't 0.
+const POSITIVE_NUMBER: Due = Due::Number {
+    least: 1,
+    most: MOST,
+};
+
 /// Returns the number as far as 32 bits count.
 pub fn counted(n: usize) -> u32
     ensures { result ≡ capped n }
@@ -99,17 +111,17 @@ impl TaskJudge {
             Place::MetricBegin => Due::Word(FixedWord::BeginMetric),
             Place::MetricNumber => Due::Number { least: 0, most: 1 },
             Place::MetricEnd => Due::Word(FixedWord::EndMetric),
-            Place::VariableCount => Due::Number { least: 1, most: MOST },
-            Place::Variables if self.left == 0 => Due::Number { least: 0, most: MOST },
+            Place::VariableCount => POSITIVE_NUMBER,
+            Place::Variables if self.left == 0 => ANY_NUMBER,
             Place::Variables => Due::Word(FixedWord::BeginVariable),
             Place::VariableName => Due::Name,
             Place::VariableLayer => Due::Layer,
-            Place::VariableRange => Due::Number { least: 1, most: MOST },
+            Place::VariableRange => POSITIVE_NUMBER,
             Place::VariableValues if self.more == 0 => Due::Word(FixedWord::EndVariable),
             Place::VariableValues => Due::Name,
             Place::Groups if self.left == 0 => Due::Word(FixedWord::BeginState),
             Place::Groups => Due::Word(FixedWord::BeginMutexGroup),
-            Place::GroupSize => Due::Number { least: 0, most: MOST },
+            Place::GroupSize => ANY_NUMBER,
             Place::GroupFacts if self.more == 0 => Due::Word(FixedWord::EndMutexGroup),
             Place::GroupFacts => Due::Fact,
             _ => self.due_behind_groups(),
@@ -123,24 +135,27 @@ impl TaskJudge {
     {
         match self.place {
             Place::StateValues if self.has_state() => Due::Word(FixedWord::EndState),
-            Place::StateValues => Due::Number { least: 0, most: self.next_most() },
+            Place::StateValues => Due::Number {
+                least: 0,
+                most: self.next_most(),
+            },
             Place::GoalBegin => Due::Word(FixedWord::BeginGoal),
-            Place::GoalSize => Due::Number { least: 0, most: MOST },
+            Place::GoalSize => ANY_NUMBER,
             Place::GoalFacts if self.more == 0 => Due::Word(FixedWord::EndGoal),
             Place::GoalFacts => Due::Fact,
-            Place::OperatorCount => Due::Number { least: 0, most: MOST },
-            Place::Operators if self.left == 0 => Due::Number { least: 0, most: MOST },
+            Place::OperatorCount => ANY_NUMBER,
+            Place::Operators if self.left == 0 => ANY_NUMBER,
             Place::Operators => Due::Word(FixedWord::BeginOperator),
             Place::OperatorName => Due::Name,
-            Place::PrevailCount => Due::Number { least: 0, most: MOST },
-            Place::Prevail if self.more == 0 => Due::Number { least: 0, most: MOST },
+            Place::PrevailCount => ANY_NUMBER,
+            Place::Prevail if self.more == 0 => ANY_NUMBER,
             Place::Prevail => Due::Fact,
-            Place::Effects if self.more == 0 => Due::Number { least: 0, most: MOST },
+            Place::Effects if self.more == 0 => ANY_NUMBER,
             Place::Effects => Due::Effect,
             Place::OperatorEnd => Due::Word(FixedWord::EndOperator),
             Place::Rules if self.left == 0 => Due::Nothing,
             Place::Rules => Due::Word(FixedWord::BeginRule),
-            Place::RuleSize => Due::Number { least: 0, most: MOST },
+            Place::RuleSize => ANY_NUMBER,
             Place::RuleConditions if self.more == 0 => Due::Head,
             Place::RuleConditions => Due::Fact,
             Place::RuleEnd => Due::Word(FixedWord::EndRule),

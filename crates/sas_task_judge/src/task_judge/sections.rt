@@ -4,8 +4,8 @@ ghost use Rattle.std.specs.Prelude.{◌≡◌, ◌<◌, ◌-◌, [], ◌∷◌, 
 ghost use Rattle.sas_task_judge.specs.TaskJudge.{SectionDue};
 
 use super::TaskJudge;
-use sas_task_format::Place;
 use sas_core::Items;
+use sas_task_format::Place;
 use std::alloc::AllocError;
 
 /// What may be kept whole.

@@ -1,4 +1,4 @@
-use Rattle.std.proofs.Common.{◌≡◌, sym, ap, subst, ◌∙◌}
+use Rattle.std.proofs.Common.{sym, ap, subst, ◌∙◌}
 use Rattle.sas_core.specs.declared.parts.Parts.{Parts}
 use Rattle.sas_core.specs.WellRanged.{WellRanged}
 use Rattle.sas_reader.specs.Devices.{ValueOf}

@@ -1,6 +1,5 @@
 use Rattle.std.proofs.Common.{◌≡◌, List, ℕ, ap, ◌∙◌}
 use Rattle.sas_task_reader.specs.declared.task_outline.Seen.{Seen}
-use Rattle.sas_task_reader.specs.Outline.{OutlineOf}
 use Rattle.sas_task_reader.specs.TaskOutline.{outline_in, kept_of}
 use Rattle.sas_reader.specs.declared.fault.Kind.{Kind}
 use Rattle.sas_task_line.specs.declared.so_far.SoFar.{SoFar}
