@@ -53,6 +53,7 @@ impl<'a, 'b, T: Grounded> Model for Firing<'a, 'b, T> {
 
 impl<'a, 'b, T: Grounded> Firing<'a, 'b, T> {
     /// Returns whether a group of the family has the fact that the effect sets.
+    #[inline(always)]
     pub fn sets_one_of(&self, kept: &[bool]) -> bool
         requires { length kept.now ≡ length self.now.task.groups }
         ensures { let f = self.now in
@@ -69,6 +70,7 @@ impl<'a, 'b, T: Grounded> Firing<'a, 'b, T> {
 
     /// Returns whether the effect keeps the group, which is in the family. The known facts where it fires are noted, and
     /// don't clash.
+    #[inline(always)]
     pub fn keeps_by_notes(&self, kept: &[bool], group: u32, marks: &mut Marks) -> bool
         requires notes { IsNotedAt self.now kept.now marks.old }
         requires group { IsIn self.now.task (family_of kept.now) group }
@@ -81,6 +83,7 @@ impl<'a, 'b, T: Grounded> Firing<'a, 'b, T> {
 
     /// Returns whether the effect keeps the group under the family and the group itself, by what is noted. In the end the
     /// family is as it was.
+    #[inline(always)]
     pub fn keeps_with_itself(&self, group: u32, kept: &mut Items<bool>, marks: &mut Marks) -> bool
         requires notes { IsNotedAt self.now kept.old marks.old }
         requires group { group < length self.now.task.groups }
@@ -112,6 +115,7 @@ impl<'a, 'b, T: Grounded> Firing<'a, 'b, T> {
     }
 
     /// Returns whether no effect that may fire together with this one sets a fact of the group too, on another variable.
+    #[inline(always)]
     fn is_single(&self, kept: &[bool], group: u32, marks: &mut Marks) -> bool
         requires notes { IsNotedAt self.now kept.now marks.old }
         requires group { IsIn self.now.task (family_of kept.now) group }
@@ -129,6 +133,7 @@ impl<'a, 'b, T: Grounded> Firing<'a, 'b, T> {
 
     /// Returns whether the other effect never sets a fact of the group on another variable in the same step as this effect
     /// fires.
+    #[inline(always)]
     pub fn not_both(&self, kept: &[bool], other: u32, group: u32, marks: &mut Marks) -> bool
         requires notes { IsNotedAt self.now kept.now marks.old }
         requires other { other < length (operator_of self.now).effects }
@@ -185,6 +190,7 @@ impl<'a, 'b, T: Grounded> Firing<'a, 'b, T> {
     }
 
     /// Returns whether the fact clashes with the known facts where this effect fires.
+    #[inline(always)]
     fn clashes(&self, kept: &[bool], fact: Fact, marks: &Marks) -> bool
         requires notes { IsNotedAt self.now kept.now marks.now }
         requires fact { FactExists self.now.task.variables fact }
@@ -255,6 +261,7 @@ impl<'a, 'b, T: Grounded> Firing<'a, 'b, T> {
     }
 
     /// Returns whether no other fact of the group stays where this effect fires. Mostly an old value decides this at once.
+    #[inline(always)]
     pub fn removes_others(&self, kept: &[bool], group: u32, marks: &Marks) -> bool
         requires notes { IsNotedAt self.now kept.now marks.now }
         requires group { IsIn self.now.task (family_of kept.now) group }
@@ -266,6 +273,7 @@ impl<'a, 'b, T: Grounded> Firing<'a, 'b, T> {
 
     /// Returns whether the effect requires an old value that is a fact of the group. Then no other fact of the group on
     /// another variable can have held.
+    #[inline(always)]
     fn asks_one_of(&self, group: u32) -> bool
         ensures { IsTrue result
             → (kept : List Bool) → IsIn self.now.task (family_of kept) group
@@ -346,6 +354,7 @@ impl<'a, 'b, T: Grounded> Firing<'a, 'b, T> {
     }
 
     /// Returns whether the fact is on the effect's variable, or doesn't stay where the effect fires.
+    #[inline(always)]
     pub fn is_gone(&self, kept: &[bool], fact: Fact, marks: &Marks) -> bool
         requires notes { IsNotedAt self.now kept.now marks.now }
         requires fact { FactExists self.now.task.variables fact }
@@ -360,6 +369,7 @@ impl<'a, 'b, T: Grounded> Firing<'a, 'b, T> {
 
     /// Returns whether an effect of the operator, each of whose conditions is this fact or noted, sets the variable of the
     /// fact to another value. Of a large operator only effects on that variable are looked at.
+    #[inline(always)]
     fn is_removed(&self, fact: Fact, notes: &Notes) -> bool
         requires wide { IsWide self.now.task notes.now }
         ensures yes { IsTrue result → SomeRemoves (operator_of self.now) notes.now fact }
@@ -374,6 +384,7 @@ impl<'a, 'b, T: Grounded> Firing<'a, 'b, T> {
 
 /// Returns whether an effect of the operator, each of whose conditions is this fact or noted, sets the variable of the fact
 /// to another value.
+#[inline(always)]
 fn some_removes<T: Grounded>(task: &Layered<T>, operator: u32, fact: Fact, notes: &Notes) -> bool
     requires wide { IsWide task.now notes.now }
     requires operator { operator < length task.now.operators }
@@ -413,6 +424,7 @@ fn one_removes<T: Grounded>(
 
 /// Returns whether each of the effect's conditions is this fact or noted, and the effect sets the variable of the fact to
 /// another value.
+#[inline(always)]
 fn removes<T: Grounded>(
     task: &Layered<T>,
     operator: u32,
@@ -438,6 +450,7 @@ fn removes<T: Grounded>(
 }
 
 /// Returns whether each of the conditions is this fact or noted.
+#[inline(always)]
 fn all_met(conditions: &[Fact], fact: Fact, notes: &Notes) -> bool
     requires { All (λ (c : Fact). c.var < length notes.now.values) conditions.now }
     ensures yes { IsTrue result → All (IsMet notes.now fact) conditions.now }
@@ -452,6 +465,7 @@ fn all_met(conditions: &[Fact], fact: Fact, notes: &Notes) -> bool
 }
 
 /// Returns whether the condition is this fact or noted.
+#[inline(always)]
 fn is_met(condition: Fact, fact: Fact, notes: &Notes) -> bool
     requires { condition.var < length notes.now.values }
     ensures yes { IsTrue result → IsMet notes.now fact condition }
@@ -461,6 +475,7 @@ fn is_met(condition: Fact, fact: Fact, notes: &Notes) -> bool
 }
 
 /// Returns whether one of these groups is in the family.
+#[inline(always)]
 fn some_kept(groups: &[u32], kept: &[bool]) -> bool
     requires { AreBelow (length kept.now) groups.now }
     ensures { IsFalse result → All (λ (place : ℕ). IsFalse (family_of kept.now place)) groups.now }
