@@ -17,6 +17,7 @@ use Rattle.sas_groups.specs.Families.{IsIn}
 use Rattle.sas_mutex.specs.Effects.{family_of, IsKept, KeepsAt, KeepsWithItself}
 use Rattle.std.specs.List.Sorted.{IsNonDecreasing}
 use Rattle.sas_group_index.specs.declared.index.Index.{Index}
+use Rattle.sas_group_index.specs.ByVariable.{variable_of}
 use Rattle.sas_group_index.specs.Index.{HasFact, groups_of}
 use Rattle.sas_mutex.specs.Firing.{EffectPlace, operator_of, effect_of}
 use Rattle.sas_mutex.specs.Marks.{value_note, group_note, IsNotedFrom, AreNotesOf}
@@ -272,6 +273,26 @@ NotBothAt f kept other place = NotBoth (IsKept f.task kept) (operator_of f)
 abbrev pub IsSingleAt : EffectPlace → List Bool → ℕ → Type 0
 IsSingleAt f kept place =
     IsSingle (IsKept f.task kept) (operator_of f) (group_at f.task place) (effect_of f)
+
+-- the effect at this place, if there is one, doesn't set a fact of the group so
+abbrev pub IsApartAt : EffectPlace → List Bool → ℕ → ℕ → Type 0
+IsApartAt f kept place other = other < length (operator_of f).effects → NotBothAt f kept other place
+
+-- none of the effects on the variable does
+abbrev pub IsSingleOn : EffectPlace → List Bool → ℕ → ℕ → Type 0
+IsSingleOn f kept place var = (other : ℕ) → variable_of f.task f.operator other ≡ var
+    → IsApartAt f kept place other
+
+-- none of the effects on the variable of one of the first facts does
+abbrev pub IsSingleOnFirst : EffectPlace → List Bool → ℕ → List Fact → ℕ → Type 0
+IsSingleOnFirst f kept place facts count = (k : ℕ) (d : Fact) → k < count
+    → IsSingleOn f kept place (slice_index_or facts k d).var
+
+-- the fact at this place has one before it on the same variable
+pub record IsOnVariableBefore (facts : List Fact) (place : ℕ) : Type 0 where
+  pub before : ℕ
+  pub early : before < place
+  pub same : (d : Fact) → (slice_index_or facts before d).var ≡ (slice_index_or facts place d).var
 
 abbrev pub IsGoneAt : EffectPlace → List Bool → Fact → Type 0
 IsGoneAt f kept = IsGone (IsKept f.task kept) (operator_of f) (effect_of f)

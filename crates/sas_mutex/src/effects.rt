@@ -12,7 +12,8 @@ ghost use Rattle.sas_mutex.specs.Marks.{IsWide, IsGroupNote, value_note};
 ghost use Rattle.sas_mutex.specs.Noting.{AreBelow, IsMet, SomeRemoves, Removes, known_at};
 ghost use Rattle.sas_mutex.specs.Noting.{IsNotedAt, KeepsGroup, KeepsGroupItself, BothClashAt, NotBothAt};
 ghost use Rattle.sas_mutex.specs.Noting.{ClashesAt, SomeClashesAt, SharesBesideAt};
-ghost use Rattle.sas_mutex.specs.Noting.{IsSingleAt, IsGoneAt, AreGoneAt, IsUnknownAt, IsDecidedByFirst};
+ghost use Rattle.sas_mutex.specs.Noting.{IsSingleAt, IsApartAt, IsSingleOn, IsOnVariableBefore};
+ghost use Rattle.sas_mutex.specs.Noting.{IsGoneAt, AreGoneAt, IsUnknownAt, IsDecidedByFirst};
 ghost use Rattle.sas_mutex.specs.Basis.{SetsNone};
 
 use crate::indexed::IndexedTask;
@@ -114,7 +115,8 @@ impl<'a, 'b, T: Grounded> Firing<'a, 'b, T> {
         marks.known.noted(self.index, group)
     }
 
-    /// Returns whether no effect that may fire together with this one sets a fact of the group too, on another variable.
+    /// Returns whether no effect that may fire together with this one sets a fact of the group too, on another variable. All
+    /// effects are looked at, or of a large operator those on variables of the group, if its facts are fewer.
     #[inline(always)]
     fn is_single(&self, kept: &[bool], group: u32, marks: &mut Marks) -> bool
         requires notes { IsNotedAt self.now kept.now marks.old }
@@ -123,8 +125,89 @@ impl<'a, 'b, T: Grounded> Firing<'a, 'b, T> {
         ensures yes { IsTrue result → IsSingleAt self.now kept.now group }
         ensures no { IsFalse result → IsSingleAt self.now kept.now group → ⊥ }
     {
+        if self.has_more_effects(group) {
+            self.is_single_by_facts(kept, group, marks)
+        } else {
+            self.is_single_of_all(kept, group, marks)
+        }
+    }
+
+    /// Returns whether the operator is large, and has more effects than the group has facts.
+    #[inline(always)]
+    fn has_more_effects(&self, group: u32) -> bool
+        requires { group < length self.now.task.groups }
+    {
+        // The index has the effects of large operators alone.
+        let on_first = self.index.effects_on(self.task, self.operator, 0);
+        let facts = self.index.facts_of(self.task, group);
+        on_first.is_some() && facts.len() < self.task.effects(self.operator) as usize
+    }
+
+    /// Decides the same by a look at each effect.
+    #[inline(always)]
+    fn is_single_of_all(&self, kept: &[bool], group: u32, marks: &mut Marks) -> bool
+        requires notes { IsNotedAt self.now kept.now marks.old }
+        requires group { IsIn self.now.task (family_of kept.now) group }
+        ensures notes { IsNotedAt self.now kept.now marks.new }
+        ensures yes { IsTrue result → IsSingleAt self.now kept.now group }
+        ensures no { IsFalse result → IsSingleAt self.now kept.now group → ⊥ }
+    {
         for other in 0..self.task.effects(self.operator) {
             if !self.not_both(kept, other, group, marks) {
+                return false;
+            }
+        }
+        true
+    }
+
+    /// Decides the same by a look at the effects on each variable of the group. Its facts are in ascending order, so those on
+    /// one variable follow one another.
+    #[inline(never)]
+    fn is_single_by_facts(&self, kept: &[bool], group: u32, marks: &mut Marks) -> bool
+        requires notes { IsNotedAt self.now kept.now marks.old }
+        requires group { IsIn self.now.task (family_of kept.now) group }
+        ensures notes { IsNotedAt self.now kept.now marks.new }
+        ensures yes { IsTrue result → IsSingleAt self.now kept.now group }
+        ensures no { IsFalse result → IsSingleAt self.now kept.now group → ⊥ }
+    {
+        let facts = self.index.facts_of(self.task, group);
+        for place in 0..facts.len() {
+            if begins_run(facts, place)
+                && !self.is_single_on(kept, group, facts[place].var, marks)
+            {
+                return false;
+            }
+        }
+        true
+    }
+
+    /// Returns whether no effect on the variable that may fire together with this one sets a fact of the group too, on another
+    /// variable.
+    fn is_single_on(&self, kept: &[bool], group: u32, var: u32, marks: &mut Marks) -> bool
+        requires notes { IsNotedAt self.now kept.now marks.old }
+        requires group { IsIn self.now.task (family_of kept.now) group }
+        ensures notes { IsNotedAt self.now kept.now marks.new }
+        ensures yes { IsTrue result → IsSingleOn self.now kept.now group var }
+        ensures no { IsFalse result → IsSingleAt self.now kept.now group → ⊥ }
+    {
+        match self.index.effects_on(self.task, self.operator, var) {
+            Some(effects) => self.is_single_among(kept, group, effects, marks),
+            None => self.is_single_of_all(kept, group, marks),
+        }
+    }
+
+    /// Returns whether none of these effects does so.
+    fn is_single_among(&self, kept: &[bool], group: u32, effects: &[u32], marks: &mut Marks) -> bool
+        requires notes { IsNotedAt self.now kept.now marks.old }
+        requires group { IsIn self.now.task (family_of kept.now) group }
+        ensures notes { IsNotedAt self.now kept.now marks.new }
+        ensures yes { IsTrue result → All (IsApartAt self.now kept.now group) effects.now }
+        ensures no { IsFalse result → IsSingleAt self.now kept.now group → ⊥ }
+    {
+        for other in effects {
+            if *other < self.task.effects(self.operator)
+                && !self.not_both(kept, *other, group, marks)
+            {
                 return false;
             }
         }
@@ -380,6 +463,14 @@ impl<'a, 'b, T: Grounded> Firing<'a, 'b, T> {
             None => some_removes(self.task, self.operator, fact, notes),
         }
     }
+}
+
+/// Returns whether the fact at this place is the first of a run of facts on one variable.
+fn begins_run(facts: &[Fact], place: usize) -> bool
+    requires { place < length facts.now }
+    ensures { IsFalse result → IsOnVariableBefore facts.now place }
+{
+    place == 0 || facts[place - 1].var != facts[place].var
 }
 
 /// Returns whether an effect of the operator, each of whose conditions is this fact or noted, sets the variable of the fact
