@@ -2,6 +2,7 @@
 use Rattle.std.specs.Prelude.{◌≡◌, ◌≢◌, ◌⊎◌, ℕ, ◌<◌, ◌≤◌, ◌^◌, Bool, IsTrue, Option, None, Some}
 use Rattle.std.specs.Prelude.{List, [], ◌∷◌, length, slice_index_or, slice_set, All, Contains}
 use Rattle.sas_core.specs.declared.parts.Fact.{Fact}
+use Rattle.sas_core.specs.declared.grounded.Change.{Change}
 use Rattle.sas_core.specs.declared.parts.Effect.{Effect}
 use Rattle.sas_core.specs.declared.parts.Operator.{Operator}
 use Rattle.sas_core.specs.declared.parts.Parts.{Parts}
@@ -128,6 +129,11 @@ pub record IsNew (index : Index) (kept : List Bool) (fact : Fact) (before after 
   pub same_apart : after.apart ≡ before.apart
   pub alone : SharesApart index kept fact before.apart → ⊥
 
+-- the change sets a fact of the group, and is on another variable than this one
+pub record SetsBeside (index : Index) (change : Change) (var place : ℕ) : Type 0 where
+  pub beside : change.var ≢ var
+  pub has : Contains (groups_of index (record { var = change.var; value = change.new })) place
+
 -- the value of the fact, if there is one, is noted for its variable
 abbrev pub IsSet : Option Fact → List (Option ℕ) → List (Option ℕ) → Type 0
 IsSet None before after = after ≡ before
@@ -183,6 +189,14 @@ pub record Removes (notes : Notes) (fact : Fact) (e : Effect) : Type 0 where
   pub fires : All (IsMet notes fact) e.conditions
   pub var : e.var ≡ fact.var
   pub other : e.new ≢ fact.value
+
+-- the change sets the variable of the fact to another value
+abbrev pub IsOther : Fact → Change → Type 0
+IsOther fact change = (change.var ≡ fact.var) × (change.new ≢ fact.value)
+
+-- one of the changes does
+abbrev pub SomeOther : List Change → Fact → Type 0
+SomeOther changes fact = (change : Change) × Contains changes change × IsOther fact change
 
 -- some effect of the operator removes the fact
 abbrev pub SomeRemoves : Operator → Notes → Fact → Type 0

@@ -1,6 +1,7 @@
 // Which effects keep a group.
 ghost use Rattle.std.specs.Prelude.{◌≡◌, ◌<◌, ◌≤◌, ◌^◌, ℕ, Bool, List, length, IsTrue, IsFalse, All};
 ghost use Rattle.sas_core.specs.Grounded.{operator_at, effect_at};
+ghost use Rattle.sas_core.specs.Changes.{plain_effects};
 ghost use Rattle.sas_core.specs.Variables.{FactExists};
 ghost use Rattle.sas_groups.specs.Families.{IsIn};
 ghost use Rattle.sas_group_index.specs.Index.{groups_of};
@@ -13,12 +14,13 @@ ghost use Rattle.sas_mutex.specs.Noting.{AreBelow, IsMet, SomeRemoves, Removes, 
 ghost use Rattle.sas_mutex.specs.Noting.{IsNotedAt, KeepsGroup, KeepsGroupItself, BothClashAt, NotBothAt};
 ghost use Rattle.sas_mutex.specs.Noting.{ClashesAt, SomeClashesAt, SharesBesideAt};
 ghost use Rattle.sas_mutex.specs.Noting.{IsSingleAt, IsApartAt, IsSingleOn, IsOnVariableBefore};
+ghost use Rattle.sas_mutex.specs.Noting.{IsReadable, SetsBeside, SomeOther, IsOther};
 ghost use Rattle.sas_mutex.specs.Noting.{IsGoneAt, AreGoneAt, IsUnknownAt, IsDecidedByFirst};
 ghost use Rattle.sas_mutex.specs.Basis.{SetsNone};
 
 use crate::indexed::IndexedTask;
 use crate::marks::{Marks, Noted, Notes, facts_clash, has_noted, shares_apart, some_has};
-use sas_core::{Fact, Grounded, Items};
+use sas_core::{Change, Fact, Grounded, Items};
 use sas_group_index::Index;
 use sas_groups::{Known, Premises};
 use sas_meaning::Layered;
@@ -126,10 +128,36 @@ impl<'a, 'b, T: Grounded> Firing<'a, 'b, T> {
         ensures no { IsFalse result → IsSingleAt self.now kept.now group → ⊥ }
     {
         if self.has_more_effects(group) {
-            self.is_single_by_facts(kept, group, marks)
-        } else {
-            self.is_single_of_all(kept, group, marks)
+            return self.is_single_by_facts(kept, group, marks);
         }
+        match self.task.plain_changes(self.operator) {
+            Some(changes) => self.is_single_of_changes(kept, group, changes, marks),
+            None => self.is_single_of_all(kept, group, marks),
+        }
+    }
+
+    /// Decides the same by what the operator's effects change, where none of them has conditions.
+    #[inline(always)]
+    fn is_single_of_changes(
+        &self,
+        kept: &[bool],
+        group: u32,
+        changes: &[Change],
+        marks: &Marks,
+    ) -> bool
+        requires notes { IsNotedAt self.now kept.now marks.now }
+        requires group { IsIn self.now.task (family_of kept.now) group }
+        requires plain { (operator_of self.now).effects ≡ plain_effects changes.now }
+        ensures yes { IsTrue result → IsSingleAt self.now kept.now group }
+        ensures no { IsFalse result → IsSingleAt self.now kept.now group → ⊥ }
+    {
+        let var = self.task.effect_change(self.operator, self.effect).var;
+        for change in changes {
+            if sets_beside(self.index, *change, var, group) {
+                return false;
+            }
+        }
+        true
     }
 
     /// Returns whether the operator is large, and has more effects than the group has facts.
@@ -138,9 +166,11 @@ impl<'a, 'b, T: Grounded> Firing<'a, 'b, T> {
         requires { group < length self.now.task.groups }
     {
         // The index has the effects of large operators alone.
-        let on_first = self.index.effects_on(self.task, self.operator, 0);
+        if self.index.effects_on(self.task, self.operator, 0).is_none() {
+            return false;
+        }
         let facts = self.index.facts_of(self.task, group);
-        on_first.is_some() && facts.len() < self.task.effects(self.operator) as usize
+        facts.len() < self.task.effects(self.operator) as usize
     }
 
     /// Decides the same by a look at each effect.
@@ -152,8 +182,9 @@ impl<'a, 'b, T: Grounded> Firing<'a, 'b, T> {
         ensures yes { IsTrue result → IsSingleAt self.now kept.now group }
         ensures no { IsFalse result → IsSingleAt self.now kept.now group → ⊥ }
     {
+        let var = self.task.effect_change(self.operator, self.effect).var;
         for other in 0..self.task.effects(self.operator) {
-            if !self.not_both(kept, other, group, marks) {
+            if !self.is_apart(kept, var, other, group, marks) {
                 return false;
             }
         }
@@ -225,8 +256,23 @@ impl<'a, 'b, T: Grounded> Firing<'a, 'b, T> {
         ensures yes { IsTrue result → NotBothAt self.now kept.now other group }
         ensures no { IsFalse result → NotBothAt self.now kept.now other group → ⊥ }
     {
+        let var = self.task.effect_change(self.operator, self.effect).var;
+        self.is_apart(kept, var, other, group, marks)
+    }
+
+    /// Returns the same. `var` is the variable of this effect.
+    #[inline(always)]
+    fn is_apart(&self, kept: &[bool], var: u32, other: u32, group: u32, marks: &mut Marks) -> bool
+        requires notes { IsNotedAt self.now kept.now marks.old }
+        requires var { var ≡ (effect_of self.now).var }
+        requires other { other < length (operator_of self.now).effects }
+        requires group { IsIn self.now.task (family_of kept.now) group }
+        ensures notes { IsNotedAt self.now kept.now marks.new }
+        ensures yes { IsTrue result → NotBothAt self.now kept.now other group }
+        ensures no { IsFalse result → NotBothAt self.now kept.now other group → ⊥ }
+    {
         let change = self.task.effect_change(self.operator, other);
-        if self.task.effect_change(self.operator, self.effect).var == change.var {
+        if var == change.var {
             return true;
         }
         if !self.index.has(group, change.fact()) {
@@ -473,10 +519,53 @@ fn begins_run(facts: &[Fact], place: usize) -> bool
     place == 0 || facts[place - 1].var != facts[place].var
 }
 
+/// Returns whether the change sets a fact of the group, and is on another variable than this one.
+#[inline(always)]
+fn sets_beside(index: &Index, change: Change, var: u32, group: u32) -> bool
+    requires { IsReadable index.now }
+    ensures yes { IsTrue result → SetsBeside index.now change var group }
+    ensures no { IsFalse result → SetsBeside index.now change var group → ⊥ }
+{
+    change.var != var && index.has(group, change.fact())
+}
+
 /// Returns whether an effect of the operator, each of whose conditions is this fact or noted, sets the variable of the fact
 /// to another value.
 #[inline(always)]
 fn some_removes<T: Grounded>(task: &Layered<T>, operator: u32, fact: Fact, notes: &Notes) -> bool
+    requires wide { IsWide task.now notes.now }
+    requires operator { operator < length task.now.operators }
+    ensures yes { IsTrue result → SomeRemoves (operator_at task.now operator) notes.now fact }
+    ensures no { IsFalse result → SomeRemoves (operator_at task.now operator) notes.now fact → ⊥ }
+{
+    match task.plain_changes(operator) {
+        Some(changes) => one_changes(changes, fact),
+        None => some_of_all_removes(task, operator, fact, notes),
+    }
+}
+
+/// Returns whether one of the changes sets the variable of the fact to another value.
+#[inline(always)]
+fn one_changes(changes: &[Change], fact: Fact) -> bool
+    ensures yes { IsTrue result → SomeOther changes.now fact }
+    ensures no { IsFalse result → All (λ change. IsOther fact change → ⊥) changes.now }
+{
+    for change in changes {
+        if change.var == fact.var && change.new != fact.value {
+            return true;
+        }
+    }
+    false
+}
+
+/// Decides the same as `some_removes` by a look at each effect.
+#[inline(always)]
+fn some_of_all_removes<T: Grounded>(
+    task: &Layered<T>,
+    operator: u32,
+    fact: Fact,
+    notes: &Notes,
+) -> bool
     requires wide { IsWide task.now notes.now }
     requires operator { operator < length task.now.operators }
     ensures yes { IsTrue result → SomeRemoves (operator_at task.now operator) notes.now fact }
