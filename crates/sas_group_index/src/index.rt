@@ -99,7 +99,7 @@ impl Index {
     {
         let groups = self.groups_of(fact);
         if groups.len() <= FEW_GROUPS {
-            groups.contains(&group)
+            is_among(groups, group)
         } else {
             groups.binary_search(&group).is_ok()
         }
@@ -137,6 +137,14 @@ fn number_facts<T: Grounded>(
         facts += task.range(var) as usize;
     }
     Ok(facts)
+}
+
+/// Returns whether the group is one of these. A look at each, in place of a call.
+#[inline(always)]
+fn is_among(groups: &[u32], group: u32) -> bool
+    ensures { IsTrue result ↔ Contains groups.now group }
+{
+    groups.iter().any(|other| *other == group)
 }
 
 /// Returns the list under the key. Behind the last list it is empty.
