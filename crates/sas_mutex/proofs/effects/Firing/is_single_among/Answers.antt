@@ -1,5 +1,5 @@
 -- One more effect sets no other fact of the group, or isn't there.
-use Rattle.std.proofs.Common.{◌≡◌, ℕ, length, below_more, subst, arith}
+use Rattle.std.proofs.Common.{◌≡◌, length, below_more, subst, arith}
 use Rattle.std.proofs.lemmas.List.{get_or_default}
 use Rattle.sas_mutex.specs.Firing.{EffectPlace, operator_of}
 use Rattle.sas_mutex.specs.Noting.{IsApartAt}
