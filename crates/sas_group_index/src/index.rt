@@ -55,6 +55,7 @@ impl Index {
     }
 
     /// Returns the groups that have the fact.
+    #[inline(always)]
     pub fn groups_of(&self, fact: Fact) -> &[u32]
         requires { All (λ (first : ℕ). first ≤ 2 ^ 62) self.now.firsts.items }
         ensures { result.now ≡ spec.groups_of self.now fact }
@@ -71,6 +72,7 @@ impl Index {
     }
 
     /// Returns effects of the operator, if it is large: all that set the variable, and maybe others.
+    #[inline(always)]
     pub fn effects_on<T: Grounded>(
         &self,
         task: &Layered<T>,
@@ -89,6 +91,7 @@ impl Index {
     }
 
     /// Returns whether the group has the fact.
+    #[inline(always)]
     pub fn has(&self, group: u32, fact: Fact) -> bool
         requires low { All (λ (first : ℕ). first ≤ 2 ^ 62) self.now.firsts.items }
         requires ascending { IsNonDecreasing (spec.groups_of self.now fact) }
@@ -96,7 +99,7 @@ impl Index {
     {
         let groups = self.groups_of(fact);
         if groups.len() <= FEW_GROUPS {
-            groups.contains(&group)
+            is_among(groups, group)
         } else {
             groups.binary_search(&group).is_ok()
         }
@@ -104,6 +107,7 @@ impl Index {
 
     /// Returns the number of the fact. A variable that doesn't exist has no first number. Its facts are numbered as if that
     /// were 0.
+    #[inline(always)]
     fn number_of(&self, fact: Fact) -> usize
         requires { All (λ (first : ℕ). first ≤ 2 ^ 62) self.now.firsts.items }
         ensures { result ≡ number self.now.firsts.items fact }
@@ -135,7 +139,16 @@ fn number_facts<T: Grounded>(
     Ok(facts)
 }
 
+/// Returns whether the group is one of these. A look at each, in place of a call.
+#[inline(always)]
+fn is_among(groups: &[u32], group: u32) -> bool
+    ensures { IsTrue result ↔ Contains groups.now group }
+{
+    groups.iter().any(|other| *other == group)
+}
+
 /// Returns the list under the key. Behind the last list it is empty.
+#[inline(always)]
 fn under(lists: &Lists<u32>, key: usize) -> &[u32]
     ensures { result.now ≡ under lists.now key }
 {

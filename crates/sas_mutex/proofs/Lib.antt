@@ -12,3 +12,4 @@ pub mod GoneRuns
 pub mod Supporting
 pub mod WatchChains
 pub mod Watched
+pub mod PlainEffects

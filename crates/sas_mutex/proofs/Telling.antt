@@ -305,3 +305,16 @@ module _ (p : Parts) (kept : List Bool) where
     are = λ place lt. all_told greatest place lt (verdict_at verdicts place)
         (subst (λ n. IsVerdictSoFar p kept n 0 place (verdict_at verdicts place)) all (so_far.are place lt));
   }
+
+  -- where no group that fell is without a verdict, all is told at first
+  pub joint_at_first : (verdicts : List Verdict) → AreFirstVerdicts p verdicts → IsGreatest p (family_of kept)
+      → ((place : ℕ) → place < length p.groups → IsUntold kept verdicts place → ⊥) → AreJointVerdicts p verdicts
+  joint_at_first verdicts first greatest none = joint_in_the_end (length p.operators) verdicts refl greatest (record {
+    one_each = first.one_each;
+    are = λ place lt. elim (cases_Bool (family_of kept place)) [
+      | inl here ↦ so_far_by 0 0 (length p.operators) 0 place (verdict_at verdicts place)
+          (λ out. absurd (out (record { exists = lt; chosen = here }))) (so_far_first place (verdict_at verdicts place) (first.are place lt))
+      | inr gone ↦ told_for_good 0 0 (length p.operators) 0 place (verdict_at verdicts place)
+          (λ nothing. none place lt (record { fell = gone; nothing = nothing })) (so_far_first place (verdict_at verdicts place) (first.are place lt))
+    ];
+  })

@@ -2,6 +2,7 @@
 use Rattle.std.specs.Prelude.{◌≡◌, ◌≢◌, ◌⊎◌, ℕ, ◌<◌, ◌≤◌, ◌^◌, Bool, IsTrue, Option, None, Some}
 use Rattle.std.specs.Prelude.{List, [], ◌∷◌, length, slice_index_or, slice_set, All, Contains}
 use Rattle.sas_core.specs.declared.parts.Fact.{Fact}
+use Rattle.sas_core.specs.declared.grounded.Change.{Change}
 use Rattle.sas_core.specs.declared.parts.Effect.{Effect}
 use Rattle.sas_core.specs.declared.parts.Operator.{Operator}
 use Rattle.sas_core.specs.declared.parts.Parts.{Parts}
@@ -17,6 +18,7 @@ use Rattle.sas_groups.specs.Families.{IsIn}
 use Rattle.sas_mutex.specs.Effects.{family_of, IsKept, KeepsAt, KeepsWithItself}
 use Rattle.std.specs.List.Sorted.{IsNonDecreasing}
 use Rattle.sas_group_index.specs.declared.index.Index.{Index}
+use Rattle.sas_group_index.specs.ByVariable.{variable_of}
 use Rattle.sas_group_index.specs.Index.{HasFact, groups_of}
 use Rattle.sas_mutex.specs.Firing.{EffectPlace, operator_of, effect_of}
 use Rattle.sas_mutex.specs.Marks.{value_note, group_note, IsNotedFrom, AreNotesOf}
@@ -127,6 +129,11 @@ pub record IsNew (index : Index) (kept : List Bool) (fact : Fact) (before after 
   pub same_apart : after.apart ≡ before.apart
   pub alone : SharesApart index kept fact before.apart → ⊥
 
+-- the change sets a fact of the group, and is on another variable than this one
+pub record SetsBeside (index : Index) (change : Change) (var place : ℕ) : Type 0 where
+  pub beside : change.var ≢ var
+  pub has : Contains (groups_of index (record { var = change.var; value = change.new })) place
+
 -- the value of the fact, if there is one, is noted for its variable
 abbrev pub IsSet : Option Fact → List (Option ℕ) → List (Option ℕ) → Type 0
 IsSet None before after = after ≡ before
@@ -182,6 +189,14 @@ pub record Removes (notes : Notes) (fact : Fact) (e : Effect) : Type 0 where
   pub fires : All (IsMet notes fact) e.conditions
   pub var : e.var ≡ fact.var
   pub other : e.new ≢ fact.value
+
+-- the change sets the variable of the fact to another value
+abbrev pub IsOther : Fact → Change → Type 0
+IsOther fact change = (change.var ≡ fact.var) × (change.new ≢ fact.value)
+
+-- one of the changes does
+abbrev pub SomeOther : List Change → Fact → Type 0
+SomeOther changes fact = (change : Change) × Contains changes change × IsOther fact change
 
 -- some effect of the operator removes the fact
 abbrev pub SomeRemoves : Operator → Notes → Fact → Type 0
@@ -272,6 +287,26 @@ NotBothAt f kept other place = NotBoth (IsKept f.task kept) (operator_of f)
 abbrev pub IsSingleAt : EffectPlace → List Bool → ℕ → Type 0
 IsSingleAt f kept place =
     IsSingle (IsKept f.task kept) (operator_of f) (group_at f.task place) (effect_of f)
+
+-- the effect at this place, if there is one, doesn't set a fact of the group so
+abbrev pub IsApartAt : EffectPlace → List Bool → ℕ → ℕ → Type 0
+IsApartAt f kept place other = other < length (operator_of f).effects → NotBothAt f kept other place
+
+-- none of the effects on the variable does
+abbrev pub IsSingleOn : EffectPlace → List Bool → ℕ → ℕ → Type 0
+IsSingleOn f kept place var = (other : ℕ) → variable_of f.task f.operator other ≡ var
+    → IsApartAt f kept place other
+
+-- none of the effects on the variable of one of the first facts does
+abbrev pub IsSingleOnFirst : EffectPlace → List Bool → ℕ → List Fact → ℕ → Type 0
+IsSingleOnFirst f kept place facts count = (k : ℕ) (d : Fact) → k < count
+    → IsSingleOn f kept place (slice_index_or facts k d).var
+
+-- the fact at this place has one before it on the same variable
+pub record IsOnVariableBefore (facts : List Fact) (place : ℕ) : Type 0 where
+  pub before : ℕ
+  pub early : before < place
+  pub same : (d : Fact) → (slice_index_or facts before d).var ≡ (slice_index_or facts place d).var
 
 abbrev pub IsGoneAt : EffectPlace → List Bool → Fact → Type 0
 IsGoneAt f kept = IsGone (IsKept f.task kept) (operator_of f) (effect_of f)

@@ -1,6 +1,7 @@
 // Which effects keep a group.
 ghost use Rattle.std.specs.Prelude.{◌≡◌, ◌<◌, ◌≤◌, ◌^◌, ℕ, Bool, List, length, IsTrue, IsFalse, All};
 ghost use Rattle.sas_core.specs.Grounded.{operator_at, effect_at};
+ghost use Rattle.sas_core.specs.Changes.{plain_effects};
 ghost use Rattle.sas_core.specs.Variables.{FactExists};
 ghost use Rattle.sas_groups.specs.Families.{IsIn};
 ghost use Rattle.sas_group_index.specs.Index.{groups_of};
@@ -12,12 +13,14 @@ ghost use Rattle.sas_mutex.specs.Marks.{IsWide, IsGroupNote, value_note};
 ghost use Rattle.sas_mutex.specs.Noting.{AreBelow, IsMet, SomeRemoves, Removes, known_at};
 ghost use Rattle.sas_mutex.specs.Noting.{IsNotedAt, KeepsGroup, KeepsGroupItself, BothClashAt, NotBothAt};
 ghost use Rattle.sas_mutex.specs.Noting.{ClashesAt, SomeClashesAt, SharesBesideAt};
-ghost use Rattle.sas_mutex.specs.Noting.{IsSingleAt, IsGoneAt, AreGoneAt, IsUnknownAt, IsDecidedByFirst};
+ghost use Rattle.sas_mutex.specs.Noting.{IsSingleAt, IsApartAt, IsSingleOn, IsOnVariableBefore};
+ghost use Rattle.sas_mutex.specs.Noting.{IsReadable, SetsBeside, SomeOther, IsOther};
+ghost use Rattle.sas_mutex.specs.Noting.{IsGoneAt, AreGoneAt, IsUnknownAt, IsDecidedByFirst};
 ghost use Rattle.sas_mutex.specs.Basis.{SetsNone};
 
 use crate::indexed::IndexedTask;
 use crate::marks::{Marks, Noted, Notes, facts_clash, has_noted, shares_apart, some_has};
-use sas_core::{Fact, Grounded, Items};
+use sas_core::{Change, Fact, Grounded, Items};
 use sas_group_index::Index;
 use sas_groups::{Known, Premises};
 use sas_meaning::Layered;
@@ -53,6 +56,7 @@ impl<'a, 'b, T: Grounded> Model for Firing<'a, 'b, T> {
 
 impl<'a, 'b, T: Grounded> Firing<'a, 'b, T> {
     /// Returns whether a group of the family has the fact that the effect sets.
+    #[inline(always)]
     pub fn sets_one_of(&self, kept: &[bool]) -> bool
         requires { length kept.now ≡ length self.now.task.groups }
         ensures { let f = self.now in
@@ -69,6 +73,7 @@ impl<'a, 'b, T: Grounded> Firing<'a, 'b, T> {
 
     /// Returns whether the effect keeps the group, which is in the family. The known facts where it fires are noted, and
     /// don't clash.
+    #[inline(always)]
     pub fn keeps_by_notes(&self, kept: &[bool], group: u32, marks: &mut Marks) -> bool
         requires notes { IsNotedAt self.now kept.now marks.old }
         requires group { IsIn self.now.task (family_of kept.now) group }
@@ -81,6 +86,7 @@ impl<'a, 'b, T: Grounded> Firing<'a, 'b, T> {
 
     /// Returns whether the effect keeps the group under the family and the group itself, by what is noted. In the end the
     /// family is as it was.
+    #[inline(always)]
     pub fn keeps_with_itself(&self, group: u32, kept: &mut Items<bool>, marks: &mut Marks) -> bool
         requires notes { IsNotedAt self.now kept.old marks.old }
         requires group { group < length self.now.task.groups }
@@ -111,7 +117,9 @@ impl<'a, 'b, T: Grounded> Firing<'a, 'b, T> {
         marks.known.noted(self.index, group)
     }
 
-    /// Returns whether no effect that may fire together with this one sets a fact of the group too, on another variable.
+    /// Returns whether no effect that may fire together with this one sets a fact of the group too, on another variable. All
+    /// effects are looked at, or of a large operator those on variables of the group, if its facts are fewer.
+    #[inline(always)]
     fn is_single(&self, kept: &[bool], group: u32, marks: &mut Marks) -> bool
         requires notes { IsNotedAt self.now kept.now marks.old }
         requires group { IsIn self.now.task (family_of kept.now) group }
@@ -119,8 +127,118 @@ impl<'a, 'b, T: Grounded> Firing<'a, 'b, T> {
         ensures yes { IsTrue result → IsSingleAt self.now kept.now group }
         ensures no { IsFalse result → IsSingleAt self.now kept.now group → ⊥ }
     {
+        if self.has_more_effects(group) {
+            return self.is_single_by_facts(kept, group, marks);
+        }
+        match self.task.plain_changes(self.operator) {
+            Some(changes) => self.is_single_of_changes(kept, group, changes, marks),
+            None => self.is_single_of_all(kept, group, marks),
+        }
+    }
+
+    /// Decides the same by what the operator's effects change, where none of them has conditions.
+    #[inline(always)]
+    fn is_single_of_changes(
+        &self,
+        kept: &[bool],
+        group: u32,
+        changes: &[Change],
+        marks: &Marks,
+    ) -> bool
+        requires notes { IsNotedAt self.now kept.now marks.now }
+        requires group { IsIn self.now.task (family_of kept.now) group }
+        requires plain { (operator_of self.now).effects ≡ plain_effects changes.now }
+        ensures yes { IsTrue result → IsSingleAt self.now kept.now group }
+        ensures no { IsFalse result → IsSingleAt self.now kept.now group → ⊥ }
+    {
+        let var = self.task.effect_change(self.operator, self.effect).var;
+        for change in changes {
+            if sets_beside(self.index, *change, var, group) {
+                return false;
+            }
+        }
+        true
+    }
+
+    /// Returns whether the operator is large, and has more effects than the group has facts.
+    #[inline(always)]
+    fn has_more_effects(&self, group: u32) -> bool
+        requires { group < length self.now.task.groups }
+    {
+        // The index has the effects of large operators alone.
+        if self.index.effects_on(self.task, self.operator, 0).is_none() {
+            return false;
+        }
+        let facts = self.index.facts_of(self.task, group);
+        facts.len() < self.task.effects(self.operator) as usize
+    }
+
+    /// Decides the same by a look at each effect.
+    #[inline(always)]
+    fn is_single_of_all(&self, kept: &[bool], group: u32, marks: &mut Marks) -> bool
+        requires notes { IsNotedAt self.now kept.now marks.old }
+        requires group { IsIn self.now.task (family_of kept.now) group }
+        ensures notes { IsNotedAt self.now kept.now marks.new }
+        ensures yes { IsTrue result → IsSingleAt self.now kept.now group }
+        ensures no { IsFalse result → IsSingleAt self.now kept.now group → ⊥ }
+    {
+        let var = self.task.effect_change(self.operator, self.effect).var;
         for other in 0..self.task.effects(self.operator) {
-            if !self.not_both(kept, other, group, marks) {
+            if !self.is_apart(kept, var, other, group, marks) {
+                return false;
+            }
+        }
+        true
+    }
+
+    /// Decides the same by a look at the effects on each variable of the group. Its facts are in ascending order, so those on
+    /// one variable follow one another.
+    #[inline(never)]
+    fn is_single_by_facts(&self, kept: &[bool], group: u32, marks: &mut Marks) -> bool
+        requires notes { IsNotedAt self.now kept.now marks.old }
+        requires group { IsIn self.now.task (family_of kept.now) group }
+        ensures notes { IsNotedAt self.now kept.now marks.new }
+        ensures yes { IsTrue result → IsSingleAt self.now kept.now group }
+        ensures no { IsFalse result → IsSingleAt self.now kept.now group → ⊥ }
+    {
+        let facts = self.index.facts_of(self.task, group);
+        for place in 0..facts.len() {
+            if begins_run(facts, place)
+                && !self.is_single_on(kept, group, facts[place].var, marks)
+            {
+                return false;
+            }
+        }
+        true
+    }
+
+    /// Returns whether no effect on the variable that may fire together with this one sets a fact of the group too, on another
+    /// variable.
+    fn is_single_on(&self, kept: &[bool], group: u32, var: u32, marks: &mut Marks) -> bool
+        requires notes { IsNotedAt self.now kept.now marks.old }
+        requires group { IsIn self.now.task (family_of kept.now) group }
+        ensures notes { IsNotedAt self.now kept.now marks.new }
+        ensures yes { IsTrue result → IsSingleOn self.now kept.now group var }
+        ensures no { IsFalse result → IsSingleAt self.now kept.now group → ⊥ }
+    {
+        match self.index.effects_on(self.task, self.operator, var) {
+            Some(effects) => self.is_single_among(kept, group, effects, marks),
+            None => self.is_single_of_all(kept, group, marks),
+        }
+    }
+
+    /// Returns whether none of these effects does so.
+    fn is_single_among(&self, kept: &[bool], group: u32, effects: &[u32], marks: &mut Marks) -> bool
+        requires notes { IsNotedAt self.now kept.now marks.old }
+        requires group { IsIn self.now.task (family_of kept.now) group }
+        ensures notes { IsNotedAt self.now kept.now marks.new }
+        ensures yes { IsTrue result → All (IsApartAt self.now kept.now group) effects.now }
+        ensures no { IsFalse result → IsSingleAt self.now kept.now group → ⊥ }
+    {
+        for other in effects {
+            if *other < self.task.effects(self.operator)
+                && !self.not_both(kept, *other, group, marks)
+            {
                 return false;
             }
         }
@@ -129,6 +247,7 @@ impl<'a, 'b, T: Grounded> Firing<'a, 'b, T> {
 
     /// Returns whether the other effect never sets a fact of the group on another variable in the same step as this effect
     /// fires.
+    #[inline(always)]
     pub fn not_both(&self, kept: &[bool], other: u32, group: u32, marks: &mut Marks) -> bool
         requires notes { IsNotedAt self.now kept.now marks.old }
         requires other { other < length (operator_of self.now).effects }
@@ -137,8 +256,23 @@ impl<'a, 'b, T: Grounded> Firing<'a, 'b, T> {
         ensures yes { IsTrue result → NotBothAt self.now kept.now other group }
         ensures no { IsFalse result → NotBothAt self.now kept.now other group → ⊥ }
     {
+        let var = self.task.effect_change(self.operator, self.effect).var;
+        self.is_apart(kept, var, other, group, marks)
+    }
+
+    /// Returns the same. `var` is the variable of this effect.
+    #[inline(always)]
+    fn is_apart(&self, kept: &[bool], var: u32, other: u32, group: u32, marks: &mut Marks) -> bool
+        requires notes { IsNotedAt self.now kept.now marks.old }
+        requires var { var ≡ (effect_of self.now).var }
+        requires other { other < length (operator_of self.now).effects }
+        requires group { IsIn self.now.task (family_of kept.now) group }
+        ensures notes { IsNotedAt self.now kept.now marks.new }
+        ensures yes { IsTrue result → NotBothAt self.now kept.now other group }
+        ensures no { IsFalse result → NotBothAt self.now kept.now other group → ⊥ }
+    {
         let change = self.task.effect_change(self.operator, other);
-        if self.task.effect_change(self.operator, self.effect).var == change.var {
+        if var == change.var {
             return true;
         }
         if !self.index.has(group, change.fact()) {
@@ -185,6 +319,7 @@ impl<'a, 'b, T: Grounded> Firing<'a, 'b, T> {
     }
 
     /// Returns whether the fact clashes with the known facts where this effect fires.
+    #[inline(always)]
     fn clashes(&self, kept: &[bool], fact: Fact, marks: &Marks) -> bool
         requires notes { IsNotedAt self.now kept.now marks.now }
         requires fact { FactExists self.now.task.variables fact }
@@ -255,6 +390,7 @@ impl<'a, 'b, T: Grounded> Firing<'a, 'b, T> {
     }
 
     /// Returns whether no other fact of the group stays where this effect fires. Mostly an old value decides this at once.
+    #[inline(always)]
     pub fn removes_others(&self, kept: &[bool], group: u32, marks: &Marks) -> bool
         requires notes { IsNotedAt self.now kept.now marks.now }
         requires group { IsIn self.now.task (family_of kept.now) group }
@@ -266,6 +402,7 @@ impl<'a, 'b, T: Grounded> Firing<'a, 'b, T> {
 
     /// Returns whether the effect requires an old value that is a fact of the group. Then no other fact of the group on
     /// another variable can have held.
+    #[inline(always)]
     fn asks_one_of(&self, group: u32) -> bool
         ensures { IsTrue result
             → (kept : List Bool) → IsIn self.now.task (family_of kept) group
@@ -346,6 +483,7 @@ impl<'a, 'b, T: Grounded> Firing<'a, 'b, T> {
     }
 
     /// Returns whether the fact is on the effect's variable, or doesn't stay where the effect fires.
+    #[inline(always)]
     pub fn is_gone(&self, kept: &[bool], fact: Fact, marks: &Marks) -> bool
         requires notes { IsNotedAt self.now kept.now marks.now }
         requires fact { FactExists self.now.task.variables fact }
@@ -360,6 +498,7 @@ impl<'a, 'b, T: Grounded> Firing<'a, 'b, T> {
 
     /// Returns whether an effect of the operator, each of whose conditions is this fact or noted, sets the variable of the
     /// fact to another value. Of a large operator only effects on that variable are looked at.
+    #[inline(always)]
     fn is_removed(&self, fact: Fact, notes: &Notes) -> bool
         requires wide { IsWide self.now.task notes.now }
         ensures yes { IsTrue result → SomeRemoves (operator_of self.now) notes.now fact }
@@ -372,9 +511,61 @@ impl<'a, 'b, T: Grounded> Firing<'a, 'b, T> {
     }
 }
 
+/// Returns whether the fact at this place is the first of a run of facts on one variable.
+fn begins_run(facts: &[Fact], place: usize) -> bool
+    requires { place < length facts.now }
+    ensures { IsFalse result → IsOnVariableBefore facts.now place }
+{
+    place == 0 || facts[place - 1].var != facts[place].var
+}
+
+/// Returns whether the change sets a fact of the group, and is on another variable than this one.
+#[inline(always)]
+fn sets_beside(index: &Index, change: Change, var: u32, group: u32) -> bool
+    requires { IsReadable index.now }
+    ensures yes { IsTrue result → SetsBeside index.now change var group }
+    ensures no { IsFalse result → SetsBeside index.now change var group → ⊥ }
+{
+    change.var != var && index.has(group, change.fact())
+}
+
 /// Returns whether an effect of the operator, each of whose conditions is this fact or noted, sets the variable of the fact
 /// to another value.
+#[inline(always)]
 fn some_removes<T: Grounded>(task: &Layered<T>, operator: u32, fact: Fact, notes: &Notes) -> bool
+    requires wide { IsWide task.now notes.now }
+    requires operator { operator < length task.now.operators }
+    ensures yes { IsTrue result → SomeRemoves (operator_at task.now operator) notes.now fact }
+    ensures no { IsFalse result → SomeRemoves (operator_at task.now operator) notes.now fact → ⊥ }
+{
+    match task.plain_changes(operator) {
+        Some(changes) => one_changes(changes, fact),
+        None => some_of_all_removes(task, operator, fact, notes),
+    }
+}
+
+/// Returns whether one of the changes sets the variable of the fact to another value.
+#[inline(always)]
+fn one_changes(changes: &[Change], fact: Fact) -> bool
+    ensures yes { IsTrue result → SomeOther changes.now fact }
+    ensures no { IsFalse result → All (λ change. IsOther fact change → ⊥) changes.now }
+{
+    for change in changes {
+        if change.var == fact.var && change.new != fact.value {
+            return true;
+        }
+    }
+    false
+}
+
+/// Decides the same as `some_removes` by a look at each effect.
+#[inline(always)]
+fn some_of_all_removes<T: Grounded>(
+    task: &Layered<T>,
+    operator: u32,
+    fact: Fact,
+    notes: &Notes,
+) -> bool
     requires wide { IsWide task.now notes.now }
     requires operator { operator < length task.now.operators }
     ensures yes { IsTrue result → SomeRemoves (operator_at task.now operator) notes.now fact }
@@ -413,6 +604,7 @@ fn one_removes<T: Grounded>(
 
 /// Returns whether each of the effect's conditions is this fact or noted, and the effect sets the variable of the fact to
 /// another value.
+#[inline(always)]
 fn removes<T: Grounded>(
     task: &Layered<T>,
     operator: u32,
@@ -438,6 +630,7 @@ fn removes<T: Grounded>(
 }
 
 /// Returns whether each of the conditions is this fact or noted.
+#[inline(always)]
 fn all_met(conditions: &[Fact], fact: Fact, notes: &Notes) -> bool
     requires { All (λ (c : Fact). c.var < length notes.now.values) conditions.now }
     ensures yes { IsTrue result → All (IsMet notes.now fact) conditions.now }
@@ -452,6 +645,7 @@ fn all_met(conditions: &[Fact], fact: Fact, notes: &Notes) -> bool
 }
 
 /// Returns whether the condition is this fact or noted.
+#[inline(always)]
 fn is_met(condition: Fact, fact: Fact, notes: &Notes) -> bool
     requires { condition.var < length notes.now.values }
     ensures yes { IsTrue result → IsMet notes.now fact condition }
@@ -461,6 +655,7 @@ fn is_met(condition: Fact, fact: Fact, notes: &Notes) -> bool
 }
 
 /// Returns whether one of these groups is in the family.
+#[inline(always)]
 fn some_kept(groups: &[u32], kept: &[bool]) -> bool
     requires { AreBelow (length kept.now) groups.now }
     ensures { IsFalse result → All (λ (place : ℕ). IsFalse (family_of kept.now place)) groups.now }

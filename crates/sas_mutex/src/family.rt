@@ -32,6 +32,7 @@ fn take_out(list: &mut Items<bool>, groups: &[u32])
 
 impl Family {
     /// Returns whether the group is in the family.
+    #[inline(always)]
     pub fn has(&self, group: u32) -> bool
         ensures { IsTrue result → IsTrue (family_of self.now.kept group) }
     {
@@ -42,6 +43,7 @@ impl Family {
     }
 
     /// Returns whether each group of the basis is in the family.
+    #[inline(always)]
     pub fn has_basis(&self) -> bool
         ensures { IsTrue result → (groups : ℕ) → IsBasis groups self.now → IsBasisKept self.now }
     {

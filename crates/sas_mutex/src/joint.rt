@@ -140,6 +140,7 @@ fn some_exclusive(verdicts: &[Verdict]) -> bool
 }
 
 /// Whether nothing speaks against the group.
+#[inline(always)]
 fn is_exclusive(verdict: Verdict) -> bool
     ensures { IsTrue result ↔ (verdict ≡ Exclusive) }
 {
@@ -162,9 +163,29 @@ fn tell_breaking<T: Grounded>(
     requires clean { IsClean indexed.now marks.old }
     ensures { AreJointVerdicts indexed.now verdicts.new }
 {
+    let groups = indexed.task.groups();
+    // Mostly nothing is left to tell.
+    if !some_fell(groups, kept.as_slice(), verdicts.as_slice()) {
+        return;
+    }
     for operator in 0..indexed.task.operators() {
         tell_broken_by(indexed, operator, kept, verdicts, marks);
     }
+}
+
+/// Returns whether one of all groups fell, and has no verdict so far.
+fn some_fell(groups: u32, kept: &[bool], verdicts: &[Verdict]) -> bool
+    requires kept { groups ≡ length kept.now }
+    requires verdicts { groups ≡ length verdicts.now }
+    ensures { IsFalse result
+        → (place : ℕ) → place < groups → IsUntold kept.now verdicts.now place → ⊥ }
+{
+    for group in 0..groups {
+        if is_untold(group, kept, verdicts) {
+            return true;
+        }
+    }
+    false
 }
 
 /// Decides of each group that fell, and has no verdict so far, whether the operator keeps it.
@@ -236,6 +257,7 @@ fn tell_broken_by_effect<T: Grounded>(
 }
 
 /// Returns whether one of these groups fell, and has no verdict so far.
+#[inline(always)]
 fn some_untold(groups: &[u32], kept: &[bool], verdicts: &[Verdict]) -> bool
     requires kept { AreBelow (length kept.now) groups.now }
     requires verdicts { AreBelow (length verdicts.now) groups.now }
@@ -251,6 +273,7 @@ fn some_untold(groups: &[u32], kept: &[bool], verdicts: &[Verdict]) -> bool
 }
 
 /// Returns whether the group fell, and has no verdict so far.
+#[inline(always)]
 fn is_untold(group: u32, kept: &[bool], verdicts: &[Verdict]) -> bool
     requires kept { group < length kept.now }
     requires verdicts { group < length verdicts.now }

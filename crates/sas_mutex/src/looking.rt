@@ -192,6 +192,7 @@ fn look_at_each_plain<T: Grounded>(
 }
 
 /// Returns whether some effect of the operator without conditions sets a fact of a group of the family.
+#[inline(always)]
 fn plain_sets_one<T: Grounded>(
     indexed: &IndexedTask<'_, '_, T>,
     operator: u32,
@@ -220,6 +221,7 @@ fn plain_sets_one<T: Grounded>(
 }
 
 /// Returns whether the effect has no conditions.
+#[inline(always)]
 fn is_plain<T: Grounded>(task: &Layered<T>, operator: u32, effect: u32) -> bool
     requires operator { operator < length task.now.operators }
     requires effect { effect < length (operator_at task.now operator).effects }
@@ -231,6 +233,7 @@ fn is_plain<T: Grounded>(task: &Layered<T>, operator: u32, effect: u32) -> bool
 
 /// Removes from the family the groups that the effect doesn't keep. Returns true only if it keeps each group that is left by
 /// that group alone. Where no group of the family has the fact that the effect sets, nothing is noted.
+#[inline(always)]
 fn look_at_setting<T: Grounded>(
     firing: &Firing<'_, '_, T>,
     family: &mut Family,
@@ -352,6 +355,7 @@ fn look_at_groups<T: Grounded>(
 /// Removes the group from the family if the effect doesn't keep it, by what is noted. Returns true only if the effect keeps
 /// it by the group alone, or it isn't in the family any more. An effect that keeps a group by the group alone keeps it under
 /// every family that has the group.
+#[inline(always)]
 fn look_at_group<T: Grounded>(
     firing: &Firing<'_, '_, T>,
     group: u32,
@@ -387,6 +391,7 @@ fn look_at_group<T: Grounded>(
 
 /// Returns true only if each group of the basis is in the family, and the effect keeps the group by these and the group
 /// alone. The family stays as it was.
+#[inline(always)]
 fn keeps_by_basis<T: Grounded>(
     firing: &Firing<'_, '_, T>,
     group: u32,

@@ -37,6 +37,7 @@ pub enum Noted {
 
 impl Noted {
     /// Returns what is noted once this fact of the group is noted too.
+    #[inline(always)]
     fn with(self, fact: Fact) -> Noted
         ensures { IsNotedToo self fact result }
     {
@@ -48,6 +49,7 @@ impl Noted {
     }
 
     /// Returns the fact that is noted, if it is the only one.
+    #[inline(always)]
     pub fn only(self) -> Option<Fact>
         ensures some { (fact : Fact) → result ≡ Some fact → self ≡ One fact }
         ensures none { result ≡ None → (fact : Fact) → self ≢ One fact }
@@ -59,6 +61,7 @@ impl Noted {
     }
 
     /// Returns whether none is noted.
+    #[inline(always)]
     pub fn is_nothing(self) -> bool
         ensures { IsTrue result ↔ (self ≡ Nothing) }
     {
@@ -66,6 +69,7 @@ impl Noted {
     }
 
     /// Returns whether several are noted.
+    #[inline(always)]
     pub fn is_several(self) -> bool
         ensures { IsTrue result ↔ (self ≡ Several) }
     {
@@ -152,6 +156,7 @@ impl Notes {
     }
 
     /// Returns whether this is the fact apart.
+    #[inline(always)]
     pub fn is_apart(&self, fact: Fact) -> bool
         ensures { IsTrue result ↔ (self.now.apart ≡ Some fact) }
     {
@@ -260,6 +265,7 @@ fn wider(index: &Index, fact: Fact, other: Option<Fact>) -> Option<Fact>
 }
 
 /// Notes the fact, if there is one, by its variable, and sets it apart.
+#[inline(always)]
 fn set_apart(apart: Option<Fact>, notes: &mut Notes)
     requires { IfSome apart (λ fact. fact.var < length notes.old.values) }
     ensures { IsSetApart apart notes.old notes.new }
@@ -299,6 +305,7 @@ fn note(index: &Index, kept: &[bool], fact: Fact, notes: &mut Notes, deciding: &
 }
 
 /// Returns whether a group that is kept has this fact and the one apart.
+#[inline(always)]
 pub fn shares_apart(
     index: &Index,
     kept: &[bool],
@@ -345,6 +352,7 @@ pub fn some_has(index: &Index, kept: &[bool], fact: Fact, other: Fact, deciding:
 }
 
 /// Returns whether the group is in the family.
+#[inline(always)]
 pub fn is_kept(kept: &[bool], group: u32) -> bool
     ensures { result ≡ family_of kept.now group }
 {
@@ -355,6 +363,7 @@ pub fn is_kept(kept: &[bool], group: u32) -> bool
 }
 
 /// Notes the fact for these groups, which have it. Returns whether no other fact is noted for one of them that is kept.
+#[inline(always)]
 fn note_in_groups(
     groups: &[u32],
     kept: &[bool],
@@ -417,6 +426,7 @@ pub fn forget_known<T: Grounded>(
 }
 
 /// Takes back what is noted of the fact. For the groups of the one apart nothing is noted of it.
+#[inline(always)]
 fn forget(index: &Index, fact: Fact, notes: &mut Notes)
     requires index { IsReadable index.now }
     requires value { fact.var < length notes.old.values }
@@ -430,6 +440,7 @@ fn forget(index: &Index, fact: Fact, notes: &mut Notes)
 }
 
 /// Takes back what is noted for these groups.
+#[inline(always)]
 fn forget_groups(groups: &[u32], noted: &mut Items<Noted>)
     requires { AreBelow (length noted.old) groups.now }
     ensures { ForgetsGroups groups.now noted.old noted.new }

@@ -1,11 +1,11 @@
 -- One more effect sets no other fact of the group.
 use Rattle.std.proofs.Common.{below_more, rules}
-use Rattle.sas_mutex.proofs.effects.Firing.is_single.Goals as goal
+use Rattle.sas_mutex.proofs.effects.Firing.is_single_of_all.Goals as goal
 
 pub loop-other-preserved : goal.loop-other-preserved
 loop-other-preserved g c = record {
-  notes = c.not_both.ensures.notes;
-  single = below_more _ _ c.loop-other.invariant.single (c.not_both.ensures.yes c.if-not-not_both.false);
+  notes = c.is_apart.ensures.notes;
+  single = below_more _ _ c.loop-other.invariant.single (c.is_apart.ensures.yes c.if-not-is_apart.false);
 }
 
 pub loop-other-init : goal.loop-other-init

@@ -2,7 +2,7 @@
 use Rattle.std.proofs.Common.{ℕ, ◌<◌}
 use Rattle.sas_core.specs.Grounded.{operator_at, effect_at}
 use Rattle.sas_mutex.specs.Noting.{Removes}
-use Rattle.sas_mutex.proofs.effects.some_removes.Given as goal
+use Rattle.sas_mutex.proofs.effects.some_of_all_removes.Given as goal
 
 abbrev pub invariant-loop-effect : goal.invariant-loop-effect
 invariant-loop-effect g l = (k : ℕ) → k < l.effect → Removes l.notes l.fact (effect_at (operator_at l.task l.operator) k) → ⊥

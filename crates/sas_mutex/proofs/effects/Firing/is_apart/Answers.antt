@@ -8,7 +8,7 @@ use Rattle.sas_groups.specs.Clashes.{sets}
 use Rattle.sas_groups.proofs.Effects.{set_is}
 use Rattle.sas_group_index.specs.Index.{HasFact, groups_of}
 use Rattle.sas_mutex.proofs.TaskFacts.{effect_fits}
-use Rattle.sas_mutex.proofs.effects.Firing.not_both.Goals as goal
+use Rattle.sas_mutex.proofs.effects.Firing.is_apart.Goals as goal
 
 pub returns-then-not-has-clause-yes : goal.returns-then-not-has-clause-yes
 returns-then-not-has-clause-yes g c =
@@ -39,5 +39,6 @@ returns-clause-no g c =
     subst (λ (f : Fact). Contains (groups_of c.self.inside.index.now f) c.args.group) is (c.has.ensures.0 c.if-not-has.false) in
     let has : HasFact p c.args.group fact = (c.self.invariant.1.groups fact exists c.args.group).0 among in
     let none = rw (← c.self.view_is) at c.both_clash.ensures.no in
-    rw (← c.self.view_is) (λ t clashes. none t (clashes has.among (λ same. c.if-effect_change-change.false
-    (ap (λ (change : Change). change.var) c.effect_change.ensures ∙ (same ∙ sym (ap (λ (change : Change). change.var) c.effect_change-change.ensures))))))
+    let var = rw (← c.self.view_is) at c.requires.var in
+    rw (← c.self.view_is) (λ t clashes. none t (clashes has.among (λ same. c.if-var-change.false
+    (var ∙ (same ∙ sym (ap (λ (change : Change). change.var) c.effect_change-change.ensures))))))

@@ -1,0 +1,70 @@
+-- Effects without conditions, by the changes that they make.
+use Rattle.std.proofs.Common.{◌≡◌, ℕ, ◌<◌, Bool, List, [], length, get_or, None, sym, ◌∙◌, ap, subst}
+use Rattle.std.proofs.lemmas.List.{length-map, get_or-map}
+use Rattle.std.specs.List.{Contains}
+use Rattle.sas_core.specs.declared.grounded.Change.{Change}
+use Rattle.sas_core.specs.declared.parts.Fact.{Fact}
+use Rattle.sas_core.specs.declared.parts.Effect.{Effect}
+use Rattle.sas_core.specs.declared.parts.Operator.{Operator}
+use Rattle.sas_core.specs.Changes.{effect_change, plain_effect, plain_effects}
+use Rattle.sas_core.specs.Grounded.{effect_at}
+use Rattle.sas_core.specs.Variables.{FactExists}
+use Rattle.sas_core.specs.WellRanged.{WellRanged}
+use Rattle.sas_groups.specs.Clashes.{Clash, sets}
+use Rattle.sas_groups.specs.Lists.{known}
+use Rattle.sas_group_index.specs.declared.index.Index.{Index}
+use Rattle.sas_group_index.specs.Index.{IsIndexOf, groups_of}
+use Rattle.sas_mutex.specs.declared.marks.Marks.{Marks}
+use Rattle.sas_mutex.specs.Effects.{IsKept}
+use Rattle.sas_mutex.specs.Firing.{EffectPlace, operator_of, effect_of}
+use Rattle.sas_mutex.specs.Noting.{IsNotedAt, IsSingleAt, NotBothAt, SetsBeside}
+use Rattle.sas_mutex.proofs.TaskFacts.{effect_fits}
+
+abbrev no_effect : Effect
+no_effect = record { conditions = []; var = 0; old = None; new = 0 }
+
+module _ (o : Operator) (changes : List Change) (is : o.effects ≡ plain_effects changes) where
+  pub as_many : length o.effects ≡ length changes
+  as_many = ap length is ∙ length-map changes plain_effect
+
+  effect_is : (k : ℕ) (d : Change) → k < length changes → effect_at o k ≡ plain_effect (get_or changes k d)
+  effect_is k d lt = ap (λ (xs : List Effect). get_or xs k no_effect) is ∙ get_or-map plain_effect changes k d no_effect lt
+
+  pub change_is : (k : ℕ) (d : Change) → k < length changes → get_or changes k d ≡ effect_change (effect_at o k)
+  change_is k d lt = sym (ap (λ (e : Effect). effect_change e) (effect_is k d lt))
+
+  pub no_conditions : (k : ℕ) (d : Change) → k < length changes → (effect_at o k).conditions ≡ []
+  no_conditions k d lt = ap (λ (e : Effect). e.conditions) (effect_is k d lt)
+
+-- one of the changes, where they are those of the operator of an effect
+module _ (f : EffectPlace) (kept : List Bool) (group : ℕ) (index : Index) (changes : List Change) (ranged : WellRanged f.task) (indexed : IsIndexOf f.task index)
+    (exists : f.operator < length f.task.operators) (in_task : group < length f.task.groups) (is : (operator_of f).effects ≡ plain_effects changes)
+    (n : ℕ) (d : Change) (lt : n < length changes) where
+  within : n < length (operator_of f).effects
+  within = subst (λ k. n < k) (sym (as_many (operator_of f) changes is)) lt
+
+  same_change : get_or changes n d ≡ effect_change (effect_at (operator_of f) n)
+  same_change = change_is (operator_of f) changes is n d lt
+
+  set_here : record { var = (get_or changes n d).var; value = (get_or changes n d).new } ≡ sets (effect_at (operator_of f) n)
+  set_here = ap (λ (c : Change). record { var = c.var; value = c.new }) same_change
+
+  set_exists : FactExists f.task.variables (sets (effect_at (operator_of f) n))
+  set_exists = (effect_fits f.task ranged f.operator exists n within).new
+
+  -- the change is on the effect's variable, or sets no fact of the group
+  pub change_apart : (var : ℕ) → var ≡ (effect_of f).var → (SetsBeside index (get_or changes n d) var group → ⊥) → NotBothAt f kept n group
+  change_apart var var_is none has beside = absurd (none (record {
+    beside = λ same. beside (sym var_is ∙ (sym same ∙ ap (λ (c : Change). c.var) same_change));
+    has = subst (λ (x : Fact). Contains (groups_of index x) group) (sym set_here)
+        ((indexed.groups (sets (effect_at (operator_of f) n)) set_exists group).1 (record { exists = in_task; among = has }));
+  }))
+
+  -- the change sets one, on another variable, where the effect fires too
+  pub change_beside : (marks : Marks) (var : ℕ) → IsNotedAt f kept marks → var ≡ (effect_of f).var → SetsBeside index (get_or changes n d) var group
+      → IsSingleAt f kept group → ⊥
+  change_beside marks var notes var_is sets_one single = notes.noted.are.apart
+      (subst (λ (conditions : List Fact). Clash (IsKept f.task kept) (known (operator_of f) (effect_of f).conditions conditions)) (no_conditions (operator_of f) changes is n d lt)
+      (single n within
+      ((indexed.groups (sets (effect_at (operator_of f) n)) set_exists group).0 (subst (λ (x : Fact). Contains (groups_of index x) group) set_here sets_one.has)).among
+      (λ same. sets_one.beside (ap (λ (c : Change). c.var) same_change ∙ (sym same ∙ sym var_is)))))

@@ -1,0 +1,10 @@
+-- None of the effects so far sets another fact of the group.
+use Rattle.std.proofs.Common.{ℕ, ◌<◌, get_or}
+use Rattle.sas_mutex.specs.Noting.{IsNotedAt, IsApartAt}
+use Rattle.sas_mutex.proofs.effects.Firing.is_single_among.Given as goal
+
+abbrev pub invariant-loop-other : goal.invariant-loop-other
+invariant-loop-other g l = record {
+  notes : IsNotedAt l.self l.kept l.marks;
+  apart : (k : ℕ) → k < l.other-index → IsApartAt l.self l.kept l.group (get_or l.effects k 0);
+}
