@@ -25,7 +25,7 @@ _sas() {
     esac
     if [[ $request == help ]]; then
         mapfile -t COMPREPLY < <(compgen -W "$requests" -- "$word")
-    elif [[ $word == -?* ]]; then
+    elif [[ $word == -* ]]; then
         mapfile -t COMPREPLY < <(compgen -W "$flags" -- "$word")
     elif ((files >= most)); then
         compopt +o default
