@@ -45,8 +45,11 @@ def counts(command):
 
 
 def printed(*command):
-    """Returns what a command prints, without the line's end."""
-    return subprocess.run(command, capture_output=True, check=False, encoding="utf-8").stdout.strip()
+    """Returns what a command prints, without the line's end, or nothing where it isn't there."""
+    try:
+        return subprocess.run(command, capture_output=True, check=False, encoding="utf-8").stdout.strip()
+    except OSError:
+        return ""
 
 
 def commit():
