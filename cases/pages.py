@@ -131,10 +131,10 @@ def version_cases(sas):
         yield f"version of {file}", [] if found and found[1] == told else [f"{found and found[1]}, not {told}"]
 
 
-def link_cases():
-    """Yields the links of each document."""
-    for document in documents():
-        text, folder = text_of(os.path.join(TOP, document)), os.path.dirname(os.path.join(TOP, document))
+def link_cases(top=TOP):
+    """Yields the links of each document of the repository, or of a release in a folder."""
+    for document in documents(top):
+        text, folder = text_of(os.path.join(top, document)), os.path.dirname(os.path.join(top, document))
         links = [it.partition("#")[0] for it in re.findall(r"\]\(([^)]+)\)", text) if "://" not in it]
         yield f"links of {document}", [it for it in links if not os.path.exists(os.path.join(folder, it))]
 

@@ -69,10 +69,10 @@ def wrong(case, folder):
     return [] if ran.stdout.decode() == case["output"] else [f"printed {ran.stdout!r}"]
 
 
-def all_wrong(cases, sas):
+def all_wrong(cases, sas, top=TOP):
     """Returns for each command of one document what is wrong with it."""
     with tempfile.TemporaryDirectory() as folder:
-        shutil.copytree(os.path.join(TOP, "examples"), os.path.join(folder, "examples"))
+        shutil.copytree(os.path.join(top, "examples"), os.path.join(folder, "examples"))
         shutil.copy(sas, os.path.join(folder, "sas"))
         return [wrong(case, folder) for case in cases]
 
