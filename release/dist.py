@@ -44,6 +44,7 @@ PACKED = (
     "library/examples/*",
     "library/out/*",
 )
+BUILT = "library/out/"
 PROGRAMS = ("sas", "install.sh", "library/out/libsas.so")
 
 
@@ -131,6 +132,13 @@ says what must be believed. The program sas is linked statically; libsas.a and l
 """
 
 
+def names():
+    """Returns which files of the repository are packed: none that the repository doesn't know, but for what was built."""
+    known = printed("git", "ls-files", "-z")
+    found = [it for pattern in PACKED for it in glob.glob(pattern, root_dir=TOP) if os.path.isfile(f"{TOP}/{it}")]
+    return [it for it in found if known is None or it.startswith(BUILT) or it in known.split("\0")]
+
+
 def packed(version, commit, time, files):
     """Returns a release of these files."""
     top = f"sas-{version}-{PLATFORM}"
@@ -149,10 +157,7 @@ def packed(version, commit, time, files):
 def main(to=TOP):
     run(sys.executable, f"{TOP}/library/build.py", stdout=subprocess.DEVNULL)
     version, (commit, time) = version_of(), commit_of()
-    files = {}
-    for pattern in PACKED:
-        found = [it for it in glob.glob(pattern, root_dir=TOP) if os.path.isfile(f"{TOP}/{it}")]
-        files |= {name: bytes_of(f"{TOP}/{name}") for name in found}
+    files = {name: bytes_of(f"{TOP}/{name}") for name in names()}
     with tempfile.TemporaryDirectory() as folder:
         files["sas"] = linked(folder)
     files["PROVED"] = proved(version, commit).encode()
