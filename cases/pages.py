@@ -23,21 +23,22 @@ from texts import TOP, text_of
 
 PAGE, README = "man/sas.1", "README.md"
 COMPLETIONS = {"bash": "completions/sas.bash", "zsh": "completions/_sas", "fish": "completions/sas.fish"}
-# what is typed, and what bash and fish offer for it
+# what is typed behind requests and flags, and what bash and fish offer for it
+PLAN, DOORWAY = "examples/doorway.p", {"examples/doorway.plan"}
 OFFERED = (
-    (("mu",), {"mutex"}),
-    (("pla",), {"plan", "plans"}),
-    (("plan", "--w"), {"--why"}),
-    (("trace", "--w"), set()),
-    (("steps", "--he"), {"--help"}),
-    (("help", "st"), {"steps"}),
-    (("check", "examples/lam"), {"examples/lamps.sas"}),
-    (("plan", "--why", "examples/lamps.sas", "examples/doorway.p"), {"examples/doorway.plan"}),
+    (("plan", "--why", "examples/lam"), {"examples/lamps.sas"}),
+    (("plan", "--why", "examples/lamps.sas", PLAN), DOORWAY),
+    (("trace", "-", PLAN), DOORWAY),
+    (("plans", "examples/lamps.sas", "-", PLAN), DOORWAY),
+    (("steps", PLAN), DOORWAY),
 )
+# what bash offers where all files of a request are there
+OFFERED_BY_BASH = ((("plan", "-", "x", PLAN), set()), (("check", "x", PLAN), set()), (("steps", "x", PLAN), set()), (("help", PLAN), set()))
 BASH = """. completions/sas.bash
-COMP_WORDS=(sas "$@") COMP_CWORD=$#
-_sas 2> /dev/null
-if ((${#COMPREPLY[@]})); then printf '%s\\n' "${COMPREPLY[@]}"; else compgen -f -- "${!#}"; fi"""
+compopt() { if [[ $1 == +o ]]; then none=1; fi; }
+COMP_WORDS=(sas "$@") COMP_CWORD=$# none=
+_sas
+if ((${#COMPREPLY[@]})); then printf '%s\\n' "${COMPREPLY[@]}"; elif [[ ! $none ]]; then compgen -f -- "${!#}"; fi"""
 
 
 def printed(*command):
@@ -107,8 +108,12 @@ def completion_cases(requests):
         lacking = [it for it in requests if it and it not in words]
         lacking += [it for it in flags if it not in words and not (shell == "fish" and f"-l {it[2:]}" in text)]
         yield f"{file}, words", lacking
+    names = [it for it in requests if it]
+    typed = [((it,), {name for name in names if name.startswith(it)}) for it in names]
+    typed += [(("help", it), {name for name in names if name.startswith(it)} - {"help"}) for it in names if it != "help"]
+    typed += [((it, "--"), requests[it]) for it in names] + [(("--",), requests[""])]
     for shell in filter(is_there, ("bash", "fish")):
-        for words, offered in OFFERED:
+        for words, offered in (*typed, *OFFERED, *(OFFERED_BY_BASH if shell == "bash" else ())):
             script = ["bash", "-c", BASH, "bash", *words]
             if shell == "fish":
                 script = ["fish", "-N", "-c", f"source completions/sas.fish; complete -C '{' '.join(('sas', *words))}'"]
