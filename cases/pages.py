@@ -35,10 +35,10 @@ OFFERED = (
 # what bash offers where all files of a request are there
 OFFERED_BY_BASH = ((("plan", "-", "x", PLAN), set()), (("check", "x", PLAN), set()), (("steps", "x", PLAN), set()), (("help", PLAN), set()))
 BASH = """. completions/sas.bash
-compopt() { if [[ $1 == +o ]]; then none=1; fi; }
-COMP_WORDS=(sas "$@") COMP_CWORD=$# none=
+compopt() { if [[ $2 == default ]]; then any=1; fi; }
+COMP_WORDS=(sas "$@") COMP_CWORD=$# any=
 _sas
-if ((${#COMPREPLY[@]})); then printf '%s\\n' "${COMPREPLY[@]}"; elif [[ ! $none ]]; then compgen -f -- "${!#}"; fi"""
+if ((${#COMPREPLY[@]})); then printf '%s\\n' "${COMPREPLY[@]}"; elif [[ $any ]]; then compgen -f -- "${!#}"; fi"""
 
 
 def printed(*command):

@@ -1,11 +1,5 @@
 # Completion for bash of the words of `sas`: requests, flags and files.
 
-# Offers the task files and folders that begin with the word; where there are none, bash offers any file.
-_sas_tasks() {
-    mapfile -t COMPREPLY < <(compgen -f -X '!*.sas' -- "$1"; compgen -d -- "$1")
-    if ((${#COMPREPLY[@]})); then compopt -o filenames; fi
-}
-
 _sas() {
     local word=${COMP_WORDS[COMP_CWORD]} request=${COMP_WORDS[1]} flags="-h --help" files=0 most=0 place
     local requests="plan plans trace mutex show check print steps help"
@@ -27,11 +21,14 @@ _sas() {
         mapfile -t COMPREPLY < <(compgen -W "$requests" -- "$word")
     elif [[ $word == -* ]]; then
         mapfile -t COMPREPLY < <(compgen -W "$flags" -- "$word")
-    elif ((files >= most)); then
-        compopt +o default
-    elif ((files == 0)) && [[ $request != steps ]]; then
-        _sas_tasks "$word"
+    elif ((files < most)); then
+        # any file; of tasks, those with this end and folders, if there are any
+        compopt -o default
+        if ((files == 0)) && [[ $request != steps ]]; then
+            mapfile -t COMPREPLY < <(compgen -f -X '!*.sas' -- "$word"; compgen -d -- "$word")
+            if ((${#COMPREPLY[@]})); then compopt -o filenames; fi
+        fi
     fi
 }
 
-complete -o default -F _sas sas
+complete -F _sas sas
