@@ -32,8 +32,14 @@ OFFERED = (
     (("plans", "examples/lamps.sas", "-", PLAN), DOORWAY),
     (("steps", PLAN), DOORWAY),
 )
-# what bash offers where all files of a request are there
-OFFERED_BY_BASH = ((("plan", "-", "x", PLAN), set()), (("check", "x", PLAN), set()), (("steps", "x", PLAN), set()), (("help", PLAN), set()))
+# what bash offers where a task is due, and where all files of a request are there
+OFFERED_BY_BASH = (
+    (("plan", "examples/doorway"), {"examples/doorway.sas"}),
+    (("plan", "-", "x", PLAN), set()),
+    (("check", "x", PLAN), set()),
+    (("steps", "x", PLAN), set()),
+    (("help", PLAN), set()),
+)
 BASH = """. completions/sas.bash
 compopt() { if [[ $2 == default ]]; then any=1; fi; }
 COMP_WORDS=(sas "$@") COMP_CWORD=$# any=
