@@ -42,6 +42,20 @@ def of_page():
     return module
 
 
+def of_lab():
+    """Returns the patterns that the page gives to a parser of Downward Lab."""
+    return dict(re.findall(r'parser\.add_pattern\("(\w+)", r"(.*?)", ', text_of(os.path.join(TOP, PAGE))))
+
+
+def wrong_lab(answer, name, fields):
+    """Returns what is wrong with what these find in an answer about a plan, of which the verdict is known."""
+    due = {"steps": fields.get("steps"), "cost": fields.get("cost") if name == "valid" else None}
+    due["why_not"] = fields.get("reason") if fields.get("file") != "task" else None
+    found = {key: re.search(pattern, answer, re.MULTILINE) for key, pattern in of_lab().items()}
+    got = {key: it and it[1] for key, it in found.items()}
+    return [] if got == due else [f"{got}, not {due}"]
+
+
 def found_by(parse, names, line):
     """Returns which of these patterns find a line, each with what it finds."""
     found = {name: re.search(getattr(parse, name), line) for name in names}
@@ -64,7 +78,8 @@ def wrong_answer(parse, answer):
     name, fields = parse.verdict(answer)
     rebuilt = FORMS[name.upper()].format(**fields) if fields else "no answer"
     told = [it for it in lines if re.match("  ", it)]
-    return wrong_line(parse, line) + ([] if rebuilt == line else [rebuilt]) + [it for it in told if it[2:] not in parse.reasons(answer)]
+    wrong = wrong_line(parse, line) + ([] if rebuilt == line else [rebuilt]) + wrong_lab(answer, name, fields)
+    return wrong + [it for it in told if it[2:] not in parse.reasons(answer)]
 
 
 def wrong_plans(parse, lines):
