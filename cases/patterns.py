@@ -22,6 +22,7 @@ FORMS = {
     "VALID": "plan valid: {steps} steps, cost {cost}",
     "INVALID": "plan invalid: {reason}",
     "REFUSED": "{file} refused: {reason}",
+    "LAYERED": "task layered",
     "STEP": "step {step}: {why}",
     "GOAL": "goal fact {fact} not reached",
     "COST": "cost is {sum}, not {cost}",
@@ -29,7 +30,7 @@ FORMS = {
     "LAYERS": "{part} {number}: {why}",
     "LABELLED": "{label}: {answer}",
 }
-VERDICTS, REASONS = ("VALID", "INVALID", "REFUSED"), ("STEP", "GOAL", "COST", "LINE", "LAYERS")
+VERDICTS, REASONS = ("VALID", "INVALID", "REFUSED", "LAYERED"), ("STEP", "GOAL", "COST", "LINE", "LAYERS")
 # labels that look like answers
 LABELS = ("p.1", "a b: c", "x: plan valid: 1 steps, cost 1", "2 plans, 2 valid, best cost 1: x", "  spaces", "form\x0cfeed", "caf\xe9")
 
@@ -76,7 +77,7 @@ def wrong_answer(parse, answer):
     lines = answer.split("\n")
     line = lines[0] if re.match("plan |task ", answer) else lines[-2]
     name, fields = parse.verdict(answer)
-    rebuilt = FORMS[name.upper()].format(**fields) if fields else "no answer"
+    rebuilt = FORMS.get(name.upper(), name).format(**fields)
     told = [it for it in lines if re.match("  ", it)]
     wrong = wrong_line(parse, line) + ([] if rebuilt == line else [rebuilt]) + wrong_lab(answer, name, fields)
     return wrong + [it for it in told if it[2:] not in parse.reasons(answer)]
@@ -130,9 +131,8 @@ def answers():
     for name, lines in labelled():
         yield name, lines, wrong_plans
     for case in table("tasks.json"):
-        if case["check"] != "task layered":
-            yield f"tasks.json: {case['file']}", f"{case['check']}\n", wrong_answer
-        else:
+        yield f"tasks.json: {case['file']}", f"{case['check']}\n", wrong_answer
+        if case["check"] == "task layered":
             yield f"tasks.json: groups of {case['file']}", case["mutex"], wrong_groups
     for case in table("groups.json"):
         lines = as_bytes(case["output"]).decode("latin-1").split("\n")[:-1]
