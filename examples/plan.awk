@@ -38,8 +38,8 @@ file == 1 {
     gsub(/[()]/, " ")
     key = folded($0)
     if (key == "") next
-    print "(" (key in names ? names[key] : key) ")"
-    sum += metric == 1 ? costs[key] : 1
+    print "(" ((key in names) ? names[key] : key) ")"
+    sum += (metric == 1 ? costs[key] : 1)
 }
 
-END { printf "; cost = %.0f (%s cost)\n", sum, metric == 1 ? "general" : "unit" }
+END { printf "; cost = %.0f (%s cost)\n", sum, (metric == 1 ? "general" : "unit") }
