@@ -40,8 +40,8 @@ def lines_of(document, top):
     found, literal = [], False
     for line in lines:
         literal = (literal or line.startswith(".Bd -literal")) and line != ".Ed"
-        unescaped = re.sub(r"\\(?:\(..|.)", lambda it: ESCAPES[it[0]], line)
-        found.append(MARGIN + unescaped if literal and not line.startswith(".Bd") else "")
+        is_shown = literal and not line.startswith(".Bd")
+        found.append(MARGIN + re.sub(r"\\(?:\(..|.)", lambda it: ESCAPES[it[0]], line) if is_shown else "")
     return found
 
 
