@@ -2,16 +2,24 @@
 # make test   the whole gate: every proof from nothing, the edits that must fail, and the cases over the programs that the
 #             gate built; the last line is 'N passed, M failed', and the exit status is 0 exactly if M is 0
 # make lib    proves what the library needs and builds it, with $CC or cc, into library/out/; docs/LIBRARY.md says what is there
+# make install    installs what was built, below PREFIX (/usr/local), with NAME (sas) for the program, and DESTDIR in front; proves
+#                 nothing. make uninstall takes it away again; docs/INSTALL.md says which files these are
+# make dist   packs what was built into sas-VERSION-x86_64-linux.tar.gz, with a program that needs no other file; docs/INSTALL.md
 # make bench  measures ./sas over inputs of a fiftieth of the size, in a minute; docs/BENCHMARK.md says how to measure in full
-# make clean  removes what was built, and the inputs of `make bench`
+# make clean  removes what was built and packed, and the inputs of `make bench`
 #
-# `rt`, the command of the toolchain, has to be on the PATH, and python3; `make lib` and `make test` want a C compiler, $CC or cc, too.
+# `rt`, the command of the toolchain, has to be on the PATH, and python3; `make lib`, `make dist` and `make test` want a C compiler, $CC or
+# cc, too.
 # The tests of the library use what is there of gcc, g++, clang, clang++, rustc, nm and valgrind. JOBS is how many crates are begun at
 # a time. One that waits for others counts too, so it is more than there are processors; each that is proved takes one to four GB.
 
 JOBS ?= $(shell expr $(shell nproc) + 4)
 
-.PHONY: program test lib bench clean
+.PHONY: program test lib install uninstall dist bench clean
+
+PREFIX = /usr/local
+NAME = sas
+PLACE = "PREFIX=$(PREFIX)" "NAME=$(NAME)" "DESTDIR=$(DESTDIR)"
 
 program:
 	@python3 build.py $(JOBS)
@@ -22,9 +30,18 @@ test:
 lib:
 	@python3 library/build.py
 
+install:
+	@./install.sh install $(PLACE)
+
+uninstall:
+	@./install.sh uninstall $(PLACE)
+
+dist:
+	@python3 release/dist.py
+
 bench:
 	@test -x sas || { echo "there is no ./sas yet; make builds it"; exit 1; }
 	@python3 bench/run.py ./sas bench/out --scale 0.02 --rounds 3
 
 clean:
-	rm -rf crates/*/out bench/out library/out sas build.log
+	rm -rf crates/*/out bench/out library/out sas build.log gate.log sas-*.tar.gz

@@ -2,9 +2,10 @@
 """Runs every check of the repository: the gate of the toolchain, then the cases over what it built.
 
 `rt ci` proves and builds everything from nothing and tries each edit that must fail. Then docs/READING.md is held against the
-definitions, the commands that documents show are run, each allocation is refused in turn, the calls of the crates are made, the
-program is run, and the library is built and called. The last line is 'N passed, M failed' of all together, and the exit status is 0
-exactly if M is 0. A command that doesn't end as its own last line says counts as one failure.
+definitions, pages and completions against the program, the commands that documents show are run, each allocation is refused in turn,
+the calls of the crates are made, the program is run, the library is built and called, and a release is packed and tried. The last
+line is 'N passed, M failed' of all together, and the exit status is 0 exactly if M is 0. A command that doesn't end as its own last
+line says counts as one failure. gate.log keeps the last line for releases, with the commit and the toolchain.
 """
 import os
 import re
@@ -17,12 +18,16 @@ TOP = os.path.dirname(os.path.dirname(os.path.abspath(__file__)))
 PROGRAMS = [f"crates/{name}/out/{name}" for name in ("test_core", "test_files", "test_verdicts", "test_requests")]
 CASES = [
     ["cases/reading.py"],
+    ["cases/pages.py", "sas"],
     ["cases/shown.py", "sas"],
+    ["cases/patterns.py"],
     ["cases/memory.py", "sas", *PROGRAMS],
     ["cases/calls.py", *PROGRAMS],
     ["cases/run.py", "sas"],
     ["cases/library.py", "sas", "library/out"],
+    ["cases/release.py", "sas"],
 ]
+RECORD = "gate.log"
 
 
 def counts(command):
@@ -39,8 +44,25 @@ def counts(command):
     return passed, failed if agrees else failed + 1
 
 
+def printed(*command):
+    """Returns what a command prints, without the line's end, or nothing where it isn't there."""
+    try:
+        return subprocess.run(command, capture_output=True, check=False, encoding="utf-8").stdout.strip()
+    except OSError:
+        return ""
+
+
+def commit():
+    """Returns at which commit the files are, in the words of release/dist.py."""
+    changes = ", with changes that are in no commit" if printed("git", "status", "--porcelain") else ""
+    return printed("git", "rev-parse", "HEAD") + changes
+
+
 def main():
     os.chdir(TOP)
+    if os.path.exists(RECORD):
+        os.remove(RECORD)
+    began_at = commit()
     parts = [counts(["rt", "ci"])]
     if os.path.isfile("crates/sas/out/sas"):
         shutil.copy("crates/sas/out/sas", "sas")
@@ -48,7 +70,12 @@ def main():
     subprocess.run([sys.executable, "library/build.py"], check=False)
     parts += [counts([sys.executable, *command]) for command in CASES]
     passed, failed = map(sum, zip(*parts))
-    print(f"{passed} passed, {failed} failed")
+    last = f"{passed} passed, {failed} failed"
+    # a record of files that changed while they were tried would be none
+    if commit() == began_at:
+        with open(RECORD, "w", encoding="utf-8") as file:
+            file.write(f"{began_at}\n{printed('rt', 'version')}\n{last}\n")
+    print(last)
     sys.exit(1 if failed else 0)
 
 

@@ -1,35 +1,54 @@
 #!/usr/bin/env python3
-"""Runs the commands that the documents show, and compares what they print with what stands there.
+"""Runs the commands that the documents and the manual page show, and compares what they print with what stands there.
 
     python3 cases/shown.py SAS
 
-A command is a line that is set off by four spaces and begins with `$ `; the lines behind it that are set off, too, up to the next
-command, are what it prints on standard output. It is run by a shell in the folder that has the documents' examples and SAS, as
-`./sas`. Each that prints something else has a line, and the last line is 'N passed, M failed'. The exit status is 0 where none
-failed.
+A command of a document is a line that is set off by four spaces and begins with `$ `; the lines behind it that are set off, too, up to
+the next command, are what it prints on standard output. In the manual page they stand in literal displays. It is run by a shell in a
+folder that has the documents' examples, what the commands of the same document have made, and SAS, as `./sas`; the page calls it `sas`.
+Each that prints something else has a line, and the last line is 'N passed, M failed'. The exit status is 0 where none failed.
 
 No proof reads a document. One that shows what the program doesn't print, or no longer prints, would be found here alone.
 """
 import glob
 import os
+import re
 import shutil
 import subprocess
 import sys
 import tempfile
 
 import report
-from texts import TOP
+from texts import TOP, text_of
 
-DOCUMENTS = ["README.md", *sorted(glob.glob("docs/*.md", root_dir=TOP)), "examples/README.md"]
+PAGE = "man/sas.1"
 MARGIN, PROMPT = "    ", "    $ "
+# what stands for a character in the manual page
+ESCAPES = {r"\-": "-", r"\(aq": "'", r"\e": "\\", r"\(ti": "~", r"\(ha": "^", r"\&": ""}
 
 
-def shown(document):
-    """Yields the commands of a document, each with what it prints."""
-    with open(os.path.join(TOP, document), encoding="utf-8") as file:
-        lines = file.read().splitlines()
-    found = None
+def documents(top=TOP):
+    """Returns the documents of the repository, or of a release in a folder, and the manual page."""
+    return ["README.md", *sorted(glob.glob("docs/*.md", root_dir=top)), "examples/README.md", PAGE]
+
+
+def lines_of(document, top):
+    """Returns the lines of a document, or of the manual page as they would stand in a document."""
+    lines = text_of(os.path.join(top, document)).splitlines()
+    if document != PAGE:
+        return lines
+    found, literal = [], False
     for line in lines:
+        literal = (literal or line.startswith(".Bd -literal")) and line != ".Ed"
+        is_shown = literal and not line.startswith(".Bd")
+        found.append(MARGIN + re.sub(r"\\(?:\(..|.)", lambda it: ESCAPES[it[0]], line) if is_shown else "")
+    return found
+
+
+def shown(document, top=TOP):
+    """Yields the commands of a document, each with what it prints."""
+    found = None
+    for line in lines_of(document, top):
         if line.startswith(PROMPT):
             if found:
                 yield found
@@ -45,16 +64,23 @@ def shown(document):
 
 def wrong(case, folder):
     """Returns what is wrong with a command."""
-    ran = subprocess.run(["bash", "-c", case["command"]], cwd=folder, capture_output=True, check=False, timeout=60, text=True)
-    return [] if ran.stdout == case["output"] else [f"printed {ran.stdout!r}"]
+    env = {**os.environ, "PATH": f"{folder}:{os.environ['PATH']}", "LC_ALL": "C"}
+    ran = subprocess.run(["bash", "-c", case["command"]], cwd=folder, env=env, capture_output=True, check=False, timeout=60)
+    return [] if ran.stdout.decode() == case["output"] else [f"printed {ran.stdout!r}"]
+
+
+def all_wrong(cases, sas, top=TOP):
+    """Returns for each command of one document what is wrong with it."""
+    with tempfile.TemporaryDirectory() as folder:
+        shutil.copytree(os.path.join(top, "examples"), os.path.join(folder, "examples"))
+        shutil.copy(sas, os.path.join(folder, "sas"))
+        return [wrong(case, folder) for case in cases]
 
 
 def main(sas):
-    cases = [case for document in DOCUMENTS for case in shown(document)]
-    with tempfile.TemporaryDirectory() as folder:
-        shutil.copytree(os.path.join(TOP, "examples"), os.path.join(folder, "examples"))
-        shutil.copy(sas, os.path.join(folder, "sas"))
-        report.end(cases, [wrong(case, folder) for case in cases])
+    groups = [list(shown(document)) for document in documents()]
+    report.end(sum(groups, []), sum((all_wrong(cases, sas) for cases in groups), []))
 
 
-main(*sys.argv[1:])
+if __name__ == "__main__":
+    main(*sys.argv[1:])

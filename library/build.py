@@ -53,7 +53,7 @@ def main():
     compiler = tool("CC", "cc")
     run(*compiler, "-std=c99", "-O2", "-fPIC", "-Wall", "-Wextra", "-c", f"{HERE}/sas_memory.c", "-o", f"{OUT}/sas_memory.o")
     shutil.copy(HEART, f"{OUT}/libsas.a")
-    run(*tool("AR", "ar"), "rs", f"{OUT}/libsas.a", f"{OUT}/sas_memory.o", stderr=subprocess.DEVNULL)
+    run(*tool("AR", "ar"), "rsD", f"{OUT}/libsas.a", f"{OUT}/sas_memory.o", stderr=subprocess.DEVNULL)
     os.remove(f"{OUT}/sas_memory.o")
     whole = ["-Wl,--whole-archive", f"{OUT}/libsas.a", "-Wl,--no-whole-archive"]
     shown = [f"-Wl,--version-script={HERE}/sas.map", "-Wl,-soname,libsas.so", "-Wl,-z,defs"]

@@ -5,7 +5,7 @@ use clap::{Arg, ArgAction, ArgMatches, Command, Error};
 use std::alloc::{AllocError, Global};
 
 /// The program's version.
-const VERSION: &str = "0.1.0";
+const VERSION: &str = "1.1.0";
 
 /// The flag that asks for reasons.
 const WHY: &str = "why";

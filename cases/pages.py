@@ -1,0 +1,163 @@
+#!/usr/bin/env python3
+"""Holds the pages and files for users against the program.
+
+    python3 cases/pages.py SAS
+
+Each request and each flag that `sas --help` names stands in README.md, in the manual page and in each completion, and none stands there
+that it doesn't name. Each line that the program may print on standard error stands in README.md and in the manual page. The version is
+one: that of the program, of the first entry of CHANGELOG.md, of sas.pc and of the manual page. Links of documents lead to files. The
+completions are tried in bash and in fish and read by zsh, and the manual page by mandoc, where these are there; what isn't there is told
+in a line that begins with `without`.
+
+No proof reads these files. A request that no page names, or a page of another version, would be found here alone.
+"""
+import os
+import re
+import shutil
+import subprocess
+import sys
+
+import report
+from shown import documents
+from texts import TOP, text_of
+
+PAGE, README = "man/sas.1", "README.md"
+COMPLETIONS = {"bash": "completions/sas.bash", "zsh": "completions/_sas", "fish": "completions/sas.fish"}
+# what is typed behind requests and flags, and what bash and fish offer for it
+PLAN, DOORWAY = "examples/doorway.p", {"examples/doorway.plan"}
+OFFERED = (
+    (("plan", "--why", "examples/lam"), {"examples/lamps.sas"}),
+    (("plan", "--why", "examples/lamps.sas", PLAN), DOORWAY),
+    (("trace", "-", PLAN), DOORWAY),
+    (("plans", "examples/lamps.sas", "-", PLAN), DOORWAY),
+    (("steps", PLAN), DOORWAY),
+)
+# what bash offers where a task is due, and where all files of a request are there
+OFFERED_BY_BASH = (
+    (("plan", "examples/doorway"), {"examples/doorway.sas"}),
+    (("plan", "-", "x", PLAN), set()),
+    (("check", "x", PLAN), set()),
+    (("steps", "x", PLAN), set()),
+    (("help", PLAN), set()),
+)
+BASH = """. completions/sas.bash
+compopt() { if [[ $2 == default ]]; then any=1; fi; }
+COMP_WORDS=(sas "$@") COMP_CWORD=$# any=
+_sas
+if ((${#COMPREPLY[@]})); then printf '%s\\n' "${COMPREPLY[@]}"; elif [[ $any ]]; then compgen -f -- "${!#}"; fi"""
+
+
+def printed(*command):
+    """Returns what a command prints on standard output and on standard error, in the folder of the repository."""
+    ran = subprocess.run(command, cwd=TOP, stdout=subprocess.PIPE, stderr=subprocess.STDOUT, check=False, timeout=60, text=True)
+    return ran.stdout
+
+
+def is_there(tool):
+    """Whether a tool is there; tells where it isn't."""
+    if not shutil.which(tool):
+        print(f"without {tool}")
+    return shutil.which(tool)
+
+
+def requests_of(sas):
+    """Returns the requests that the help names, each with its flags, and the flags of the program itself under the empty word."""
+    told = printed(sas, "--help")
+    names = re.findall(r"^  (\w+) ", told.partition("Commands:")[2].partition("Options:")[0], re.MULTILINE)
+    return {"": flags_of(told)} | {name: flags_of(printed(sas, name, "--help")) for name in names if name != "help"} | {"help": set()}
+
+
+def flags_of(told):
+    """Returns the flags that a help names."""
+    return set(re.findall(r"^ +(?:-\w, )?(--\w+) ", told.partition("Options:")[2], re.MULTILINE))
+
+
+def named_in_page(page):
+    """Returns the requests of the manual page's synopsis, each with its flags."""
+    found = {"": set()}
+    for part in page.partition(".Sh SYNOPSIS\n")[2].partition(".Sh")[0].split(".Nm\n")[1:]:
+        names = re.search(r"^\.Cm (.*)$", part, re.MULTILINE)
+        for name in names[1].split(" | ") if names else [""]:
+            found.setdefault(name, set()).update(f"--{it}" for it in re.findall(r"Fl Fl (\w+)", part))
+    return found
+
+
+def page_cases(requests):
+    """Yields what the manual page and README.md name."""
+    page, readme = text_of(os.path.join(TOP, PAGE)), text_of(os.path.join(TOP, README))
+    named, body = named_in_page(page), page.partition(".Sh DESCRIPTION\n")[2]
+    yield f"requests of {PAGE}", sorted(requests.keys() ^ named.keys())
+    for name, flags in requests.items():
+        own = flags - {"--help"} if name else flags
+        yield f"{PAGE}, flags of {name or 'the program'}", sorted(own ^ named.get(name, set()))
+        there = not name or re.search(rf"^\.It Cm {name}\b", body, re.MULTILINE)
+        yield f"{PAGE}, {name or 'flags'}", [it for it in flags if f"Fl Fl {it[2:]}" not in body] + ([] if there else [name])
+        yield f"{README}, {name or 'flags'}", [it for it in own if it not in readme] + ([] if f"sas {name}" in readme else [name])
+
+
+def diagnostic_cases():
+    """Yields the lines on standard error, as the code has them."""
+    code = text_of(f"{TOP}/crates/sas_tool/src/program.rt") + text_of(f"{TOP}/crates/sas_tool/src/plan_files.rt")
+    told = set(re.findall(r'"(sas: [^"]*[^": ])', code))
+    page, readme = text_of(f"{TOP}/{PAGE}"), text_of(f"{TOP}/{README}")
+    named = set(re.findall(r'^\.It "(sas: .*)"$', page, re.MULTILINE))
+    yield f"standard error, {PAGE}", sorted(told ^ named) if told else ["no line was found in the code"]
+    yield f"standard error, {README}", [it for it in sorted(told) if it not in readme]
+
+
+def completion_cases(requests):
+    """Yields what the completions name, and what they offer where their shells are there."""
+    flags = set().union(*requests.values())
+    for shell, file in COMPLETIONS.items():
+        text = text_of(os.path.join(TOP, file))
+        words = set(re.findall(r"[\w-]+", re.sub(r"^ *#.*", "", text, flags=re.MULTILINE)))
+        lacking = [it for it in requests if it and it not in words]
+        lacking += [it for it in flags if it not in words and not (shell == "fish" and f"-l {it[2:]}" in text)]
+        yield f"{file}, words", lacking
+    names = [it for it in requests if it]
+    typed = [((it,), {name for name in names if name.startswith(it)}) for it in names]
+    typed += [(("help", it), {name for name in names if name.startswith(it)} - {"help"}) for it in names if it != "help"]
+    typed += [((it, "--"), requests[it]) for it in names] + [(("--",), requests[""])]
+    for shell in filter(is_there, ("bash", "fish")):
+        for words, offered in (*typed, *OFFERED, *(OFFERED_BY_BASH if shell == "bash" else ())):
+            script = ["bash", "-c", BASH, "bash", *words]
+            if shell == "fish":
+                script = ["fish", "-N", "-c", f"source completions/sas.fish; complete -C '{' '.join(('sas', *words))}'"]
+            got = {line.split("\t")[0] for line in printed(*script).splitlines()}
+            yield f"{shell}, {' '.join(words)}", [] if got == offered else [f"offered {sorted(got)}"]
+    if is_there("zsh"):
+        yield "zsh reads its completion", printed("zsh", "-n", COMPLETIONS["zsh"]).splitlines()
+
+
+def version_cases(sas):
+    """Yields where the version stands."""
+    told = printed(sas, "--version").split()[-1]
+    for file, pattern in (
+        ("CHANGELOG.md", r"^## (\S+)"),
+        ("crates/sas_tool/src/words.rt", r'^const VERSION: &str = "(.*)";$'),
+        ("library/sas.pc", r"^Version: (.*)$"),
+        (PAGE, r"^This page is that of version (.*)\.$"),
+    ):
+        found = re.search(pattern, text_of(os.path.join(TOP, file)), re.MULTILINE)
+        yield f"version of {file}", [] if found and found[1] == told else [f"{found and found[1]}, not {told}"]
+
+
+def link_cases(top=TOP):
+    """Yields the links of each document of the repository, or of a release in a folder."""
+    for document in documents(top):
+        text, folder = text_of(os.path.join(top, document)), os.path.dirname(os.path.join(top, document))
+        links = [it.partition("#")[0] for it in re.findall(r"\]\(([^)]+)\)", text) if "://" not in it]
+        yield f"links of {document}", [it for it in links if not os.path.exists(os.path.join(folder, it))]
+
+
+def main(sas):
+    sas = os.path.abspath(sas)
+    requests = requests_of(sas)
+    cases = [*page_cases(requests), *diagnostic_cases(), *completion_cases(requests), *version_cases(sas), *link_cases()]
+    if is_there("mandoc"):
+        cases.append((f"mandoc {PAGE}", printed("mandoc", "-Tlint", PAGE).splitlines()))
+    report.end([{"name": name} for name, _ in cases], [found for _, found in cases])
+
+
+if __name__ == "__main__":
+    main(*sys.argv[1:])

@@ -1,0 +1,34 @@
+# Completion for bash of the words of `sas`: requests, flags and files.
+
+_sas() {
+    local word=${COMP_WORDS[COMP_CWORD]} request=${COMP_WORDS[1]} flags="-h --help" files=0 most=0 place
+    local requests="plan plans trace mutex show check print steps help"
+    COMPREPLY=()
+    if ((COMP_CWORD == 1)); then
+        mapfile -t COMPREPLY < <(compgen -W "$requests -h --help -V --version" -- "$word")
+        return
+    fi
+    for ((place = 2; place < COMP_CWORD; place++)); do
+        if [[ ${COMP_WORDS[place]} != -?* ]]; then ((files += 1)); fi
+    done
+    case $request in
+    plan) flags="--why $flags" most=2 ;;
+    trace) most=2 ;;
+    plans) most=1000000 ;;
+    mutex | show | check | print | steps) flags="--why $flags" most=1 ;;
+    esac
+    if [[ $request == help ]]; then
+        mapfile -t COMPREPLY < <(compgen -W "$requests" -- "$word")
+    elif [[ $word == -* ]]; then
+        mapfile -t COMPREPLY < <(compgen -W "$flags" -- "$word")
+    elif ((files < most)); then
+        # any file; of tasks, those with this end and folders, if there are any
+        compopt -o default
+        if ((files == 0)) && [[ $request != steps ]]; then
+            mapfile -t COMPREPLY < <(compgen -f -X '!*.sas' -- "$word"; compgen -d -- "$word")
+            if ((${#COMPREPLY[@]})); then compopt -o filenames; fi
+        fi
+    fi
+}
+
+complete -F _sas sas
