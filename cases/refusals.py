@@ -14,9 +14,6 @@ import re
 
 from texts import as_bytes, bytes_of_file, table
 
-# whether the program tells these lines: without them it says the line and the kind of fault alone
-TOLD = False
-
 SEED = 6
 # the tasks of which each line is changed, and each end; a plan, and how many tasks and plans are changed at random
 LINES_OF = ("cases/tasks/each_part.sas", "cases/tasks/door.sas")
@@ -264,10 +261,9 @@ def refusal(what, text):
 
 
 def behind_file(said, text):
-    """Returns the lines behind this line about a file: none, unless it says that the file isn't well formed, and the program tells
-    why."""
+    """Returns the lines behind this line about a file: none, unless it says that the file isn't well formed."""
     refused = re.fullmatch(r"(task|plan) refused: line [0-9]+: [a-z]+", said)
-    if not refused or not TOLD:
+    if not refused:
         return []
     first, *behind = refusal(refused[1], as_bytes(text))
     assert first == said, (first, said)
@@ -444,7 +440,7 @@ def damaged_tasks():
 
 def asked(name, words, lines, **inputs):
     """Returns the case of a request about a file that is refused, with `--why`."""
-    output = "".join(f"{line}\n" for line in (lines if TOLD else lines[:1]))
+    output = "".join(f"{line}\n" for line in lines)
     return {"name": f"{name}, {' '.join(words)} --why", "words": [*words, "--why"], "output": output, "status": 1, **inputs}
 
 
