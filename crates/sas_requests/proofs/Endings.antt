@@ -1,11 +1,11 @@
 -- How the writing of an answer ends.
-use Rattle.std.proofs.Common.{◌≡◌, ℕ, List, ap, sym, subst, ◌∙◌, Option, Some, Result, Ok, Err}
+use Rattle.std.proofs.Common.{◌≡◌, ℕ, List, ap, refl, sym, subst, ◌∙◌, Option, Some, None, Result, Ok, Err}
 use Rattle.std.specs.Prelude.{IfOk}
 use Rattle.std.proofs.lemmas.Option.{none-some}
 use Rattle.sas_output.specs.declared.ending.Status.{Status}
 use Rattle.sas_output.specs.declared.ending.ToolFault.{ToolFault}
 use Rattle.sas_output.specs.declared.ending.ToolFault.TheVariants as tool_fault
-use Rattle.sas_output.specs.Ending.{Ends}
+use Rattle.sas_output.specs.Ending.{Ends, IsWrite}
 use Rattle.sas_output.specs.Ending.{Output}
 
 module _ (o : Output) (Sent : List ℕ → Type 0) where
@@ -23,3 +23,10 @@ module _ (o : Output) (Sent : List ℕ → Type 0) where
       let same : output ≡ o = cc in
       so status (same_status ∙ ap (λ (x : Output). x.status) same) (subst (λ (x : Output). Sent x.text) same sent)
   ends_well P (Err why) ends so = tt
+
+-- what ends before an answer is known says of the output only that there is none
+pub ends_err : (Out : Option Output → Type 0) (Sent : List ℕ → Type 0) (why : ToolFault) → (IsWrite why → ⊥) → (why ≡ tool_fault.TooLong → Out None) → Ends Out Sent (Err why)
+ends_err Out Sent (tool_fault.Write written) other long = absurd (other tt)
+ends_err Out Sent tool_fault.TooLong other long = long refl
+ends_err Out Sent tool_fault.Memory other long = tt
+ends_err Out Sent tool_fault.Read other long = tt

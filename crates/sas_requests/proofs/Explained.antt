@@ -41,7 +41,7 @@ module _ {D V I S A R : Type 0} (left : D → Option (List ℕ)) (F : Format V I
   abbrev OutWhy : List ℕ → Option Output → Type 0
   OutWhy = FileOutWhy F Tells name IsAnswer
 
-  plain_read : (old new : Device D) (a : A) → Reads old new (Ok a) → ReadsAll left F Gives old new (Ok a)
+  pub plain_read : (old new : Device D) (a : A) → Reads old new (Ok a) → ReadsAll left F Gives old new (Ok a)
   plain_read old new a h = record { read = h.read; fault = tt; memory = tt; note = h.note }
 
   plain_fault : (old new : Device D) (r : R) → Reads old new (Err r) → ReadsAll left F Gives old new (Err (fault r))

@@ -133,10 +133,10 @@ all_reasons [] h = tt
 all_reasons (l ∷ ls) h = (one_reason l h.0, all_reasons ls h.1)
 
 task_telling_tells : (kind : Kind) (begun : List (List ℕ)) (found : List ℕ) (r : List (List ℕ)) → TellsTask kind begun found r → AreReasons r
-task_telling_tells kind begun found r x = subst AreReasons (sym x.lines) (all_reasons _ (task_lines_tell x.mark x.word kind (take 64 found) (nat_lt 64 (length found))))
+task_telling_tells kind begun found r x = subst AreReasons (sym x.lines) (all_reasons (task_reason_lines x.mark x.word kind (take 64 found) (nat_lt 64 (length found))) (task_lines_tell x.mark x.word kind (take 64 found) (nat_lt 64 (length found))))
 
 plan_telling_tells : (kind : Kind) (begun : List (List ℕ)) (found : List ℕ) (r : List (List ℕ)) → TellsPlan kind begun found r → AreReasons r
-plan_telling_tells kind begun found r x = subst AreReasons (sym x) (all_reasons _ (plan_lines_tell kind (take 64 found) (nat_lt 64 (length found))))
+plan_telling_tells kind begun found r x = subst AreReasons (sym x) (all_reasons (plan_reason_lines kind (take 64 found) (nat_lt 64 (length found))) (plan_lines_tell kind (take 64 found) (nat_lt 64 (length found))))
 
 -- ---- the files of a request
 

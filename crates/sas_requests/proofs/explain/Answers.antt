@@ -1,13 +1,20 @@
 use Rattle.std.proofs.Common.{[]}
+use Rattle.std.specs.Io.KnownBytes.{Appends}
+use Rattle.std.proofs.lemmas.Result.{err_from_is_err_and}
 use Rattle.sas_requests.specs.Answering.{output_of}
 use Rattle.sas_requests.specs.Why.{OutWhy}
-use Rattle.sas_requests.proofs.Endings.{ends_as, ends_well}
+use Rattle.sas_requests.proofs.Endings.{ends_as, ends_well, ends_err}
 use Rattle.sas_requests.proofs.ReasonedOutputs.{headline_why, invariants_why}
 use Rattle.sas_requests.proofs.explain.Goals as goal
 
 pub returns-clause-output : goal.returns-clause-output
 returns-clause-output g c = λ b c' inputs.
     ends_as (output_of c.in_ok-answer.answer) _ (OutWhy c.args.request b c') _ (c.in_ok-answer.ensures.output b c' inputs) c.write_answer.ensures.ends
+
+pub returns-in_err-answer-clause-output : goal.returns-in_err-answer-clause-output
+returns-in_err-answer-clause-output g c = λ b c' inputs.
+    let p = err_from_is_err_and c.from_residual.result c.from_residual.ensures.1 in
+    rw (p.1, p.2) (ends_err (OutWhy c.args.request b c') (Appends (g.W.Write.contents c.args.out.now.device) (g.W.Write.contents c.args.out.now.device)) _ c.in_err-answer.ensures.writes (c.in_err-answer.ensures.output b c' inputs))
 
 pub returns-clause-taken : goal.returns-clause-taken
 returns-clause-taken g c = λ decided.

@@ -14,6 +14,12 @@ use Rattle.sas_requests.proofs.why.explain_judged.Goals as goal
 pub explain_plan-requires : goal.explain_plan-requires
 explain_plan-requires g c = reasons_fit _ _ _ _ c.requires.task.1 c.in-Ok.ensures.read.2
 
+pub returns-in-Valid : goal.returns-in-Valid
+returns-in-Valid g c =
+    let told = rw c.in-Valid.is at c.in_ok-told-in-Ok.ensures in
+    explains_value g.P.Read.remaining plan_format plan_telling TellsPlan (ValueOf plan_format) fault_of found_of nothing_else (codes "plan") (WhyVerdict c.args.layered) _ _ c.in-Ok.read (Text c.in-Valid.told) c.in-Ok.ensures
+    (λ b value. (c.in-Ok.read, value, told))
+
 pub returns-in-Explained : goal.returns-in-Explained
 returns-in-Explained g c =
     let told = rw c.in-Explained.is at c.in_ok-told-in-Ok.ensures in
