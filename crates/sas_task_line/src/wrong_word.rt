@@ -93,7 +93,8 @@ fn values_wrong_from(ranges: &Items<u32>, change: Change, word: u64) -> Option<W
 /// Checks a change whose variable is the word of this number.
 fn change_wrong_from(ranges: &Items<u32>, change: Change, word: u64) -> Option<WrongWord>
     requires { word < 2 ^ 62 }
-    ensures { result ≡ first_wrong word (change_words_in ranges.now change.var change.old change.new) }
+    ensures { result ≡ first_wrong word
+        (change_words_in ranges.now change.var change.old change.new) }
 {
     match variable_wrong(ranges, change.var, word) {
         Some(wrong) => Some(wrong),
