@@ -97,10 +97,10 @@ pub fn run<T: Read, P: Read, W: Write>(
 }
 
 /// Answers the request about the inputs as `run` does, and tells the reasons for a no: behind the line that says why a plan
-/// isn't valid, or why a task isn't layered, and behind that of each mutex group that isn't exclusive, stand lines that begin with
-/// two spaces. The status is that of `run`, where it is `Yes` so is the text, and where it is `No` the text of `run` is left when
-/// these lines are taken away (`explain_laws`). Of files that are refused no reasons are told. All memory is asked for before the
-/// first byte is written. Not to be called with a device that has failed.
+/// isn't valid, why a task isn't layered, or why a file is refused, and behind that of each mutex group that isn't exclusive, stand
+/// lines that begin with two spaces. The status is that of `run`, where it is `Yes` so is the text, and where it is `No` the text of
+/// `run` is left when these lines are taken away (`explain_laws`). All memory is asked for before the first byte is written. Not to
+/// be called with a device that has failed.
 pub fn explain<T: Read, P: Read, W: Write>(
     alloc: Global,
     request: Request,
