@@ -1,7 +1,7 @@
 // Laws of plan files.
 ghost use Rattle.sas_reader.specs.Laws.{Laws};
 ghost use Rattle.sas_reader.specs.System.{Grammar};
-ghost use Rattle.sas_reader.specs.Telling.{TellingLaws};
+ghost use Rattle.sas_reader.specs.About.{TellingLaws};
 ghost use Rattle.sas_plan_file.specs.PlanFormat.{plan_format, PlanLineFits};
 ghost use Rattle.sas_plan_file.specs.PlanLaws.{PlanIsFilled};
 ghost use Rattle.sas_plan_file.specs.PlanMachine.{plan_node, plan_start};

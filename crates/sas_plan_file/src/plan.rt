@@ -3,7 +3,7 @@ ghost use Rattle.std.specs.Prelude.{◌≡◌, ◌≢◌, false, Ok, Err, IfOk, 
 ghost use Rattle.sas_reader.specs.Devices.{ReadsAll, ValueOf, TextOf};
 ghost use Rattle.sas_reader.specs.Format.{ReadsAs};
 ghost use Rattle.sas_reader.specs.Limit.{most_bytes};
-ghost use Rattle.sas_reader.specs.Telling.{IsTold};
+ghost use Rattle.sas_reader.specs.About.{IsTold};
 ghost use Rattle.sas_plan_file.specs.PlanFormat.{plan_format};
 ghost use Rattle.sas_plan_file.specs.PlanRefusal.{ReadsPlan, TellsOfPlan};
 

@@ -8,7 +8,8 @@ use Rattle.sas_reader.specs.declared.found.Found.{Found}
 use Rattle.sas_reader.specs.Devices.{Refuses, unread_at, ended_at, faulty_at, ReadsAll}
 use Rattle.sas_reader.specs.Format.{Format}
 use Rattle.sas_reader.specs.Limit.{most_bytes}
-use Rattle.sas_reader.specs.Telling.{IsTold, IsAbout, TellingLaws, TellsAbout, ReadsAllTelling}
+use Rattle.sas_reader.specs.About.{IsTold, IsAbout, TellingLaws}
+use Rattle.sas_reader.specs.Telling.{TellsAbout, ReadsAllTelling}
 use Rattle.sas_reader.proofs.Known.{front_read, all_read}
 
 known_about : {V I S : Type 0} (F : Format V I S) → TellingLaws F → (known new : Option (List ℕ)) (input bytes : List ℕ) (f : Fault) (a : List (List ℕ)) (t : List ℕ) → known ≡ Some input → Consumes known new bytes → Refuses F bytes (IsAtEnd new) f → f.kind ≢ kinds.Read → IsAbout F most_bytes bytes f a t → IsAbout F most_bytes input f a t

@@ -15,7 +15,8 @@ use Rattle.sas_reader.specs.Found.{IsFoundOf}
 use Rattle.sas_reader.specs.Limit.{most_bytes}
 use Rattle.sas_reader.specs.Reader.{Reached, StopsTelling, told_full, told_over, told_rejected, FaultTold, EndTold, ToldBy, ReadFailsTelling, told_unread, told_early, told_faulty, FeedsMachineTelling}
 use Rattle.sas_reader.specs.System.{Node, Grammar}
-use Rattle.sas_reader.specs.Telling.{IsTold, IsAbout, of_line, of_byte, of_end, OneAbout, SomeAbout, AboutStays, TellingLaws, TellsAbout, ReadsAllTelling, StandsBehind, behind_line, behind_text, at_end}
+use Rattle.sas_reader.specs.About.{IsTold, IsAbout, of_line, of_byte, of_end, OneAbout, SomeAbout, AboutStays, TellingLaws}
+use Rattle.sas_reader.specs.Telling.{TellsAbout, ReadsAllTelling, StandsBehind, behind_line, behind_text, at_end}
 use Rattle.sas_reader.proofs.Conversion.{Follows, At, at, path_of, fault_of_format, end_of_format, live_of_format, more_is_due}
 use Rattle.sas_reader.proofs.Live.{live, done_dead, line_dead, rejected_as, next_slot, reads_done}
 use Rattle.sas_reader.proofs.Standing.{fault_is}

@@ -8,5 +8,6 @@ pub mod Machine
 pub mod Reader
 pub mod Reading
 pub mod Devices
+pub mod About
 pub mod Telling
 pub mod Returns

@@ -1,59 +1,17 @@
--- What a fault is about: the lines that were accepted before it, and the text that stood there.
-use Rattle.std.specs.Prelude.{◌≡◌, ◌≢◌, ◌↔◌, ℕ, List, [], ◌∷◌, ◌++◌, ◌⊎◌}
+-- What the calls promise that tell what stood at a fault, and where a machine stands behind one.
+use Rattle.std.specs.Prelude.{◌≡◌, ◌≢◌, ◌↔◌, ℕ, List, ◌++◌}
 use Rattle.std.specs.Prelude.{Option, Result, IfOk, IfErr, IsErrAnd, IsTrue}
 use Rattle.std.specs.Io.KnownBytes.{IsAtEnd}
 use Rattle.sas_lines.specs.Device.{Device}
-use Rattle.sas_lines.specs.Lines.{lines, unfinished}
 use Rattle.sas_reader.specs.declared.fault.Fault.{Fault}
 use Rattle.sas_reader.specs.declared.fault.Kind.{Kind}
 use Rattle.sas_reader.specs.declared.fault.Kind.TheVariants as kinds
 use Rattle.sas_reader.specs.declared.found.Found.{Found}
+use Rattle.sas_reader.specs.About.{IsTold, IsAbout}
 use Rattle.sas_reader.specs.Devices.{Refuses, WasRead, WasReadWhole}
-use Rattle.sas_reader.specs.Format.{Format, Reads, Next, FaultOf, EndOf, MoreIsDue}
+use Rattle.sas_reader.specs.Format.{Format, MoreIsDue}
 use Rattle.sas_reader.specs.Found.{IsFoundOf}
 use Rattle.sas_reader.specs.Limit.{most_bytes}
-
--- something stood at a fault of this kind, unlike where a read failed, the bytes are too long, or
--- memory was refused
-abbrev pub IsTold : Kind → Type 0
-IsTold k = (k ≢ kinds.Read) × (k ≢ kinds.TooLong) × (k ≢ kinds.Memory)
-
-module _ {V I S : Type 0} (F : Format V I S) where
-  -- what the fault of these bytes is about
-  pub data IsAbout (limit : ℕ) (bytes : List ℕ) (f : Fault) (accepted : List (List ℕ))
-      (text : List ℕ) : Type 0 where
-    -- a line that may not stand behind the accepted ones, which it completed
-    of_line : (h : FaultOf F limit bytes f) → accepted ≡ lines h.before
-        → lines (h.before ++ h.byte ∷ []) ≡ accepted ++ text ∷ []
-        → (s : S) → Next F accepted s → F.KindOf s text f.kind
-        → IsAbout limit bytes f accepted text
-    -- the byte behind a whole text
-    of_byte : (h : FaultOf F limit bytes f) → accepted ≡ lines h.before → text ≡ h.byte ∷ []
-        → (v : V) → Reads F h.before v → f.kind ≡ kinds.Trailing
-        → IsAbout limit bytes f accepted text
-    -- the end, where more was due: the text is what stands behind the last line end
-    of_end : EndOf F limit bytes f → accepted ≡ lines bytes → text ≡ unfinished bytes
-        → IsAbout limit bytes f accepted text
-
-  -- laws: a fault is about one thing, and about something where its kind is told
-  abbrev pub OneAbout : Type 0
-  OneAbout = (limit : ℕ) (bytes : List ℕ) (f : Fault) (a b : List (List ℕ)) (t u : List ℕ)
-      → IsAbout limit bytes f a t → IsAbout limit bytes f b u → (a ≡ b) × (t ≡ u)
-
-  abbrev pub SomeAbout : Type 0
-  SomeAbout = (limit : ℕ) (bytes : List ℕ) (f : Fault) → IsTold f.kind
-      → FaultOf F limit bytes f ⊎ EndOf F limit bytes f
-      → (a : List (List ℕ)) × (t : List ℕ) × IsAbout limit bytes f a t
-
-  -- it stays so, however bytes with a fault go on
-  abbrev pub AboutStays : Type 0
-  AboutStays = (limit : ℕ) (bytes more : List ℕ) (f : Fault) (a : List (List ℕ)) (t : List ℕ)
-      → FaultOf F limit bytes f → IsAbout limit bytes f a t → IsAbout limit (bytes ++ more) f a t
-
-  pub record TellingLaws : Type 0 where
-    pub one_about : OneAbout
-    pub some_about : SomeAbout
-    pub about_stays : AboutStays
 
 -- A refusal R has a fault and what was found there. `Tells` relates what the fault is about to what
 -- else the refusal tells.

@@ -13,7 +13,8 @@ use Rattle.sas_reader.specs.Format.{Format, ReadsAs}
 use Rattle.sas_reader.specs.Found.{IsFoundOf, bytes_of}
 use Rattle.sas_reader.specs.Laws.{Laws}
 use Rattle.sas_reader.specs.Limit.{most_bytes}
-use Rattle.sas_reader.specs.Telling.{IsTold, IsAbout, TellingLaws, TellsAbout, RefusesTelling, ReadsAllTelling}
+use Rattle.sas_reader.specs.About.{IsTold, IsAbout, TellingLaws}
+use Rattle.sas_reader.specs.Telling.{TellsAbout, RefusesTelling, ReadsAllTelling}
 use Rattle.sas_reader.proofs.Known.{known_answer, known_fault, front_read, all_read}
 use Rattle.sas_output.specs.declared.ending.ToolFault.{ToolFault}
 use Rattle.sas_output.specs.declared.ending.ToolFault.TheVariants as tool_fault

@@ -13,7 +13,7 @@ use Rattle.sas_reader.specs.declared.fault.Kind.TheVariants as kinds
 use Rattle.sas_reader.specs.Format.{Format, FaultOf, EndOf, KindAt, too_long, trailing, wrong, ReadsAs}
 use Rattle.sas_reader.specs.Laws.{Laws}
 use Rattle.sas_reader.specs.Limit.{most_bytes}
-use Rattle.sas_reader.specs.Telling.{IsTold, IsAbout, of_line, of_byte, of_end, TellingLaws}
+use Rattle.sas_reader.specs.About.{IsTold, IsAbout, of_line, of_byte, of_end, TellingLaws}
 use Rattle.sas_reader.proofs.Telling.{telling_laws_of}
 use Rattle.sas_plan_file.specs.PlanFormat.{plan_format, PlanLineFits, PlanKind}
 use Rattle.sas_plan_file.specs.PlanMachine.{plan_node, plan_start}
