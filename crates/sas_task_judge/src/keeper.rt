@@ -1,7 +1,6 @@
 // Stores what is asked for of the lines of a task file.
 ghost use Rattle.std.specs.Prelude.{◌≡◌, ◌++◌, ◌∷◌, [], List, ℕ, OnOk, IfErr};
 
-use crate::task_judge::counted;
 use sas_core::Items;
 use sas_reader::{Front, Kind};
 use sas_task_format::Counts;
@@ -18,16 +17,10 @@ pub struct VariableKept {
 pub trait Keeper: Drop {
     ghost use Rattle.sas_task_line.specs.declared.so_far.SoFar.{SoFar};
     ghost use Rattle.sas_task_line.specs.TaskEvents.{after};
-    ghost use Rattle.sas_task_judge.specs.Marks.{counts_within};
     ghost use Rattle.sas_task_judge.specs.Sections.{KeepsVariable, KeepsGroup, KeepsOperator, KeepsRule};
 
     /// The keeper holds what it is asked to keep of these lines, with which so much of a task has come.
     ghost keeps: { List (List ℕ) → SoFar → Self → Type 0 };
-
-    /// Returns how many groups, operators and rules have come, as far as 32 bits count.
-    fn counts(&self) -> Counts
-        ensures { (lines : List (List ℕ)) (s : SoFar) → keeps lines s self.now
-            → result ≡ counts_within s };
 
     /// Keeps what the next line adds. It may move it out of `said`.
     fn keep(&mut self, line: &[u8], event: Event, said: &mut Said) -> Result<(), Kind>
@@ -72,18 +65,21 @@ pub trait Keeper: Drop {
     }
 }
 
+/// A keeper that knows how many mutex groups, operators and rules have come. A refusal tells by that where it stands.
+pub trait Counting: Keeper {
+    ghost use Rattle.sas_task_line.specs.declared.so_far.SoFar.{SoFar};
+    ghost use Rattle.sas_task_judge.specs.Marks.{counts_within};
+
+    /// Returns how many mutex groups, operators and rules have come, as far as 32 bits count.
+    fn counts(&self) -> Counts
+        ensures { (lines : List (List ℕ)) (s : SoFar) → Self.keeps lines s self.now
+            → result ≡ counts_within s };
+}
+
 impl Keeper for SoFar {
     ghost use Rattle.std.specs.Prelude.{◌≡◌};
 
     ghost keeps = { λ lines s kept. kept ≡ s };
-
-    fn counts(&self) -> Counts {
-        Counts {
-            groups: counted(self.parts.groups.len()),
-            operators: counted(self.parts.operators.len()),
-            rules: counted(self.parts.rules.len()),
-        }
-    }
 
     fn keep(&mut self, line: &[u8], event: Event, said: &mut Said) -> Result<(), Kind> {
         self.add(line, event, said)

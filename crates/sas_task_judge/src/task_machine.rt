@@ -1,7 +1,7 @@
 // Takes the lines of a task file: it judges each, and keeps what is asked for of what they hold.
 ghost use Rattle.std.specs.Prelude.{◌≡◌, ◌≢◌, ℕ, List, length};
 
-use crate::keeper::Keeper;
+use crate::keeper::{Counting, Keeper};
 use crate::task_judge::{Section, TaskJudge};
 use sas_reader::{Front, Kind, Machine};
 use sas_task_format::{Mark, WrongWord};
@@ -20,7 +20,6 @@ impl<K: Keeper> TaskMachine<K> {
     ghost use Rattle.std.specs.Prelude.{[]};
     ghost use Rattle.sas_reader.specs.Machine.{AcceptsAhead};
     ghost use Rattle.sas_task_judge.specs.TaskJudge.{HasEnded, SectionDue};
-    ghost use Rattle.sas_task_judge.specs.Marks.{capped, mark_of, counts_within};
     ghost use Rattle.sas_task_judge.specs.TaskMachine.{LedBy, IsFresh, Stopped};
 
     /// Makes a machine that has taken no line, with this keeper.
@@ -41,16 +40,6 @@ impl<K: Keeper> TaskMachine<K> {
     {
         let TaskMachine { kept, .. } = self;
         kept
-    }
-
-    /// Returns where the next line stands and what is due there.
-    #[cold]
-    pub fn mark(&self) -> Mark
-        ensures { (lines : List (List ℕ)) (led : LedBy K.keeps lines self.now)
-            → result ≡ mark_of self.now.judge (capped (length self.now.judge.ranges))
-            (counts_within led.so_far) }
-    {
-        self.judge.mark(self.kept.counts())
     }
 
     /// Notes which word of a line is wrong that was refused for a number.
@@ -158,6 +147,21 @@ impl<K: Keeper> TaskMachine<K> {
             lines: 1,
             bytes: ahead.taken,
         })
+    }
+}
+
+impl<K: Counting> TaskMachine<K> {
+    ghost use Rattle.sas_task_judge.specs.Marks.{capped, mark_of, counts_within};
+    ghost use Rattle.sas_task_judge.specs.TaskMachine.{LedBy};
+
+    /// Returns where the next line stands and what is due there.
+    #[cold]
+    pub fn mark(&self) -> Mark
+        ensures { (lines : List (List ℕ)) (led : LedBy K.keeps lines self.now)
+            → result ≡ mark_of self.now.judge (capped (length self.now.judge.ranges))
+            (counts_within led.so_far) }
+    {
+        self.judge.mark(self.kept.counts())
     }
 }
 

@@ -2,4 +2,3 @@ mod TaskStanding
 mod Outlines
 mod CountsStay
 mod Reasons
-mod WholeTexts

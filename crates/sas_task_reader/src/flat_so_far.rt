@@ -19,7 +19,7 @@ use sas_flat::{Effects, FlatTask, Operators, Outline, Rules, TaskColumns, Variab
 use sas_lists::Lists;
 use sas_reader::{Front, Kind};
 use sas_task_format::Counts;
-use sas_task_judge::{Keeper, VariableKept, counted};
+use sas_task_judge::{Counting, Keeper, VariableKept, counted};
 use sas_task_line::{
     Event, Gathered, Said, group_found, operator_found, rule_found, variable_found,
 };
@@ -320,14 +320,6 @@ impl Keeper for FlatSoFar {
 
     ghost keeps = { λ lines s kept. kept ≡ s };
 
-    fn counts(&self) -> Counts {
-        Counts {
-            groups: counted(self.columns.groups.len()),
-            operators: counted(self.columns.operators.len()),
-            rules: counted(self.columns.rules.len()),
-        }
-    }
-
     fn keep(&mut self, line: &[u8], event: Event, said: &mut Said) -> Result<(), Kind> {
         self.add(line, event, said)?;
         Ok(())
@@ -348,5 +340,15 @@ impl Keeper for FlatSoFar {
 
     fn keep_rule(&mut self, ranges: &Items<u32>, bytes: &[u8]) -> Result<Front, Kind> {
         Ok(self.rule_ahead(ranges, bytes)?)
+    }
+}
+
+impl Counting for FlatSoFar {
+    fn counts(&self) -> Counts {
+        Counts {
+            groups: counted(self.columns.groups.len()),
+            operators: counted(self.columns.operators.len()),
+            rules: counted(self.columns.rules.len()),
+        }
     }
 }

@@ -14,7 +14,7 @@ use sas_core::Items;
 use sas_flat::Outline;
 use sas_reader::{Front, Kind};
 use sas_task_format::Counts;
-use sas_task_judge::{Keeper, VariableKept};
+use sas_task_judge::{Counting, Keeper, VariableKept};
 use sas_task_line::{Event, Gathered, Said};
 use std::alloc::Global;
 use std::marker::Model;
@@ -108,14 +108,6 @@ impl Keeper for TaskOutline {
 
     ghost keeps = { λ _ s kept. kept ≡ kept_of s };
 
-    fn counts(&self) -> Counts {
-        Counts {
-            groups: self.seen.groups,
-            operators: self.seen.operators,
-            rules: self.seen.rules,
-        }
-    }
-
     fn keep(&mut self, line: &[u8], event: Event, said: &mut Said) -> Result<(), Kind> {
         match event {
             Event::Group => self.seen.group(),
@@ -153,5 +145,15 @@ impl Keeper for TaskOutline {
         };
         self.seen.rule();
         Ok(front)
+    }
+}
+
+impl Counting for TaskOutline {
+    fn counts(&self) -> Counts {
+        Counts {
+            groups: self.seen.groups,
+            operators: self.seen.operators,
+            rules: self.seen.rules,
+        }
     }
 }

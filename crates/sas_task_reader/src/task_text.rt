@@ -1,80 +1,57 @@
 // Stores the text of a task file, and nothing else of the task.
 ghost use Rattle.std.specs.Prelude.{◌≡◌, ◌++◌, ◌≤◌, [], length, take, OnOk, IfErr};
-ghost use Rattle.sas_task_line.specs.TaskEvents.{nothing_yet};
-ghost use Rattle.sas_task_judge.specs.Marks.{counts_within};
 
-use crate::counting::{counts_behind, group_more, operator_more, rule_more};
 use crate::fronts::{NO_VARIABLE, group_front, operator_front, rule_front, variable_front};
 use sas_core::Items;
 use sas_lines::push_line;
 use sas_reader::{Front, Kind};
-use sas_task_format::Counts;
 use sas_task_judge::{Keeper, VariableKept};
 use sas_task_line::{Event, Gathered, Said};
 use std::alloc::Global;
 use std::marker::Model;
 
-/// The lines so far, each ended by LF, and how many groups, operators and rules have come with them.
-#[derive(Drop)]
-pub struct Written {
-    text: Vec<u8>,
-    counts: Counts,
-}
-
-/// The keeper of what was written. In a contract it represents this.
+/// The lines so far, each ended by LF. In a contract it represents this text.
 #[derive(Drop)]
 pub struct TaskText {
-    written: Written,
+    text: Vec<u8>,
     /// What is read of a section whose lines come at once.
     gathered: Gathered,
 }
 
 impl Model for TaskText {
-    ghost use Rattle.sas_task_reader.specs.declared.task_text.Written.{Written};
+    ghost use Rattle.std.specs.Prelude.{List, ℕ};
 
-    ghost Value = { Written };
+    ghost Value = { List ℕ };
 
-    ghost view = { λ t. t.written };
+    ghost view = { λ t. t.text.items };
 }
 
 impl TaskText {
     /// Makes a text without lines.
     pub fn new(alloc: Global) -> Self
-        ensures text { result.text.items ≡ [] }
-        ensures counts { result.counts ≡ counts_within (nothing_yet alloc) }
+        ensures { result ≡ [] }
     {
         TaskText {
-            written: Written {
-                text: Vec::new(alloc),
-                counts: Counts {
-                    groups: 0,
-                    operators: 0,
-                    rules: 0,
-                },
-            },
+            text: Vec::new(alloc),
             gathered: Gathered::new(alloc),
         }
     }
 
     /// Returns the text so far.
     pub fn into_text(self) -> Vec<u8>
-        ensures { result.items ≡ self.text.items }
+        ensures { result.items ≡ self }
     {
-        let TaskText { written, .. } = self;
-        let Written { text, .. } = written;
+        let TaskText { text, .. } = self;
         text
     }
 
-    /// Takes so many of the bytes, which are whole lines, with which so many groups, operators and rules have come.
-    fn take(&mut self, bytes: &[u8], count: usize, counts: Counts) -> Result<(), Kind>
+    /// Takes so many of the bytes, which are whole lines.
+    fn take(&mut self, bytes: &[u8], count: usize) -> Result<(), Kind>
         requires { count ≤ length bytes.now }
-        ensures ok { OnOk result
-            (self.new.text.items ≡ self.old.text.items ++ take count bytes.now) }
-        ensures counts { OnOk result (self.new.counts ≡ counts) }
+        ensures ok { OnOk result (self.new ≡ self.old ++ take count bytes.now) }
         ensures err { IfErr result (λ k. k ≡ Kind.Memory) }
     {
-        self.written.text.extend_from_slice(&bytes[..count])?;
-        self.written.counts = counts;
+        self.text.extend_from_slice(&bytes[..count])?;
         Ok(())
     }
 }
@@ -82,18 +59,11 @@ impl TaskText {
 impl Keeper for TaskText {
     ghost use Rattle.std.specs.Prelude.{◌≡◌};
     ghost use Rattle.sas_lines.specs.Lines.{text};
-    ghost use Rattle.sas_task_judge.specs.Marks.{counts_within};
 
-    ghost keeps = { λ lines s kept. (kept.text.items ≡ text lines)
-        × (kept.counts ≡ counts_within s) };
+    ghost keeps = { λ lines _ kept. kept ≡ text lines };
 
-    fn counts(&self) -> Counts {
-        self.written.counts
-    }
-
-    fn keep(&mut self, line: &[u8], event: Event, _said: &mut Said) -> Result<(), Kind> {
-        push_line(&mut self.written.text, line)?;
-        self.written.counts = counts_behind(self.written.counts, event);
+    fn keep(&mut self, line: &[u8], _event: Event, _said: &mut Said) -> Result<(), Kind> {
+        push_line(&mut self.text, line)?;
         Ok(())
     }
 
@@ -101,7 +71,7 @@ impl Keeper for TaskText {
         let Some(kept) = variable_front(bytes, &mut self.gathered)? else {
             return Ok(NO_VARIABLE);
         };
-        self.take(bytes, kept.front.bytes, self.written.counts)?;
+        self.take(bytes, kept.front.bytes)?;
         Ok(kept)
     }
 
@@ -109,8 +79,7 @@ impl Keeper for TaskText {
         let Some(front) = group_front(ranges, bytes, &mut self.gathered)? else {
             return Ok(Front::EMPTY);
         };
-        let counts = group_more(self.written.counts);
-        self.take(bytes, front.bytes, counts)?;
+        self.take(bytes, front.bytes)?;
         Ok(front)
     }
 
@@ -118,8 +87,7 @@ impl Keeper for TaskText {
         let Some(front) = operator_front(ranges, bytes, &mut self.gathered)? else {
             return Ok(Front::EMPTY);
         };
-        let counts = operator_more(self.written.counts);
-        self.take(bytes, front.bytes, counts)?;
+        self.take(bytes, front.bytes)?;
         Ok(front)
     }
 
@@ -127,8 +95,7 @@ impl Keeper for TaskText {
         let Some(front) = rule_front(ranges, bytes, &mut self.gathered)? else {
             return Ok(Front::EMPTY);
         };
-        let counts = rule_more(self.written.counts);
-        self.take(bytes, front.bytes, counts)?;
+        self.take(bytes, front.bytes)?;
         Ok(front)
     }
 }

@@ -6,6 +6,7 @@ ghost use Rattle.sas_task_format.specs.TaskFormat.{task_format};
 ghost use Rattle.sas_task_reader.specs.Outline.{OutlineOf};
 ghost use Rattle.sas_task_reader.specs.Telling.{fault_in, found_in, TellsReason, StandsRefused};
 
+use crate::counting::Counted;
 use crate::flat_so_far::FlatSoFar;
 use crate::task_outline::TaskOutline;
 use crate::task_text::TaskText;
@@ -13,7 +14,7 @@ use sas_flat::{FlatTask, Outline};
 use sas_lines::Watched;
 use sas_reader::{Fault, Found, Kind, LIMIT, Refused, read_all_large_telling};
 use sas_task_format::{Mark, WrongWord};
-use sas_task_judge::{Keeper, TaskMachine};
+use sas_task_judge::{Counting, TaskMachine};
 use std::alloc::Global;
 use std::io::Read;
 
@@ -39,7 +40,7 @@ fn word_of(kind: Kind, wrong: Option<WrongWord>) -> Option<WrongWord>
 }
 
 /// Returns what the machine of a task that was refused tells.
-fn refusal_of<K: Keeper>(refused: Refused<TaskMachine<K>>) -> TaskRefusal
+fn refusal_of<K: Counting>(refused: Refused<TaskMachine<K>>) -> TaskRefusal
     ensures fault { result.fault ≡ refused.fault }
     ensures found { result.found ≡ refused.found }
     ensures reason { (accepted : List (List ℕ)) (text : List ℕ)
@@ -103,9 +104,9 @@ pub fn read_task_text_telling<R: Read>(
     ensures { ReadsAllTelling task_format fault_in found_in TellsReason R.remaining
         (λ b t. TextOf task_format b t.items) reader.old reader.new result }
 {
-    let start = TaskMachine::new(alloc, TaskText::new(alloc));
+    let start = TaskMachine::new(alloc, Counted::new(TaskText::new(alloc)));
     match read_all_large_telling(alloc, start, LIMIT, reader) {
-        Ok(machine) => Ok(machine.into_kept().into_text()),
+        Ok(machine) => Ok(machine.into_kept().into_kept().into_text()),
         Err(refused) => Err(refusal_of(refused)),
     }
 }

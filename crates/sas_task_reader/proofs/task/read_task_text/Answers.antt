@@ -5,9 +5,7 @@ use Rattle.sas_reader.specs.declared.fault.Kind.{Kind}
 use Rattle.sas_task_line.specs.declared.so_far.SoFar.{SoFar}
 use Rattle.sas_task_judge.specs.declared.task_machine.TaskMachine.{TaskMachine}
 use Rattle.sas_task_judge.specs.TaskJudge.{HasEnded, RejectsLine}
-use Rattle.sas_task_judge.specs.Marks.{counts_within}
 use Rattle.sas_task_judge.specs.TaskMachine.{LedBy}
-use Rattle.sas_task_reader.specs.declared.task_text.Written.{Written}
 use Rattle.sas_task_reader.proofs.TaskStanding.{machine_follows, reads_so_far}
 use Rattle.sas_task_format.specs.Process.{process_node}
 use Rattle.sas_task_format.specs.TaskFormat.{task_format, TaskLineFits}
@@ -17,24 +15,24 @@ use Rattle.sas_reader.proofs.Reading.{reads_all, refuses_all}
 use Rattle.sas_task_reader.proofs.task.read_task_text.Goals as goal
 
 -- what the machine keeps
-abbrev Keeps : List (List ℕ) → SoFar → Written → Type 0
-Keeps lines s kept = (kept.text.items ≡ text lines) × (kept.counts ≡ counts_within s)
+abbrev Keeps : List (List ℕ) → SoFar → List ℕ → Type 0
+Keeps lines s kept = kept ≡ text lines
 
-abbrev Ended : TaskMachine Written → Type 0
+abbrev Ended : TaskMachine (List ℕ) → Type 0
 Ended m = HasEnded m.judge
 
-abbrev Refused : TaskMachine Written → List ℕ → Kind → Type 0
+abbrev Refused : TaskMachine (List ℕ) → List ℕ → Kind → Type 0
 Refused m line kind = RejectsLine m.judge line kind
 
 pub new-start-requires : goal.new-start-requires
-new-start-requires g c = (c.args.alloc, (c.new.ensures.text, c.new.ensures.counts))
+new-start-requires g c = (c.args.alloc, c.new.ensures)
 
 -- where the machine has ended, it holds the text of what was read
 pub returns : goal.returns
 returns g c =
     reads_all task_format TaskLineFits process_node task_start task_grammar (LedBy Keeps) Ended Refused (machine_follows Keeps) g.R.Read.remaining _ _ _ _ _ c.in_ok-machine.ensures (λ b reached short.
     let reads = reads_so_far Keeps c.in_ok-machine.machine b reached c.in_ok-machine.ensures.at_end in
-    (reached.led.so_far.parts, (reads, short), c.into_text.ensures ∙ ap (λ (w : Written). w.text.items) c.into_kept.ensures ∙ reached.led.kept.0 ∙ ap text reads.lines))
+    (reached.led.so_far.parts, (reads, short), c.into_text.ensures ∙ c.into_kept.ensures ∙ reached.led.kept ∙ ap text reads.lines))
 
 pub returns-in_err-machine : goal.returns-in_err-machine
 returns-in_err-machine g c =
