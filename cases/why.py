@@ -158,7 +158,7 @@ def spoiled(chance, task, names, cost):
 def walked_again(chance):
     """Yields tasks and plans as walks.py makes them, with other names, that fail in each way."""
     task = operated_task(chance)
-    names = renamed(chance, {operator[0] for operator in task["operators"]})
+    names = renamed(chance, sorted({operator[0] for operator in task["operators"]}))
     for _ in range(PLANS):
         steps, cost, state = walk(chance, task)
         goal = [] if chance.random() < 0.4 else failing_goal(chance, task, state)
