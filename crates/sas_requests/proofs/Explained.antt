@@ -8,14 +8,15 @@ use Rattle.sas_reader.specs.declared.fault.Fault.{Fault}
 use Rattle.sas_reader.specs.declared.fault.Kind.{Kind}
 use Rattle.sas_reader.specs.declared.fault.Kind.TheVariants.{TooLong, Read, Memory}
 use Rattle.sas_reader.specs.declared.found.Found.{Found}
-use Rattle.sas_reader.specs.Devices.{Refuses, unread_at, ended_at, faulty_at, ReadsAll}
+use Rattle.sas_reader.specs.Devices.{ReadsAll}
 use Rattle.sas_reader.specs.Format.{Format, ReadsAs}
 use Rattle.sas_reader.specs.Found.{IsFoundOf, bytes_of}
 use Rattle.sas_reader.specs.Laws.{Laws}
 use Rattle.sas_reader.specs.Limit.{most_bytes}
 use Rattle.sas_reader.specs.About.{IsTold, IsAbout, TellingLaws}
 use Rattle.sas_reader.specs.Telling.{TellsAbout, RefusesTelling, ReadsAllTelling}
-use Rattle.sas_reader.proofs.Known.{known_answer, known_fault, front_read, all_read}
+use Rattle.sas_reader.proofs.Known.{known_answer, known_fault}
+use Rattle.sas_reader.proofs.KnownTelling.{plain_reads, known_told}
 use Rattle.sas_output.specs.declared.ending.ToolFault.{ToolFault}
 use Rattle.sas_output.specs.declared.ending.ToolFault.TheVariants as tool_fault
 use Rattle.sas_output.specs.Ending.{Output, IsDecided, IsWrite}
@@ -43,10 +44,10 @@ module _ {D V I S A R : Type 0} (left : D → Option (List ℕ)) (F : Format V I
   OutWhy = FileOutWhy F Tells name IsAnswer
 
   pub plain_read : (old new : Device D) (a : A) → Reads old new (Ok a) → ReadsAll left F Gives old new (Ok a)
-  plain_read old new a h = record { read = h.read; fault = tt; memory = tt; note = h.note }
+  plain_read old new a h = plain_reads left F fault found Told Gives old new (Ok a) h
 
   plain_fault : (old new : Device D) (r : R) → Reads old new (Err r) → ReadsAll left F Gives old new (Err (fault r))
-  plain_fault old new r h = record { read = tt; fault = λ ne. let x = h.refused ne in (x.0, x.1, (x.2).refuses); memory = h.memory; note = h.note }
+  plain_fault old new r h = plain_reads left F fault found Told Gives old new (Err r) h
 
   -- ---- what was read is answered
 
@@ -68,14 +69,6 @@ module _ {D V I S A R : Type 0} (left : D → Option (List ℕ)) (F : Format V I
   }
 
   -- ---- a fault is refused, or the run ends at it
-
-  -- what is told of it, too, where the bytes that are known went on
-  known_about : (known new : Option (List ℕ)) (input bytes : List ℕ) (r : R) → known ≡ Some input → Consumes known new bytes → Refuses F bytes (IsAtEnd new) (fault r) → (fault r).kind ≢ Read → TellsAbout F fault found Told bytes r → TellsAbout F fault found Told input r
-  known_about known new input bytes r e c (unread_at l n k) ne about = absurd (ne k)
-  known_about known new input bytes r e c (ended_at d h) ne about = subst (λ (b : List ℕ). TellsAbout F fault found Told b r) (all_read known new input bytes e c d) about
-  known_about known new input bytes r e c (faulty_at h k) ne (accepted, text, about, is, tells) =
-      let rest = front_read known new input bytes e c in
-      (accepted, text, subst (λ (b : List ℕ). IsAbout F most_bytes b (fault r) accepted text) rest.1 (telling.about_stays most_bytes bytes rest.0 (fault r) accepted text h about), is, tells)
 
   module _ (r : R) (reasons : List (List ℕ)) (tells : (accepted : List (List ℕ)) (text : List ℕ) → IsFoundOf text (found r) → Told accepted text r → Tells (fault r).kind accepted text reasons) where
     reasons_of : (b : List ℕ) → TellsAbout F fault found Told b r → FaultReasons F Tells b (fault r) reasons
@@ -112,9 +105,8 @@ module _ {D V I S A R : Type 0} (left : D → Option (List ℕ)) (F : Format V I
       known_out : (b : List ℕ) → left old.device ≡ Some b → (o : Output) → IsRefusedWith name (fault r) reasons o → OutWhy b (Some o)
       known_out b known o is =
           let kind = worded_kind o is in
-          let x = h.refused kind.2 in
           refused_out b o is (known_fault left F Gives old new (fault r) b (plain_fault old new r h) known kind.2 kind.0)
-          (known_about (left old.device) (left new.device) b x.0 r known x.1 (x.2).refuses kind.0 ((x.2).about kind))
+          (known_told left F fault found Told Gives old new r b telling h known kind)
 
       taken_out : (o : Output) → IsRefusedWith name (fault r) reasons o → (b : List ℕ) × Consumes (left old.device) (left new.device) b × OutWhy b (Some o)
       taken_out o is =
