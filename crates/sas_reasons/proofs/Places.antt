@@ -11,7 +11,7 @@ use Rattle.sas_core.specs.declared.parts.Operator.{Operator}
 use Rattle.sas_core.specs.Grounded.{operator_at}
 use Rattle.sas_meaning.specs.States.{Holds, AllHold}
 use Rattle.sas_meaning.specs.Steps.{preconditions}
-use Rattle.sas_run.specs.Plans.{IsNamed}
+use Rattle.sas_names.specs.Named.{IsNamed}
 use Rattle.sas_run.specs.Verdicts.{IsFirstMissed}
 use Rattle.sas_reasons.specs.Lines.{places_from, places}
 use Rattle.sas_reasons.specs.Cause.{fails}

@@ -11,8 +11,9 @@ use Rattle.sas_meaning.specs.States.{AllHold}
 use Rattle.sas_meaning.specs.Layers.{IsBasic, IsOnLayer, default_of, CanFire, IsLayered}
 use Rattle.sas_meaning.specs.Settled.{differs, IsSettled}
 use Rattle.sas_meaning.specs.Steps.{Agree}
+use Rattle.sas_names.specs.Named.{IsNamed}
 use Rattle.sas_run.specs.declared.plan_check.PlanFault.{PlanFault}
-use Rattle.sas_run.specs.Plans.{IsApplicable, IsNamed, LeadsTo}
+use Rattle.sas_run.specs.Plans.{IsApplicable, LeadsTo}
 use Rattle.sas_run.specs.Verdicts.{IsFirstMissed, IsFaultOf}
 use Rattle.sas_reasons.specs.Runs.{Run, last_state, GoesThrough}
 use Rattle.sas_reasons.specs.Since.{value_at, IsSince}

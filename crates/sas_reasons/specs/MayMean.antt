@@ -3,7 +3,8 @@
 use Rattle.std.specs.Prelude.{◌≡◌, ℕ, ◌+◌, ◌<◌, [], length, slice_index, slice_index_or}
 use Rattle.sas_core.specs.declared.parts.Parts.{Parts}
 use Rattle.sas_core.specs.Grounded.{operator_at}
-use Rattle.sas_run.specs.Plans.{IsApplicable, IsNamed}
+use Rattle.sas_names.specs.Named.{IsNamed}
+use Rattle.sas_run.specs.Plans.{IsApplicable}
 use Rattle.sas_reasons.specs.Lowest.{IsLowest}
 use Rattle.sas_reasons.specs.Runs.{Run, state_at}
 

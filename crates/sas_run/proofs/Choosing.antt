@@ -9,7 +9,8 @@ use Rattle.sas_core.specs.Grounded.{operator_at}
 use Rattle.sas_meaning.specs.States.{Holds, AllHold}
 use Rattle.sas_meaning.specs.Steps.{preconditions}
 use Rattle.sas_meaning.proofs.Facts.{hold_or_not}
-use Rattle.sas_run.specs.Plans.{IsApplicable, IsNamed, NoneApplicable, IsChosen}
+use Rattle.sas_names.specs.Named.{IsNamed}
+use Rattle.sas_run.specs.Plans.{IsApplicable, NoneApplicable, IsChosen}
 use Rattle.sas_run.specs.Verdicts.{IsFirstMissed}
 
 -- whether an operator has the name

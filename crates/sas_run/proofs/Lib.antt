@@ -2,10 +2,6 @@ pub mod Determined
 pub mod Choosing
 pub mod NextStates
 pub mod PlanVerdicts
-pub mod NameHashing
-pub mod NameKeys
-pub mod NamesFrom
-pub mod Alike
 pub mod Ranges
 pub mod Missed
 pub mod Giving
@@ -14,7 +10,4 @@ pub mod PlainSteps
 pub mod NamedAlike
 pub mod Going
 pub mod PlanStates
-pub mod StepNumbers
-pub mod ChainsFrom
-pub mod FoundSteps
 pub mod UnderWay

@@ -1,12 +1,14 @@
 -- The operators of one name, in order.
-use Rattle.std.proofs.Common.{◌≡◌, ℕ, ◌+◌, ◌-◌, ◌<◌, ◌≤◌, List, length, get_or, Option, None, Some, sym, subst, refl, ◌∙◌, inl, inr, arith}
+use Rattle.std.proofs.Common.{◌≡◌, ℕ, ◌+◌, ◌<◌, ◌≤◌, List, length, get_or, Option, None, Some, sym, subst, refl, ◌∙◌, inl, inr, arith}
 use Rattle.std.proofs.lemmas.Bool.{cases_eq, cases_lt}
 use Rattle.sas_core.specs.declared.parts.Parts.{Parts}
 use Rattle.sas_core.specs.Grounded.{operator_at}
+use Rattle.sas_names.proofs.Searching.{left}
+use Rattle.sas_names.specs.Chains.{IsChain}
+use Rattle.sas_names.specs.Named.{IsNamed}
+use Rattle.sas_names.specs.Names.{IsNextNamed}
 use Rattle.sas_run.specs.declared.runner.Choice.TheVariants.{Blocked, Found}
-use Rattle.sas_run.specs.Plans.{IsApplicable, IsNamed}
-use Rattle.sas_run.specs.Chains.{IsChain}
-use Rattle.sas_run.specs.Names.{IsNextNamed}
+use Rattle.sas_run.specs.Plans.{IsApplicable}
 use Rattle.sas_run.specs.Running.{IsFirstChosen, IsChoice}
 
 -- of the operators of the first one's name, those before this place aren't applicable
@@ -17,11 +19,6 @@ NoneBefore p s first place = (lower : ℕ) → first ≤ lower → lower < place
 abbrev pub SearchedTo : Parts → List ℕ → ℕ → Option ℕ → Type 0
 SearchedTo p s first (Some operator) = (first ≤ operator) × IsNamed p (operator_at p first).name operator × NoneBefore p s first operator
 SearchedTo p s first None = IsFirstChosen p s first None
-
--- what is left to be searched
-abbrev pub left : Parts → Option ℕ → ℕ
-left p (Some operator) = length p.operators - operator
-left p None = 0
 
 pub search_starts : (p : Parts) (s : List ℕ) (first : ℕ) → first < length p.operators → SearchedTo p s first (Some first)
 search_starts p s first lt = (omega arith, record { exists = lt; named = refl }, λ lower ge below. absurd (omega arith))

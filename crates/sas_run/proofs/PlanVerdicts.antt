@@ -11,10 +11,11 @@ use Rattle.sas_meaning.specs.Layers.{IsLayered}
 use Rattle.sas_meaning.specs.Steps.{Agree}
 use Rattle.sas_meaning.specs.Reachable.{IsInitial}
 use Rattle.sas_meaning.proofs.Exists.{initial_exists}
+use Rattle.sas_names.specs.Named.{IsNamed}
 use Rattle.sas_run.specs.declared.plan_check.PlanFault.{PlanFault}
 use Rattle.sas_run.specs.declared.plan_check.PlanFault.TheVariants.{Memory, NoOperator, NotApplicable, Conflict, GoalMissed, CostDiffers}
 use Rattle.sas_run.specs.Laws.{SomeVerdict, ValidHasNoFault, ValidIsOne, FaultIsOne}
-use Rattle.sas_run.specs.Plans.{IsNamed, NoneApplicable, IsChosen, GoThrough, LeadsTo, cost_of_all, IsValid}
+use Rattle.sas_run.specs.Plans.{NoneApplicable, IsChosen, GoThrough, LeadsTo, cost_of_all, IsValid}
 use Rattle.sas_run.specs.Verdicts.{ComesTo, IsFirstMissed, IsFaultOf}
 use Rattle.sas_run.proofs.Choosing.{named_or_none, chosen_or_none, hold_or_missed, first_missed_is_one, none_missed}
 use Rattle.sas_run.proofs.Determined.{chosen_is_one, GoesOn, leads_one_way, comes_on, comes_past, comes_one_way}

@@ -4,12 +4,13 @@ use Rattle.std.proofs.lemmas.Bool.{cases_lt}
 use Rattle.sas_core.specs.declared.parts.Parts.{Parts}
 use Rattle.sas_core.specs.Grounded.{operator_at}
 use Rattle.sas_core.specs.PlanParts.{PlanParts}
+use Rattle.sas_names.specs.Chains.{IsChain}
+use Rattle.sas_names.specs.Named.{IsNamed}
+use Rattle.sas_names.specs.Names.{IsNextNamed}
 use Rattle.sas_run.specs.declared.plan_check.PlanFault.{PlanFault}
 use Rattle.sas_run.specs.declared.walk.Walk.{Walk}
 use Rattle.sas_run.specs.declared.walker.Walker.{Walker}
-use Rattle.sas_run.specs.Plans.{IsNamed, IsChosen}
-use Rattle.sas_run.specs.Chains.{IsChain}
-use Rattle.sas_run.specs.Names.{IsNextNamed}
+use Rattle.sas_run.specs.Plans.{IsChosen}
 use Rattle.sas_run.specs.Courses.{UnderWay, IsUnderWay, next_name, Continues}
 use Rattle.sas_run.specs.Running.{Makes, StopsAt}
 use Rattle.sas_run.specs.Walking.{TellsAsBefore}

@@ -9,11 +9,11 @@ use Rattle.sas_core.specs.Variables.{IsState}
 use Rattle.sas_meaning.specs.declared.touched.Touched.{Touched}
 use Rattle.sas_meaning.specs.Reachable.{IsInitial}
 use Rattle.sas_meaning.specs.Steps.{Step}
+use Rattle.sas_names.specs.Chains.{HaveChains}
+use Rattle.sas_names.specs.Names.{AreFirsts}
 use Rattle.sas_run.specs.declared.plan_check.PlanFault.{PlanFault}
 use Rattle.sas_run.specs.declared.walk.Walk.{Walk}
 use Rattle.sas_run.specs.declared.walker.Walker.{Walker}
-use Rattle.sas_run.specs.Chains.{HaveChains}
-use Rattle.sas_run.specs.Names.{AreFirsts}
 use Rattle.sas_run.specs.Running.{StopsAt}
 use Rattle.sas_run.specs.Walking.{IsPrepared, TellsStep}
 

@@ -1,5 +1,5 @@
 -- What a plan of a task does, and which plans are valid.
-use Rattle.std.specs.Prelude.{◌≡◌, ℕ, ◌<◌, List, [], ◌∷◌, length, slice_index, sum_by}
+use Rattle.std.specs.Prelude.{◌≡◌, ℕ, ◌<◌, List, [], ◌∷◌, slice_index, sum_by}
 use Rattle.sas_core.specs.declared.parts.Operator.{Operator}
 use Rattle.sas_core.specs.declared.parts.Parts.{Parts}
 use Rattle.sas_core.specs.Grounded.{operator_at}
@@ -8,15 +8,11 @@ use Rattle.sas_core.specs.Tasks.{cost_of}
 use Rattle.sas_meaning.specs.States.{AllHold}
 use Rattle.sas_meaning.specs.Steps.{preconditions, Step}
 use Rattle.sas_meaning.specs.Reachable.{IsInitial}
+use Rattle.sas_names.specs.Named.{IsNamed}
 
 -- an operator is applicable in a state if its preconditions hold there
 abbrev pub IsApplicable : List ℕ → Operator → Type 0
 IsApplicable s o = AllHold (slice_index s) (preconditions o)
-
--- there is an operator of this place and of exactly this name
-pub record IsNamed (p : Parts) (name : List ℕ) (operator : ℕ) : Type 0 where
-  pub exists : operator < length p.operators
-  pub named : (operator_at p operator).name ≡ name
 
 -- no operator of this name is applicable in the state
 abbrev pub NoneApplicable : Parts → List ℕ → List ℕ → Type 0

@@ -9,13 +9,14 @@ use Rattle.sas_core.specs.Grounded.{operator_at, effect_at}
 use Rattle.sas_core.specs.Variables.{IsState}
 use Rattle.sas_meaning.specs.States.{AllHold}
 use Rattle.sas_meaning.specs.Steps.{preconditions, Fires, Agree, Step}
+use Rattle.sas_names.specs.Named.{IsNamed}
 use Rattle.sas_run.specs.declared.plan_check.PlanFault.{PlanFault}
 use Rattle.sas_run.specs.declared.plan_check.PlanFault.TheVariants as plan_fault
 use Rattle.sas_run.specs.declared.runner.Choice.{Choice}
 use Rattle.sas_run.specs.declared.runner.Choice.TheVariants.{Unknown, Blocked, Found}
 use Rattle.sas_run.specs.declared.steps.StepFault.{StepFault}
 use Rattle.sas_run.specs.declared.steps.StepFault.TheVariants as step_fault
-use Rattle.sas_run.specs.Plans.{IsApplicable, IsNamed, NoneApplicable, IsChosen, GoThrough, cost_of_all}
+use Rattle.sas_run.specs.Plans.{IsApplicable, NoneApplicable, IsChosen, GoThrough, cost_of_all}
 use Rattle.sas_run.specs.Verdicts.{IsFirstMissed}
 
 -- which operator a name means in a state: no operator has the name, none that has it is applicable,

@@ -8,11 +8,11 @@ ghost use Rattle.sas_run.specs.Courses.{SetsOut, Continues, next_name};
 
 use crate::plan_check::{PlanFault, judge};
 use crate::runner::later_applicable;
-use crate::step_operators::StepOperators;
 use crate::walk::{NextStep, Walk, choose, judge_last, make};
 use crate::walker::{Walker, go_back, walker_telling};
 use sas_core::{Fact, Grounded, Stepwise};
 use sas_meaning::{Layered, Settle, State, Touched};
+use sas_names::StepOperators;
 use std::alloc::{AllocError, Global};
 use std::marker::Model;
 

@@ -3,12 +3,11 @@ ghost use Rattle.std.specs.Prelude.{◌≡◌, ◌≢◌, IfOk, IfErr};
 ghost use Rattle.sas_run.specs.Plans.{IsValid};
 ghost use Rattle.sas_run.specs.Verdicts.{IsFaultOf};
 
-use crate::names::{NamedTask, Names};
 use crate::plan_check::{PlanFault, Valid, check_found, check_named};
-use crate::step_operators::{StepOperators, is_long};
 use crate::walker::{Walker, walker_for};
 use sas_core::{Grounded, Stepwise, Task};
 use sas_meaning::{Layered, Settle};
+use sas_names::{NamedTask, Names, StepOperators, is_long};
 use std::alloc::{AllocError, Global};
 use std::marker::Model;
 
@@ -24,7 +23,7 @@ pub struct Held<E: Settle<T> + Drop, T: Grounded + Drop = Task> {
 
 impl<E: Settle<T> + Drop, T: Grounded + Drop> Model for Held<E, T> {
     ghost use Rattle.sas_core.specs.declared.parts.Parts.{Parts};
-    ghost use Rattle.sas_run.specs.NameTable.{AreNames};
+    ghost use Rattle.sas_names.specs.NameTable.{AreNames};
     ghost use Rattle.sas_run.specs.Walking.{IsPrepared};
 
     ghost Value = { Parts };

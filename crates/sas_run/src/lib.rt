@@ -1,21 +1,13 @@
 //! Steps and plans: what a plan of a task does, and whether it is valid.
 #![tactic(auto)]
 
-mod chains;
 mod course;
-mod digest;
 mod held;
 mod holding;
 mod laws;
-mod looking_up;
-mod name_key;
-mod name_map;
-mod names;
 mod plain_steps;
 mod plan_check;
 mod runner;
-mod step_names;
-mod step_operators;
 mod steps;
 mod walk;
 mod walker;

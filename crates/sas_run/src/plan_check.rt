@@ -4,21 +4,19 @@ ghost use Rattle.std.specs.Prelude.{IfOk, IfErr, OnOk, slice_index_or, vec_capac
 ghost use Rattle.sas_core.specs.Grounded.{operator_at};
 ghost use Rattle.sas_core.specs.Variables.{IsState};
 ghost use Rattle.sas_meaning.specs.Reachable.{IsInitial};
+ghost use Rattle.sas_names.specs.Chains.{IsChain, HaveChains};
+ghost use Rattle.sas_names.specs.Names.{AreFirsts, HaveFirsts, IsFirst, IsNextNamed};
 ghost use Rattle.sas_run.specs.Plans.{IsValid};
-ghost use Rattle.sas_run.specs.Chains.{IsChain, HaveChains};
-ghost use Rattle.sas_run.specs.Names.{AreFirsts, HaveFirsts, IsFirst, IsNextNamed};
 ghost use Rattle.sas_run.specs.Verdicts.{IsFaultOf};
 ghost use Rattle.sas_run.specs.Running.{GoesOn, StopsAt, GoesThrough};
 ghost use Rattle.sas_run.specs.Walking.{IsPrepared};
 
-use crate::looking_up::first_operators;
-use crate::names::NamedTask;
 use crate::runner::Runner;
-use crate::step_operators::StepOperators;
 use crate::walk::{NextStep, Walk, choose, judge_last, make};
 use crate::walker::{Walker, walker_for};
 use sas_core::{Grounded, Stepwise};
 use sas_meaning::{Layered, Settle, State};
+use sas_names::{Found, NamedTask, StepOperators, first_operators};
 use std::alloc::{AllocError, Global};
 
 /// A valid plan: the operators that its steps mean, and its cost.
@@ -55,15 +53,6 @@ impl From<AllocError> for PlanFault {
     }
 }
 
-/// What the names of a plan's steps mean.
-#[derive(Clone, Copy)]
-pub struct Found<'f> {
-    /// The lowest operators of the steps.
-    pub firsts: &'f [u32],
-    /// For each operator of the name of one of these, the next one of its name.
-    pub nexts: &'f [Option<u32>],
-}
-
 impl<'a, E: Settle<T> + Drop, T: Grounded> Runner<'a, E, T> {
     /// Checks whether the plan is valid, and returns its operators and its cost, or its fault. A step means the
     /// lowest-numbered operator of its name that is applicable. All memory is asked for before the first step.
@@ -85,7 +74,7 @@ impl<'a, E: Settle<T> + Drop, T: Grounded> Runner<'a, E, T> {
 /// Checks whether the plan is valid, by the names of the task's operators.
 pub fn check_named<E: Settle<T> + Drop, T: Grounded, P: Stepwise>(
     alloc: Global,
-    named: &NamedTask<'_, T>,
+    named: &NamedTask<'_, Layered<T>>,
     walker: &mut Walker<E>,
     plan: &P,
 ) -> Result<Valid, PlanFault>

@@ -1,21 +1,20 @@
 // Runners, which make the steps of plans.
 ghost use Rattle.std.specs.Prelude.{◌≡◌, ◌<◌, ◌↔◌, length, IfOk, IfErr, IfSome, None, IfNone, IsTrue};
-ghost use Rattle.std.specs.Prelude.{slice_index, slice_index_or};
 ghost use Rattle.sas_core.specs.Grounded.{operator_at};
 ghost use Rattle.sas_core.specs.Variables.{IsState};
 ghost use Rattle.sas_meaning.specs.Reachable.{IsInitial};
-ghost use Rattle.sas_run.specs.Chains.{IsChain};
-ghost use Rattle.sas_run.specs.Names.{IsNextNamed};
-ghost use Rattle.sas_run.specs.Plans.{IsApplicable, IsNamed};
+ghost use Rattle.sas_names.specs.Chains.{IsChain};
+ghost use Rattle.sas_names.specs.Names.{IsNextNamed};
+ghost use Rattle.sas_run.specs.Plans.{IsApplicable};
 ghost use Rattle.sas_run.specs.Running.{IsChoice, IsFirstChosen, IsLaterIfAny, IsGoalAnswer, Steps};
 
 use crate::holding::first_missed;
-use crate::names::Names;
 use crate::plain_steps::old_values_hold;
 use crate::steps::{StepFault, missed_precondition};
 use crate::walker::{Walker, initial_of, step_on, walker_for};
 use sas_core::{Grounded, Task};
 use sas_meaning::{Layered, Settle, State};
+use sas_names::{Names, next_in};
 use std::alloc::{AllocError, Global};
 use std::marker::Model;
 
@@ -41,7 +40,7 @@ pub struct Runner<'a, E: Settle<T> + Drop, T: Grounded = Task> {
 
 impl<'a, E: Settle<T> + Drop, T: Grounded> Model for Runner<'a, E, T> {
     ghost use Rattle.sas_core.specs.declared.parts.Parts.{Parts};
-    ghost use Rattle.sas_run.specs.NameTable.{AreNames};
+    ghost use Rattle.sas_names.specs.NameTable.{AreNames};
     ghost use Rattle.sas_run.specs.Walking.{IsPrepared};
 
     ghost Value = { Parts };
@@ -213,16 +212,6 @@ pub fn later_applicable<T: Grounded>(
 {
     match next_in(nexts, operator) {
         Some(next) => first_applicable(task, nexts, state, next),
-        None => None,
-    }
-}
-
-/// Returns what the list has for the operator.
-pub fn next_in(nexts: &[Option<u32>], operator: u32) -> Option<u32>
-    ensures { result ≡ slice_index_or nexts.now operator None }
-{
-    match nexts.get(operator as usize) {
-        Some(next) => *next,
         None => None,
     }
 }

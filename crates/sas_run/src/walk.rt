@@ -3,8 +3,8 @@ ghost use Rattle.std.specs.Prelude.{◌≡◌, ◌<◌, ◌≤◌, ℕ, [], leng
 ghost use Rattle.sas_core.specs.Grounded.{operator_at};
 ghost use Rattle.sas_core.specs.Variables.{IsState};
 ghost use Rattle.sas_meaning.specs.Reachable.{IsInitial};
-ghost use Rattle.sas_run.specs.Chains.{IsChain};
-ghost use Rattle.sas_run.specs.Names.{IsFirst};
+ghost use Rattle.sas_names.specs.Chains.{IsChain};
+ghost use Rattle.sas_names.specs.Names.{IsFirst};
 ghost use Rattle.sas_run.specs.Plans.{IsApplicable, IsChosen, cost_of_all};
 ghost use Rattle.sas_run.specs.Running.{Makes, StopsAt, IsJudged};
 ghost use Rattle.sas_run.specs.Walking.{IsPrepared, TellsStep, TellsAsBefore};

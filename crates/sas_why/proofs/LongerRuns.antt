@@ -7,7 +7,8 @@ use Rattle.std.proofs.Math.Seq.{get_or-append_seam}
 use Rattle.sas_core.specs.declared.parts.Parts.{Parts}
 use Rattle.sas_core.specs.Grounded.{operator_at}
 use Rattle.sas_meaning.specs.Reachable.{IsInitial}
-use Rattle.sas_run.specs.Plans.{LeadsTo, IsNamed, IsApplicable}
+use Rattle.sas_names.specs.Named.{IsNamed}
+use Rattle.sas_run.specs.Plans.{LeadsTo, IsApplicable}
 use Rattle.sas_run.specs.Running.{GoesOn, IsLater}
 use Rattle.sas_run.proofs.Going.{goes_one_more}
 use Rattle.sas_reasons.specs.Runs.{Run, state_at, last_state, GoesThrough}

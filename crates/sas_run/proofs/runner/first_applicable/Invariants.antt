@@ -1,5 +1,6 @@
 -- How far the search has come.
-use Rattle.sas_run.proofs.NamedAlike.{SearchedTo, left}
+use Rattle.sas_names.proofs.Searching.{left}
+use Rattle.sas_run.proofs.NamedAlike.{SearchedTo}
 use Rattle.sas_run.proofs.runner.first_applicable.Given as goal
 
 abbrev pub invariant-loop-next : goal.invariant-loop-next

@@ -2,9 +2,9 @@
 use Rattle.std.proofs.Common.{◌≡◌, ◌<◌, ◌+◌, ◌∙◌, ℕ, length, get_or, subst, ap, rules}
 use Rattle.std.specs.Prelude.{IfErr}
 use Rattle.sas_core.specs.Grounded.{operator_at}
+use Rattle.sas_names.specs.Named.{IsNamed}
 use Rattle.sas_run.specs.Running.{StopsAt}
 use Rattle.sas_run.specs.Courses.{next_name}
-use Rattle.sas_run.specs.Plans.{IsNamed}
 use Rattle.sas_run.proofs.UnderWay.{course_of, name_is, nobody}
 use Rattle.sas_run.proofs.course.Course.choose.Goals as goal
 

@@ -1,0 +1,79 @@
+-- A table of names that is built from the last operator to the first.
+use Rattle.std.proofs.Common.{◌≡◌, ℕ, ◌+◌, ◌<◌, ◌≤◌, ◌≢◌, Bool, true, false, List, length, nat_eq, get_or, slice_set, Option, None, Some, refl, sym, subst, ◌∙◌, inl, inr, if◌then◌else◌, true≢false, arith}
+use Rattle.std.specs.Cmp.Lexicographic.{pointwise, bytes_decides}
+use Rattle.std.proofs.Math.Nat.{eq-or-lt_of_le}
+use Rattle.std.proofs.lemmas.List.{get_or-set_same, get_or-set_other, length-set}
+use Rattle.sas_core.specs.declared.parts.Parts.{Parts}
+use Rattle.sas_core.specs.Grounded.{operator_at}
+use Rattle.sas_names.specs.Named.{IsNamed}
+use Rattle.sas_names.specs.Names.{IsNextNamed}
+use Rattle.sas_names.specs.NameTable.{AreMappedFrom}
+
+-- behind the last operator nothing is told
+pub AreMappedFrom-end : (p : Parts) (from : ℕ) (tells : List ℕ → Option ℕ) (table : List (Option ℕ)) → from ≡ length p.operators
+    → length table ≡ length p.operators → ((name : List ℕ) → tells name ≡ None) → AreMappedFrom p from tells table
+AreMappedFrom-end p from tells table all one_each none = record {
+  one_each = one_each;
+  lowest = λ name. subst (IsNextNamed p name from) (sym (none name)) (λ operator from_on named.
+      let exists = named.exists in absurd (omega (arith, all)));
+  next = λ operator from_on within. absurd (omega (arith, all));
+}
+
+-- an operator that doesn't have the name is passed over
+pub IsNextNamed-pass : (p : Parts) (name : List ℕ) (operator : ℕ) → (IsNamed p name operator → ⊥) → (r : Option ℕ)
+    → IsNextNamed p name (operator + 1) r → IsNextNamed p name operator r
+IsNextNamed-pass p name operator other None none = λ lower from_on named.
+    elim (eq-or-lt_of_le from_on) [
+      | inl same ↦ other (subst (IsNamed p name) (sym same) named)
+      | inr above ↦ none lower (omega arith) named
+    ]
+IsNextNamed-pass p name operator other (Some found) lowest = record {
+  from_on = let above = lowest.from_on in omega arith;
+  of_name = lowest.of_name;
+  first = λ lower from_on before named.
+      elim (eq-or-lt_of_le from_on) [
+        | inl same ↦ other (subst (IsNamed p name) (sym same) named)
+        | inr above ↦ lowest.first lower (omega arith) before named
+      ];
+}
+
+module _ (p : Parts) (operator : ℕ) (tells after : List ℕ → Option ℕ) (table : List (Option ℕ)) (had : Option ℕ)
+    (within : operator < length p.operators)
+    (are : AreMappedFrom p (operator + 1) tells table)
+    (is_had : had ≡ tells (operator_at p operator).name)
+    (puts : (name : List ℕ) → after name ≡ (if pointwise nat_eq (operator_at p operator).name name then Some operator else tells name)) where
+  lowest_of : (name : List ℕ) → IsNextNamed p name operator (after name)
+  lowest_of name = subst (IsNextNamed p name operator) (sym (puts name)) (by (pointwise nat_eq (operator_at p operator).name name) refl)
+    where
+      by : (b : Bool) → pointwise nat_eq (operator_at p operator).name name ≡ b
+          → IsNextNamed p name operator (if b then Some operator else tells name)
+      by true is = record {
+        from_on = omega arith;
+        of_name = record { exists = within; named = (bytes_decides (operator_at p operator).name name).0 is };
+        first = λ lower from_on before named. absurd (omega arith);
+      }
+      by false differs =
+          IsNextNamed-pass p name operator
+          (λ named. true≢false (sym ((bytes_decides (operator_at p operator).name name).1 named.named) ∙ differs))
+          (tells name) (are.lowest name)
+
+  next_of : (k : ℕ) → operator ≤ k → k < length p.operators
+      → IsNextNamed p (operator_at p k).name (k + 1) (get_or (slice_set table operator had) k None)
+  next_of k from_on exists = elim (eq-or-lt_of_le from_on) [
+    | inl same ↦ subst (λ j. IsNextNamed p (operator_at p j).name (j + 1) (get_or (slice_set table operator had) j None)) same
+        (subst (IsNextNamed p (operator_at p operator).name (operator + 1))
+        (sym (get_or-set_same table operator had None (omega (arith, are.one_each)) ∙ is_had))
+        (are.lowest (operator_at p operator).name))
+    | inr above ↦
+        let apart : k ≢ operator = omega arith in
+        subst (IsNextNamed p (operator_at p k).name (k + 1)) (sym (get_or-set_other table operator k had None apart))
+        (are.next k (omega arith) exists)
+  ]
+
+  -- one operator more
+  pub AreMappedFrom-step : AreMappedFrom p operator after (slice_set table operator had)
+  AreMappedFrom-step = record {
+    one_each = length-set table operator had ∙ are.one_each;
+    lowest = lowest_of;
+    next = next_of;
+  }

@@ -1,0 +1,11 @@
+-- The numbers so far have their operators.
+use Rattle.std.proofs.Common.{◌≡◌, ℕ, ◌<◌, ◌≤◌, length, get_or, None, Some}
+use Rattle.std.specs.Prelude.{vec_capacity}
+use Rattle.sas_names.proofs.chains.Chains.firsts.Given as goal
+
+abbrev pub invariant-loop-number : goal.invariant-loop-number
+invariant-loop-number l = record {
+  one_each : length l.firsts.items ≡ l.number-index;
+  each : (i : ℕ) → i < length l.firsts.items → get_or l.self.first.items (get_or l.numbers i 0) None ≡ Some (get_or l.firsts.items i 0);
+  room : length l.numbers ≤ vec_capacity l.firsts;
+}

@@ -1,0 +1,38 @@
+-- The operators of some names, each with the next one of its name.
+use Rattle.std.specs.Prelude.{◌≡◌, ℕ, ◌+◌, ◌<◌, ◌≤◌, List, length, Option, None, Some, slice_index, slice_index_or}
+use Rattle.indexmap.specs.IndexMap.{index_map_len}
+use Rattle.sas_core.specs.declared.parts.Parts.{Parts}
+use Rattle.sas_core.specs.Grounded.{operator_at}
+use Rattle.sas_names.specs.declared.chains.Chains.{Chains}
+use Rattle.sas_names.specs.declared.step_names.StepNames.{StepNames}
+use Rattle.sas_names.specs.Names.{IsNextNamed}
+use Rattle.sas_names.specs.Named.{IsNamed}
+use Rattle.sas_names.specs.StepNames.{number_in}
+
+-- the list has, for each operator of the first one's name, the next one of this name
+abbrev pub IsChain : Parts → ℕ → List (Option ℕ) → Type 0
+IsChain p first nexts = (operator : ℕ) → IsNamed p (operator_at p first).name operator
+    → IsNextNamed p (operator_at p first).name (operator + 1) (slice_index_or nexts operator None)
+
+-- so it is for each of these operators
+abbrev pub HaveChains : Parts → List ℕ → List (Option ℕ) → Type 0
+HaveChains p firsts nexts = (step : ℕ) → step < length firsts
+    → IsChain p (slice_index firsts step) nexts
+
+-- for each of the names the lowest operator, and for each operator of one of them the next one
+pub record AreChains (p : Parts) (names : StepNames) (chains : Chains) : Type 0 where
+  pub one_each : length chains.first.items ≡ index_map_len names.numbers
+  pub first : (name : List ℕ) (k : ℕ) → number_in names.numbers name ≡ Some k
+      → IsNextNamed p name 0 (slice_index_or chains.first.items k None)
+  pub next : (operator k : ℕ) → operator < length p.operators
+      → number_in names.numbers (operator_at p operator).name ≡ Some k
+      → IsNextNamed p (operator_at p operator).name (operator + 1)
+      (slice_index_or chains.next.items operator None)
+
+-- what a list has for each of these numbers, up to the first one for which it has nothing
+pub record AreFound (first : List (Option ℕ)) (numbers found : List ℕ) : Type 0 where
+  pub within : length found ≤ length numbers
+  pub each : (i : ℕ) → i < length found
+      → slice_index_or first (slice_index numbers i) None ≡ Some (slice_index found i)
+  pub behind : length found < length numbers
+      → slice_index_or first (slice_index numbers (length found)) None ≡ None

@@ -1,0 +1,74 @@
+// The operators that the steps of a plan may mean.
+ghost use Rattle.std.specs.Prelude.{◌≡◌, ◌<◌, length, All, IfOk, None, slice_index_or};
+ghost use Rattle.sas_names.specs.Chains.{AreChains, AreFound};
+ghost use Rattle.sas_names.specs.StepNames.{AreNumbers};
+
+use crate::step_names::StepNames;
+use sas_core::Grounded;
+use std::alloc::{AllocError, Global};
+
+/// For each of some names the lowest operator, and for each operator of one of these names the next one of the same name.
+#[derive(Drop)]
+pub struct Chains {
+    first: Vec<Option<u32>>,
+    next: Vec<Option<u32>>,
+}
+
+impl Chains {
+    /// Returns the operators of these names. It goes from the last operator to the first, so that the lowest operator of each
+    /// name is noted last.
+    pub fn new<T: Grounded>(
+        alloc: Global,
+        task: &T,
+        names: &StepNames<'_>,
+    ) -> Result<Chains, AllocError>
+        requires { AreNumbers names.now.numbers }
+        ensures { IfOk result (λ chains. AreChains (T.says task.now) names.now chains) }
+    {
+        let operators = task.operators();
+        let mut first = vec![in alloc; None; names.count()]?;
+        let mut next = vec![in alloc; None; operators as usize]?;
+        let mut operator = operators;
+        while operator > 0 {
+            operator -= 1;
+            if let Some(number) = names.number(task.name(operator)) {
+                next[operator as usize] = first[number];
+                first[number] = Some(operator);
+            }
+        }
+        Ok(Chains { first, next })
+    }
+
+    /// Returns the lowest operators of the names of these numbers, up to the first name that no operator has.
+    pub fn firsts(&self, alloc: Global, numbers: &[usize]) -> Result<Vec<u32>, AllocError>
+        requires { All (λ number. number < length self.now.first.items) numbers.now }
+        ensures { IfOk result (λ firsts. AreFound self.now.first.items numbers.now firsts.items) }
+    {
+        let mut firsts = Vec::with_capacity(alloc, numbers.len())?;
+        for number in numbers {
+            match self.first[*number] {
+                Some(first) => firsts.push(first).unwrap(),
+                None => return Ok(firsts),
+            }
+        }
+        Ok(firsts)
+    }
+
+    /// Returns for each operator of one of the names the next one of the same name, and lets all else go.
+    pub fn into_next(self) -> Vec<Option<u32>>
+        ensures { result ≡ self.next }
+    {
+        let Chains { next, .. } = self;
+        next
+    }
+}
+
+/// Returns what the list has for the operator.
+pub fn next_in(nexts: &[Option<u32>], operator: u32) -> Option<u32>
+    ensures { result ≡ slice_index_or nexts.now operator None }
+{
+    match nexts.get(operator as usize) {
+        Some(next) => *next,
+        None => None,
+    }
+}

@@ -1,0 +1,16 @@
+//! How operators are found by their names: those of a task, and those that the steps of a plan may mean.
+#![tactic(auto)]
+
+mod chains;
+mod digest;
+mod looking_up;
+mod name_key;
+mod name_map;
+mod names;
+mod step_names;
+mod step_operators;
+
+pub use chains::next_in;
+pub use looking_up::{FirstNamed, first_operators};
+pub use names::{NamedTask, Names};
+pub use step_operators::{Found, StepOperators, is_long};

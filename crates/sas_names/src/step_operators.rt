@@ -1,0 +1,115 @@
+// The operators that the steps of one plan may mean.
+ghost use Rattle.std.specs.Prelude.{◌≡◌, IfOk};
+ghost use Rattle.sas_names.specs.Chains.{HaveChains};
+ghost use Rattle.sas_names.specs.Names.{AreFirsts};
+
+use crate::chains::Chains;
+use crate::looking_up::first_operators;
+use crate::name_map::NameMap;
+use crate::step_names::StepNames;
+use sas_core::{Grounded, Stepwise};
+use std::alloc::{AllocError, Global};
+
+/// The operators that the steps of one plan may mean.
+#[derive(Drop)]
+pub struct StepOperators {
+    /// The lowest operators of the steps' names, up to the first name that no operator has.
+    pub firsts: Vec<u32>,
+    /// For each operator of the name of one of these, the next one of its name.
+    pub next: Vec<Option<u32>>,
+}
+
+/// What the names of a plan's steps mean.
+#[derive(Clone, Copy)]
+pub struct Found<'f> {
+    /// The lowest operators of the steps.
+    pub firsts: &'f [u32],
+    /// For each operator of the name of one of these, the next one of its name.
+    pub nexts: &'f [Option<u32>],
+}
+
+impl StepOperators {
+    /// Returns the operators that the steps of the plan may mean. For a plan of half as many steps as there are operators or more, a
+    /// map of all operators' names is faster than one of the steps' names.
+    pub fn new<T: Grounded, P: Stepwise>(
+        alloc: Global,
+        task: &T,
+        plan: &P,
+    ) -> Result<StepOperators, AllocError>
+        ensures firsts { IfOk result (λ o. AreFirsts (T.says task.now) (P.says plan.now).steps o.firsts.items) }
+        ensures chains { IfOk result (λ o. HaveChains (T.says task.now) o.firsts.items o.next.items) }
+    {
+        if is_long(task, plan) {
+            StepOperators::by_operator_names(alloc, task, plan)
+        } else {
+            StepOperators::by_step_names(alloc, task, plan)
+        }
+    }
+
+    /// Looks up the operators' names among those of the plan's steps.
+    fn by_step_names<T: Grounded, P: Stepwise>(
+        alloc: Global,
+        task: &T,
+        plan: &P,
+    ) -> Result<StepOperators, AllocError>
+        ensures firsts { IfOk result (λ o. AreFirsts (T.says task.now) (P.says plan.now).steps o.firsts.items) }
+        ensures chains { IfOk result (λ o. HaveChains (T.says task.now) o.firsts.items o.next.items) }
+    {
+        let names = StepNames::new(alloc, plan)?;
+        let chains = Chains::new(alloc, task, &names)?;
+        let firsts = chains.firsts(alloc, names.of_steps())?;
+        Ok(StepOperators {
+            firsts,
+            next: chains.into_next(),
+        })
+    }
+
+    /// Looks up the names of the plan's steps among those of the operators.
+    pub fn by_operator_names<T: Grounded, P: Stepwise>(
+        alloc: Global,
+        task: &T,
+        plan: &P,
+    ) -> Result<StepOperators, AllocError>
+        ensures firsts { IfOk result (λ o. AreFirsts (T.says task.now) (P.says plan.now).steps o.firsts.items) }
+        ensures chains { IfOk result (λ o. HaveChains (T.says task.now) o.firsts.items o.next.items) }
+    {
+        let map = NameMap::new(alloc, task)?;
+        let firsts = first_operators(alloc, &map, plan)?;
+        Ok(StepOperators {
+            firsts,
+            next: map.into_next(),
+        })
+    }
+
+    /// Returns the lowest operators of the steps' names, up to the first name that no operator has. It takes no
+    /// memory.
+    pub fn firsts(&self) -> &[u32]
+        ensures { result.now ≡ self.now.firsts.items }
+    {
+        self.firsts.as_slice()
+    }
+
+    /// Returns what the names of the steps mean. It takes no memory.
+    pub fn found(&self) -> Found<'_>
+        ensures firsts { result.firsts.now ≡ self.now.firsts.items }
+        ensures nexts { result.nexts.now ≡ self.now.next.items }
+    {
+        Found {
+            firsts: self.firsts.as_slice(),
+            nexts: self.next.as_slice(),
+        }
+    }
+
+    /// Returns for each operator of the name of one of these the next one of its name. It takes no memory.
+    pub fn nexts(&self) -> &[Option<u32>]
+        ensures { result.now ≡ self.now.next.items }
+    {
+        self.next.as_slice()
+    }
+}
+
+/// Returns whether the plan has half as many steps as the task has operators, or more. Then a map of all operators' names takes no
+/// longer than the steps do.
+pub fn is_long<T: Grounded, P: Stepwise>(task: &T, plan: &P) -> bool {
+    plan.steps() >= task.operators() as usize / 2
+}
