@@ -4,3 +4,5 @@ pub mod Entering
 pub mod InOrder
 pub mod RunLengths
 pub mod ByVariable
+pub mod Existing
+pub mod NotesOfFacts

@@ -3,3 +3,6 @@ pub mod Index
 pub mod Distinct
 pub mod Runs
 pub mod ByVariable
+pub mod Kept
+pub mod Notes
+pub mod Noting

@@ -8,7 +8,7 @@ use Rattle.sas_core.specs.Grounded.{effect_at, group_at}
 use Rattle.sas_groups.specs.Clashes.{sets}
 use Rattle.sas_mutex.specs.Effects.{IsKept}
 use Rattle.sas_mutex.specs.Firing.{EffectPlace, operator_of}
-use Rattle.sas_mutex.specs.Noting.{NotBothAt, IsGoneAt, KeepsGroup}
+use Rattle.sas_mutex.specs.ByNotes.{NotBothAt, IsGoneAt, KeepsGroup}
 use Rattle.sas_group_reasons.specs.declared.reason.Failure.{Failure}
 use Rattle.sas_group_reasons.specs.declared.reason.Failure.TheVariants.{SetsTwo, MayStay}
 use Rattle.sas_group_reasons.specs.Failures.{effect_of, Fails, IsEarlier}

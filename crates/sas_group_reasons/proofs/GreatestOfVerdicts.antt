@@ -9,7 +9,7 @@ use Rattle.sas_groups.specs.Clashes.{Keeps}
 use Rattle.sas_groups.specs.Families.{IsIn, IsGroupOf, IsGroupOfOr, IsKeptJointly, IsGreatest}
 use Rattle.sas_groups.specs.Verdicts.{IsJointVerdict}
 use Rattle.sas_groups.proofs.GreatestFamily.{keeps_more, all_keep_more, group_of_larger}
-use Rattle.sas_mutex.specs.Effects.{family_of}
+use Rattle.sas_group_index.specs.Kept.{family_of}
 use Rattle.sas_mutex.specs.Joint.{verdict_at, AreJointVerdicts}
 use Rattle.sas_group_reasons.proofs.GroupReasons.{counts_too}
 

@@ -8,7 +8,7 @@ use Rattle.sas_core.specs.declared.parts.Fact.{Fact}
 use Rattle.sas_core.specs.Grounded.{effect_at, group_at}
 use Rattle.sas_groups.specs.Clashes.{sets}
 use Rattle.sas_mutex.specs.Firing.{EffectPlace, operator_of}
-use Rattle.sas_mutex.specs.Noting.{NotBothAt}
+use Rattle.sas_mutex.specs.ByNotes.{NotBothAt}
 use Rattle.sas_group_reasons.specs.Lowest.{IsLowest, IsAny, SetsVariable, IsOneOfFirst, SetsOneOfFirst, FollowsOnVariable}
 use Rattle.sas_group_reasons.proofs.Least.{stands_at}
 

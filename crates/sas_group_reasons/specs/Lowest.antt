@@ -4,7 +4,7 @@ use Rattle.std.specs.Prelude.{◌≡◌, ℕ, ◌<◌, ◌≤◌, Bool, List, le
 use Rattle.sas_core.specs.declared.parts.Fact.{Fact}
 use Rattle.sas_core.specs.declared.parts.Operator.{Operator}
 use Rattle.sas_mutex.specs.Firing.{EffectPlace, operator_of}
-use Rattle.sas_mutex.specs.Noting.{NotBothAt, IsGoneAt}
+use Rattle.sas_mutex.specs.ByNotes.{NotBothAt, IsGoneAt}
 use Rattle.sas_group_index.specs.ByVariable.{variable_of}
 use Rattle.sas_group_reasons.specs.declared.reason.Failure.{Failure}
 use Rattle.sas_group_reasons.specs.Failures.{Fails, effect_of, IsEarlier}

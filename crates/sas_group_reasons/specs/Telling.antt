@@ -7,7 +7,8 @@ use Rattle.sas_meaning.specs.States.{Holds}
 use Rattle.sas_groups.specs.declared.verdict.Verdict.{Verdict}
 use Rattle.sas_groups.specs.declared.verdict.Verdict.TheVariants.{Exclusive, Derived, Initial, Broken}
 use Rattle.sas_groups.specs.Clashes.{sets}
-use Rattle.sas_mutex.specs.Effects.{family_of, KeepsWithItself}
+use Rattle.sas_group_index.specs.Kept.{family_of}
+use Rattle.sas_mutex.specs.Effects.{KeepsWithItself}
 use Rattle.sas_mutex.specs.Joint.{verdict_at}
 use Rattle.sas_group_reasons.specs.declared.reason.Reason.{Reason}
 use Rattle.sas_group_reasons.specs.Reasons.{IsReason, reason_at}

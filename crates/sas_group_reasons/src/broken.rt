@@ -3,19 +3,21 @@ ghost use Rattle.std.specs.Prelude.{◌≡◌, ◌≢◌, ◌+◌, ◌<◌, ℕ,
 ghost use Rattle.sas_groups.specs.Clashes.{sets};
 ghost use Rattle.sas_groups.specs.Families.{IsGreatest};
 ghost use Rattle.sas_group_index.specs.Index.{HasFact};
-ghost use Rattle.sas_mutex.specs.Effects.{family_of};
+ghost use Rattle.sas_group_index.specs.Kept.{family_of};
 ghost use Rattle.sas_mutex.specs.Firing.{effect_of};
 ghost use Rattle.sas_mutex.specs.Joint.{verdict_at, AreJointVerdicts};
 ghost use Rattle.sas_mutex.specs.Marks.{IsClean};
-ghost use Rattle.sas_mutex.specs.Noting.{AreBelow, IsNotedAt};
+ghost use Rattle.sas_group_index.specs.Noting.{AreBelow};
+ghost use Rattle.sas_mutex.specs.ByNotes.{IsNotedAt};
 ghost use Rattle.sas_group_reasons.specs.Reasons.{reason_at, AreReasons};
 ghost use Rattle.sas_group_reasons.specs.Telling.{IsReasonSoFar, AreReasonsSoFar, IsAsked, AreMarked};
 
 use crate::failures::first_failure;
 use crate::reason::Reason;
 use sas_core::{Grounded, Items};
+use sas_group_index::IndexedTask;
 use sas_groups::{Premises, Verdict};
-use sas_mutex::{Firing, IndexedTask, Marks, forget_known, note_known};
+use sas_mutex::{Firing, Marks, forget_known, note_known};
 
 /// The greatest family, and what is noted while effects are looked at.
 #[derive(Drop)]

@@ -3,9 +3,10 @@ ghost use Rattle.std.specs.Prelude.{◌≡◌, ◌<◌, length, Contains, IfSome
 ghost use Rattle.sas_core.specs.Grounded.{group_at};
 ghost use Rattle.sas_groups.specs.Clashes.{sets};
 ghost use Rattle.sas_groups.specs.Families.{IsIn, IsGroupOfOr};
-ghost use Rattle.sas_mutex.specs.Effects.{family_of, IsKept};
+ghost use Rattle.sas_group_index.specs.Kept.{family_of};
+ghost use Rattle.sas_mutex.specs.Effects.{IsKept};
 ghost use Rattle.sas_mutex.specs.Firing.{operator_of, effect_of};
-ghost use Rattle.sas_mutex.specs.Noting.{IsNotedAt, KeepsGroup, KeepsGroupItself};
+ghost use Rattle.sas_mutex.specs.ByNotes.{IsNotedAt, KeepsGroup, KeepsGroupItself};
 ghost use Rattle.sas_group_reasons.specs.Lowest.{IsFirstStaying, IsFirstOfEffect};
 
 use crate::lowest::lowest_together;

@@ -1,8 +1,8 @@
 // The lowest effect that may set another fact of a group in the same step.
 ghost use Rattle.std.specs.Prelude.{◌<◌, length, Contains, IsFalse};
 ghost use Rattle.sas_groups.specs.Families.{IsIn};
-ghost use Rattle.sas_mutex.specs.Effects.{family_of};
-ghost use Rattle.sas_mutex.specs.Noting.{IsNotedAt};
+ghost use Rattle.sas_group_index.specs.Kept.{family_of};
+ghost use Rattle.sas_mutex.specs.ByNotes.{IsNotedAt};
 ghost use Rattle.sas_group_reasons.specs.Lowest.{IsLowest, IsAny, SetsVariable, FollowsOnVariable};
 
 use sas_core::{Fact, Grounded};

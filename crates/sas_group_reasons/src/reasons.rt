@@ -2,7 +2,7 @@
 ghost use Rattle.std.specs.Prelude.{◌≡◌, ◌<◌, ◌↔◌, ℕ, length, All, IfOk, IsTrue, IsFalse};
 ghost use Rattle.sas_groups.specs.declared.verdict.Verdict.{Verdict};
 ghost use Rattle.sas_groups.specs.declared.verdict.Verdict.TheVariants.{Exclusive, Broken};
-ghost use Rattle.sas_mutex.specs.Effects.{family_of};
+ghost use Rattle.sas_group_index.specs.Kept.{family_of};
 ghost use Rattle.sas_mutex.specs.Joint.{verdict_at, AreJointVerdicts};
 ghost use Rattle.sas_group_reasons.specs.Reasons.{AreReasons};
 ghost use Rattle.sas_group_reasons.specs.Telling.{IsBroken, AreMarked};
@@ -11,10 +11,10 @@ use crate::before_operators::first_reasons;
 use crate::broken::{Greatest, tell_failures};
 use crate::reason::Reason;
 use sas_core::{Grounded, Items};
-use sas_group_index::Index;
+use sas_group_index::{Index, IndexedTask};
 use sas_groups::Verdict;
 use sas_meaning::Layered;
-use sas_mutex::{IndexedTask, Marks};
+use sas_mutex::Marks;
 use std::alloc::{AllocError, Global};
 
 /// Returns, for each group of the task, in their order, the reason for the joint verdict on it, or none if it is exclusive. All

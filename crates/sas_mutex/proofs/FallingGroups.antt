@@ -1,7 +1,7 @@
 -- Groups fall out of a family, one after another, until the greatest family is left.
-use Rattle.std.proofs.Common.{◌≡◌, ◌≢◌, ℕ, ◌+◌, ◌<◌, ◌≤◌, Bool, true, false, List, [], ◌∷◌, ◌++◌, length, get_or, set, drop, None, Some, refl, sym, ◌∙◌, ap, subst, inl, inr, arith}
+use Rattle.std.proofs.Common.{◌≡◌, ℕ, ◌<◌, ◌≤◌, Bool, true, false, List, [], ◌∷◌, ◌++◌, length, get_or, set, drop, refl, sym, ◌∙◌, ap, subst, inl, inr, arith}
 use Rattle.std.proofs.lemmas.Bool.{cases_eq, cases_Bool, both_ways}
-use Rattle.std.proofs.lemmas.List.{append-nil, append_assoc, drop_all, drop_at, drop-append-le, length-append, length-drop, length-set, get_or-drop, get_or-set_same, get_or-set_other, get_or_append_left, get_or_default}
+use Rattle.std.proofs.lemmas.List.{append-nil, append_assoc, drop_all, drop_at, length-append, length-set, get_or-set_same, get_or-set_other}
 use Rattle.std.proofs.lemmas.List.Elements.{All-nil, All-cons, All-append, All-from_get_or, Contains-append_left, Contains-append_right, Contains-push, Contains-push_cases, Contains-append_cases, All-contains}
 use Rattle.std.specs.List.{All, Contains}
 use Rattle.sas_core.specs.declared.parts.Operator.{Operator}
@@ -12,7 +12,8 @@ use Rattle.sas_groups.specs.Lists.{known}
 use Rattle.sas_groups.specs.Families.{IsIn, IsGroupOf, IsGroupOfOr, IsKeptJointly, IsGreatest}
 use Rattle.sas_groups.proofs.GreatestFamily.{group_of_larger, keeps_more}
 use Rattle.sas_mutex.specs.declared.family.Family.{Family}
-use Rattle.sas_mutex.specs.Effects.{family_of, IsKept, EffectKeeps, KeepsAt, KeepsWithItself}
+use Rattle.sas_group_index.specs.Kept.{family_of}
+use Rattle.sas_mutex.specs.Effects.{IsKept, EffectKeeps, KeepsAt, KeepsWithItself}
 use Rattle.sas_mutex.specs.Basis.{EffectKeepsByBasis, KeepsByBasis, IsBasis}
 use Rattle.sas_mutex.specs.Falling.{IsEffectAtRest, IsAtRest, RestsAt, AreCandidates, newly, Falls, IsWithin, RestsOn}
 use Rattle.sas_mutex.proofs.ToldByNotes.{clash_keeps}

@@ -12,15 +12,15 @@ use Rattle.sas_core.specs.Variables.{FactExists}
 use Rattle.sas_groups.specs.Checks.{IsGone}
 use Rattle.sas_groups.specs.Lists.{known}
 use Rattle.sas_group_index.specs.declared.index.Index.{Index}
-use Rattle.sas_mutex.specs.declared.marks.Notes.{Notes}
+use Rattle.sas_group_index.specs.declared.notes.Notes.{Notes}
 use Rattle.sas_mutex.specs.Effects.{IsKept}
 use Rattle.sas_group_index.specs.Index.{IsIndexOf}
-use Rattle.sas_mutex.specs.Marks.{value_note}
-use Rattle.sas_mutex.specs.Noting.{AreKnown, IsUnknown, IsDecidedByFirst}
+use Rattle.sas_group_index.specs.Notes.{value_note}
+use Rattle.sas_mutex.specs.ByNotes.{AreKnown, IsUnknown, IsDecidedByFirst}
 use Rattle.sas_group_index.specs.Distinct.{AreDistinct}
 use Rattle.sas_group_index.specs.Runs.{AreOnOne, AreRuns}
-use Rattle.sas_mutex.proofs.TaskFacts.{variable_below}
-use Rattle.sas_mutex.proofs.NotesOfFacts.{a_note, value_note_tells}
+use Rattle.sas_group_index.proofs.Existing.{variable_below}
+use Rattle.sas_group_index.proofs.NotesOfFacts.{a_note, value_note_tells}
 use Rattle.sas_mutex.proofs.ToldByNotes.{other_value_clashes}
 
 -- of the facts of a run that is settled none is known, so that what is noted for their variable is another value

@@ -1,21 +1,17 @@
 -- What an effect keeps as more groups count, or fewer, and what an operator keeps whose effects all do.
-use Rattle.std.proofs.Common.{◌≡◌, ℕ, ◌<◌, ◌⊎◌, Bool, List, [], ◌∷◌, ◌++◌, length, None, sym, ◌∙◌, subst, inl, inr}
-use Rattle.std.proofs.lemmas.Bool.{cases_Bool, both_ways}
-use Rattle.std.proofs.lemmas.List.Elements.{Contains-get_or, Contains-append_cases, Contains-push_cases}
+use Rattle.std.proofs.Common.{ℕ, ◌<◌, List, [], ◌∷◌, length, None, subst, inl, inr}
+use Rattle.std.proofs.lemmas.List.Elements.{Contains-get_or}
 use Rattle.std.specs.List.{Contains}
 use Rattle.sas_core.specs.declared.parts.Fact.{Fact}
 use Rattle.sas_core.specs.declared.parts.Effect.{Effect}
 use Rattle.sas_core.specs.declared.parts.Operator.{Operator}
-use Rattle.sas_core.specs.declared.parts.Parts.{Parts}
-use Rattle.sas_core.specs.Grounded.{operator_at, effect_at}
-use Rattle.sas_meaning.specs.Steps.{preconditions}
+use Rattle.sas_core.specs.Grounded.{effect_at}
 use Rattle.sas_groups.specs.Clashes.{Clash, Keeps, sets}
-use Rattle.sas_groups.specs.Families.{IsIn}
 use Rattle.sas_groups.specs.Lists.{known}
 use Rattle.sas_groups.proofs.Effects.{place_of}
 use Rattle.sas_groups.proofs.GreatestFamily.{clash_more}
 use Rattle.sas_groups.specs.Checks.{NotBoth}
-use Rattle.sas_mutex.specs.Effects.{family_of, IsKept, EffectKeeps}
+use Rattle.sas_mutex.specs.Effects.{EffectKeeps}
 
 -- what clashes where some groups count clashes where others do
 module _ (Counts Others : List Fact → Type 0) (o : Operator) (group : List Fact) (e : Effect) where

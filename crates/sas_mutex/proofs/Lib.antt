@@ -1,5 +1,5 @@
 pub mod TaskFacts
-pub mod NotesOfFacts
+pub mod KnownFacts
 pub mod ToldByNotes
 pub mod JointLists
 pub mod Keeping

@@ -17,7 +17,7 @@ use Rattle.sas_group_index.specs.Index.{IsIndexOf, groups_of}
 use Rattle.sas_mutex.specs.declared.marks.Marks.{Marks}
 use Rattle.sas_mutex.specs.Effects.{IsKept}
 use Rattle.sas_mutex.specs.Firing.{EffectPlace, operator_of, effect_of}
-use Rattle.sas_mutex.specs.Noting.{IsNotedAt, IsSingleAt, NotBothAt, SetsBeside}
+use Rattle.sas_mutex.specs.ByNotes.{IsNotedAt, IsSingleAt, NotBothAt, SetsBeside}
 use Rattle.sas_mutex.proofs.TaskFacts.{effect_fits}
 
 abbrev no_effect : Effect

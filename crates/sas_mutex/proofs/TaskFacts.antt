@@ -1,8 +1,8 @@
--- The facts that a task mentions exist, and the groups that have one are groups of the task.
-use Rattle.std.proofs.Common.{◌≡◌, ℕ, ◌<◌, [], length, get_or, List, ◌∷◌, ◌++◌, Option, None, Some, subst, sym}
+-- The facts that a task mentions exist.
+use Rattle.std.proofs.Common.{ℕ, ◌<◌, [], length, List, ◌∷◌, ◌++◌, Option, None, Some}
 use Rattle.std.specs.Prelude.{filter_map}
 use Rattle.std.specs.List.{All, Contains, cons_option}
-use Rattle.std.proofs.lemmas.List.Elements.{All-nil, All-cons, All-append, All-from_recursion, All-contains, All-head, All-tail, Contains-get_or}
+use Rattle.std.proofs.lemmas.List.Elements.{All-nil, All-cons, All-append, All-from_recursion, All-contains, All-head, All-tail}
 use Rattle.sas_core.specs.declared.parts.Fact.{Fact}
 use Rattle.sas_core.specs.declared.parts.Effect.{Effect}
 use Rattle.sas_core.specs.declared.parts.Parts.{Parts}
@@ -11,11 +11,7 @@ use Rattle.sas_core.specs.Variables.{FactExists, MayHaveValue}
 use Rattle.sas_core.specs.WellRanged.{WellRanged, OperatorFits, EffectFits, Listed}
 use Rattle.sas_core.proofs.Places.{holds_at}
 use Rattle.sas_meaning.specs.Steps.{old_fact, preconditions}
-use Rattle.sas_meaning.proofs.Forced.{fact_within}
 use Rattle.sas_groups.specs.Lists.{known}
-use Rattle.sas_group_index.specs.declared.index.Index.{Index}
-use Rattle.sas_group_index.specs.Index.{IsIndexOf, groups_of}
-use Rattle.sas_mutex.specs.Noting.{AreBelow}
 
 module _ (p : Parts) (ranged : WellRanged p) where
   -- the facts of a group exist
@@ -64,13 +60,3 @@ module _ (p : Parts) (ranged : WellRanged p) where
         → (f : Fact) → Contains (known (operator_at p operator) (effect_at (operator_at p operator) effect).conditions []) f → FactExists p.variables f
     known_at_exist effect below f among = All-contains (FactExists p.variables) (known (operator_at p operator) (effect_at (operator_at p operator) effect).conditions []) f
         (known_exist (effect_at (operator_at p operator) effect).conditions [] (conditions_exist effect below) (All-nil (FactExists p.variables))) among
-
--- the variable of a fact that exists, and the groups that have it
-pub variable_below : (p : Parts) (fact : Fact) → FactExists p.variables fact → fact.var < length p.variables
-variable_below p fact exists = fact_within p fact.var fact.value exists
-
-pub groups_below : (p : Parts) (index : Index) (fact : Fact) (n : ℕ) → IsIndexOf p index → FactExists p.variables fact → n ≡ length p.groups
-    → AreBelow n (groups_of index fact)
-groups_below p index fact n indexed exists same k d lt =
-    subst (λ m. get_or (groups_of index fact) k d < m) (sym same)
-    ((indexed.groups fact exists (get_or (groups_of index fact) k d)).0 (Contains-get_or (groups_of index fact) k d lt)).exists

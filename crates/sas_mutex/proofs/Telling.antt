@@ -12,23 +12,24 @@ use Rattle.sas_core.specs.Grounded.{operator_at, effect_at, group_at}
 use Rattle.sas_groups.specs.declared.verdict.Verdict.{Verdict}
 use Rattle.sas_groups.specs.declared.verdict.Verdict.TheVariants.{Exclusive, Derived, Initial, Broken}
 use Rattle.sas_groups.specs.Clashes.{Clash, Keeps, sets}
-use Rattle.sas_groups.specs.Families.{MayBeExclusive}
-use Rattle.sas_groups.specs.Families.{IsIn, IsGroupOfOr, IsGreatest}
+use Rattle.sas_groups.specs.Families.{MayBeExclusive, IsIn, IsGroupOfOr, IsGreatest}
 use Rattle.sas_groups.specs.Verdicts.{IsJointVerdict}
 use Rattle.sas_groups.specs.Checks.{IsFirstVerdict}
 use Rattle.sas_groups.proofs.GreatestFamily.{outside_is_broken, clash_more}
 use Rattle.sas_mutex.specs.declared.marks.Marks.{Marks}
-use Rattle.sas_mutex.specs.declared.marks.Noted.{Noted}
-use Rattle.sas_mutex.specs.declared.marks.Noted.TheVariants.{Several}
-use Rattle.sas_mutex.specs.Effects.{family_of, IsKept, EffectKeeps, KeepsWithItself}
+use Rattle.sas_group_index.specs.declared.notes.Noted.{Noted}
+use Rattle.sas_group_index.specs.declared.notes.Noted.TheVariants.{Several}
+use Rattle.sas_group_index.specs.Kept.{family_of}
+use Rattle.sas_mutex.specs.Effects.{IsKept, EffectKeeps, KeepsWithItself}
 use Rattle.sas_mutex.specs.Falling.{AreCandidates}
 use Rattle.sas_group_index.specs.Index.{HasFact}
 use Rattle.sas_mutex.specs.Joint.{verdict_at, AreJointVerdicts}
 use Rattle.sas_mutex.specs.Judging.{AreFirstVerdicts, IsUntold, KeptSoFar, IsVerdictSoFar, AreVerdictsSoFar}
-use Rattle.sas_mutex.specs.Marks.{IsGroupNote}
-use Rattle.sas_mutex.specs.Noting.{IsNotedFor, known_at}
+use Rattle.sas_group_index.specs.Notes.{IsGroupNote}
+use Rattle.sas_mutex.specs.ByNotes.{IsNotedFor, known_at}
 use Rattle.sas_mutex.proofs.Keeping.{effect_keeps_more, keeps_from_effects, effect_of_keeps}
-use Rattle.sas_mutex.proofs.NotesOfFacts.{at_most_one, several_clash}
+use Rattle.sas_group_index.proofs.NotesOfFacts.{at_most_one}
+use Rattle.sas_mutex.proofs.KnownFacts.{several_clash}
 use Rattle.sas_mutex.proofs.ToldByNotes.{clash_keeps}
 
 -- ---- the first verdicts

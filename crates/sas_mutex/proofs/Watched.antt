@@ -1,17 +1,17 @@
 -- What operators rest on, as they are looked at and groups fall.
-use Rattle.std.proofs.Common.{◌≡◌, ◌≢◌, ◌⊎◌, ℕ, ◌+◌, ◌-◌, ◌<◌, ◌≤◌, ◌^◌, Bool, true, List, [], ◌∷◌, ◌++◌, length, get_or, set, Option, Some, None, refl, sym, ◌∙◌, ap, subst, inl, inr, arith}
+use Rattle.std.proofs.Common.{◌≡◌, ◌≢◌, ◌⊎◌, ℕ, ◌-◌, ◌<◌, ◌≤◌, ◌^◌, Bool, true, List, [], ◌++◌, length, get_or, set, Option, Some, None, refl, sym, ◌∙◌, ap, subst, inl, inr, arith}
 use Rattle.std.proofs.lemmas.Bool.{cases_eq, cases_lt, cases_Bool}
-use Rattle.std.proofs.lemmas.List.{length-set, length-append, append-nil, get_or-set_same, get_or-set_other, get_or-append_right, get_or_append_left, get_or_default}
-use Rattle.std.proofs.lemmas.List.Elements.{All-nil, All-append, All-weaker, All-get_or, All-contains, Contains-append_left, Contains-append_right, Contains-append_cases, Contains-get_or}
+use Rattle.std.proofs.lemmas.List.{length-set, length-append, get_or-set_same, get_or-set_other, get_or-append_right, get_or_append_left, get_or_default}
+use Rattle.std.proofs.lemmas.List.Elements.{All-nil, All-append, All-weaker, All-contains, Contains-append_left, Contains-append_right, Contains-append_cases, Contains-get_or}
 use Rattle.std.specs.List.{All, Contains}
 use Rattle.sas_core.specs.declared.parts.Parts.{Parts}
 use Rattle.sas_groups.specs.Families.{IsIn}
 use Rattle.sas_mutex.specs.declared.family.Family.{Family}
 use Rattle.sas_mutex.specs.declared.watches.Watch.{Watch}
 use Rattle.sas_mutex.specs.declared.watches.Watches.{Watches}
-use Rattle.sas_mutex.specs.Effects.{family_of}
+use Rattle.sas_group_index.specs.Kept.{family_of}
 use Rattle.sas_mutex.specs.Falling.{Falls, newly, IsWithin, IsAtRest, RestsOn}
-use Rattle.sas_mutex.specs.Watching.{watch_at, since_of, IsLastBelow, AreChained, IsWatchOf, HasWatchFrom, RestsBy, IsOver, IsTold, IsToldBehind, AreFallen, AreUnwatched, AreWatched, AreMore, WatchesMore, IsWatchedAnew, AreTold, StayTold, AreLooseAtRest}
+use Rattle.sas_mutex.specs.Watching.{watch_at, since_of, IsLastBelow, AreChained, IsWatchOf, HasWatchFrom, RestsBy, IsOver, IsTold, IsToldBehind, AreFallen, AreUnwatched, AreWatched, AreMore, IsWatchedAnew, AreTold, StayTold, AreLooseAtRest}
 use Rattle.sas_mutex.proofs.FallingGroups.{fallen_exist}
 use Rattle.sas_mutex.proofs.Supporting.{kept_below}
 use Rattle.sas_mutex.proofs.WatchChains.{watch_still}

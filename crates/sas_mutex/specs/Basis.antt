@@ -6,7 +6,8 @@ use Rattle.sas_core.specs.Grounded.{operator_at, effect_at, group_at}
 use Rattle.sas_groups.specs.Clashes.{sets}
 use Rattle.sas_groups.specs.Families.{IsIn}
 use Rattle.sas_mutex.specs.declared.family.Family.{Family}
-use Rattle.sas_mutex.specs.Effects.{family_of, KeepsWithItself, IsPlain}
+use Rattle.sas_group_index.specs.Kept.{family_of}
+use Rattle.sas_mutex.specs.Effects.{KeepsWithItself, IsPlain}
 
 -- the effect keeps the group under the basis and itself, if it is in the family
 abbrev pub KeptByBasis : Parts → List Bool → List Bool → ℕ → ℕ → ℕ → Type 0

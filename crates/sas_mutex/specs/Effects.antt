@@ -1,5 +1,5 @@
 -- What the parts of the check of one effect decide.
-use Rattle.std.specs.Prelude.{◌≡◌, ℕ, ◌<◌, Bool, false, List, [], length, slice_index_or, Contains}
+use Rattle.std.specs.Prelude.{◌≡◌, ℕ, ◌<◌, Bool, List, [], length, Contains}
 use Rattle.sas_core.specs.declared.parts.Fact.{Fact}
 use Rattle.sas_core.specs.declared.parts.Effect.{Effect}
 use Rattle.sas_core.specs.declared.parts.Operator.{Operator}
@@ -7,10 +7,7 @@ use Rattle.sas_core.specs.declared.parts.Parts.{Parts}
 use Rattle.sas_core.specs.Grounded.{operator_at, effect_at, group_at}
 use Rattle.sas_groups.specs.Families.{IsGroupOf, IsGroupOfOr}
 use Rattle.sas_groups.specs.Checks.{NotBoth, IsGone}
-
--- the family of the places at which the list is true
-abbrev pub family_of : List Bool → ℕ → Bool
-family_of kept place = slice_index_or kept place false
+use Rattle.sas_group_index.specs.Kept.{family_of}
 
 -- a group that the list keeps in the family
 abbrev pub IsKept : Parts → List Bool → List Fact → Type 0

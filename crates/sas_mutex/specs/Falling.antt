@@ -1,12 +1,12 @@
 -- How groups fall out of the family of those that may be kept jointly.
-use Rattle.std.specs.Prelude.{◌≡◌, ℕ, ◌+◌, ◌<◌, ◌≤◌, ◌↔◌, ◌⊎◌, Bool, if◌then◌else◌, IsTrue, List, None, [], ◌∷◌, ◌++◌, length, drop, slice_index_or, slice_set, All, Contains, vec_capacity}
+use Rattle.std.specs.Prelude.{◌≡◌, ℕ, ◌+◌, ◌<◌, ◌≤◌, ◌↔◌, Bool, if◌then◌else◌, IsTrue, List, [], ◌∷◌, ◌++◌, length, drop, All, Contains, vec_capacity}
 use Rattle.sas_core.specs.declared.parts.Parts.{Parts}
 use Rattle.sas_core.specs.Grounded.{operator_at, effect_at, group_at}
 use Rattle.sas_groups.specs.Clashes.{sets}
-use Rattle.sas_groups.specs.Families.{IsIn, IsKeptJointly}
-use Rattle.sas_groups.specs.Families.{MayBeExclusive}
+use Rattle.sas_groups.specs.Families.{IsIn, IsKeptJointly, MayBeExclusive}
 use Rattle.sas_mutex.specs.declared.family.Family.{Family}
-use Rattle.sas_mutex.specs.Effects.{family_of, KeepsAt, IsPlain}
+use Rattle.sas_group_index.specs.Kept.{family_of}
+use Rattle.sas_mutex.specs.Effects.{KeepsAt, IsPlain}
 use Rattle.sas_mutex.specs.Basis.{IsBasis}
 
 -- the effect at this place of this operator keeps each group of the family that has the fact which

@@ -5,11 +5,11 @@ use Rattle.sas_core.specs.Grounded.{operator_at, effect_at, group_at}
 use Rattle.sas_groups.specs.declared.verdict.Verdict.{Verdict}
 use Rattle.sas_groups.specs.declared.verdict.Verdict.TheVariants.{Exclusive, Derived, Initial, Broken}
 use Rattle.sas_groups.specs.Clashes.{sets, Keeps}
-use Rattle.sas_groups.specs.Families.{IsIn, IsGroupOfOr}
-use Rattle.sas_groups.specs.Families.{MayBeExclusive}
+use Rattle.sas_groups.specs.Families.{IsIn, IsGroupOfOr, MayBeExclusive}
 use Rattle.sas_groups.specs.Verdicts.{IsJointVerdict}
 use Rattle.sas_groups.specs.Checks.{IsFirstVerdict}
-use Rattle.sas_mutex.specs.Effects.{family_of, KeepsWithItself}
+use Rattle.sas_group_index.specs.Kept.{family_of}
+use Rattle.sas_mutex.specs.Effects.{KeepsWithItself}
 use Rattle.sas_mutex.specs.Joint.{verdict_at}
 
 -- the verdict on each group before operators are checked

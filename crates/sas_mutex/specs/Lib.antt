@@ -11,6 +11,6 @@ pub mod Marks
 pub mod Firing
 pub mod Effects
 pub mod Basis
-pub mod Noting
+pub mod ByNotes
 pub mod Falling
 pub mod Watching

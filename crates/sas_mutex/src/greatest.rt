@@ -1,18 +1,18 @@
 // The greatest family of groups that is kept jointly.
 ghost use Rattle.std.specs.Prelude.{◌≡◌, ◌<◌, ◌≤◌, ℕ, [], length, All, Contains, IsTrue};
 ghost use Rattle.sas_groups.specs.Families.{IsIn, IsGreatest};
-ghost use Rattle.sas_mutex.specs.Effects.{family_of};
+ghost use Rattle.sas_group_index.specs.Kept.{family_of};
 ghost use Rattle.sas_mutex.specs.Marks.{IsClean};
 ghost use Rattle.sas_mutex.specs.Falling.{IsReady, AreCandidates, newly, Falls, IsAtRest, RestsOn};
 ghost use Rattle.sas_mutex.specs.Basis.{KeepsByBasis};
 ghost use Rattle.sas_mutex.specs.Watching.{AreUnwatched, AreWatched, AreTold, IsTold, StayTold, IsWatchedAnew, AreLooseAtRest, RestsBy, WatchesMore};
 
 use crate::family::Family;
-use crate::indexed::IndexedTask;
 use crate::looking::look_at;
 use crate::marks::Marks;
 use crate::watches::Watches;
 use sas_core::Grounded;
+use sas_group_index::IndexedTask;
 
 /// Removes from the family, which has the groups that may be exclusive, each group that some operator doesn't keep, until
 /// every operator keeps each group that is left. After a group fell, only operators that watch it are looked at again, and

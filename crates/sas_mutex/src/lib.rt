@@ -3,18 +3,15 @@
 //! where it fires is public too, for those that ask further.
 #![tactic(auto)]
 
-mod deciding;
 mod effects;
 mod family;
 mod greatest;
-mod indexed;
 mod joint;
 mod looking;
 mod marks;
 mod watches;
 
 pub use effects::Firing;
-pub use indexed::IndexedTask;
 pub use joint::check_groups;
 pub use marks::{Marks, forget_known, note_known};
 pub use sas_groups::{Facts, Verdict, check_group, group_laws};

@@ -2,25 +2,23 @@
 ghost use Rattle.std.specs.Prelude.{◌≡◌, ◌<◌, [], length, Contains, IsTrue, IsFalse, All};
 ghost use Rattle.sas_core.specs.Grounded.{operator_at, group_at};
 ghost use Rattle.sas_group_index.specs.Index.{IsIndexOf};
-ghost use Rattle.sas_groups.specs.Clashes.{sets};
-ghost use Rattle.sas_groups.specs.Clashes.{Clash};
+ghost use Rattle.sas_groups.specs.Clashes.{sets, Clash};
 ghost use Rattle.sas_groups.specs.Families.{IsIn};
 ghost use Rattle.sas_groups.specs.Lists.{known, known_on};
 ghost use Rattle.sas_core.specs.Variables.{FactExists};
-ghost use Rattle.sas_mutex.specs.Effects.{family_of, IsKept, IsPlain};
+ghost use Rattle.sas_group_index.specs.Kept.{family_of};
+ghost use Rattle.sas_mutex.specs.Effects.{IsKept, IsPlain};
 ghost use Rattle.sas_mutex.specs.Firing.{effect_of};
 ghost use Rattle.sas_mutex.specs.Marks.{IsClean};
-ghost use Rattle.sas_mutex.specs.Noting.{AreNoted, IsNotedAt, KeepsGroup, KeepsGroupItself};
-ghost use Rattle.sas_mutex.specs.Falling.{HasRoom, newly, Falls};
-ghost use Rattle.sas_mutex.specs.Falling.{IsAtRest, IsEffectAtRest, ArePlainAtRest, RestsAt};
+ghost use Rattle.sas_mutex.specs.ByNotes.{AreNoted, IsNotedAt, KeepsGroup, KeepsGroupItself};
+ghost use Rattle.sas_mutex.specs.Falling.{HasRoom, newly, Falls, IsAtRest, IsEffectAtRest, ArePlainAtRest, RestsAt};
 ghost use Rattle.sas_mutex.specs.Basis.{KeptByBasis, KeepsByBasis, EffectKeepsByBasis, PlainKeepByBasis, PlainSetNone};
 
 use crate::effects::Firing;
 use crate::family::Family;
-use crate::indexed::IndexedTask;
 use crate::marks::{Marks, forget_known, note_known};
 use sas_core::{Fact, Grounded};
-use sas_group_index::Index;
+use sas_group_index::{Index, IndexedTask};
 use sas_groups::Premises;
 use sas_meaning::Layered;
 

@@ -2,7 +2,7 @@
 use Rattle.std.proofs.Common.{◌≡◌, ◌<◌, ◌+◌, Bool, List, length, sym, ◌∙◌, subst, arith}
 use Rattle.std.proofs.lemmas.Bool.{both_ways}
 use Rattle.sas_core.specs.declared.parts.Parts.{Parts}
-use Rattle.sas_mutex.specs.Effects.{family_of}
+use Rattle.sas_group_index.specs.Kept.{family_of}
 use Rattle.sas_group_reasons.specs.Telling.{AreReasonsSoFar}
 use Rattle.sas_group_reasons.proofs.ReasonsSoFar.{skip_operator, reasons_in_the_end}
 use Rattle.sas_group_reasons.proofs.broken.tell_failures.Goals as goal

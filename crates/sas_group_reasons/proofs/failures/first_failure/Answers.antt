@@ -4,11 +4,12 @@ use Rattle.std.proofs.lemmas.Bool.{both_ways}
 use Rattle.std.proofs.lemmas.List.{length-set}
 use Rattle.sas_core.specs.Grounded.{operator_at, effect_at, group_at}
 use Rattle.sas_groups.specs.Families.{IsGroupOfOr}
-use Rattle.sas_mutex.specs.declared.marks.Noted.TheVariants.{Several}
-use Rattle.sas_mutex.specs.Effects.{family_of, IsKept, EffectKeeps}
+use Rattle.sas_group_index.specs.declared.notes.Noted.TheVariants.{Several}
+use Rattle.sas_group_index.specs.Kept.{family_of}
+use Rattle.sas_mutex.specs.Effects.{IsKept, EffectKeeps}
 use Rattle.sas_mutex.specs.Firing.{operator_of}
-use Rattle.sas_mutex.specs.Marks.{IsGroupNote}
-use Rattle.sas_mutex.specs.Noting.{IsNotedFor, KeepsGroup, KeepsGroupItself, known_at}
+use Rattle.sas_group_index.specs.Notes.{IsGroupNote}
+use Rattle.sas_mutex.specs.ByNotes.{IsNotedFor, KeepsGroup, KeepsGroupItself, known_at}
 use Rattle.sas_mutex.proofs.Telling.{keeps_itself, put_back, several_never_fire, noted_with, with_place, or_itself, is_more}
 use Rattle.sas_mutex.proofs.ToldByNotes.{noted_fewer}
 use Rattle.sas_group_reasons.specs.Lowest.{IsFirstOfEffect}

@@ -1,6 +1,6 @@
 -- One more fact, which is gone or stays.
 use Rattle.sas_groups.proofs.Turns.{each_more}
-use Rattle.sas_mutex.specs.Noting.{IsGoneAt}
+use Rattle.sas_mutex.specs.ByNotes.{IsGoneAt}
 use Rattle.sas_group_reasons.proofs.FirstOfEffect.{none_stays, one_stays}
 use Rattle.sas_group_reasons.proofs.failures.first_staying.Goals as goal
 

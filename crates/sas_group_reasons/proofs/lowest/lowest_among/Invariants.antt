@@ -1,5 +1,5 @@
 -- The lowest of the effects so far that may set another fact of the group.
-use Rattle.sas_mutex.specs.Noting.{IsNotedAt}
+use Rattle.sas_mutex.specs.ByNotes.{IsNotedAt}
 use Rattle.sas_group_reasons.specs.Lowest.{IsLowest, IsOneOfFirst}
 use Rattle.sas_group_reasons.proofs.lowest.lowest_among.Given as goal
 

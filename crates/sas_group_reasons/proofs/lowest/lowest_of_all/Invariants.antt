@@ -1,6 +1,6 @@
 -- None of the effects so far may set another fact of the group.
 use Rattle.std.proofs.Common.{ℕ, ◌<◌}
-use Rattle.sas_mutex.specs.Noting.{IsNotedAt, NotBothAt}
+use Rattle.sas_mutex.specs.ByNotes.{IsNotedAt, NotBothAt}
 use Rattle.sas_group_reasons.proofs.lowest.lowest_of_all.Given as goal
 
 abbrev pub invariant-loop-other : goal.invariant-loop-other

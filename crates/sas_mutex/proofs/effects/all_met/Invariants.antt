@@ -1,7 +1,7 @@
 -- The conditions so far are met.
 use Rattle.std.proofs.Common.{ℕ, ◌<◌, get_or}
 use Rattle.sas_core.specs.declared.parts.Fact.{Fact}
-use Rattle.sas_mutex.specs.Noting.{IsMet}
+use Rattle.sas_mutex.specs.ByNotes.{IsMet}
 use Rattle.sas_mutex.proofs.effects.all_met.Given as goal
 
 abbrev pub invariant-loop-condition : goal.invariant-loop-condition

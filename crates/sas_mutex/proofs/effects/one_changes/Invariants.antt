@@ -1,7 +1,7 @@
 -- None of the changes so far does.
 use Rattle.std.proofs.Common.{ℕ, ◌<◌, get_or}
 use Rattle.sas_core.specs.declared.grounded.Change.{Change}
-use Rattle.sas_mutex.specs.Noting.{IsOther}
+use Rattle.sas_mutex.specs.ByNotes.{IsOther}
 use Rattle.sas_mutex.proofs.effects.one_changes.Given as goal
 
 abbrev pub invariant-loop-change : goal.invariant-loop-change

@@ -2,7 +2,7 @@
 use Rattle.std.proofs.Common.{ℕ, ◌<◌, length, sym, subst, ◌∙◌, arith}
 use Rattle.std.proofs.lemmas.List.{get_or_default}
 use Rattle.sas_core.specs.Grounded.{operator_at, effect_at}
-use Rattle.sas_mutex.specs.Noting.{Removes}
+use Rattle.sas_mutex.specs.ByNotes.{Removes}
 use Rattle.sas_mutex.proofs.effects.one_removes.Goals as goal
 
 pub returns-clause-no : goal.returns-clause-no

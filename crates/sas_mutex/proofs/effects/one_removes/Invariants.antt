@@ -1,7 +1,7 @@
 -- None of the effects so far removes the fact.
 use Rattle.std.proofs.Common.{ℕ, ◌<◌, length, get_or}
 use Rattle.sas_core.specs.Grounded.{operator_at, effect_at}
-use Rattle.sas_mutex.specs.Noting.{Removes}
+use Rattle.sas_mutex.specs.ByNotes.{Removes}
 use Rattle.sas_mutex.proofs.effects.one_removes.Given as goal
 
 abbrev pub invariant-loop-effect : goal.invariant-loop-effect

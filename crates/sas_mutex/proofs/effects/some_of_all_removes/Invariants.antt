@@ -1,7 +1,7 @@
 -- No effect so far removes the fact.
 use Rattle.std.proofs.Common.{ℕ, ◌<◌}
 use Rattle.sas_core.specs.Grounded.{operator_at, effect_at}
-use Rattle.sas_mutex.specs.Noting.{Removes}
+use Rattle.sas_mutex.specs.ByNotes.{Removes}
 use Rattle.sas_mutex.proofs.effects.some_of_all_removes.Given as goal
 
 abbrev pub invariant-loop-effect : goal.invariant-loop-effect

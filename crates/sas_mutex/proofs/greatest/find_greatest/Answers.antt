@@ -1,5 +1,5 @@
 -- Where no group fell by the loose operators, all operators are at rest.
-use Rattle.std.proofs.Common.{◌≡◌, ℕ, List, length, sym, ◌∙◌, subst, arith}
+use Rattle.std.proofs.Common.{◌≡◌, ℕ, List, length, sym, subst, arith}
 use Rattle.sas_mutex.specs.Watching.{AreTold, AreLooseAtRest}
 use Rattle.sas_mutex.proofs.FallingGroups.{falls_then, greatest_in_the_end, none_newly, as_before}
 use Rattle.sas_mutex.proofs.Watched.{rest_in_the_end}

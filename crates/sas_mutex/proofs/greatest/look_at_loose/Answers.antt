@@ -1,7 +1,6 @@
 -- One more operator is at rest, if it is loose.
-use Rattle.std.proofs.Common.{◌≡◌, ℕ, ◌<◌, None, length, sym, ◌∙◌, ap, subst, inl, inr, arith}
+use Rattle.std.proofs.Common.{length, sym, ◌∙◌, ap, subst, inl, inr, arith}
 use Rattle.std.proofs.lemmas.Bool.{cases_eq}
-use Rattle.sas_core.specs.declared.parts.Parts.{Parts}
 use Rattle.sas_mutex.specs.Falling.{IsAtRest, newly}
 use Rattle.sas_mutex.specs.Watching.{since_of}
 use Rattle.sas_mutex.proofs.FallingGroups.{falls_then, effect_since, effect_now}

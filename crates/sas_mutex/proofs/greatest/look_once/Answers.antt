@@ -1,5 +1,5 @@
 -- The operator rests on what it watches from now on, or is loose.
-use Rattle.std.proofs.Common.{◌≡◌, ℕ, Option, Some, None, List, length, set, sym, ap, subst, ◌∙◌}
+use Rattle.std.proofs.Common.{◌≡◌, ℕ, Option, Some, None, List, set, sym, ap, subst, ◌∙◌}
 use Rattle.sas_mutex.specs.Watching.{RestsBy}
 use Rattle.sas_mutex.proofs.Watched.{watched_anew}
 use Rattle.sas_mutex.proofs.greatest.look_once.Goals as goal

@@ -1,5 +1,5 @@
 -- Where no more groups fell than before, the operator is at rest.
-use Rattle.std.proofs.Common.{◌≡◌, ℕ, List, [], length, sym, subst, ◌∙◌, arith}
+use Rattle.std.proofs.Common.{[], sym, subst, ◌∙◌, arith}
 use Rattle.std.specs.List.{All, Contains}
 use Rattle.std.proofs.lemmas.List.Elements.{All-nil}
 use Rattle.sas_mutex.proofs.FallingGroups.{falls_then, rests_on, none_newly}

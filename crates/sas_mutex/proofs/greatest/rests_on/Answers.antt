@@ -1,5 +1,5 @@
 -- The family is as look_at left it, and its basis as it was before.
-use Rattle.std.proofs.Common.{◌≡◌, ℕ, Bool, List, length, sym, subst, ◌∙◌}
+use Rattle.std.proofs.Common.{ℕ, Bool, List, length, sym, subst, ◌∙◌}
 use Rattle.sas_mutex.specs.Basis.{IsBasis, IsOfNone}
 use Rattle.sas_mutex.specs.Falling.{RestsOn}
 use Rattle.sas_mutex.proofs.FallingGroups.{rests_on}

@@ -1,5 +1,5 @@
 -- One more watch of the group was told, or counts no longer.
-use Rattle.std.proofs.Common.{◌≡◌, ℕ, Some, None, Option, List, get_or, sym, ◌∙◌, ap, subst}
+use Rattle.std.proofs.Common.{ℕ, List, sym, ◌∙◌, ap, subst}
 use Rattle.sas_mutex.specs.declared.watches.Watch.{Watch}
 use Rattle.sas_mutex.specs.Watching.{watch_at, since_of, IsLastBelow, IsToldBehind}
 use Rattle.sas_mutex.proofs.FallingGroups.{falls_then}

@@ -4,7 +4,7 @@ use Rattle.std.proofs.lemmas.Bool.{cases_eq}
 use Rattle.std.proofs.lemmas.List.Elements.{All-from_get_or}
 use Rattle.sas_mutex.specs.Joint.{verdict_at}
 use Rattle.sas_mutex.specs.Judging.{IsVerdictSoFar, AreVerdictsSoFar}
-use Rattle.sas_mutex.specs.Noting.{IsNotedAt}
+use Rattle.sas_mutex.specs.ByNotes.{IsNotedAt}
 use Rattle.sas_mutex.proofs.joint.tell_groups.Goals as goal
 
 pub loop-group-preserved : goal.loop-group-preserved

@@ -2,7 +2,7 @@
 use Rattle.std.proofs.Common.{◌≡◌, ◌+◌, ℕ, ◌<◌, get_or}
 use Rattle.sas_mutex.specs.Joint.{verdict_at}
 use Rattle.sas_mutex.specs.Judging.{IsVerdictSoFar, AreVerdictsSoFar}
-use Rattle.sas_mutex.specs.Noting.{IsNotedAt}
+use Rattle.sas_mutex.specs.ByNotes.{IsNotedAt}
 use Rattle.sas_mutex.proofs.joint.tell_groups.Given as goal
 
 abbrev pub invariant-loop-group : goal.invariant-loop-group

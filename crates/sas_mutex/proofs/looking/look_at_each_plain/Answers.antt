@@ -1,5 +1,5 @@
 -- One more effect is at rest, if it has no conditions; then what is known where it fires is what is noted.
-use Rattle.std.proofs.Common.{◌≡◌, Bool, List, [], length, subst, below_more, arith}
+use Rattle.std.proofs.Common.{◌≡◌, Bool, List, [], length, subst, below_more}
 use Rattle.sas_core.specs.declared.parts.Parts.{Parts}
 use Rattle.std.proofs.lemmas.Bool.{and_parts}
 use Rattle.sas_core.specs.declared.parts.Fact.{Fact}
@@ -8,7 +8,7 @@ use Rattle.sas_groups.specs.Lists.{known}
 use Rattle.sas_mutex.specs.Basis.{EffectKeepsByBasis}
 use Rattle.sas_mutex.specs.Effects.{IsPlain}
 use Rattle.sas_mutex.specs.Falling.{HasRoom, Falls, newly, IsEffectAtRest}
-use Rattle.sas_mutex.specs.Noting.{AreNoted, IsNotedFor}
+use Rattle.sas_mutex.specs.ByNotes.{AreNoted, IsNotedFor}
 use Rattle.sas_mutex.proofs.FallingGroups.{falls_then, effect_since, effect_now, effect_alone_still}
 use Rattle.sas_mutex.proofs.looking.look_at_each_plain.Goals as goal
 use Rattle.sas_mutex.proofs.looking.look_at_each_plain.Goals.{then-is_plain, else-is_plain}

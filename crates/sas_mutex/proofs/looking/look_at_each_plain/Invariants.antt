@@ -4,7 +4,7 @@ use Rattle.sas_core.specs.Grounded.{operator_at}
 use Rattle.sas_groups.specs.Lists.{known}
 use Rattle.sas_mutex.specs.Falling.{HasRoom, Falls, newly, ArePlainAtRest}
 use Rattle.sas_mutex.specs.Basis.{PlainKeepByBasis}
-use Rattle.sas_mutex.specs.Noting.{AreNoted}
+use Rattle.sas_mutex.specs.ByNotes.{AreNoted}
 use Rattle.sas_mutex.proofs.looking.look_at_each_plain.Given as goal
 
 abbrev pub invariant-loop-effect : goal.invariant-loop-effect

@@ -5,12 +5,13 @@ use Rattle.std.proofs.lemmas.Bool.{true≢false}
 use Rattle.std.proofs.lemmas.List.{length-set, length_push}
 use Rattle.sas_core.specs.Grounded.{operator_at, effect_at, group_at}
 use Rattle.sas_mutex.specs.declared.family.Family.{Family}
-use Rattle.sas_mutex.specs.Effects.{family_of, IsKept, EffectKeeps}
+use Rattle.sas_group_index.specs.Kept.{family_of}
+use Rattle.sas_mutex.specs.Effects.{IsKept, EffectKeeps}
 use Rattle.sas_mutex.specs.Firing.{EffectPlace, operator_of}
 use Rattle.sas_mutex.proofs.Counting.{count_fell}
 use Rattle.sas_mutex.proofs.FallingGroups.{none_fell, one_fell, never_jointly}
 use Rattle.sas_mutex.specs.Falling.{count, Falls, HasRoom, RestsAt, newly}
-use Rattle.sas_mutex.specs.Noting.{IsNotedFor, IsNotedAt}
+use Rattle.sas_mutex.specs.ByNotes.{IsNotedFor, IsNotedAt}
 use Rattle.sas_mutex.proofs.ToldByNotes.{noted_fewer}
 use Rattle.sas_mutex.proofs.looking.look_at_group.Goals as goal
 use Rattle.sas_mutex.proofs.looking.look_at_group.Given.{Over}

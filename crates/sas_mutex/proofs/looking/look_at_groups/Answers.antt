@@ -1,5 +1,5 @@
 -- One more group rests, and so in the end all that have the fact.
-use Rattle.std.proofs.Common.{ℕ, ◌<◌, Bool, List, get_or, length, subst, below_more, arith}
+use Rattle.std.proofs.Common.{ℕ, Bool, List, get_or, subst, below_more, arith}
 use Rattle.std.specs.List.{Contains}
 use Rattle.std.proofs.lemmas.Bool.{and_parts}
 use Rattle.std.specs.Prelude.{◌↔◌}

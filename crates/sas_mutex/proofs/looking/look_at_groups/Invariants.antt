@@ -2,7 +2,7 @@
 use Rattle.std.proofs.Common.{◌≡◌, ℕ, ◌<◌, true, get_or}
 use Rattle.sas_mutex.specs.Falling.{HasRoom, Falls, newly, RestsAt}
 use Rattle.sas_mutex.specs.Basis.{KeptByBasis}
-use Rattle.sas_mutex.specs.Noting.{IsNotedAt}
+use Rattle.sas_mutex.specs.ByNotes.{IsNotedAt}
 use Rattle.sas_mutex.proofs.looking.look_at_groups.Given as goal
 
 abbrev pub invariant-loop-group : goal.invariant-loop-group

@@ -1,6 +1,6 @@
 -- A fact alone doesn't clash.
 use Rattle.sas_mutex.specs.Effects.{IsKept}
-use Rattle.sas_mutex.proofs.NotesOfFacts.{few_apart}
+use Rattle.sas_mutex.proofs.KnownFacts.{few_apart}
 use Rattle.sas_mutex.proofs.marks.facts_clash.Goals as goal
 
 pub returns-then-facts-lt2-clause-no : goal.returns-then-facts-lt2-clause-no

@@ -1,6 +1,6 @@
 -- The facts so far are noted, and don't clash.
 use Rattle.std.proofs.Common.{take}
-use Rattle.sas_mutex.proofs.NotesOfFacts.{AreSoFar}
+use Rattle.sas_mutex.proofs.KnownFacts.{AreSoFar}
 use Rattle.sas_mutex.proofs.marks.note_facts.Given as goal
 
 abbrev pub invariant-loop-fact : goal.invariant-loop-fact

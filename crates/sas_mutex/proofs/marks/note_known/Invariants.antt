@@ -1,8 +1,8 @@
 -- Those that came are noted, and don't clash.
 use Rattle.std.proofs.Common.{◌≡◌, ◌++◌}
 use Rattle.sas_groups.specs.Lists.{known_on, known_left}
-use Rattle.sas_mutex.specs.Marks.{AreBlank}
-use Rattle.sas_mutex.proofs.NotesOfFacts.{AreSoFar}
+use Rattle.sas_group_index.specs.Notes.{AreBlank}
+use Rattle.sas_mutex.proofs.KnownFacts.{AreSoFar}
 use Rattle.sas_mutex.proofs.marks.note_known.Given as goal
 
 abbrev pub invariant-loop-fact : goal.invariant-loop-fact

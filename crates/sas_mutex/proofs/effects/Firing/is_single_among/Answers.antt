@@ -2,7 +2,7 @@
 use Rattle.std.proofs.Common.{◌≡◌, length, below_more, subst, arith}
 use Rattle.std.proofs.lemmas.List.{get_or_default}
 use Rattle.sas_mutex.specs.Firing.{EffectPlace, operator_of}
-use Rattle.sas_mutex.specs.Noting.{IsApartAt}
+use Rattle.sas_mutex.specs.ByNotes.{IsApartAt}
 use Rattle.sas_mutex.proofs.effects.Firing.is_single_among.Goals as goal
 use Rattle.sas_mutex.proofs.effects.Firing.is_single_among.Goals.{else-other-effects-via-then-other-effects+else-not-not_both, else-other-effects-via-else-other-effects}
 

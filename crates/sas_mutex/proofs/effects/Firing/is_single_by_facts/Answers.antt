@@ -7,7 +7,7 @@ use Rattle.sas_core.specs.Grounded.{effect_at, group_at}
 use Rattle.sas_groups.specs.Clashes.{sets}
 use Rattle.sas_group_index.specs.Distinct.{AreDistinct}
 use Rattle.sas_mutex.specs.Firing.{EffectPlace, operator_of}
-use Rattle.sas_mutex.specs.Noting.{IsSingleOn}
+use Rattle.sas_mutex.specs.ByNotes.{IsSingleOn}
 use Rattle.sas_mutex.proofs.effects.Firing.is_single_by_facts.Goals as goal
 use Rattle.sas_mutex.proofs.effects.Firing.is_single_by_facts.Goals.{else-begins_run-via-then-begins_run+else-not-is_single_on, else-begins_run-via-else-begins_run}
 

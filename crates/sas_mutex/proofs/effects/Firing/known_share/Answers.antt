@@ -8,9 +8,9 @@ use Rattle.sas_group_index.specs.Index.{IsIndexOf}
 use Rattle.sas_groups.specs.Lists.{known_left}
 use Rattle.sas_groups.proofs.Turns.{turn_has, turn_left, turn_more}
 use Rattle.sas_mutex.specs.Firing.{EffectPlace}
-use Rattle.sas_mutex.specs.Noting.{ShareOne, known_at}
+use Rattle.sas_mutex.specs.ByNotes.{ShareOne, known_at}
 use Rattle.sas_mutex.proofs.TaskFacts.{known_at_exist}
-use Rattle.sas_mutex.proofs.NotesOfFacts.{share_one, share_kept}
+use Rattle.sas_mutex.proofs.KnownFacts.{share_one, share_kept}
 use Rattle.sas_mutex.proofs.effects.Firing.known_share.Goals as goal
 use Rattle.sas_mutex.proofs.effects.Firing.known_share.Goals.{else-not-is_apart-via-then-not-is_apart+else-some_has, else-not-is_apart-via-else-not-is_apart}
 

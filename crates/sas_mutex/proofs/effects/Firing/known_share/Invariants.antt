@@ -3,7 +3,7 @@ use Rattle.std.proofs.Common.{◌≡◌, ◌≢◌, ◌++◌, Some}
 use Rattle.std.specs.List.{All}
 use Rattle.sas_core.specs.declared.parts.Fact.{Fact}
 use Rattle.sas_groups.specs.Lists.{known_left}
-use Rattle.sas_mutex.specs.Noting.{ShareOne, known_at}
+use Rattle.sas_mutex.specs.ByNotes.{ShareOne, known_at}
 use Rattle.sas_mutex.proofs.effects.Firing.known_share.Given as goal
 
 abbrev pub invariant-loop-known : goal.invariant-loop-known

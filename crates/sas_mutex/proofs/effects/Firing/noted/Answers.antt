@@ -1,7 +1,7 @@
 -- The note and the fact apart tell of all facts that are known.
-use Rattle.sas_mutex.specs.Noting.{known_at}
+use Rattle.sas_mutex.specs.ByNotes.{known_at}
 use Rattle.sas_mutex.proofs.TaskFacts.{known_at_exist}
-use Rattle.sas_mutex.proofs.NotesOfFacts.{completed}
+use Rattle.sas_group_index.proofs.NotesOfFacts.{completed}
 use Rattle.sas_mutex.proofs.effects.Firing.noted.Goals as goal
 
 pub returns : goal.returns

@@ -2,9 +2,9 @@
 use Rattle.std.proofs.Common.{ℕ, List, length, sym, subst, ◌∙◌, ap}
 use Rattle.sas_core.specs.Grounded.{operator_at, effect_at}
 use Rattle.sas_group_index.specs.Index.{groups_of}
-use Rattle.sas_mutex.specs.declared.marks.Noted.{Noted}
-use Rattle.sas_mutex.specs.Noting.{AreBelow, HasNotedGroup}
-use Rattle.sas_mutex.proofs.TaskFacts.{groups_below}
+use Rattle.sas_group_index.specs.declared.notes.Noted.{Noted}
+use Rattle.sas_group_index.specs.Noting.{AreBelow, HasNotedGroup}
+use Rattle.sas_group_index.proofs.Existing.{groups_below}
 use Rattle.sas_mutex.proofs.ToldByNotes.{noted_beside, beside_noted}
 use Rattle.sas_mutex.proofs.effects.Firing.shares_beside.Goals as goal
 

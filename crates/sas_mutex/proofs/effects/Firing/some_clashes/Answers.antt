@@ -2,7 +2,7 @@
 use Rattle.std.proofs.Common.{sym, subst, arith}
 use Rattle.sas_core.specs.declared.parts.Fact.{Fact}
 use Rattle.sas_groups.proofs.Turns.{each_more}
-use Rattle.sas_mutex.specs.Noting.{ClashesAt}
+use Rattle.sas_mutex.specs.ByNotes.{ClashesAt}
 use Rattle.sas_mutex.proofs.effects.Firing.some_clashes.Goals as goal
 
 pub loop-fact-preserved : goal.loop-fact-preserved

@@ -1,7 +1,7 @@
 -- None of the facts so far clashes.
 use Rattle.std.proofs.Common.{ℕ, ◌<◌, get_or}
 use Rattle.sas_core.specs.declared.parts.Fact.{Fact}
-use Rattle.sas_mutex.specs.Noting.{ClashesAt}
+use Rattle.sas_mutex.specs.ByNotes.{ClashesAt}
 use Rattle.sas_mutex.proofs.effects.Firing.some_clashes.Given as goal
 
 abbrev pub invariant-loop-fact : goal.invariant-loop-fact

@@ -1,5 +1,5 @@
 use Rattle.std.proofs.Common.{rules}
-use Rattle.sas_mutex.proofs.marks.note.Goals as goal
+use Rattle.sas_group_index.proofs.notes.note.Goals as goal
 
 pub returns-in-Some-clause-yes : goal.returns-in-Some-clause-yes
 returns-in-Some-clause-yes g c = search rules

@@ -1,8 +1,8 @@
 -- Nothing is noted for the groups so far.
 use Rattle.std.proofs.Common.{◌≡◌, ◌⊎◌, ℕ, ◌<◌, get_or, length}
-use Rattle.sas_mutex.specs.declared.marks.Noted.TheVariants.{Nothing}
-use Rattle.sas_mutex.specs.Marks.{group_note}
-use Rattle.sas_mutex.proofs.marks.forget_groups.Given as goal
+use Rattle.sas_group_index.specs.declared.notes.Noted.TheVariants.{Nothing}
+use Rattle.sas_group_index.specs.Notes.{group_note}
+use Rattle.sas_group_index.proofs.notes.forget_groups.Given as goal
 
 abbrev pub invariant-loop-group : goal.invariant-loop-group
 invariant-loop-group l = record {

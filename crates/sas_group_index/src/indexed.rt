@@ -1,6 +1,6 @@
 // A task with the index that is used for it again and again.
+use crate::index::Index;
 use sas_core::Grounded;
-use sas_group_index::Index;
 use sas_meaning::Layered;
 use std::marker::Model;
 

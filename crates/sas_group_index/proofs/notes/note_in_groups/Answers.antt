@@ -2,15 +2,15 @@
 use Rattle.std.proofs.Common.{◌≢◌, ◌<◌, List, length, get_or, IsTrue, subst, sym, ◌∙◌, arith}
 use Rattle.std.proofs.lemmas.Bool.{both_ways}
 use Rattle.std.proofs.lemmas.List.Elements.{Contains-get_or}
-use Rattle.sas_groups.proofs.Turns.{each_more}
-use Rattle.sas_mutex.specs.declared.marks.Noted.{Noted}
-use Rattle.sas_mutex.specs.declared.marks.Noted.TheVariants.{Several}
-use Rattle.sas_mutex.specs.Effects.{family_of}
-use Rattle.sas_mutex.specs.Marks.{group_note}
-use Rattle.sas_mutex.specs.Noting.{IsNotedToo, Takes}
-use Rattle.sas_mutex.proofs.NotesOfFacts.{since_before, takes_still, takes_here, taken_more}
-use Rattle.sas_mutex.proofs.marks.note_in_groups.Goals as goal
-use Rattle.sas_mutex.proofs.marks.note_in_groups.Goals.{else-is_several-via-then-is_several+else-is_kept, else-is_several-via-else-is_several}
+use Rattle.sas_group_index.proofs.Lists.{each_more}
+use Rattle.sas_group_index.specs.declared.notes.Noted.{Noted}
+use Rattle.sas_group_index.specs.declared.notes.Noted.TheVariants.{Several}
+use Rattle.sas_group_index.specs.Kept.{family_of}
+use Rattle.sas_group_index.specs.Notes.{group_note}
+use Rattle.sas_group_index.specs.Noting.{IsNotedToo, Takes}
+use Rattle.sas_group_index.proofs.NotesOfFacts.{since_before, takes_still, takes_here, taken_more}
+use Rattle.sas_group_index.proofs.notes.note_in_groups.Goals as goal
+use Rattle.sas_group_index.proofs.notes.note_in_groups.Goals.{else-is_several-via-then-is_several+else-is_kept, else-is_several-via-else-is_several}
 
 pub returns-then-is_kept-clause-no : goal.returns-then-is_kept-clause-no
 returns-then-is_kept-clause-no c =

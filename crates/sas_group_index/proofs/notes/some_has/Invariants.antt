@@ -2,8 +2,8 @@
 use Rattle.std.proofs.Common.{ℕ, ◌<◌, get_or, IsTrue}
 use Rattle.std.specs.List.{Contains}
 use Rattle.sas_group_index.specs.Index.{groups_of}
-use Rattle.sas_mutex.specs.Effects.{family_of}
-use Rattle.sas_mutex.proofs.marks.some_has.Given as goal
+use Rattle.sas_group_index.specs.Kept.{family_of}
+use Rattle.sas_group_index.proofs.notes.some_has.Given as goal
 
 abbrev pub invariant-loop-group : goal.invariant-loop-group
 invariant-loop-group l = (k d : ℕ) → k < l.group-index → IsTrue (family_of l.kept (get_or (groups_of l.index l.fn.fact) k d))

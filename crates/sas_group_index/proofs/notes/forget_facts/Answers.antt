@@ -3,11 +3,11 @@ use Rattle.std.proofs.Common.{length, get_or, refl, subst, arith}
 use Rattle.sas_core.specs.declared.parts.Fact.{Fact}
 use Rattle.sas_core.specs.declared.parts.Parts.{Parts}
 use Rattle.sas_group_index.specs.Index.{IsIndexOf}
-use Rattle.sas_groups.proofs.Turns.{each_more}
-use Rattle.sas_mutex.specs.Noting.{IsForgotten}
-use Rattle.sas_mutex.proofs.TaskFacts.{groups_below}
-use Rattle.sas_mutex.proofs.NotesOfFacts.{noted_less, forgotten_now, forgotten_still, blank_in_the_end}
-use Rattle.sas_mutex.proofs.marks.forget_facts.Goals as goal
+use Rattle.sas_group_index.proofs.Lists.{each_more}
+use Rattle.sas_group_index.specs.Noting.{IsForgotten}
+use Rattle.sas_group_index.proofs.Existing.{groups_below}
+use Rattle.sas_group_index.proofs.NotesOfFacts.{noted_less, forgotten_now, forgotten_still, blank_in_the_end}
+use Rattle.sas_group_index.proofs.notes.forget_facts.Goals as goal
 
 pub forget-requires-clause-groups : goal.forget-requires-clause-groups
 forget-requires-clause-groups g c =

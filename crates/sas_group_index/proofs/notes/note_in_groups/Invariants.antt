@@ -1,7 +1,7 @@
 -- The groups so far took the fact.
 use Rattle.std.proofs.Common.{ℕ, ◌<◌, get_or}
-use Rattle.sas_mutex.specs.Noting.{TakenBySome, Takes}
-use Rattle.sas_mutex.proofs.marks.note_in_groups.Given as goal
+use Rattle.sas_group_index.specs.Noting.{TakenBySome, Takes}
+use Rattle.sas_group_index.proofs.notes.note_in_groups.Given as goal
 
 abbrev pub invariant-loop-group : goal.invariant-loop-group
 invariant-loop-group l = record {

@@ -1,9 +1,9 @@
 -- Nothing is noted of the facts so far.
 use Rattle.std.proofs.Common.{ℕ, ◌<◌, get_or}
 use Rattle.sas_core.specs.declared.parts.Fact.{Fact}
-use Rattle.sas_mutex.specs.Marks.{AreFrom}
-use Rattle.sas_mutex.specs.Noting.{IsForgotten}
-use Rattle.sas_mutex.proofs.marks.forget_facts.Given as goal
+use Rattle.sas_group_index.specs.Notes.{AreFrom}
+use Rattle.sas_group_index.specs.Noting.{IsForgotten}
+use Rattle.sas_group_index.proofs.notes.forget_facts.Given as goal
 
 abbrev pub invariant-loop-fact : goal.invariant-loop-fact
 invariant-loop-fact g l = record {

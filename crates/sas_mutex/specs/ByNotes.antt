@@ -1,0 +1,174 @@
+-- What follows from the notes for one effect.
+use Rattle.std.specs.Prelude.{◌≡◌, ◌≢◌, ◌⊎◌, ℕ, ◌<◌, Bool, Option, None, Some}
+use Rattle.std.specs.Prelude.{List, [], ◌∷◌, length, slice_index_or, All, Contains}
+use Rattle.sas_core.specs.declared.parts.Fact.{Fact}
+use Rattle.sas_core.specs.declared.grounded.Change.{Change}
+use Rattle.sas_core.specs.declared.parts.Effect.{Effect}
+use Rattle.sas_core.specs.declared.parts.Operator.{Operator}
+use Rattle.sas_core.specs.declared.parts.Parts.{Parts}
+use Rattle.sas_core.specs.Grounded.{operator_at, effect_at, group_at}
+use Rattle.sas_groups.specs.Clashes.{Clash}
+use Rattle.sas_groups.specs.Lists.{known}
+use Rattle.sas_mutex.specs.declared.marks.Marks.{Marks}
+use Rattle.sas_group_index.specs.declared.notes.Notes.{Notes}
+use Rattle.sas_groups.specs.Checks.{NotBoth, IsGone}
+use Rattle.sas_mutex.specs.Effects.{IsKept, KeepsAt, KeepsWithItself}
+use Rattle.sas_group_index.specs.declared.index.Index.{Index}
+use Rattle.sas_group_index.specs.ByVariable.{variable_of}
+use Rattle.sas_group_index.specs.Index.{groups_of}
+use Rattle.sas_mutex.specs.Firing.{EffectPlace, operator_of, effect_of}
+use Rattle.sas_group_index.specs.Notes.{value_note, AreNotesOf}
+use Rattle.sas_mutex.specs.Marks.{IsNotedFrom}
+use Rattle.sas_groups.specs.Families.{IsIn}
+use Rattle.sas_group_index.specs.Kept.{family_of}
+
+-- a group of the task that is kept has both facts
+pub record ShareOne (p : Parts) (kept : List Bool) (f g : Fact) : Type 0 where
+  pub place : ℕ
+  pub in_family : IsIn p (family_of kept) place
+  pub first : Contains (group_at p place) f
+  pub second : Contains (group_at p place) g
+
+-- the facts are noted and don't clash
+pub record AreKnown (p : Parts) (kept : List Bool) (facts : List Fact) (notes : Notes)
+    : Type 0 where
+  pub noted : AreNotesOf p facts notes
+  pub apart : Clash (IsKept p kept) facts → ⊥
+
+-- the change sets a fact of the group, and is on another variable than this one
+pub record SetsBeside (index : Index) (change : Change) (var place : ℕ) : Type 0 where
+  pub beside : change.var ≢ var
+  pub has : Contains (groups_of index (record { var = change.var; value = change.new })) place
+
+-- the condition is this fact, or noted
+abbrev pub IsMet : Notes → Fact → Fact → Type 0
+IsMet notes fact condition =
+    (condition ≡ fact) ⊎ (value_note notes.values condition.var ≡ Some condition.value)
+
+-- an effect whose conditions are all met sets the variable of the fact to another value
+pub record Removes (notes : Notes) (fact : Fact) (e : Effect) : Type 0 where
+  pub fires : All (IsMet notes fact) e.conditions
+  pub var : e.var ≡ fact.var
+  pub other : e.new ≢ fact.value
+
+-- the change sets the variable of the fact to another value
+abbrev pub IsOther : Fact → Change → Type 0
+IsOther fact change = (change.var ≡ fact.var) × (change.new ≢ fact.value)
+
+-- one of the changes does
+abbrev pub SomeOther : List Change → Fact → Type 0
+SomeOther changes fact = (change : Change) × Contains changes change × IsOther fact change
+
+-- some effect of the operator removes the fact
+abbrev pub SomeRemoves : Operator → Notes → Fact → Type 0
+SomeRemoves o notes fact = (effect : ℕ)
+    × (effect < length o.effects)
+    × Removes notes fact (effect_at o effect)
+
+-- the known facts where the effect at this place of this operator fires
+abbrev pub known_at : Parts → ℕ → ℕ → List Fact
+known_at p operator effect =
+    known (operator_at p operator) (effect_at (operator_at p operator) effect).conditions []
+
+-- these facts are noted, and no others, and don't clash
+pub record AreNoted (p : Parts) (kept : List Bool) (facts : List Fact) (marks : Marks)
+    : Type 0 where
+  pub are : AreKnown p kept facts marks.known
+  pub from : IsNotedFrom p facts marks
+
+-- the known facts where the effect fires are noted, and no others, and don't clash
+abbrev pub IsNotedFor : Parts → List Bool → ℕ → ℕ → Marks → Type 0
+IsNotedFor p kept operator effect marks = AreNoted p kept (known_at p operator effect) marks
+
+-- no effect that may fire together with this one sets a fact of the group too, on another variable
+abbrev pub IsSingle : (List Fact → Type 0) → Operator → List Fact → Effect → Type 0
+IsSingle Counts o group e = (other : ℕ) → other < length o.effects
+    → NotBoth Counts o group e (effect_at o other)
+
+-- no other fact of the group stays where the effect fires
+abbrev pub AreGone : (List Fact → Type 0) → Operator → List Fact → Effect → Type 0
+AreGone Counts o group e = (f : Fact) → Contains group f → IsGone Counts o e f
+
+-- the fact isn't known where the effect fires
+abbrev pub IsUnknown : Operator → Effect → Fact → Type 0
+IsUnknown o e fact = Contains (known o e.conditions []) fact → ⊥
+
+-- the first of the facts, if there is one, is on the effect's variable, or a value is noted for its
+-- variable
+abbrev pub IsDecidedByFirst : Effect → List Fact → Notes → Type 0
+IsDecidedByFirst e facts notes = (first : Fact) (d : Fact) → 0 < length facts
+    → slice_index_or facts 0 d ≡ first
+    → (e.var ≡ first.var) ⊎ (value_note notes.values first.var ≢ None)
+
+-- ---- the same of an effect and a group of a task, where the groups of the family count
+
+-- the known facts where the effect fires are noted, and no others, and don't clash
+pub record IsNotedAt (f : EffectPlace) (kept : List Bool) (marks : Marks) : Type 0 where
+  pub one_each : length kept ≡ length f.task.groups
+  pub noted : IsNotedFor f.task kept f.operator f.effect marks
+
+-- the effect keeps the group at this place, under the family, or under the family and itself
+abbrev pub KeepsGroup : EffectPlace → List Bool → ℕ → Type 0
+KeepsGroup f kept place = KeepsAt f.task kept f.operator f.effect place
+
+abbrev pub KeepsGroupItself : EffectPlace → List Bool → ℕ → Type 0
+KeepsGroupItself f kept place = KeepsWithItself f.task kept f.operator f.effect place
+
+-- the known facts where both effects fire clash
+abbrev pub BothClashAt : EffectPlace → List Bool → ℕ → Type 0
+BothClashAt f kept other = Clash (IsKept f.task kept) (known (operator_of f)
+    (effect_of f).conditions (effect_at (operator_of f) other).conditions)
+
+-- the fact clashes with the known facts where the effect fires
+abbrev pub ClashesAt : EffectPlace → List Bool → Fact → Type 0
+ClashesAt f kept fact =
+    Clash (IsKept f.task kept) (known (operator_of f) (effect_of f).conditions (fact ∷ []))
+
+-- one of these facts does
+abbrev pub SomeClashesAt : EffectPlace → List Bool → List Fact → Type 0
+SomeClashesAt f kept facts = (fact : Fact) × Contains facts fact × ClashesAt f kept fact
+
+-- a group of the family has this fact and a known one that isn't the one apart
+abbrev pub SharesBesideAt : EffectPlace → List Bool → Fact → Option Fact → Type 0
+SharesBesideAt f kept fact apart = (known : Fact)
+    × Contains (known_at f.task f.operator f.effect) known
+    × (apart ≢ Some known)
+    × ShareOne f.task kept known fact
+
+abbrev pub NotBothAt : EffectPlace → List Bool → ℕ → ℕ → Type 0
+NotBothAt f kept other place = NotBoth (IsKept f.task kept) (operator_of f)
+    (group_at f.task place) (effect_of f) (effect_at (operator_of f) other)
+
+abbrev pub IsSingleAt : EffectPlace → List Bool → ℕ → Type 0
+IsSingleAt f kept place =
+    IsSingle (IsKept f.task kept) (operator_of f) (group_at f.task place) (effect_of f)
+
+-- the effect at this place, if there is one, doesn't set a fact of the group so
+abbrev pub IsApartAt : EffectPlace → List Bool → ℕ → ℕ → Type 0
+IsApartAt f kept place other = other < length (operator_of f).effects → NotBothAt f kept other place
+
+-- none of the effects on the variable does
+abbrev pub IsSingleOn : EffectPlace → List Bool → ℕ → ℕ → Type 0
+IsSingleOn f kept place var = (other : ℕ) → variable_of f.task f.operator other ≡ var
+    → IsApartAt f kept place other
+
+-- none of the effects on the variable of one of the first facts does
+abbrev pub IsSingleOnFirst : EffectPlace → List Bool → ℕ → List Fact → ℕ → Type 0
+IsSingleOnFirst f kept place facts count = (k : ℕ) (d : Fact) → k < count
+    → IsSingleOn f kept place (slice_index_or facts k d).var
+
+-- the fact at this place has one before it on the same variable
+pub record IsOnVariableBefore (facts : List Fact) (place : ℕ) : Type 0 where
+  pub before : ℕ
+  pub early : before < place
+  pub same : (d : Fact) → (slice_index_or facts before d).var ≡ (slice_index_or facts place d).var
+
+abbrev pub IsGoneAt : EffectPlace → List Bool → Fact → Type 0
+IsGoneAt f kept = IsGone (IsKept f.task kept) (operator_of f) (effect_of f)
+
+abbrev pub AreGoneAt : EffectPlace → List Bool → ℕ → Type 0
+AreGoneAt f kept place =
+    AreGone (IsKept f.task kept) (operator_of f) (group_at f.task place) (effect_of f)
+
+abbrev pub IsUnknownAt : EffectPlace → Fact → Type 0
+IsUnknownAt f = IsUnknown (operator_of f) (effect_of f)
