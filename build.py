@@ -17,9 +17,9 @@ import time
 TOP = os.path.dirname(os.path.abspath(__file__))
 CRATES = f"{TOP}/crates"
 PROGRAM = "sas"
-# the crate on which the program's words stand, and those that are proved one behind the other in the end
-PLANS = "sas_plans"
-LAST = ["sas_requests", PLANS, "sas_tool", PROGRAM]
+# the crate with the program's words, and those that are proved one behind the other in the end
+WORDS = "sas_tool"
+LAST = [WORDS, PROGRAM]
 PROCESSORS = str(os.cpu_count())
 BEGAN = time.monotonic()
 
@@ -83,7 +83,7 @@ def prove_below(jobs, progress, log):
     """Proves the crates below the last ones, and reports each as soon as it is proved. The check of the last ones is stopped: what builds
     the program proves them anyway, by all processors. Returns whether all below are proved."""
     crate, below = None, set(progress.names) - set(LAST)
-    with begin(["rt", "all", "check", "--jobs", jobs], PLANS) as process:
+    with begin(["rt", "all", "check", "--jobs", jobs], WORDS) as process:
         for line in process.stdout:
             log.write(line)
             begins = re.match(r"== (\w+)$", line)

@@ -16,12 +16,12 @@ use Rattle.sas_output.specs.declared.told.Told.{Told}
 use Rattle.sas_output.specs.Ending.{Output, Ends, output_told}
 use Rattle.sas_answers.specs.Answers.{layers_verdict}
 use Rattle.sas_core.specs.PlanParts.{PlanParts}
-use Rattle.sas_requests.specs.declared.Request.{Request}
-use Rattle.sas_requests.specs.declared.Request.TheVariants.{Plan}
-use Rattle.sas_requests.specs.Headline.{Headline}
-use Rattle.sas_requests.specs.Output.{CheckOut, PlanOutBy}
-use Rattle.sas_requests.proofs.Headlines.{TellsValid, headline_of}
-use Rattle.sas_requests.proofs.PlanAnswers.{Refuses}
+use Rattle.sas_outputs.specs.declared.Request.{Request}
+use Rattle.sas_outputs.specs.declared.Request.TheVariants.{Plan}
+use Rattle.sas_outputs.specs.Headline.{Headline}
+use Rattle.sas_outputs.specs.Output.{CheckOut, PlanOutBy}
+use Rattle.sas_outputs.proofs.Headlines.{TellsValid, headline_of}
+use Rattle.sas_outputs.proofs.PlanOutputs.{Refuses}
 use Rattle.sas_requests.proofs.ReasonedOutputs.{headline_why}
 use Rattle.sas_requests.specs.Why.{OutWhy}
 use Rattle.sas_plans.specs.declared.held.Opening.{Opening}

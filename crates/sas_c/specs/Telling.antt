@@ -5,7 +5,7 @@ use Rattle.sas_output.specs.declared.ending.Status.TheVariants.{Yes, No}
 use Rattle.sas_output.specs.declared.ending.ToolFault.{ToolFault}
 use Rattle.sas_output.specs.declared.ending.ToolFault.TheVariants.{Memory, Read, TooLong, Write}
 use Rattle.sas_output.specs.Ending.{Output}
-use Rattle.sas_requests.specs.Headline.{Headline}
+use Rattle.sas_outputs.specs.Headline.{Headline}
 
 -- the number of an answer that is told
 abbrev pub number_of_status : Status → ℕ

@@ -1,6 +1,6 @@
 // How a request about bytes in memory is answered.
 ghost use Rattle.std.specs.Prelude.{◌≡◌};
-ghost use Rattle.sas_requests.specs.Output.{Out};
+ghost use Rattle.sas_outputs.specs.Output.{Out};
 ghost use Rattle.sas_requests.specs.Why.{OutWhy};
 ghost use Rattle.sas_plans.specs.TraceOut.{TraceOut};
 ghost use Rattle.sas_c.specs.Telling.{Tells};

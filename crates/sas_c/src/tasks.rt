@@ -1,7 +1,7 @@
 // A task that is read once, for many plans.
 ghost use Rattle.std.specs.Prelude.{◌≡◌, Some, None, IfSome, IsFalse, IsNone, IsTrue};
 ghost use Rattle.sas_answers.specs.Answers.{VerdictAnswer, layers_verdict};
-ghost use Rattle.sas_requests.specs.Output.{CheckOut, VerdictOut};
+ghost use Rattle.sas_outputs.specs.Output.{CheckOut, VerdictOut};
 ghost use Rattle.sas_c.specs.Telling.{Tells};
 ghost use Rattle.sas_c.specs.Holding.{Holds};
 

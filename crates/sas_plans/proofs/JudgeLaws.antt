@@ -24,11 +24,11 @@ use Rattle.sas_output.specs.declared.ending.Status.TheVariants.{Yes, No}
 use Rattle.sas_output.specs.Ending.{Output}
 use Rattle.sas_answers.specs.Answers.{VerdictAnswer, layers_refusal}
 use Rattle.sas_answers.proofs.VerdictAnswers.{one_verdict_answer, some_verdict_answer}
-use Rattle.sas_requests.specs.declared.Request.TheVariants.{Plan}
-use Rattle.sas_requests.specs.Output.{Out, VerdictOut, LayersOut, plain_refusal, IsAnswerOrRefusal, IsLayeredText, refusal_line, word_of}
-use Rattle.sas_requests.proofs.Outputs.{one_file_output, some_file_output}
-use Rattle.sas_requests.proofs.PlanAnswers.{plain_refuses, judged_out, no_plan_output}
-use Rattle.sas_requests.proofs.WhyAnswers.{worded}
+use Rattle.sas_outputs.specs.declared.Request.TheVariants.{Plan}
+use Rattle.sas_outputs.specs.Output.{Out, VerdictOut, LayersOut, plain_refusal, IsAnswerOrRefusal, IsLayeredText, refusal_line, word_of}
+use Rattle.sas_outputs.proofs.Outputs.{one_file_output, some_file_output}
+use Rattle.sas_outputs.proofs.PlanOutputs.{plain_refuses, judged_out, no_plan_output}
+use Rattle.sas_outputs.proofs.WordedLines.{worded}
 use Rattle.sas_plans.specs.Judged.{Judged, HasCost, IsJudged, PlansAnswer, PlansOut, JudgedLayers, JudgedTask, JudgeOut, is_valid, labelled}
 use Rattle.sas_plans.specs.Laws.{OneJudgeOutput, SomeJudgeOutput, EachIsThatOfPlan, RefusesAsPlan, NoneJudgeIsLong}
 use Rattle.sas_plans.proofs.BestPlans.{one_summary, some_summary}

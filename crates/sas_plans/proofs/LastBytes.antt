@@ -9,7 +9,7 @@ use Rattle.sas_meaning.specs.declared.layered.LayerFault.TheVariants as layer_fa
 use Rattle.sas_reader.specs.declared.fault.Kind.{Kind}
 use Rattle.sas_reader.specs.declared.fault.Kind.TheVariants as kinds
 use Rattle.sas_answers.specs.LayerWords.{layer_words, part_words}
-use Rattle.sas_requests.specs.Output.{word_of}
+use Rattle.sas_outputs.specs.Output.{word_of}
 
 -- the last byte, or 0
 abbrev pub last : List ℕ → ℕ

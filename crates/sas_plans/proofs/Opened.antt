@@ -15,8 +15,8 @@ use Rattle.sas_output.specs.declared.ending.ToolFault.{ToolFault}
 use Rattle.sas_output.specs.declared.told.Told.{Told}
 use Rattle.sas_output.specs.Ending.{output_told}
 use Rattle.sas_answers.specs.Answers.{CheckAnswer, VerdictAnswer}
-use Rattle.sas_requests.specs.Output.{CheckOut, VerdictOut, refusal}
-use Rattle.sas_requests.proofs.Outputs.{file_refused, file_too_long}
+use Rattle.sas_outputs.specs.Output.{CheckOut, VerdictOut, refusal}
+use Rattle.sas_outputs.proofs.Outputs.{file_refused, file_too_long}
 use Rattle.sas_plans.specs.declared.held.Opening.TheVariants.{Refused}
 use Rattle.sas_plans.specs.Opened.{Opens}
 use Rattle.sas_plans.proofs.PlanVerdicts.{refused_status}

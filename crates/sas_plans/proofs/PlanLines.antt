@@ -17,9 +17,9 @@ use Rattle.sas_answers.specs.Answers.{VerdictAnswer, layers_refusal}
 use Rattle.sas_answers.specs.LayerWords.{layer_words, layers_line}
 use Rattle.sas_answers.specs.PlanWords.{fault_words, invalid_line}
 use Rattle.sas_output.specs.declared.ending.Status.TheVariants.{No}
-use Rattle.sas_requests.specs.Output.{VerdictOut, IsAnswerOrRefusal, refusal, refusal_line, word_of}
-use Rattle.sas_requests.proofs.ToldLines.{file_words, file_plain, kind_plain, layer_plain, verdict_told}
-use Rattle.sas_requests.proofs.WhyAnswers.{worded}
+use Rattle.sas_outputs.specs.Output.{VerdictOut, IsAnswerOrRefusal, refusal, refusal_line, word_of}
+use Rattle.sas_outputs.proofs.PlainLines.{file_words, file_plain, kind_plain, layer_plain, invalid_plain}
+use Rattle.sas_outputs.proofs.WordedLines.{worded}
 use Rattle.sas_plans.specs.Inputs.{IsLabel}
 use Rattle.sas_plans.specs.Judged.{Judged, labelled}
 use Rattle.sas_plans.specs.Judging.{unjudged}
@@ -49,7 +49,7 @@ answer_line p plan o (inl (valid, is)) = record {
 }
 answer_line p plan o (inr (fault, is_fault, is)) =
     let w = worded (fault_words plan.cost fault) invalid_line o is in
-    record { line = codes "plan invalid: " ++ w.said; plain = (verdict_told plan.cost fault w.said w.among).plain; is = w.text }
+    record { line = codes "plan invalid: " ++ w.said; plain = invalid_plain plan.cost fault w.said w.among; is = w.text }
 
 reading_line : (p : Parts) (o : Output) (r : Result PlanParts Fault) → IsAnswerOrRefusal (codes "plan") (VerdictAnswer p) r (Some o) → IsLine o.text
 reading_line p o (Ok plan) (answer, verdict, is) = let same : answer ≡ o = cc in subst (λ (x : Output). IsLine x.text) same (answer_line p plan answer verdict)

@@ -25,10 +25,10 @@ use Rattle.sas_output.specs.declared.ending.Status.TheVariants.{Yes, No}
 use Rattle.sas_output.specs.Ending.{Output}
 use Rattle.sas_answers.specs.Answers.{VerdictAnswer}
 use Rattle.sas_answers.specs.PlanWords.{valid_line}
-use Rattle.sas_requests.specs.Headline.{Solves, Headline}
-use Rattle.sas_requests.specs.Output.{IsLayeredText, plain_refusal}
-use Rattle.sas_requests.proofs.Headlines.{tells_valid, headline_of, sent_same}
-use Rattle.sas_requests.proofs.PlanAnswers.{plain_refuses, judged_out}
+use Rattle.sas_outputs.specs.Headline.{Solves, Headline}
+use Rattle.sas_outputs.specs.Output.{IsLayeredText, plain_refusal}
+use Rattle.sas_outputs.proofs.Headlines.{tells_valid, headline_of, sent_same}
+use Rattle.sas_outputs.proofs.PlanOutputs.{plain_refuses, judged_out}
 use Rattle.sas_plans.specs.Inputs.{IsLabel}
 use Rattle.sas_plans.specs.Judged.{Judged, HasCost, IsJudged, PlansAnswer, JudgedLayers, JudgedTask, JudgeOut, is_valid, labelled}
 use Rattle.sas_plans.specs.Judging.{unjudged}

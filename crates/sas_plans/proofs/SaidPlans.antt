@@ -15,7 +15,7 @@ use Rattle.sas_output.specs.declared.ending.ToolFault.{ToolFault}
 use Rattle.sas_output.specs.declared.ending.ToolFault.TheVariants as tool_fault
 use Rattle.sas_output.specs.Ending.{IsDecided, IsWrite}
 use Rattle.sas_answers.specs.Answers.{VerdictAnswer}
-use Rattle.sas_requests.specs.Output.{VerdictOut}
+use Rattle.sas_outputs.specs.Output.{VerdictOut}
 use Rattle.sas_plans.specs.declared.inputs.JudgeFault.{JudgeFault}
 use Rattle.sas_plans.specs.declared.inputs.JudgeFault.TheVariants.{Tool}
 use Rattle.sas_plans.specs.declared.tally.Best.{Best}

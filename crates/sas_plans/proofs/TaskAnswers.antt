@@ -21,9 +21,9 @@ use Rattle.sas_output.specs.declared.ending.ToolFault.TheVariants as tool_fault
 use Rattle.sas_output.specs.declared.told.Told.{Told}
 use Rattle.sas_output.specs.Ending.{Output, output_told, IsDecided, IsWrite}
 use Rattle.sas_answers.specs.Answers.{layers_refusal}
-use Rattle.sas_requests.specs.Output.{IsAnswerOrRefusal, refusal}
-use Rattle.sas_requests.proofs.Outputs.{refused_kind, too_long_else, reading_of_refusal, file_refused, file_too_long}
-use Rattle.sas_requests.proofs.PlanAnswers.{NoAnswer, RefusedOut, told_fault}
+use Rattle.sas_outputs.specs.Output.{IsAnswerOrRefusal, refusal}
+use Rattle.sas_outputs.proofs.Outputs.{refused_kind, too_long_else, reading_of_refusal, file_refused, file_too_long}
+use Rattle.sas_outputs.proofs.PlanOutputs.{NoAnswer, RefusedOut, told_fault}
 use Rattle.sas_plans.specs.declared.inputs.JudgeFault.{JudgeFault}
 use Rattle.sas_plans.specs.declared.inputs.JudgeFault.TheVariants.{Tool}
 use Rattle.sas_plans.specs.Inputs.{WereRead, tool_result, tool_fault as fault_of}

@@ -21,9 +21,9 @@ use Rattle.sas_output.specs.declared.ending.ToolFault.{ToolFault}
 use Rattle.sas_output.specs.declared.ending.ToolFault.TheVariants as tool_fault
 use Rattle.sas_output.specs.Ending.{Output, Ends, IsDecided, IsWrite}
 use Rattle.sas_answers.specs.Answers.{layers_refusal}
-use Rattle.sas_requests.specs.Output.{IsLayeredText, refusal, FileOut, VerdictOut, plain_refusal}
-use Rattle.sas_requests.proofs.Outputs.{refused_kind, reading_of_refusal, takes_nothing}
-use Rattle.sas_requests.proofs.PlanAnswers.{NoAnswer, RefusedOut, told_fault, first_alone, second_alone, refused_out, judged_out, unlayered_out}
+use Rattle.sas_outputs.specs.Output.{IsLayeredText, refusal, FileOut, VerdictOut, plain_refusal}
+use Rattle.sas_outputs.proofs.Outputs.{refused_kind, reading_of_refusal, takes_nothing}
+use Rattle.sas_outputs.proofs.PlanOutputs.{NoAnswer, RefusedOut, told_fault, first_alone, second_alone, refused_out, judged_out, unlayered_out}
 use Rattle.sas_trace.specs.Traced.{TraceVerdict}
 use Rattle.sas_plans.specs.TraceOut.{TraceOut}
 use Rattle.sas_plans.specs.TraceSteps.{EndsFile}

@@ -8,8 +8,8 @@ use Rattle.sas_meaning.specs.LayerChecks.{layer_checks}
 use Rattle.sas_reader.specs.declared.fault.Fault.{Fault}
 use Rattle.sas_output.specs.Ending.{Output}
 use Rattle.sas_answers.specs.Answers.{VerdictAnswer}
-use Rattle.sas_requests.specs.Output.{IsAnswerOrRefusal, LayersOut, JudgedOut, plain_refusal}
-use Rattle.sas_requests.proofs.PlanAnswers.{plain_refuses, one_plan_output, some_plan_output, no_plan_output}
+use Rattle.sas_outputs.specs.Output.{IsAnswerOrRefusal, LayersOut, JudgedOut, plain_refusal}
+use Rattle.sas_outputs.proofs.PlanOutputs.{plain_refuses, one_plan_output, some_plan_output, no_plan_output}
 use Rattle.sas_trace.specs.Traced.{TraceVerdict}
 use Rattle.sas_trace.specs.Laws.{EndsWithVerdict, OneTrace, SomeTrace}
 use Rattle.sas_plans.specs.TraceOut.{EndsAsPlan, OneTraceOutput, SomeTraceOutput, NoneTraceIsLong}

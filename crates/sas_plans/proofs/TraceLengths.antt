@@ -33,9 +33,9 @@ use Rattle.sas_answers.specs.PlanWords.{valid_line}
 use Rattle.sas_wording.specs.Facts.{fact_words}
 use Rattle.sas_reasons.specs.Runs.{Run, state_at, GoesThrough}
 use Rattle.sas_reasons.specs.WhyPlan.{steps_before}
-use Rattle.sas_requests.proofs.LineLengths.{spread, joined_short}
-use Rattle.sas_requests.proofs.Sizes.{decimal_short, size, size_of_both, size_behind, between_size, counted_size, value_short, named_short, operator_name_short, size_of_sections, size_of_read, plan_size, plan_size_next, plan_size_of_read}
-use Rattle.sas_requests.proofs.WhyFits.{verdict_short}
+use Rattle.sas_outputs.proofs.JoinedLengths.{spread, joined_short}
+use Rattle.sas_outputs.proofs.Sizes.{decimal_short, size, size_of_both, size_behind, between_size, counted_size, value_short, named_short, operator_name_short, size_of_sections, size_of_read, plan_size, plan_size_next, plan_size_of_read}
+use Rattle.sas_outputs.proofs.VerdictLengths.{verdict_short}
 use Rattle.sas_trace.specs.Trace.{variables_of, initial_line, initial_lines, step_line, is_changed, change_line, change_lines, step_lines, run_lines}
 use Rattle.sas_trace.specs.Traced.{EndsWith, TraceFits}
 

@@ -18,7 +18,7 @@ use Rattle.sas_output.specs.declared.ending.Status.{Status}
 use Rattle.sas_output.specs.declared.ending.Status.TheVariants.{Yes, No}
 use Rattle.sas_output.specs.Ending.{Output}
 use Rattle.sas_answers.specs.Answers.{layers_refusal, VerdictAnswer}
-use Rattle.sas_requests.specs.Output.{refusal, VerdictOut}
+use Rattle.sas_outputs.specs.Output.{refusal, VerdictOut}
 
 -- what is said of a plan: its label, the line that `plan` prints of it, with its end, and its cost
 -- if it is valid

@@ -14,7 +14,7 @@ use Rattle.sas_output.specs.declared.ending.ToolFault.TheVariants as fault
 use Rattle.sas_output.specs.Ending.{Output, output_told, IsDecided, IsWrite}
 use Rattle.sas_answers.specs.Answers.{VerdictAnswer}
 use Rattle.sas_reader.specs.declared.fault.Fault.{Fault}
-use Rattle.sas_requests.specs.Output.{VerdictOut, refusal}
+use Rattle.sas_outputs.specs.Output.{VerdictOut, refusal}
 use Rattle.sas_plans.specs.declared.inputs.JudgeFault.{JudgeFault}
 use Rattle.sas_plans.specs.declared.inputs.JudgeFault.TheVariants as judge_fault
 use Rattle.sas_plans.specs.declared.tally.Best.{Best}

@@ -4,8 +4,8 @@ use Rattle.std.specs.Prelude.{Option, Some, None}
 use Rattle.std.specs.List.{AllZip}
 use Rattle.sas_output.specs.Ending.{Output}
 use Rattle.sas_reader.specs.Limit.{most_bytes}
-use Rattle.sas_requests.specs.declared.Request.TheVariants.{Plan}
-use Rattle.sas_requests.specs.Output.{Out, IsLayeredText}
+use Rattle.sas_outputs.specs.declared.Request.TheVariants.{Plan}
+use Rattle.sas_outputs.specs.Output.{Out, IsLayeredText}
 use Rattle.sas_plans.specs.Judged.{JudgeOut}
 
 -- there is one output over the same inputs

@@ -1,6 +1,6 @@
 -- What the public clauses cite.
-pub use Rattle.sas_requests.specs.Output
-pub use Rattle.sas_requests.specs.Headline
+pub use Rattle.sas_outputs.specs.Output
+pub use Rattle.sas_outputs.specs.Headline
 pub use Rattle.sas_trace.specs.Trace
 pub use Rattle.sas_trace.specs.Traced
 pub mod Judged

@@ -6,7 +6,7 @@ use Rattle.sas_reader.specs.Limit.{most_bytes}
 use Rattle.sas_task_format.specs.TaskFormat.{task_format}
 use Rattle.sas_output.specs.declared.ending.Status.TheVariants.{No}
 use Rattle.sas_output.specs.Ending.{output_told}
-use Rattle.sas_requests.specs.Output.{CheckOut}
+use Rattle.sas_outputs.specs.Output.{CheckOut}
 use Rattle.sas_plans.specs.declared.held.Opening.{Opening}
 use Rattle.sas_plans.specs.declared.held.Opening.TheVariants.{Ready, Refused}
 

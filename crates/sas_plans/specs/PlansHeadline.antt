@@ -4,8 +4,8 @@ use Rattle.sas_lines.specs.Lines.{lines}
 use Rattle.sas_output.specs.declared.ending.Status.{Status}
 use Rattle.sas_output.specs.declared.ending.Status.TheVariants.{Yes}
 use Rattle.sas_answers.specs.PlanWords.{valid_line}
-use Rattle.sas_requests.specs.Output.{IsLayeredText}
-use Rattle.sas_requests.specs.Headline.{Solves}
+use Rattle.sas_outputs.specs.Output.{IsLayeredText}
+use Rattle.sas_outputs.specs.Headline.{Solves}
 
 -- the line with this number, from 0, and its end
 abbrev pub line_of : List ℕ → ℕ → List ℕ

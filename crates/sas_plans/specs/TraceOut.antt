@@ -1,8 +1,8 @@
 -- What `trace` prints: the output of `plan`, with the trace of the plan in front where it is judged.
 use Rattle.std.specs.Prelude.{◌≡◌, ℕ, List, ◌++◌, Option, Some, None}
 use Rattle.sas_output.specs.Ending.{Output}
-use Rattle.sas_requests.specs.declared.Request.TheVariants.{Plan}
-use Rattle.sas_requests.specs.Output.{Out, PlanOutBy, plain_refusal, IsLong}
+use Rattle.sas_outputs.specs.declared.Request.TheVariants.{Plan}
+use Rattle.sas_outputs.specs.Output.{Out, PlanOutBy, plain_refusal, IsLong}
 use Rattle.sas_trace.specs.Traced.{TraceVerdict}
 
 -- the output about the bytes b of the task and c of the plan

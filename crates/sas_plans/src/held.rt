@@ -2,7 +2,7 @@
 ghost use Rattle.std.specs.Prelude.{◌≡◌, Some, None, IfOk, IsErrOf};
 ghost use Rattle.sas_answers.specs.Answers.{VerdictAnswer};
 ghost use Rattle.sas_output.specs.Ending.{output_told};
-ghost use Rattle.sas_requests.specs.Output.{CheckOut, VerdictOut};
+ghost use Rattle.sas_outputs.specs.Output.{CheckOut, VerdictOut};
 ghost use Rattle.sas_plans.specs.Opened.{Opens};
 
 use sas_answers::{answer_by, refuse_layers};
@@ -11,8 +11,8 @@ use sas_flat::FlatTask;
 use sas_lines::Watched;
 use sas_meaning::Layered;
 use sas_output::{Told, ToolFault};
+use sas_outputs::refuse_file;
 use sas_plan_file::flat_plan_of;
-use sas_requests::refuse_file;
 use sas_run::Held;
 use sas_task_reader::read_flat_task;
 use std::alloc::{AllocError, Global};

@@ -3,7 +3,7 @@ ghost use Rattle.std.specs.Prelude.{◌≡◌, ◌↔◌, ◌⊎◌, ℕ, List, 
 ghost use Rattle.std.specs.Prelude.{IfOk, IfErr, IsErrAnd, IsErrOf, IsTrue};
 ghost use Rattle.std.specs.Io.KnownBytes.{Appends, Consumes};
 ghost use Rattle.sas_output.specs.Ending.{Ends, IsDecided, IsWrite, output_told};
-ghost use Rattle.sas_requests.specs.Output.{IsLayeredText, refusal};
+ghost use Rattle.sas_outputs.specs.Output.{IsLayeredText, refusal};
 ghost use Rattle.sas_plans.specs.Inputs.{HaveBytes, IsLabel, WereRead, tool_fault, tool_result};
 ghost use Rattle.sas_plans.specs.Judged.{JudgeOut};
 ghost use Rattle.sas_plans.specs.PlansHeadline.{PlansHeadline};
@@ -17,8 +17,8 @@ use sas_flat::FlatTask;
 use sas_lines::Watched;
 use sas_meaning::Layered;
 use sas_output::{Status, Told, ToolFault};
+use sas_outputs::refuse_file;
 use sas_reader::{Fault, Kind};
-use sas_requests::refuse_file;
 use sas_task_reader::read_flat_task;
 use std::alloc::Global;
 use std::io::{Read, Write};

@@ -17,7 +17,7 @@ use Rattle.sas_reasons.specs.Derivation.{can_give, IsRuleOf}
 use Rattle.sas_reasons.specs.Cause.{fails, is_given, asks_line, has_line, since_line, gives_line, TellsGivers, rule_asks_line, failing_lines, can_be_given, keeping_lines, missing_lines, IsCause}
 use Rattle.sas_reasons.proofs.Places.{place_is}
 use Rattle.sas_reasons.proofs.Sorting.{contains_head, contains_tail}
-use Rattle.sas_requests.proofs.Sizes.{IsSmall, AreShort}
+use Rattle.sas_outputs.proofs.Sizes.{IsSmall, AreShort}
 use Rattle.sas_requests.proofs.LineLengths.{without_name, with_name, asks_line_short, has_line_short, since_line_short, gives_line_short, rule_asks_line_short, no_rule_line_short}
 use Rattle.sas_requests.proofs.ToldLengths.{Takes, takes_both, takes_next, takes_more, next_size}
 

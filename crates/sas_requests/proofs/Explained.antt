@@ -31,8 +31,8 @@ use Rattle.sas_file_reasons.specs.PlanDue.{plan_reason_lines}
 use Rattle.sas_file_reasons.specs.TaskDue.{task_reason_lines}
 use Rattle.sas_requests.specs.Explaining.{FileOutWhy, IsRefusedWith, task_refusal_lines, plan_refusal_lines}
 use Rattle.sas_requests.specs.FileReasons.{FaultReasons, told, past_limit, TellsTask, TellsPlan}
-use Rattle.sas_requests.specs.Output.{word_of, refusal, FileOut}
-use Rattle.sas_requests.proofs.Outputs.{refused_kind, too_long_else, reading_of_refusal}
+use Rattle.sas_outputs.specs.Output.{word_of, refusal, FileOut}
+use Rattle.sas_outputs.proofs.Outputs.{refused_kind, too_long_else, reading_of_refusal}
 use Rattle.sas_requests.proofs.RefusalReasons.{no_reasons, some_of}
 
 module _ {D V I S A R : Type 0} (left : D → Option (List ℕ)) (F : Format V I S) (telling : TellingLaws F) (Tells : Kind → List (List ℕ) → List ℕ → List (List ℕ) → Type 0) (Gives : List ℕ → A → Type 0)

@@ -22,13 +22,14 @@ use Rattle.sas_output.specs.Ending.{Output}
 use Rattle.sas_explain.specs.Verdict.{WhyVerdict}
 use Rattle.sas_task_reasons.specs.WhyLayers.{why_refusal, WhyCheckAnswer, WhyMutexAnswer}
 use Rattle.sas_requests.specs.declared.answers.Answer.{Answer}
-use Rattle.sas_requests.specs.declared.Request.TheVariants.{Show, Print, Steps, Check, Plan, Mutex}
+use Rattle.sas_outputs.specs.declared.Request.TheVariants.{Show, Print, Steps, Check, Plan, Mutex}
 use Rattle.sas_requests.specs.Answering.{AnswersFiles, output_of}
 use Rattle.sas_requests.specs.Explaining.{TaskOutWhy, PlanOutWhy}
 use Rattle.sas_requests.specs.FileReasons.{ReadReasons, TellsTask, LayersFileReasons, JudgedFileReasons}
-use Rattle.sas_requests.specs.Output.{IsAnswerOrRefusal, ShowAnswer, PrintAnswer}
+use Rattle.sas_outputs.specs.Output.{IsAnswerOrRefusal, ShowAnswer, PrintAnswer}
 use Rattle.sas_requests.specs.Why.{OutWhy}
-use Rattle.sas_requests.proofs.PlanAnswers.{NoAnswer, told_fault, refused_out, judged_out, unlayered_out, refused_layers_by, starved_files_by}
+use Rattle.sas_outputs.proofs.PlanOutputs.{NoAnswer, told_fault, refused_out, judged_out, unlayered_out}
+use Rattle.sas_requests.proofs.PlanAnswers.{refused_layers_by, starved_files_by}
 use Rattle.sas_requests.proofs.RefusalReasons.{no_reasons}
 use Rattle.sas_requests.proofs.WhyAnswers.{why_refuses}
 

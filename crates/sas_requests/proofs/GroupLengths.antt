@@ -20,7 +20,7 @@ use Rattle.sas_answers.specs.GroupWords.{verdict_words, group_line}
 use Rattle.sas_wording.specs.Facts.{fact_words}
 use Rattle.sas_task_reasons.specs.LayerReasons.{operator_line, effect_line}
 use Rattle.sas_task_reasons.specs.WhyGroups.{fact_line, holds_line, stays_line, member_at, failure_lines, reason_lines, group_lines, why_lines_from, GroupReasonsFit}
-use Rattle.sas_requests.proofs.Sizes.{decimal_short, IsSmall, read_small}
+use Rattle.sas_outputs.proofs.Sizes.{decimal_short, IsSmall, read_small}
 use Rattle.sas_requests.proofs.LineLengths.{with_name, two_spaces, facts_short}
 use Rattle.sas_requests.proofs.LayerLengths.{IsShort, size_of_both, operator_short, effect_short}
 use Rattle.sas_requests.proofs.ToldLengths.{next_size}

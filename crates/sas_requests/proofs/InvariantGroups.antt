@@ -27,7 +27,7 @@ use Rattle.sas_mutex.specs.Joint.{AreJointVerdicts}
 use Rattle.sas_mutex.proofs.JointLists.{listed_invariants}
 use Rattle.sas_group_reasons.specs.declared.reason.Reason.{Reason}
 use Rattle.sas_group_reasons.specs.Reasons.{reason_at}
-use Rattle.sas_requests.specs.Headline.{HasInvariant, Invariants}
+use Rattle.sas_outputs.specs.Headline.{HasInvariant, Invariants}
 use Rattle.sas_answers.specs.GroupWords.{verdict_words, group_line, verdict_lines_from, verdict_lines}
 use Rattle.sas_answers.specs.LayerWords.{layer_words, layers_line}
 use Rattle.sas_answers.specs.Answers.{layers_refusal, GroupsAnswer, LayeredGroupsAnswer, MutexAnswer}
@@ -36,15 +36,17 @@ use Rattle.sas_task_reasons.specs.WhyGroups.{why_lines_from, why_lines, WhyGroup
 use Rattle.sas_task_reasons.specs.WhyLayers.{why_refusal, WhyLayeredGroups, WhyMutexAnswer}
 use Rattle.sas_reasons.proofs.Sorting.{contains_cases, contains_none}
 use Rattle.sas_output.specs.Ending.{Output}
-use Rattle.sas_requests.specs.Output.{word_of, refusal, refusal_line, IsAnswerOrRefusal, FileOut}
+use Rattle.sas_outputs.specs.Output.{word_of, refusal, refusal_line, IsAnswerOrRefusal, FileOut}
 use Rattle.sas_requests.specs.Why.{is_reason}
-use Rattle.sas_requests.proofs.Headlines.{sent_same}
+use Rattle.sas_outputs.proofs.Headlines.{sent_same}
 use Rattle.sas_requests.proofs.PlainNames.{HasPlainNames, plain_names}
 use Rattle.sas_requests.proofs.ReasonLines.{IsReason, AreReasons}
 use Rattle.sas_requests.proofs.LayerLines.{layer_reasons_tell}
 use Rattle.sas_requests.proofs.GroupLines.{any_tells, behind, lines_of_groups}
-use Rattle.sas_requests.proofs.ToldLines.{IsTold, lines_of_first, file_words, file_plain, kind_plain, layer_told}
-use Rattle.sas_requests.proofs.WhyAnswers.{worded, why_is}
+use Rattle.sas_outputs.proofs.PlainLines.{file_words, file_plain, kind_plain}
+use Rattle.sas_requests.proofs.ToldLines.{IsTold, lines_of_first, layer_told}
+use Rattle.sas_outputs.proofs.WordedLines.{worded}
+use Rattle.sas_requests.proofs.WhyAnswers.{why_is}
 
 -- ---- the lines of verdicts
 

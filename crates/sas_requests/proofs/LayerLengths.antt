@@ -22,7 +22,7 @@ use Rattle.sas_answers.specs.LayerWords.{part_words, layers_line}
 use Rattle.sas_wording.specs.Facts.{fact_words}
 use Rattle.sas_task_reasons.specs.LayerReasons.{condition_at, other_giver, operator_line, effect_line, rule_line, condition_line, from_line, default_line, on_layer_line, from_lines, layer_lines, other_lines, layer_reasons}
 use Rattle.sas_task_reasons.specs.WhyLayers.{LayerReasonsFit}
-use Rattle.sas_requests.proofs.Sizes.{decimal_short, IsSmall, read_small}
+use Rattle.sas_outputs.proofs.Sizes.{decimal_short, IsSmall, read_small}
 use Rattle.sas_requests.proofs.LineLengths.{with_name, two_spaces, facts_short}
 use Rattle.sas_requests.proofs.ToldLengths.{next_size}
 use Rattle.sas_requests.proofs.WhyAnswers.{why_is}

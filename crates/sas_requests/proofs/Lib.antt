@@ -1,24 +1,20 @@
-pub mod Outputs
-pub mod PlanAnswers
-pub mod Headlines
+mod FileAnswers
+mod PlanAnswers
 mod InvariantGroups
-pub mod Endings
-pub mod Lengths
 mod SummaryLengths
-pub mod Sizes
-pub mod LineLengths
+mod LineLengths
 mod ToldLengths
 mod CauseLengths
 mod WhyLengths
-pub mod WhyFits
-pub mod WhyAnswers
+mod WhyFits
+mod WhyAnswers
 mod WhyLaws
 mod PlainNames
 mod ReasonLines
 mod LayerLines
 mod LayerLengths
 mod GroupLengths
-pub mod ToldLines
+mod ToldLines
 mod GroupLines
 mod SameAnswers
 pub mod RefusalReasons

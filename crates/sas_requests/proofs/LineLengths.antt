@@ -12,17 +12,8 @@ use Rattle.sas_output.specs.Words.{line}
 use Rattle.sas_wording.specs.Facts.{fact_words}
 use Rattle.sas_reasons.specs.Cause.{asks_line, has_line, since_line, gives_line, rule_asks_line}
 use Rattle.sas_reasons.specs.WhyPlan.{step_line, operator_line, like_line, effect_line, goal_line, other_line}
-use Rattle.sas_requests.proofs.Sizes.{decimal_short, IsSmall, AreShort}
-
--- how long words are with a space behind each
-abbrev pub spread : List (List ℕ) → ℕ
-spread [] = 0
-spread (word ∷ words) = length word + 1 + spread words
-
-pub joined_short : (words : List (List ℕ)) → length (joined words) ≤ spread words
-joined_short [] = omega arith
-joined_short (word ∷ []) = omega arith
-joined_short (word ∷ next ∷ words) = omega (arith, length-append word (32 ∷ joined (next ∷ words)), joined_short (next ∷ words))
+use Rattle.sas_outputs.proofs.Sizes.{decimal_short, IsSmall, AreShort}
+use Rattle.sas_outputs.proofs.JoinedLengths.{spread, joined_short}
 
 pub two_spaces : (words : List (List ℕ)) → length (line 2 words) ≤ spread words + 2
 two_spaces words = omega (arith, length-append (replicate 2 32) (joined words), joined_short words)

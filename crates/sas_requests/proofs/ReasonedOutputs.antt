@@ -17,19 +17,21 @@ use Rattle.sas_answers.specs.PlanWords.{valid_line}
 use Rattle.sas_task_reasons.specs.WhyLayers.{with_reasons, why_refusal, WhyMutexAnswer}
 use Rattle.sas_explain.specs.Verdict.{WhyVerdict}
 use Rattle.sas_reasons.proofs.Sorting.{contains_cases}
-use Rattle.sas_requests.specs.declared.Request.{Request}
-use Rattle.sas_requests.specs.declared.Request.TheVariants.{Plan, Mutex}
-use Rattle.sas_requests.specs.Headline.{Solves, Headline, Invariants}
-use Rattle.sas_requests.specs.Output.{word_of, refusal, refusal_line}
+use Rattle.sas_outputs.specs.declared.Request.{Request}
+use Rattle.sas_outputs.specs.declared.Request.TheVariants.{Plan, Mutex}
+use Rattle.sas_outputs.specs.Headline.{Solves, Headline, Invariants}
+use Rattle.sas_outputs.specs.Output.{word_of, refusal, refusal_line}
 use Rattle.sas_requests.specs.Why.{is_reason, without_reasons, OutOfRead, OutWhy, IsSameAnswer, SameAnswer, OneWhyOutput, SomeWhyOutput, NoneWhyIsLong}
-use Rattle.sas_requests.proofs.Headlines.{sent_same, headline_of}
+use Rattle.sas_outputs.proofs.Headlines.{sent_same, headline_of}
 use Rattle.sas_requests.proofs.InvariantGroups.{why_groups, invariants_of, reasons_apart}
 use Rattle.sas_requests.proofs.ReasonLines.{AreReasons}
 use Rattle.sas_requests.proofs.RefusalReasons.{no_reasons, none_of, some_of, IsFileRefusal, stand_behind}
 use Rattle.sas_requests.proofs.RefusalLaws.{one_reasons, some_reasons, reasons_tell}
 use Rattle.sas_requests.proofs.SameAnswers.{same_of_read}
-use Rattle.sas_requests.proofs.ToldLines.{IsTold, IsToldText, stays, first_stays, lines_of_first, file_words, file_plain, kind_plain}
-use Rattle.sas_requests.proofs.WhyAnswers.{worded, why_tells_valid, why_refuses}
+use Rattle.sas_outputs.proofs.PlainLines.{file_words, file_plain, kind_plain}
+use Rattle.sas_requests.proofs.ToldLines.{IsTold, IsToldText, stays, first_stays, lines_of_first}
+use Rattle.sas_outputs.proofs.WordedLines.{worded}
+use Rattle.sas_requests.proofs.WhyAnswers.{why_tells_valid, why_refuses}
 use Rattle.sas_requests.proofs.WhyLaws.{one_of_read, some_of_read, long_of_read}
 
 -- ---- one output, always some, and none only where an input is too long

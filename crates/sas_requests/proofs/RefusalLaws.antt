@@ -32,11 +32,11 @@ use Rattle.sas_file_reasons.specs.Laws.{TellsReason, TellReasons}
 use Rattle.sas_file_reasons.specs.PlanDue.{plan_reason_lines}
 use Rattle.sas_file_reasons.specs.TaskDue.{task_reason_lines}
 use Rattle.sas_file_reasons.proofs.ReasonLines.{task_lines_tell, plan_lines_tell}
-use Rattle.sas_requests.specs.declared.Request.{Request}
-use Rattle.sas_requests.specs.declared.Request.TheVariants.{Show, Print, Steps, Check, Plan, Mutex}
+use Rattle.sas_outputs.specs.declared.Request.{Request}
+use Rattle.sas_outputs.specs.declared.Request.TheVariants.{Show, Print, Steps, Check, Plan, Mutex}
 use Rattle.sas_requests.specs.FileReasons.{FaultReasons, told, past_limit, ReadReasons, FileReasons, TellsTask, TellsPlan, LayersFileReasons, JudgedFileReasons, FilesReasons, RefusalReasons}
 use Rattle.sas_requests.specs.Why.{is_reason}
-use Rattle.sas_requests.proofs.Outputs.{Worded, plan_worded, task_worded}
+use Rattle.sas_outputs.proofs.Outputs.{Worded, plan_worded, task_worded}
 use Rattle.sas_requests.proofs.ReasonLines.{IsReason, AreReasons}
 
 pub task_telling : TellingLaws task_format

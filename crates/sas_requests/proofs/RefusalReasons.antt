@@ -21,10 +21,10 @@ use Rattle.sas_task_format.proofs.TaskLaws.{task_laws_hold}
 use Rattle.sas_output.specs.Ending.{Output}
 use Rattle.sas_task_reasons.specs.WhyLayers.{with_reasons, why_refusal, WhyCheckAnswer, WhyMutexAnswer}
 use Rattle.sas_explain.specs.Verdict.{WhyVerdict}
-use Rattle.sas_requests.specs.declared.Request.{Request}
-use Rattle.sas_requests.specs.declared.Request.TheVariants.{Show, Print, Steps, Check, Plan, Mutex}
+use Rattle.sas_outputs.specs.declared.Request.{Request}
+use Rattle.sas_outputs.specs.declared.Request.TheVariants.{Show, Print, Steps, Check, Plan, Mutex}
 use Rattle.sas_requests.specs.FileReasons.{FaultReasons, ReadReasons, FileReasons, TellsTask, TellsPlan, LayersFileReasons, JudgedFileReasons, FilesReasons, RefusalReasons}
-use Rattle.sas_requests.specs.Output.{refusal, IsAnswerOrRefusal, FileOut, LayersOut, JudgedOut, ShowAnswer, PrintAnswer}
+use Rattle.sas_outputs.specs.Output.{refusal, IsAnswerOrRefusal, FileOut, LayersOut, JudgedOut, ShowAnswer, PrintAnswer}
 use Rattle.sas_requests.specs.Why.{OutOfRead}
 
 -- ---- an output with reasons behind

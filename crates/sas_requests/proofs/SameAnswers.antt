@@ -29,16 +29,17 @@ use Rattle.sas_task_reasons.specs.LayerReasons.{layer_reasons}
 use Rattle.sas_task_reasons.specs.WhyGroups.{why_lines}
 use Rattle.sas_task_reasons.specs.WhyLayers.{why_refusal, why_verdict, WhyCheckAnswer, WhyLayeredGroups, WhyMutexAnswer}
 use Rattle.sas_explain.specs.Verdict.{WhyVerdict, Explains}
-use Rattle.sas_requests.specs.declared.Request.{Request}
-use Rattle.sas_requests.specs.declared.Request.TheVariants.{Show, Print, Steps, Check, Plan, Mutex}
-use Rattle.sas_requests.specs.Output.{Out, IsAnswerOrRefusal, FileOut, LayersOut, JudgedOut, plain_refusal, ShowAnswer, PrintAnswer}
+use Rattle.sas_outputs.specs.declared.Request.{Request}
+use Rattle.sas_outputs.specs.declared.Request.TheVariants.{Show, Print, Steps, Check, Plan, Mutex}
+use Rattle.sas_outputs.specs.Output.{Out, IsAnswerOrRefusal, FileOut, LayersOut, JudgedOut, plain_refusal, ShowAnswer, PrintAnswer}
 use Rattle.sas_requests.specs.Why.{without_reasons, IsSameAnswer, OutOfRead}
 use Rattle.sas_requests.proofs.PlainNames.{plain_names, plain_steps}
 use Rattle.sas_requests.proofs.ReasonLines.{why_tells}
 use Rattle.sas_requests.proofs.LayerLines.{layer_reasons_tell}
 use Rattle.sas_requests.proofs.GroupLines.{groups_kept, all_exclusive}
 use Rattle.sas_requests.proofs.ToldLines.{IsToldText, stays, first_stays, AreRefusalsTold, task_refusals_told, plan_refusals_told, layer_told, layers_told, verdict_told}
-use Rattle.sas_requests.proofs.WhyAnswers.{worded, why_is}
+use Rattle.sas_outputs.proofs.WordedLines.{worded}
+use Rattle.sas_requests.proofs.WhyAnswers.{why_is}
 
 -- ---- an output is the same answer as itself
 

@@ -22,23 +22,9 @@ use Rattle.sas_task_reasons.specs.WhyLayers.{with_reasons, why_refusal}
 use Rattle.sas_task_reasons.proofs.TaskAnswers.{refused_why}
 use Rattle.sas_reasons.proofs.WhyPlan.{one_why, some_why}
 use Rattle.sas_explain.specs.Verdict.{WhyVerdict, Explains}
-use Rattle.sas_requests.proofs.Headlines.{TellsValid}
-use Rattle.sas_requests.proofs.PlanAnswers.{OneVerdictAnswer, SomeVerdictAnswer, IsRefusal, Refuses}
-
--- ---- words on a line
-
--- the output is a line with these words that says no
-pub record IsWorded (words : Option (List ℕ)) (line_of : List ℕ → List ℕ) (o : Output) : Type 0 where
-  pub said : List ℕ
-  pub among : words ≡ Some said
-  pub status : o.status ≡ No
-  pub text : o.text ≡ line_of said
-
-pub worded : (words : Option (List ℕ)) (line_of : List ℕ → List ℕ) (o : Output) → option_map (λ w. record { text = line_of w; status = No }) words ≡ Some o → IsWorded words line_of o
-worded None line_of o is = absurd (none-some o is)
-worded (Some w) line_of o is =
-    let same : (record { text = line_of w; status = No }) ≡ o = cc in
-    record { said = w; among = refl; status = sym (ap (λ (x : Output). x.status) same); text = sym (ap (λ (x : Output). x.text) same) }
+use Rattle.sas_outputs.proofs.Headlines.{TellsValid}
+use Rattle.sas_outputs.proofs.PlanOutputs.{OneVerdictAnswer, SomeVerdictAnswer, IsRefusal, Refuses}
+use Rattle.sas_outputs.proofs.WordedLines.{worded}
 
 -- ---- the verdict on a plan is the text's first line
 

@@ -8,13 +8,13 @@ use Rattle.sas_task_format.proofs.TaskLaws.{task_laws_hold}
 use Rattle.sas_task_reasons.specs.WhyLayers.{why_refusal, WhyCheckAnswer, WhyMutexAnswer}
 use Rattle.sas_task_reasons.proofs.TaskAnswers.{one_why_check, some_why_check, one_why_mutex, some_why_mutex}
 use Rattle.sas_explain.specs.Verdict.{WhyVerdict}
-use Rattle.sas_requests.specs.declared.Request.TheVariants.{Show, Print, Steps, Check, Plan, Mutex}
+use Rattle.sas_outputs.specs.declared.Request.TheVariants.{Show, Print, Steps, Check, Plan, Mutex}
 use Rattle.sas_output.specs.Ending.{Output}
-use Rattle.sas_requests.specs.declared.Request.{Request}
-use Rattle.sas_requests.specs.Output.{ShowAnswer, PrintAnswer, IsLong}
+use Rattle.sas_outputs.specs.declared.Request.{Request}
+use Rattle.sas_outputs.specs.Output.{ShowAnswer, PrintAnswer, IsLong}
 use Rattle.sas_requests.specs.Why.{OutOfRead}
-use Rattle.sas_requests.proofs.Outputs.{one_file_output, some_file_output, no_file_output, plan_worded, task_worded}
-use Rattle.sas_requests.proofs.PlanAnswers.{one_plan_output, some_plan_output, no_plan_output}
+use Rattle.sas_outputs.proofs.Outputs.{one_file_output, some_file_output, no_file_output, plan_worded, task_worded}
+use Rattle.sas_outputs.proofs.PlanOutputs.{one_plan_output, some_plan_output, no_plan_output}
 use Rattle.sas_requests.proofs.WhyAnswers.{one_why_verdict, some_why_verdict, why_refuses}
 
 pub one_of_read : (request : Request) (b c : List ℕ) (o p : Option Output) → OutOfRead request b c o → OutOfRead request b c p → o ≡ p

@@ -24,7 +24,7 @@ use Rattle.sas_reasons.specs.Lines.{TellsEach, places_from, places}
 use Rattle.sas_reasons.specs.Runs.{Run, last_state}
 use Rattle.sas_reasons.specs.Cause.{fails, IsCause}
 use Rattle.sas_reasons.specs.WhyPlan.{step_line, operator_line, like_line, failing, TellsInapplicable, operators_of, TellsOperators, effect_line, TellsConflict, goal_fact_at, goal_line, TellsGoalFact, TellsGoal, cost_lines_sum, cost_lines, other_line, TellsOther, steps_before, TellsFault, IsWhy}
-use Rattle.sas_requests.proofs.Sizes.{asked, IsSmall, AreShort, read_small, steps_short, some_short}
+use Rattle.sas_outputs.proofs.Sizes.{asked, IsSmall, AreShort, read_small, steps_short, some_short}
 use Rattle.sas_requests.proofs.LineLengths.{without_name, with_name, step_line_short, operator_line_short, like_line_short, effect_line_short, goal_line_short, metric_line_short, steps_line_short, cost_line_short, other_line_short}
 use Rattle.sas_requests.proofs.ToldLengths.{Takes, takes_both, takes_next, takes_more, told_length}
 use Rattle.sas_requests.proofs.CauseLengths.{rows, rows_short, cause_takes}

@@ -10,7 +10,7 @@ use Rattle.sas_requests.specs.declared.answers.Answer.TheVariants.{Text, Summary
 use Rattle.sas_output.specs.declared.ending.ToolFault.{ToolFault}
 use Rattle.sas_output.specs.declared.ending.ToolFault.TheVariants as fault
 use Rattle.sas_output.specs.Ending.{IsDecided, IsWrite}
-use Rattle.sas_requests.specs.Output.{IsLayeredText}
+use Rattle.sas_outputs.specs.Output.{IsLayeredText}
 use Rattle.sas_summary.specs.Summary.{summary_lines}
 
 -- a text that is at hand, the summary of a task with this outline, why a plan isn't valid, why a

@@ -15,7 +15,7 @@ use Rattle.sas_file_reasons.specs.PlanDue.{plan_reason_lines}
 use Rattle.sas_output.specs.Ending.{Output}
 use Rattle.sas_task_reasons.specs.WhyLayers.{with_reasons}
 use Rattle.sas_requests.specs.FileReasons.{FileReasons, TellsTask, TellsPlan}
-use Rattle.sas_requests.specs.Output.{refusal, FileOut}
+use Rattle.sas_outputs.specs.Output.{refusal, FileOut}
 
 -- the output about one file with the reasons of what was read, and behind a refusal why it is refused
 module _ {V I S : Type 0} (F : Format V I S)

@@ -18,8 +18,8 @@ use Rattle.sas_task_format.specs.TaskReasons.{IsTaskReason}
 use Rattle.sas_file_reasons.specs.TaskDue.{task_reason_lines}
 use Rattle.sas_file_reasons.specs.PlanDue.{plan_reason_lines}
 use Rattle.sas_output.specs.Ending.{Output}
-use Rattle.sas_requests.specs.declared.Request.{Request}
-use Rattle.sas_requests.specs.declared.Request.TheVariants.{Show, Print, Steps, Check, Plan, Mutex}
+use Rattle.sas_outputs.specs.declared.Request.{Request}
+use Rattle.sas_outputs.specs.declared.Request.TheVariants.{Show, Print, Steps, Check, Plan, Mutex}
 
 -- ---- one file
 

@@ -5,8 +5,8 @@ pub use Rattle.sas_answers.specs.GroupWords
 pub use Rattle.sas_answers.specs.Answers
 pub use Rattle.sas_output.specs.Ending
 pub use Rattle.sas_summary.specs.Summary
-pub mod Output
-pub mod Headline
+pub use Rattle.sas_outputs.specs.Output
+pub use Rattle.sas_outputs.specs.Headline
 pub mod FileReasons
 pub mod Why
 pub mod Answering

@@ -7,10 +7,10 @@ use Rattle.sas_reasons.specs.Lines.{begins}
 use Rattle.sas_task_format.specs.TaskFormat.{task_format}
 use Rattle.sas_task_reasons.specs.WhyLayers.{with_reasons, why_refusal, WhyCheckAnswer, WhyMutexAnswer}
 use Rattle.sas_explain.specs.Verdict.{WhyVerdict}
-use Rattle.sas_requests.specs.declared.Request.{Request}
-use Rattle.sas_requests.specs.declared.Request.TheVariants.{Show, Print, Steps, Check, Plan, Mutex}
+use Rattle.sas_outputs.specs.declared.Request.{Request}
+use Rattle.sas_outputs.specs.declared.Request.TheVariants.{Show, Print, Steps, Check, Plan, Mutex}
 use Rattle.sas_requests.specs.FileReasons.{RefusalReasons}
-use Rattle.sas_requests.specs.Output.{Out, ShowOut, PrintOut, StepsOut, FileOut, PlanOutBy, IsLong}
+use Rattle.sas_outputs.specs.Output.{Out, ShowOut, PrintOut, StepsOut, FileOut, PlanOutBy, IsLong}
 
 -- the output of `check`, `mutex` and `plan` with reasons, about the bytes b of the task and c of the
 -- plan

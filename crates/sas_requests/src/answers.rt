@@ -4,16 +4,16 @@ ghost use Rattle.std.specs.Prelude.{IfOk, IfErr, IsErrAnd, IsErrOf, IsFalse, IsT
 ghost use Rattle.std.specs.Io.KnownBytes.{Appends, Consumes};
 ghost use Rattle.sas_requests.specs.Answering.{Answers, AnswersFile, output_of};
 ghost use Rattle.sas_output.specs.Ending.{Ends, IsDecided, IsWrite};
-ghost use Rattle.sas_requests.specs.Output.{Out, ShowOut, PrintOut, StepsOut, CheckOut, MutexOut, AreInputs};
-ghost use Rattle.sas_requests.specs.Output.{IsLayeredText, reads_plan, reads_task, refusal};
+ghost use Rattle.sas_outputs.specs.Output.{Out, ShowOut, PrintOut, StepsOut, CheckOut, MutexOut, AreInputs};
+ghost use Rattle.sas_outputs.specs.Output.{IsLayeredText, reads_plan, reads_task, refusal};
 
 use crate::plans::plan_answer;
-use crate::refusals::refuse_file;
 use crate::{Request, Status, ToolFault};
 use sas_answers::{groups_answer, layers_answer};
 use sas_explain::Explained;
 use sas_lines::Watched;
 use sas_output::Told;
+use sas_outputs::refuse_file;
 use sas_plan_file::read_plan_text;
 use sas_reader::{Fault, Kind};
 use sas_summary::Summary;

@@ -1,5 +1,5 @@
 // Laws of the outputs.
-ghost use Rattle.sas_requests.specs.Output.{OneOutput, SomeOutput, NoneIsLong};
+ghost use Rattle.sas_outputs.specs.Output.{OneOutput, SomeOutput, NoneIsLong};
 ghost use Rattle.sas_requests.specs.Why.{SameAnswer, OneWhyOutput, SomeWhyOutput, NoneWhyIsLong};
 
 /// What holds of outputs: a request has one output over the same inputs, and it can't have nothing; it has none only

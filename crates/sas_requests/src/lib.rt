@@ -10,36 +10,19 @@ mod why;
 ghost use Rattle.std.specs.Prelude.{◌≡◌, ◌⊎◌, ◌↔◌, ◌||◌, false, List, ℕ, Some};
 ghost use Rattle.std.specs.Prelude.{IfErr, IfOk, IsErrAnd, IsErrOf, IsFalse, IsTrue};
 ghost use Rattle.std.specs.Io.KnownBytes.{Appends, Consumes};
-ghost use Rattle.sas_requests.specs.Output.{Out, AreInputs, IsLayeredText, reads_plan, reads_task};
-ghost use Rattle.sas_requests.specs.Headline.{Headline, Invariants};
+ghost use Rattle.sas_outputs.specs.Output.{Out, AreInputs, IsLayeredText, reads_plan, reads_task};
+ghost use Rattle.sas_outputs.specs.Headline.{Headline, Invariants};
 ghost use Rattle.sas_requests.specs.Why.{OutWhy};
 ghost use Rattle.sas_output.specs.Ending.{Ends, IsDecided, IsWrite};
 
 use answers::{answer_to, write_answer};
 pub use laws::{explain_laws, run_laws};
-pub use refusals::refuse_file;
 use sas_lines::Watched;
 pub use sas_output::{Status, ToolFault};
+pub use sas_outputs::{Request, refuse_file};
 use std::alloc::Global;
 use std::io::{Read, Write};
 use why::explanation_to;
-
-/// What is asked.
-#[derive(Clone, Copy, Debug, PartialEq, Eq)]
-pub enum Request {
-    /// The summary of a task.
-    Show,
-    /// A task, printed again.
-    Print,
-    /// The steps of a plan and its cost, printed again.
-    Steps,
-    /// Whether a task is layered.
-    Check,
-    /// Whether a plan solves a task.
-    Plan,
-    /// Which mutex groups of a task are exclusive.
-    Mutex,
-}
 
 /// Answers the request about the inputs. `Show`, `Print`, `Check` and `Mutex` read the task alone, and `Steps` the
 /// plan; `Plan` reads the task, and then the plan if the task is layered. Nothing is written before the answer is

@@ -2,7 +2,7 @@
 ghost use Rattle.std.specs.Prelude.{◌≡◌, Some, IfOk, IfErr, false};
 ghost use Rattle.sas_answers.specs.Answers.{VerdictAnswer, layers_refusal};
 ghost use Rattle.sas_requests.specs.Answering.{AnswersFile, AnswersFiles, output_of};
-ghost use Rattle.sas_requests.specs.Output.{PlanOut, VerdictOut};
+ghost use Rattle.sas_outputs.specs.Output.{PlanOut, VerdictOut};
 
 use crate::ToolFault;
 use crate::answers::{Answer, refuse};

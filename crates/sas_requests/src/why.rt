@@ -11,7 +11,7 @@ ghost use Rattle.sas_task_reasons.specs.WhyLayers.{LayerReasonsFit, WhyCheckAnsw
 ghost use Rattle.sas_task_reasons.specs.WhyLayers.{output_of_task, why_refusal};
 ghost use Rattle.sas_requests.specs.Answering.{Answers, AnswersFile, AnswersFiles, output_of};
 ghost use Rattle.sas_requests.specs.Explaining.{PlanOutWhy, TaskOutWhy};
-ghost use Rattle.sas_requests.specs.Output.{AreInputs, IsLayeredText, PrintAnswer, ShowAnswer, reads_plan, reads_task};
+ghost use Rattle.sas_outputs.specs.Output.{AreInputs, IsLayeredText, PrintAnswer, ShowAnswer, reads_plan, reads_task};
 ghost use Rattle.sas_requests.specs.Why.{OutWhy};
 
 use crate::answers::Answer;

@@ -3,7 +3,7 @@ use Rattle.std.specs.Io.KnownBytes.{Appends}
 use Rattle.std.proofs.lemmas.Result.{err_from_is_err_and}
 use Rattle.sas_requests.specs.Answering.{output_of}
 use Rattle.sas_requests.specs.Why.{OutWhy}
-use Rattle.sas_requests.proofs.Endings.{ends_as, ends_well, ends_err}
+use Rattle.sas_outputs.proofs.Endings.{ends_as, ends_well, ends_err}
 use Rattle.sas_requests.proofs.ReasonedOutputs.{headline_why, invariants_why}
 use Rattle.sas_requests.proofs.explain.Goals as goal
 

@@ -1,11 +1,11 @@
 use Rattle.std.proofs.Common.{[]}
 use Rattle.sas_answers.specs.Answers.{MutexAnswer, VerdictAnswer}
 use Rattle.sas_requests.specs.Answering.{output_of}
-use Rattle.sas_requests.specs.Output.{Out, plain_refusal}
-use Rattle.sas_requests.proofs.Endings.{ends_as, ends_well}
-use Rattle.sas_requests.proofs.Headlines.{tells_valid, headline_of}
+use Rattle.sas_outputs.specs.Output.{Out, plain_refusal}
+use Rattle.sas_outputs.proofs.Endings.{ends_as, ends_well}
+use Rattle.sas_outputs.proofs.Headlines.{tells_valid, headline_of}
 use Rattle.sas_requests.proofs.InvariantGroups.{plain_groups, invariants_of}
-use Rattle.sas_requests.proofs.PlanAnswers.{plain_refuses}
+use Rattle.sas_outputs.proofs.PlanOutputs.{plain_refuses}
 use Rattle.sas_requests.proofs.run.Goals as goal
 
 pub returns-clause-output : goal.returns-clause-output

@@ -1,8 +1,8 @@
 use Rattle.sas_answers.specs.Answers.{VerdictAnswer}
-use Rattle.sas_requests.proofs.Headlines.{tells_valid}
-use Rattle.sas_requests.proofs.PlanAnswers.{plain_refuses}
-use Rattle.sas_requests.specs.declared.Request.TheVariants.{Plan}
-use Rattle.sas_requests.specs.Output.{Out, plain_refusal}
+use Rattle.sas_outputs.proofs.Headlines.{tells_valid}
+use Rattle.sas_outputs.proofs.PlanOutputs.{plain_refuses}
+use Rattle.sas_outputs.specs.declared.Request.TheVariants.{Plan}
+use Rattle.sas_outputs.specs.Output.{Out, plain_refusal}
 use Rattle.sas_c.proofs.Tellings.{asked_told, headline_told}
 use Rattle.sas_c.proofs.requests.sas_plan.Goals as goal
 

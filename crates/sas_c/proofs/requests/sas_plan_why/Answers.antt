@@ -1,4 +1,4 @@
-use Rattle.sas_requests.specs.declared.Request.TheVariants.{Plan}
+use Rattle.sas_outputs.specs.declared.Request.TheVariants.{Plan}
 use Rattle.sas_requests.specs.Why.{OutWhy}
 use Rattle.sas_c.proofs.Tellings.{asked_told, headline_why_told}
 use Rattle.sas_c.proofs.requests.sas_plan_why.Goals as goal

@@ -1,6 +1,6 @@
 use Rattle.sas_output.specs.Ending.{output_told}
 use Rattle.sas_answers.specs.Answers.{VerdictAnswer}
-use Rattle.sas_requests.specs.Output.{VerdictOut}
+use Rattle.sas_outputs.specs.Output.{VerdictOut}
 use Rattle.sas_c.proofs.Tellings.{tells_fault, tells_output}
 use Rattle.sas_c.proofs.tasks.judge.Goals as goal
 

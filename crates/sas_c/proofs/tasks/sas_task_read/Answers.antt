@@ -1,7 +1,7 @@
 use Rattle.std.proofs.Common.{◌≡◌, None}
 use Rattle.sas_output.specs.Ending.{output_told}
 use Rattle.sas_answers.specs.Answers.{layers_verdict}
-use Rattle.sas_requests.specs.Output.{CheckOut}
+use Rattle.sas_outputs.specs.Output.{CheckOut}
 use Rattle.sas_c.proofs.Tellings.{tells_by, tells_output, layered_out, never_yes, opens_ready, opens_refused}
 use Rattle.sas_c.proofs.tasks.sas_task_read.Goals as goal
 

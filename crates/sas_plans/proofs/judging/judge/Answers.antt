@@ -1,6 +1,6 @@
 use Rattle.std.specs.Io.KnownBytes.{Appends}
 use Rattle.sas_output.specs.Ending.{output_told}
-use Rattle.sas_requests.proofs.Endings.{ends_as, ends_well}
+use Rattle.sas_outputs.proofs.Endings.{ends_as, ends_well}
 use Rattle.sas_plans.specs.Inputs.{tool_fault, tool_result}
 use Rattle.sas_plans.specs.Judged.{JudgeOut}
 use Rattle.sas_plans.proofs.JudgeEndings.{ends_at, status_if_ok}

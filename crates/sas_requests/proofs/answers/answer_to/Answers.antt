@@ -1,5 +1,5 @@
 use Rattle.std.proofs.Common.{[], refl}
-use Rattle.sas_requests.proofs.Outputs.{takes_nothing}
+use Rattle.sas_outputs.proofs.Outputs.{takes_nothing}
 use Rattle.sas_requests.proofs.answers.answer_to.Goals as goal
 
 pub returns-in-Show-clause-taken : goal.returns-in-Show-clause-taken

@@ -1,7 +1,7 @@
 use Rattle.std.proofs.Common.{codes, Ok, refl}
 use Rattle.sas_task_format.specs.TaskFormat.{task_format}
 use Rattle.sas_answers.specs.Answers.{MutexAnswer}
-use Rattle.sas_requests.proofs.Outputs.{answers_value, answers_refusal}
+use Rattle.sas_requests.proofs.FileAnswers.{answers_value, answers_refusal}
 use Rattle.sas_requests.proofs.answers.mutex.Goals as goal
 
 pub returns : goal.returns

@@ -3,8 +3,8 @@ use Rattle.sas_flat.specs.declared.outline.Outline.{Outline}
 use Rattle.sas_task_format.specs.TaskFormat.{task_format}
 use Rattle.sas_requests.specs.Answering.{output_of}
 use Rattle.sas_requests.specs.declared.answers.Answer.TheVariants.{Summary}
-use Rattle.sas_requests.specs.Output.{ShowAnswer}
-use Rattle.sas_requests.proofs.Outputs.{answers_value, answers_refusal}
+use Rattle.sas_outputs.specs.Output.{ShowAnswer}
+use Rattle.sas_requests.proofs.FileAnswers.{answers_value, answers_refusal}
 use Rattle.sas_requests.proofs.SummaryLengths.{summary_fits}
 use Rattle.sas_requests.proofs.answers.show.Goals as goal
 

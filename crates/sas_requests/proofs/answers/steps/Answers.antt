@@ -1,7 +1,7 @@
 use Rattle.std.proofs.Common.{codes, Ok, refl}
 use Rattle.sas_plan_file.specs.PlanFormat.{plan_format}
-use Rattle.sas_requests.specs.Output.{PrintAnswer}
-use Rattle.sas_requests.proofs.Outputs.{answers_value, answers_refusal}
+use Rattle.sas_outputs.specs.Output.{PrintAnswer}
+use Rattle.sas_requests.proofs.FileAnswers.{answers_value, answers_refusal}
 use Rattle.sas_requests.proofs.answers.steps.Goals as goal
 
 pub returns-in-Ok : goal.returns-in-Ok

@@ -4,13 +4,13 @@ use Rattle.sas_task_format.specs.TaskFormat.{task_format}
 use Rattle.sas_plan_file.proofs.PlanLaws.{plan_laws_hold}
 use Rattle.sas_task_format.proofs.TaskLaws.{task_laws_hold}
 use Rattle.sas_answers.specs.Answers.{CheckAnswer, MutexAnswer, VerdictAnswer}
-use Rattle.sas_requests.specs.Output.{OneOutput, SomeOutput, NoneIsLong, ShowAnswer, PrintAnswer, plain_refusal}
-use Rattle.sas_requests.specs.declared.Request.TheVariants.{Show, Print, Steps, Check, Plan, Mutex}
-use Rattle.sas_requests.proofs.Outputs.{one_file_output, some_file_output, no_file_output, plan_worded, task_worded}
+use Rattle.sas_outputs.specs.Output.{OneOutput, SomeOutput, NoneIsLong, ShowAnswer, PrintAnswer, plain_refusal}
+use Rattle.sas_outputs.specs.declared.Request.TheVariants.{Show, Print, Steps, Check, Plan, Mutex}
+use Rattle.sas_outputs.proofs.Outputs.{one_file_output, some_file_output, no_file_output, plan_worded, task_worded}
 use Rattle.sas_answers.proofs.CheckAnswers.{one_check_answer, some_check_answer}
 use Rattle.sas_answers.proofs.MutexAnswers.{one_mutex_answer, some_mutex_answer}
 use Rattle.sas_answers.proofs.VerdictAnswers.{one_verdict_answer, some_verdict_answer}
-use Rattle.sas_requests.proofs.PlanAnswers.{plain_refuses, one_plan_output, some_plan_output, no_plan_output}
+use Rattle.sas_outputs.proofs.PlanOutputs.{plain_refuses, one_plan_output, some_plan_output, no_plan_output}
 use Rattle.sas_requests.proofs.laws.run_laws.Goals as goal
 
 one : OneOutput

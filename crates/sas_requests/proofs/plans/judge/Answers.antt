@@ -1,7 +1,7 @@
 use Rattle.std.proofs.Common.{codes, rules}
 use Rattle.sas_plan_file.specs.PlanFormat.{plan_format}
 use Rattle.sas_answers.specs.Answers.{VerdictAnswer}
-use Rattle.sas_requests.proofs.Outputs.{answers_refusal}
+use Rattle.sas_requests.proofs.FileAnswers.{answers_refusal}
 use Rattle.sas_requests.proofs.plans.judge.Goals as goal
 
 pub returns-in-Err : goal.returns-in-Err

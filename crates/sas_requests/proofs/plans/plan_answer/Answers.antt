@@ -1,9 +1,10 @@
 use Rattle.std.proofs.Common.{codes}
 use Rattle.sas_answers.specs.Answers.{VerdictAnswer}
 use Rattle.sas_task_format.specs.TaskFormat.{task_format}
-use Rattle.sas_requests.specs.Output.{plain_refusal}
-use Rattle.sas_requests.proofs.Outputs.{answers_refusal}
-use Rattle.sas_requests.proofs.PlanAnswers.{NoAnswer, plain_refuses, refused_files, judged_files, unlayered_files}
+use Rattle.sas_outputs.specs.Output.{plain_refusal}
+use Rattle.sas_requests.proofs.FileAnswers.{answers_refusal}
+use Rattle.sas_outputs.proofs.PlanOutputs.{NoAnswer, plain_refuses}
+use Rattle.sas_requests.proofs.PlanAnswers.{refused_files, judged_files, unlayered_files}
 use Rattle.sas_requests.proofs.plans.plan_answer.Goals as goal
 
 pub returns-in-Err : goal.returns-in-Err

@@ -3,14 +3,15 @@ use Rattle.sas_explain.specs.Verdict.{WhyVerdict}
 use Rattle.sas_reader.specs.Devices.{ValueOf}
 use Rattle.sas_task_format.specs.TaskFormat.{task_format}
 use Rattle.sas_task_reader.specs.Telling.{fault_in, found_in, TellsReason}
-use Rattle.sas_requests.specs.declared.Request.TheVariants.{Plan}
+use Rattle.sas_outputs.specs.declared.Request.TheVariants.{Plan}
 use Rattle.sas_requests.specs.Explaining.{TaskOutWhy, PlanOutWhy, task_refusal_lines}
 use Rattle.sas_requests.specs.FileReasons.{TellsTask}
 use Rattle.sas_requests.specs.Why.{OutWhy}
 use Rattle.sas_requests.proofs.Explained.{plain_read, explains_refusal, task_refusal_tells}
 use Rattle.sas_requests.proofs.ExplainedPlans.{refused_why, judged_why, unlayered_files_why}
 use Rattle.sas_requests.proofs.LayerLengths.{layers_fit}
-use Rattle.sas_requests.proofs.PlanAnswers.{NoAnswer, refused_files_by, judged_files_by}
+use Rattle.sas_outputs.proofs.PlanOutputs.{NoAnswer}
+use Rattle.sas_requests.proofs.PlanAnswers.{refused_files_by, judged_files_by}
 use Rattle.sas_requests.proofs.RefusalLaws.{task_telling}
 use Rattle.sas_requests.proofs.why.plan_explanation.Goals as goal
 

@@ -8,7 +8,7 @@ use Rattle.sas_requests.specs.FileReasons.{TellsTask}
 use Rattle.sas_requests.proofs.Explained.{explains_value, explains_refusal, task_refusal_tells}
 use Rattle.sas_requests.proofs.RefusalLaws.{task_telling}
 use Rattle.std.proofs.Common.{refl}
-use Rattle.sas_requests.specs.Output.{PrintAnswer}
+use Rattle.sas_outputs.specs.Output.{PrintAnswer}
 use Rattle.sas_requests.proofs.why.print_explanation.Goals as goal
 
 pub returns-in-Ok : goal.returns-in-Ok

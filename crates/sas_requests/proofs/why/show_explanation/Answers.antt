@@ -11,7 +11,7 @@ use Rattle.std.proofs.Common.{ap, ◌∙◌}
 use Rattle.sas_flat.specs.declared.outline.Outline.{Outline}
 use Rattle.sas_requests.specs.Answering.{output_of}
 use Rattle.sas_requests.specs.declared.answers.Answer.TheVariants.{Summary}
-use Rattle.sas_requests.specs.Output.{ShowAnswer}
+use Rattle.sas_outputs.specs.Output.{ShowAnswer}
 use Rattle.sas_requests.proofs.SummaryLengths.{summary_fits}
 use Rattle.sas_requests.proofs.why.show_explanation.Goals as goal
 

@@ -6,7 +6,7 @@ use Rattle.sas_requests.specs.Explaining.{plan_refusal_lines}
 use Rattle.sas_requests.specs.FileReasons.{TellsPlan}
 use Rattle.sas_requests.proofs.Explained.{explains_value, explains_refusal, plan_refusal_tells}
 use Rattle.sas_requests.proofs.RefusalLaws.{plan_telling}
-use Rattle.sas_requests.specs.Output.{PrintAnswer}
+use Rattle.sas_outputs.specs.Output.{PrintAnswer}
 use Rattle.sas_requests.proofs.why.steps_explanation.Goals as goal
 
 pub returns-in-Ok : goal.returns-in-Ok

@@ -20,8 +20,8 @@ use Rattle.sas_flat.specs.Outlines.{outline_of}
 use Rattle.sas_output.specs.declared.ending.Status.TheVariants.{Yes, No}
 use Rattle.sas_answers.specs.Answers.{layers_refusal, CheckAnswer, MutexAnswer, VerdictAnswer}
 use Rattle.sas_output.specs.Ending.{Output}
-use Rattle.sas_requests.specs.declared.Request.{Request}
-use Rattle.sas_requests.specs.declared.Request.TheVariants.{Show, Print, Steps, Check, Plan, Mutex}
+use Rattle.sas_outputs.specs.declared.Request.{Request}
+use Rattle.sas_outputs.specs.declared.Request.TheVariants.{Show, Print, Steps, Check, Plan, Mutex}
 use Rattle.sas_summary.specs.Summary.{summary_lines}
 
 -- the word for what is wrong with a file; the other kinds say that it was not read as a whole

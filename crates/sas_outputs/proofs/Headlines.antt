@@ -23,14 +23,14 @@ use Rattle.sas_task_format.proofs.TaskLaws.{task_laws_hold}
 use Rattle.sas_output.specs.declared.ending.Status.{Status}
 use Rattle.sas_output.specs.declared.ending.Status.TheVariants.{Yes, No}
 use Rattle.sas_run.specs.Plans.{IsValid}
-use Rattle.sas_requests.specs.Headline.{Solves, Headline}
+use Rattle.sas_outputs.specs.Headline.{Solves, Headline}
 use Rattle.sas_answers.specs.LayerWords.{layer_words, layers_line}
 use Rattle.sas_answers.specs.Answers.{valid_answer, VerdictAnswer}
 use Rattle.sas_output.specs.Ending.{Output}
-use Rattle.sas_requests.specs.Output.{word_of, refusal, refusal_line, IsAnswerOrRefusal, LayersOut, JudgedOut, PlanOutBy}
+use Rattle.sas_outputs.specs.Output.{word_of, refusal, refusal_line, IsAnswerOrRefusal, LayersOut, JudgedOut, PlanOutBy}
 use Rattle.sas_answers.specs.PlanWords.{valid_line, fault_words, invalid_line}
-use Rattle.sas_requests.proofs.Outputs.{refused_kind}
-use Rattle.sas_requests.proofs.PlanAnswers.{IsRefusal, Refuses}
+use Rattle.sas_outputs.proofs.Outputs.{refused_kind}
+use Rattle.sas_outputs.proofs.PlanOutputs.{IsRefusal, Refuses}
 use Rattle.sas_answers.proofs.VerdictAnswers.{one_verdict_answer}
 
 -- ---- what any output about a plan says

@@ -23,7 +23,7 @@ use Rattle.sas_task_format.specs.TaskFormat.{TaskLine, word, name, number, signe
 use Rattle.sas_task_format.specs.TaskFormat as file
 use Rattle.sas_plan_file.specs.PlanFormat.{PlanLine, step, cost, plan_line_bytes, plan_layout, plan_format}
 use Rattle.sas_meaning.specs.Steps.{preconditions, old_fact}
-use Rattle.sas_requests.proofs.Lengths.{text_short}
+use Rattle.sas_outputs.proofs.Lengths.{text_short}
 
 -- ---- numbers
 

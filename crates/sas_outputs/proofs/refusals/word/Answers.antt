@@ -1,5 +1,5 @@
 use Rattle.std.proofs.Common.{rules}
-use Rattle.sas_requests.proofs.refusals.word.Goals as goal
+use Rattle.sas_outputs.proofs.refusals.word.Goals as goal
 
 pub returns-in-TooLong-clause-memory : goal.returns-in-TooLong-clause-memory
 returns-in-TooLong-clause-memory c = search rules

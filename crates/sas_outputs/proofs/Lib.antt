@@ -1,0 +1,10 @@
+pub mod Outputs
+pub mod PlanOutputs
+pub mod WordedLines
+pub mod Headlines
+pub mod Endings
+pub mod Lengths
+pub mod Sizes
+pub mod JoinedLengths
+pub mod VerdictLengths
+pub mod PlainLines

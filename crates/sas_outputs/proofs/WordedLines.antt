@@ -1,0 +1,20 @@
+-- Outputs that are a line with words of its own and say no.
+use Rattle.std.proofs.Common.{◌≡◌, ℕ, List, refl, sym, ap, Some, None, Option}
+use Rattle.std.specs.Prelude.{option_map}
+use Rattle.std.proofs.lemmas.Option.{none-some}
+use Rattle.sas_lines.specs.Lines.{text}
+use Rattle.sas_output.specs.declared.ending.Status.TheVariants.{No}
+use Rattle.sas_output.specs.Ending.{Output}
+
+-- the output is a line with these words that says no
+pub record IsWorded (words : Option (List ℕ)) (line_of : List ℕ → List ℕ) (o : Output) : Type 0 where
+  pub said : List ℕ
+  pub among : words ≡ Some said
+  pub status : o.status ≡ No
+  pub text : o.text ≡ line_of said
+
+pub worded : (words : Option (List ℕ)) (line_of : List ℕ → List ℕ) (o : Output) → option_map (λ w. record { text = line_of w; status = No }) words ≡ Some o → IsWorded words line_of o
+worded None line_of o is = absurd (none-some o is)
+worded (Some w) line_of o is =
+    let same : (record { text = line_of w; status = No }) ≡ o = cc in
+    record { said = w; among = refl; status = sym (ap (λ (x : Output). x.status) same); text = sym (ap (λ (x : Output). x.text) same) }

@@ -1,0 +1,3 @@
+-- What the public clauses cite.
+pub mod Output
+pub mod Headline

@@ -1,0 +1,56 @@
+// Refusals of files.
+ghost use Rattle.std.specs.Prelude.{◌≡◌, ◌↔◌, Some, IfOk, IfErr, IsErrOf};
+ghost use Rattle.sas_output.specs.Ending.{IsWrite, output_told};
+ghost use Rattle.sas_outputs.specs.Output.{refusal, refusal_line, word_of};
+
+use sas_lines::{push_line, push_number};
+use sas_output::{Status, Told, ToolFault};
+use sas_reader::{Fault, Kind};
+use std::alloc::{AllocError, Global};
+
+/// Returns the refusal of a file for its fault, or why the run ends at it.
+pub fn refuse_file(alloc: Global, name: &str, fault: Fault) -> Result<Told, ToolFault>
+    ensures ok { IfOk result (λ t. refusal name.now fault ≡ Some (output_told t)) }
+    ensures long { IsErrOf result ToolFault.TooLong ↔ (fault.kind ≡ Kind.TooLong) }
+    ensures read { IsErrOf result ToolFault.Read ↔ (fault.kind ≡ Kind.Read) }
+    ensures writes { IfErr result (λ e. IsWrite e → ⊥) }
+{
+    let word = word(fault.kind)?;
+    Ok(Told {
+        text: refusal_text(alloc, name, fault.line, word)?,
+        status: Status::No,
+    })
+}
+
+/// Returns the word for what is wrong with a file, or why the run ends at this kind.
+fn word(kind: Kind) -> Result<&'static str, ToolFault>
+    ensures ok { IfOk result (λ w. word_of kind ≡ Some w.now) }
+    ensures memory { IsErrOf result ToolFault.Memory ↔ (kind ≡ Kind.Memory) }
+    ensures long { IsErrOf result ToolFault.TooLong ↔ (kind ≡ Kind.TooLong) }
+    ensures read { IsErrOf result ToolFault.Read ↔ (kind ≡ Kind.Read) }
+    ensures writes { IfErr result (λ e. IsWrite e → ⊥) }
+{
+    match kind {
+        Kind::Keyword => Ok("keyword"),
+        Kind::Name => Ok("name"),
+        Kind::Shape => Ok("shape"),
+        Kind::Value => Ok("value"),
+        Kind::End => Ok("end"),
+        Kind::Trailing => Ok("trailing"),
+        Kind::TooLong => Err(ToolFault::TooLong),
+        Kind::Read => Err(ToolFault::Read),
+        Kind::Memory => Err(ToolFault::Memory),
+    }
+}
+
+/// Returns the line that refuses the file of this name.
+fn refusal_text(alloc: Global, name: &str, line: u64, word: &str) -> Result<Vec<u8>, AllocError>
+    ensures { IfOk result (λ t. t.items ≡ refusal_line name.now line word.now) }
+{
+    let mut text = Vec::from_slice(alloc, name.as_bytes())?;
+    text.extend_from_slice(b" refused: line ")?;
+    push_number(&mut text, u128::from(line))?;
+    text.extend_from_slice(b": ")?;
+    push_line(&mut text, word.as_bytes())?;
+    Ok(text)
+}
