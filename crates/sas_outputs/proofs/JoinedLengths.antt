@@ -1,5 +1,5 @@
 -- How long words are with a space between each two.
-use Rattle.std.proofs.Common.{ℕ, ◌+◌, ◌-◌, ◌≤◌, List, [], ◌∷◌, length, length-append, arith}
+use Rattle.std.proofs.Common.{ℕ, ◌+◌, ◌≤◌, List, [], ◌∷◌, length, length-append, arith}
 use Rattle.sas_lines.specs.Spelling.{joined}
 
 -- how long words are with a space behind each
