@@ -1,8 +1,7 @@
 -- How an answer about one file with reasons comes about.
-use Rattle.std.proofs.Common.{◌≡◌, ◌≢◌, ℕ, ◌<◌, Bool, true, false, IsTrue, ◌++◌, List, [], length, take, refl, sym, ap, subst, ◌∙◌, inl, inr, append-nil, Option, Some, None, Result, Ok, Err}
-use Rattle.std.specs.Prelude.{option_map, nat_lt, IfOk, IfErr, IsErrOf, ◌↔◌}
+use Rattle.std.proofs.Common.{◌≡◌, ◌≢◌, ℕ, ◌<◌, Bool, true, false, IsTrue, List, [], length, take, refl, sym, ap, ◌∙◌, Option, Some, None, Result, Ok, Err}
+use Rattle.std.specs.Prelude.{nat_lt, IfOk, IfErr, IsErrOf, ◌↔◌}
 use Rattle.std.specs.Io.KnownBytes.{Consumes, IsAtEnd}
-use Rattle.std.proofs.lemmas.Option.{none-some}
 use Rattle.sas_lines.specs.Device.{Device}
 use Rattle.sas_reader.specs.declared.fault.Fault.{Fault}
 use Rattle.sas_reader.specs.declared.fault.Kind.{Kind}
@@ -10,17 +9,15 @@ use Rattle.sas_reader.specs.declared.fault.Kind.TheVariants.{TooLong, Read, Memo
 use Rattle.sas_reader.specs.declared.found.Found.{Found}
 use Rattle.sas_reader.specs.Devices.{ReadsAll}
 use Rattle.sas_reader.specs.Format.{Format, ReadsAs}
-use Rattle.sas_reader.specs.Found.{IsFoundOf, bytes_of}
-use Rattle.sas_reader.specs.Laws.{Laws}
+use Rattle.sas_reader.specs.Found.{IsFoundOf}
 use Rattle.sas_reader.specs.Limit.{most_bytes}
-use Rattle.sas_reader.specs.About.{IsTold, IsAbout, TellingLaws}
-use Rattle.sas_reader.specs.Telling.{TellsAbout, RefusesTelling, ReadsAllTelling}
+use Rattle.sas_reader.specs.About.{IsTold, TellingLaws}
+use Rattle.sas_reader.specs.Telling.{TellsAbout, ReadsAllTelling}
 use Rattle.sas_reader.proofs.Known.{known_answer, known_fault}
 use Rattle.sas_reader.proofs.KnownTelling.{plain_reads, known_told}
 use Rattle.sas_output.specs.declared.ending.ToolFault.{ToolFault}
 use Rattle.sas_output.specs.declared.ending.ToolFault.TheVariants as tool_fault
 use Rattle.sas_output.specs.Ending.{Output, IsDecided, IsWrite}
-use Rattle.sas_task_reasons.specs.WhyLayers.{with_reasons}
 use Rattle.sas_requests.specs.declared.answers.Answer.{Answer}
 use Rattle.sas_requests.specs.Answering.{Answers, AnswersFile, output_of}
 use Rattle.sas_plan_file.specs.declared.plan_refusal.PlanRefusal.{PlanRefusal}
@@ -31,7 +28,7 @@ use Rattle.sas_file_reasons.specs.PlanDue.{plan_reason_lines}
 use Rattle.sas_file_reasons.specs.TaskDue.{task_reason_lines}
 use Rattle.sas_requests.specs.Explaining.{FileOutWhy, IsRefusedWith, task_refusal_lines, plan_refusal_lines}
 use Rattle.sas_requests.specs.FileReasons.{FaultReasons, told, past_limit, TellsTask, TellsPlan}
-use Rattle.sas_outputs.specs.Output.{word_of, refusal, FileOut}
+use Rattle.sas_outputs.specs.Output.{refusal}
 use Rattle.sas_outputs.proofs.Outputs.{refused_kind, too_long_else, reading_of_refusal}
 use Rattle.sas_requests.proofs.RefusalReasons.{no_reasons, some_of}
 

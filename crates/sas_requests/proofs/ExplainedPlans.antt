@@ -1,5 +1,5 @@
 -- How an answer with reasons to each request comes about.
-use Rattle.std.proofs.Common.{◌≡◌, ◌≢◌, ℕ, List, [], codes, false, refl, sym, ap, subst, ◌∙◌, Option, Some, None, Result, Ok, Err}
+use Rattle.std.proofs.Common.{◌≡◌, ◌≢◌, ℕ, List, [], codes, false, refl, sym, ap, subst, Option, Some, Result, Ok, Err}
 use Rattle.std.specs.Prelude.{IfOk, IfErr}
 use Rattle.sas_core.specs.declared.parts.Parts.{Parts}
 use Rattle.sas_core.specs.FirstFault.{first_fault}

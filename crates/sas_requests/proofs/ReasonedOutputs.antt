@@ -1,8 +1,7 @@
 -- The output with reasons behind refusals of files: it is the same answer as the one without, there is one, and always some; and
 -- what it says of plans and groups holds.
-use Rattle.std.proofs.Common.{◌≡◌, ◌⊎◌, ℕ, ◌<◌, append-nil, List, [], ◌∷◌, ◌++◌, get_or, arith, codes, refl, sym, ap, subst, ◌∙◌, inl, inr, Option, Some, None, Bool, true, false}
+use Rattle.std.proofs.Common.{◌≡◌, ◌⊎◌, ℕ, ◌<◌, append-nil, List, [], ◌∷◌, ◌++◌, get_or, arith, codes, refl, sym, ap, subst, ◌∙◌, inl, inr, Option, Some, false}
 use Rattle.std.specs.Prelude.{option_map, Contains}
-use Rattle.std.specs.List.{AllByRecursion}
 use Rattle.std.specs.Io.KnownBytes.{Appends}
 use Rattle.sas_lines.specs.Lines.{text, lines}
 use Rattle.sas_reader.specs.declared.fault.Fault.{Fault}
@@ -29,7 +28,7 @@ use Rattle.sas_requests.proofs.RefusalReasons.{no_reasons, none_of, some_of, IsF
 use Rattle.sas_requests.proofs.RefusalLaws.{one_reasons, some_reasons, reasons_tell}
 use Rattle.sas_requests.proofs.SameAnswers.{same_of_read}
 use Rattle.sas_outputs.proofs.PlainLines.{file_words, file_plain, kind_plain}
-use Rattle.sas_requests.proofs.ToldLines.{IsTold, IsToldText, stays, first_stays, lines_of_first}
+use Rattle.sas_requests.proofs.ToldLines.{IsTold, stays, first_stays, lines_of_first}
 use Rattle.sas_outputs.proofs.WordedLines.{worded}
 use Rattle.sas_requests.proofs.WhyAnswers.{why_tells_valid, why_refuses}
 use Rattle.sas_requests.proofs.WhyLaws.{one_of_read, some_of_read, long_of_read}

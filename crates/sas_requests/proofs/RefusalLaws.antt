@@ -1,7 +1,6 @@
 -- Why a file is refused: one set of lines, always some, and each line tells a reason.
-use Rattle.std.proofs.Common.{◌≡◌, ◌≢◌, ◌⊎◌, ℕ, List, [], ◌∷◌, length, take, refl, sym, ap, subst, ◌∙◌, inl, inr, Option, Some, None, Result, Ok, Err, Bool, true}
+use Rattle.std.proofs.Common.{◌≡◌, ◌≢◌, ℕ, List, [], ◌∷◌, length, take, refl, sym, ap, subst, ◌∙◌, inl, inr, Option, Some, None, Result, Ok, Err, true}
 use Rattle.std.specs.Prelude.{nat_lt}
-use Rattle.std.specs.List.{AllByRecursion}
 use Rattle.sas_core.specs.declared.parts.Parts.{Parts}
 use Rattle.sas_core.specs.FirstFault.{first_fault}
 use Rattle.sas_meaning.specs.declared.layered.LayerFault.{LayerFault}
@@ -10,19 +9,19 @@ use Rattle.sas_lines.specs.Lines.{lines, unfinished}
 use Rattle.sas_reader.specs.declared.fault.Fault.{Fault}
 use Rattle.sas_reader.specs.declared.fault.Kind.{Kind}
 use Rattle.sas_reader.specs.declared.fault.Kind.TheVariants as kinds
-use Rattle.sas_reader.specs.Format.{Format, FaultOf, EndOf, KindAt, too_long, trailing, wrong, ReadsAs}
+use Rattle.sas_reader.specs.Format.{Format, FaultOf, KindAt, too_long, trailing, wrong, ReadsAs}
 use Rattle.sas_reader.specs.Laws.{Laws}
 use Rattle.sas_reader.specs.Limit.{most_bytes}
-use Rattle.sas_reader.specs.About.{IsTold, IsAbout, of_line, of_byte, of_end, TellingLaws}
+use Rattle.sas_reader.specs.About.{IsAbout, of_line, of_byte, of_end, TellingLaws}
 use Rattle.sas_reader.proofs.Telling.{telling_laws_of}
-use Rattle.sas_plan_file.specs.PlanFormat.{plan_format, PlanLineFits, PlanKind}
+use Rattle.sas_plan_file.specs.PlanFormat.{plan_format, PlanLineFits}
 use Rattle.sas_plan_file.specs.PlanMachine.{plan_node, plan_start}
 use Rattle.sas_plan_file.proofs.PlanGrammar.{plan_grammar}
 use Rattle.sas_plan_file.proofs.PlanLaws.{plan_laws_hold}
 use Rattle.sas_task_format.specs.declared.marks.Mark.{Mark}
 use Rattle.sas_task_format.specs.declared.marks.WrongWord.{WrongWord}
 use Rattle.sas_task_format.specs.Process.{process_node}
-use Rattle.sas_task_format.specs.TaskFormat.{task_format, TaskLineFits, TaskSlot}
+use Rattle.sas_task_format.specs.TaskFormat.{task_format, TaskLineFits}
 use Rattle.sas_task_format.specs.TaskProcess.{task_start}
 use Rattle.sas_task_format.proofs.MarkLaws.{one_task_reason}
 use Rattle.sas_task_format.proofs.SomeReason.{some_task_reason}

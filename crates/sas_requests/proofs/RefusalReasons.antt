@@ -1,17 +1,14 @@
 -- Why a file is refused: one set of lines, and always some; and behind which refusal they stand.
-use Rattle.std.proofs.Common.{◌≡◌, ◌≢◌, ◌⊎◌, ℕ, List, [], ◌++◌, codes, append-nil, refl, sym, ap, subst, ◌∙◌, inl, inr, Option, Some, None, Result, Ok, Err, true}
+use Rattle.std.proofs.Common.{◌≡◌, ◌⊎◌, ℕ, List, [], codes, append-nil, refl, sym, ap, subst, inl, inr, Option, Some, None, Result, Ok, Err}
 use Rattle.std.specs.Prelude.{option_map}
-use Rattle.std.specs.List.{AllByRecursion}
 use Rattle.std.proofs.lemmas.Option.{none-some}
 use Rattle.sas_core.specs.declared.parts.Parts.{Parts}
 use Rattle.sas_core.specs.FirstFault.{first_fault}
-use Rattle.sas_core.specs.PlanParts.{PlanParts}
 use Rattle.sas_meaning.specs.declared.layered.LayerFault.{LayerFault}
 use Rattle.sas_meaning.specs.LayerChecks.{layer_checks}
-use Rattle.sas_lines.specs.Lines.{text}
 use Rattle.sas_reader.specs.declared.fault.Fault.{Fault}
 use Rattle.sas_reader.specs.declared.fault.Kind.{Kind}
-use Rattle.sas_reader.specs.Format.{Format, ReadsAs}
+use Rattle.sas_reader.specs.Format.{Format}
 use Rattle.sas_reader.specs.Laws.{Laws}
 use Rattle.sas_reader.specs.Limit.{most_bytes}
 use Rattle.sas_plan_file.specs.PlanFormat.{plan_format}
@@ -23,7 +20,7 @@ use Rattle.sas_task_reasons.specs.WhyLayers.{with_reasons, why_refusal, WhyCheck
 use Rattle.sas_explain.specs.Verdict.{WhyVerdict}
 use Rattle.sas_outputs.specs.declared.Request.{Request}
 use Rattle.sas_outputs.specs.declared.Request.TheVariants.{Show, Print, Steps, Check, Plan, Mutex}
-use Rattle.sas_requests.specs.FileReasons.{FaultReasons, ReadReasons, FileReasons, TellsTask, TellsPlan, LayersFileReasons, JudgedFileReasons, FilesReasons, RefusalReasons}
+use Rattle.sas_requests.specs.FileReasons.{ReadReasons, FileReasons, TellsTask, TellsPlan, LayersFileReasons, JudgedFileReasons, RefusalReasons}
 use Rattle.sas_outputs.specs.Output.{refusal, IsAnswerOrRefusal, FileOut, LayersOut, JudgedOut, ShowAnswer, PrintAnswer}
 use Rattle.sas_requests.specs.Why.{OutOfRead}
 

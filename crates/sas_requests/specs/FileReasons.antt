@@ -1,5 +1,5 @@
 -- Why a file is refused: the lines that stand behind its refusal.
-use Rattle.std.specs.Prelude.{◌≡◌, ℕ, List, [], ◌∷◌, length, take, nat_lt, Option, Some, None, option_map, Result, Ok, Err}
+use Rattle.std.specs.Prelude.{◌≡◌, ℕ, List, [], length, take, nat_lt, Option, Some, None, Result, Ok, Err}
 use Rattle.sas_core.specs.declared.parts.Parts.{Parts}
 use Rattle.sas_core.specs.FirstFault.{first_fault}
 use Rattle.sas_meaning.specs.declared.layered.LayerFault.{LayerFault}
@@ -17,7 +17,6 @@ use Rattle.sas_task_format.specs.TaskFormat.{task_format}
 use Rattle.sas_task_format.specs.TaskReasons.{IsTaskReason}
 use Rattle.sas_file_reasons.specs.TaskDue.{task_reason_lines}
 use Rattle.sas_file_reasons.specs.PlanDue.{plan_reason_lines}
-use Rattle.sas_output.specs.Ending.{Output}
 use Rattle.sas_outputs.specs.declared.Request.{Request}
 use Rattle.sas_outputs.specs.declared.Request.TheVariants.{Show, Print, Steps, Check, Plan, Mutex}
 

@@ -1,5 +1,5 @@
-use Rattle.std.proofs.Common.{codes, refl}
-use Rattle.sas_reader.specs.Devices.{ValueOf, TextOf}
+use Rattle.std.proofs.Common.{codes}
+use Rattle.sas_reader.specs.Devices.{ValueOf}
 use Rattle.sas_plan_file.specs.PlanFormat.{plan_format}
 use Rattle.sas_plan_file.specs.PlanRefusal.{fault_of, found_of, nothing_else}
 use Rattle.sas_requests.specs.Explaining.{plan_refusal_lines}

@@ -1,5 +1,4 @@
 use Rattle.std.proofs.Common.{[], refl}
-use Rattle.sas_outputs.specs.declared.Request.TheVariants.{Show, Print, Steps, Check, Mutex}
 use Rattle.sas_requests.proofs.ExplainedPlans.{show_why, print_why, steps_why, check_why, mutex_why}
 use Rattle.sas_requests.proofs.PlanAnswers.{answers_by}
 use Rattle.sas_outputs.proofs.Outputs.{takes_nothing}

@@ -1,7 +1,6 @@
 use Rattle.std.proofs.Common.{codes}
-use Rattle.sas_reader.specs.Devices.{ValueOf, TextOf}
+use Rattle.sas_reader.specs.Devices.{ValueOf}
 use Rattle.sas_task_format.specs.TaskFormat.{task_format}
-use Rattle.sas_task_reader.specs.Outline.{OutlineOf}
 use Rattle.sas_task_reader.specs.Telling.{fault_in, found_in, TellsReason}
 use Rattle.sas_requests.specs.Explaining.{task_refusal_lines}
 use Rattle.sas_requests.specs.FileReasons.{TellsTask}

@@ -1,5 +1,4 @@
 use Rattle.std.proofs.Common.{codes}
-use Rattle.sas_reader.specs.Devices.{ValueOf, TextOf}
 use Rattle.sas_task_format.specs.TaskFormat.{task_format}
 use Rattle.sas_task_reader.specs.Outline.{OutlineOf}
 use Rattle.sas_task_reader.specs.Telling.{fault_in, found_in, TellsReason}
