@@ -67,6 +67,7 @@ impl Keeper for TaskText {
         Ok(())
     }
 
+    #[inline(always)]
     fn keep_variable(&mut self, bytes: &[u8]) -> Result<VariableKept, Kind> {
         let Some(kept) = variable_front(bytes, &mut self.gathered)? else {
             return Ok(NO_VARIABLE);
