@@ -20,6 +20,7 @@ pub const NO_VARIABLE: VariableKept = VariableKept {
 
 /// Returns how many lines and bytes the variable takes up that stands first in the bytes, and how many values it has,
 /// where it is found. Anything may be gathered.
+#[inline(always)]
 pub fn variable_front(bytes: &[u8], gathered: &mut Gathered) -> Result<Option<VariableKept>, Kind>
     ensures found { IfOk result (λ found. IfSome found (λ kept.
         (v : Variable) × VariableWithRange bytes.now v kept)) }
