@@ -1,14 +1,16 @@
 #!/usr/bin/env python3
-"""Proves what the program needs and builds it, to ./sas. Prints a line for each crate, and writes all that the prover prints to
-build.log.
+"""Proves what a crate needs, and builds it. Prints a line for each crate, and writes all that the prover prints to build.log.
 
-    python3 build.py JOBS
+    python3 build.py CRATE [PROCESSORS]
 
-JOBS is how many crates are begun at a time. A check can use several processors, but under `rt all` each has one. So the lowest
-crates, for which all others wait, are proved first by themselves. So are the last ones, which wait for all others.
+CRATE is a program, as sas, or a static library, as sas_c. PROCESSORS is how many to use; all, if left out. A check takes one to four GB.
+
+Each crate is proved by `rt lib`, once those that it uses are proved: first the crate with the longest chain of others above it. Where
+fewer crates are ready than there are processors, each gets several. `rt lib` keeps every other run out of the folders of all crates
+below, so it runs in a room: a folder of the crate's own with links to the files of these crates.
 """
+import concurrent.futures
 import os
-import re
 import shutil
 import subprocess
 import sys
@@ -16,11 +18,10 @@ import time
 
 TOP = os.path.dirname(os.path.abspath(__file__))
 CRATES = f"{TOP}/crates"
-PROGRAM = "sas"
-# the crate with the program's words, and those that are proved one behind the other in the end
-WORDS = "sas_tool"
-LAST = [WORDS, PROGRAM]
-PROCESSORS = str(os.cpu_count())
+ROOMS = f"{TOP}/out/rooms"
+# what is read of a crate that is built, and how many processors a check can use
+PARTS = ("src", "specs", "proofs", "out/rlib")
+MOST = 4
 BEGAN = time.monotonic()
 
 
@@ -28,8 +29,8 @@ def libraries():
     """Returns the crates of the repository that each crate of it uses."""
     with open(f"{TOP}/crates.txt", encoding="utf-8") as file:
         lines = [line.split(":") for line in file if line.strip() and not line.startswith("#")]
-    names = [name for name, _ in lines]
-    return {name: [it for it in used.split() if it in names] for name, used in lines}
+    names = [words.split()[0] for words, _ in lines]
+    return {name: [it for it in used.split() if it in names] for name, (_, used) in zip(names, lines)}
 
 
 def with_those_below(name, used):
@@ -40,85 +41,116 @@ def with_those_below(name, used):
     return found
 
 
-class Progress:
-    """Which crates are done, of which, and whether one of them isn't proved."""
-
-    def __init__(self, names):
-        self.names, self.done, self.failed = names, set(), False
-
-    def tell(self, crate, is_proved):
-        """Prints of a crate, once, whether it is proved."""
-        if crate in self.done or crate not in self.names:
-            return
-        self.done.add(crate)
-        self.failed |= not is_proved
-        told = "proved" if is_proved else "not proved"
-        print(f"{crate} ({len(self.done)} of {len(self.names)}): {told}, {time.monotonic() - BEGAN:.0f} s after the start", flush=True)
+def lines_of(crate):
+    """Returns how many lines of code a crate has."""
+    files = [f"{at}/{name}" for at, _, names in os.walk(f"{CRATES}/{crate}/src") for name in names]
+    return sum(len(open(it, "rb").readlines()) for it in files)
 
 
-def begin(command, crate, given=subprocess.DEVNULL):
-    """Begins a command in a crate's folder, and returns it."""
-    streams = {"stdin": given, "stdout": subprocess.PIPE, "stderr": subprocess.STDOUT}
-    return subprocess.Popen(command, cwd=f"{CRATES}/{crate}", encoding="utf-8", errors="replace", **streams)
+def longest_above(names, used):
+    """Returns for each crate the lines of the longest chain from it upwards."""
+    found = {}
+
+    def of(crate):
+        if crate not in found:
+            found[crate] = lines_of(crate) + max((of(it) for it in names if crate in used[it]), default=0)
+        return found[crate]
+
+    return {it: of(it) for it in names}
 
 
-def prove_lowest(used, progress, log):
-    """Proves the crates that stand on no other, the largest by more processors. Returns whether all are proved."""
-    lowest = sorted((it for it in progress.names if not used[it]), key=size_of)
-    jobs = {it: "1" for it in lowest} | {lowest[-1]: str(max(1, os.cpu_count() - len(lowest) + 1))}
-    begun = {it: begin(["rt", "lib", "--jobs", jobs[it]], it) for it in lowest}
-    for crate, process in begun.items():
-        log.write(f"== {crate}\n{process.communicate()[0]}")
-        progress.tell(crate, process.returncode == 0)
-    return all(it.returncode == 0 for it in begun.values())
+class Room:
+    """A folder in which one crate is proved: its files and its kept work, and links to the crates below."""
+
+    def __init__(self, crate, used):
+        self.own, self.top, self.home = f"{ROOMS}/{crate}/crates/{crate}", f"{ROOMS}/{crate}", f"{CRATES}/{crate}"
+        for other in with_those_below(crate, used):
+            for part in PARTS:
+                if os.path.isdir(f"{CRATES}/{other}/{part}"):
+                    shutil.copytree(f"{CRATES}/{other}/{part}", f"{self.top}/crates/{other}/{part}", copy_function=os.link)
+        os.link(f"{TOP}/crates.txt", f"{self.top}/crates.txt")
+        self.move("incremental", self.home, self.own)
+
+    @staticmethod
+    def move(part, one, other):
+        """Moves a part of out/ from one folder of the crate to the other."""
+        shutil.rmtree(f"{other}/out/{part}", ignore_errors=True)
+        if os.path.isdir(f"{one}/out/{part}"):
+            os.makedirs(f"{other}/out", exist_ok=True)
+            os.rename(f"{one}/out/{part}", f"{other}/out/{part}")
+
+    def close(self):
+        """Takes what was made back to the crate's folder."""
+        for part in ("incremental", "rlib"):
+            self.move(part, self.own, self.home)
+        shutil.rmtree(self.top)
 
 
-def size_of(crate):
-    """Returns how many bytes of code a crate has."""
-    folder = f"{CRATES}/{crate}/src"
-    return sum(os.path.getsize(f"{folder}/{it}") for it in os.listdir(folder))
+class Build:
+    """The crates to prove and those that are proved, with the log."""
+
+    def __init__(self, crate, used, log):
+        self.crate, self.used, self.log = crate, used, log
+        self.names, self.proved = with_those_below(crate, used), set()
+
+    def report(self, crate, ended):
+        """Logs what the prover printed of a crate, prints whether it is proved, and returns that."""
+        self.log.write(f"== {crate}\n{ended.stdout}")
+        self.proved |= {crate} if ended.returncode == 0 else set()
+        said = "proved" if ended.returncode == 0 else "not proved"
+        after = f"{time.monotonic() - BEGAN:.0f} s after the start"
+        print(f"{crate} ({len(self.proved)} of {len(self.names)}): {said}, {after}", flush=True)
+        return ended.returncode == 0
+
+    def prove_below(self, processors):
+        """Proves the crates below the last one. Returns whether all are proved."""
+        above = longest_above(self.names, self.used)
+        waiting, running, well = sorted(self.names[1:], key=lambda it: -above[it]), {}, True
+        with concurrent.futures.ThreadPoolExecutor(processors) as pool:
+            while running or (waiting and well):
+                ready = [it for it in waiting if well and self.proved.issuperset(self.used[it])]
+                idle = processors - sum(jobs for _, jobs in running.values())
+                for at, crate in enumerate(ready[:idle]):
+                    jobs = min(MOST, max(1, idle // (len(ready) - at)))
+                    idle -= jobs
+                    waiting.remove(crate)
+                    running[pool.submit(prove, crate, self.used, jobs)] = crate, jobs
+                for it in concurrent.futures.wait(running, return_when=concurrent.futures.FIRST_COMPLETED).done:
+                    well &= self.report(running.pop(it)[0], it.result())
+        return well
+
+    def prove_last(self, processors):
+        """Proves the last crate, and builds it; runs it once where it is a program. Returns whether that went well."""
+        verb = "run" if os.path.isfile(f"{CRATES}/{self.crate}/src/main.rt") else "lib"
+        return self.report(self.crate, rt(verb, f"{CRATES}/{self.crate}", processors))
 
 
-def prove_below(jobs, progress, log):
-    """Proves the crates below the last ones, and reports each as soon as it is proved. The check of the last ones is stopped: what builds
-    the program proves them anyway, by all processors. Returns whether all below are proved."""
-    crate, below = None, set(progress.names) - set(LAST)
-    with begin(["rt", "all", "check", "--jobs", jobs], WORDS) as process:
-        for line in process.stdout:
-            log.write(line)
-            begins = re.match(r"== (\w+)$", line)
-            crate = begins[1] if begins else crate
-            if crate and line.startswith("logic="):
-                progress.tell(crate, line.startswith("logic=proved "))
-            # a crate that an earlier run proved has nothing but its line in the summary
-            kept = re.match(r"(\w+): ok$", line)
-            if kept:
-                progress.tell(kept[1], True)
-            if below <= progress.done:
-                process.terminate()
-                return not progress.failed
-    return False
+def rt(verb, folder, jobs):
+    """Runs a command of the toolchain in a crate's folder, with the crate's input, if it has one, and returns how it ended."""
+    given = f"{folder}/stdin" if os.path.exists(f"{folder}/stdin") else os.devnull
+    streams = {"stdout": subprocess.PIPE, "stderr": subprocess.STDOUT, "encoding": "utf-8", "errors": "replace"}
+    with open(given, "rb") as stdin:
+        return subprocess.run(["rt", verb, "--jobs", str(jobs)], check=False, cwd=folder, stdin=stdin, **streams)
 
 
-def build(progress, log):
-    """Proves what is above, builds the program and runs it once. Returns whether that went well."""
-    with open(f"{CRATES}/{PROGRAM}/stdin", "rb") as given:
-        process = begin(["rt", "run", "--jobs", PROCESSORS], PROGRAM, given)
-        log.write(process.communicate()[0])
-    for crate in reversed(progress.names) if process.returncode == 0 else ():
-        progress.tell(crate, True)
-    return process.returncode == 0
+def prove(crate, used, jobs):
+    """Proves a crate, in a room of its own."""
+    room = Room(crate, used)
+    try:
+        return rt("lib", room.own, jobs)
+    finally:
+        room.close()
 
 
 def main():
-    used = libraries()
-    progress = Progress(with_those_below(PROGRAM, used))
+    crate, processors = sys.argv[1], int(sys.argv[2]) if sys.argv[2:] else os.cpu_count()
+    shutil.rmtree(ROOMS, ignore_errors=True)
     with open(f"{TOP}/build.log", "w", encoding="utf-8") as log:
-        well = prove_lowest(used, progress, log) and prove_below(sys.argv[1], progress, log) and build(progress, log)
+        build = Build(crate, libraries(), log)
+        well = build.prove_below(processors) and build.prove_last(processors)
+    shutil.rmtree(ROOMS, ignore_errors=True)
     if not well:
         sys.exit("not built; build.log says why")
-    shutil.copy(f"{CRATES}/{PROGRAM}/out/{PROGRAM}", f"{TOP}/{PROGRAM}")
-    print(f"built ./{PROGRAM}")
 
 
 main()

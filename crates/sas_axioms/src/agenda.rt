@@ -13,7 +13,6 @@ use std::collections::BinaryHeap;
 pub struct TooMuch;
 
 /// The rules that are to be looked at, layer after layer, and how much may still be looked at.
-#[derive(Drop)]
 pub struct Agenda {
     /// Rules that began or ceased to hold, and haven't been looked at since. The lowest layer comes first.
     pub noted: BinaryHeap<Reverse<LayerRule>>,
@@ -27,6 +26,21 @@ pub struct Agenda {
     pub passes: usize,
     /// How many it will be when a try takes too much again.
     pub next_passes: usize,
+}
+
+impl Drop for Agenda {
+    fn drop(self) {
+        let Agenda {
+            noted,
+            ready,
+            left: _,
+            share: _,
+            passes: _,
+            next_passes: _,
+        } = self;
+        drop(noted);
+        drop(ready);
+    }
 }
 
 /// To note a rule, take it off again and set its variable takes about as long as to count so many rules anew.

@@ -14,7 +14,6 @@ use sas_meaning::{Layered, State};
 use std::alloc::{AllocError, Global};
 
 /// Values of the variables, and how many conditions of each rule they leave open.
-#[derive(Drop)]
 pub struct Counted {
     /// Which rules wait for which facts, on any layer and of any variable.
     pub index: Lists<Waiting>,
@@ -22,6 +21,19 @@ pub struct Counted {
     pub values: State,
     /// How many conditions of each rule the values leave open.
     pub counters: Items<u32>,
+}
+
+impl Drop for Counted {
+    fn drop(self) {
+        let Counted {
+            index,
+            values,
+            counters,
+        } = self;
+        drop(index);
+        drop(values);
+        drop(counters);
+    }
 }
 
 impl Counted {

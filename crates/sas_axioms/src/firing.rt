@@ -30,7 +30,6 @@ use sas_meaning::{Layered, State, Touched};
 use std::alloc::{AllocError, Global};
 
 /// The work on a layer.
-#[derive(Drop)]
 pub struct Work {
     /// The layer.
     pub layer: u32,
@@ -44,8 +43,40 @@ pub struct Work {
     pub agenda: Agenda,
 }
 
+impl Drop for Work {
+    fn drop(self) {
+        let Work {
+            layer: _,
+            counters,
+            stack,
+            sources,
+            agenda,
+        } = self;
+        drop(counters);
+        drop(stack);
+        drop(sources);
+        drop(agenda);
+    }
+}
+
+impl Work {
+    /// Returns the work before the first layer, with this share for each state that is followed. All memory that it needs is reserved
+    /// here.
+    fn new<T: Grounded>(alloc: Global, task: &Layered<T>, share: usize) -> Result<Work, AllocError>
+        ensures room { IfOk result (λ work. HasRoom task.now work) }
+        ensures empty { IfOk result (λ work. work.stack.items ≡ []) }
+    {
+        Ok(Work {
+            layer: 0,
+            counters: Items::from_vec(vec![in alloc; 0u32; task.rules() as usize]?),
+            stack: Vec::with_capacity(alloc, task.variables() as usize)?,
+            sources: Items::from_vec(vec![in alloc; 0u32; task.variables() as usize]?),
+            agenda: Agenda::new(alloc, share)?,
+        })
+    }
+}
+
 /// An evaluator that settles the layers of a task, one at a time.
-#[derive(Drop)]
 pub struct Firing {
     /// Which rules wait for which facts.
     index: Lists<Waiting>,
@@ -55,6 +86,21 @@ pub struct Firing {
     rules_of: Lists<u32>,
     /// The work on a layer.
     work: Work,
+}
+
+impl Drop for Firing {
+    fn drop(self) {
+        let Firing {
+            index,
+            resting,
+            rules_of,
+            work,
+        } = self;
+        drop(index);
+        drop(resting);
+        drop(rules_of);
+        drop(work);
+    }
 }
 
 impl Firing {
@@ -67,13 +113,7 @@ impl Firing {
     ) -> Result<Firing, AllocError>
         ensures { IfOk result (λ firing. IsPrepared task.now firing) }
     {
-        let work = Work {
-            layer: 0,
-            counters: Items::from_vec(vec![in alloc; 0u32; task.rules() as usize]?),
-            stack: Vec::with_capacity(alloc, task.variables() as usize)?,
-            sources: Items::from_vec(vec![in alloc; 0u32; task.variables() as usize]?),
-            agenda: Agenda::new(alloc, share)?,
-        };
+        let work = Work::new(alloc, task, share)?;
         Ok(Firing {
             index: index_of_own_layers(alloc, task)?,
             resting: Resting::new(alloc, task)?,

@@ -19,7 +19,6 @@ use std::alloc::{AllocError, Global};
 /// their default where the layer begins, so its rules begin with these counts. The exception is the rules that look below:
 /// those with a condition on a lower layer. The counts depend on basic variables alone, of which few change between two steps
 /// of a plan. They are counted anew only where one did.
-#[derive(Drop)]
 pub struct Resting {
     /// The basic variables that conditions of rules that can fire are on.
     asked: Vec<u32>,
@@ -27,6 +26,19 @@ pub struct Resting {
     pub counted: Counted,
     /// For each rule, whether it has a condition on a derived variable of a lower layer.
     looks_below: Vec<bool>,
+}
+
+impl Drop for Resting {
+    fn drop(self) {
+        let Resting {
+            asked,
+            counted,
+            looks_below,
+        } = self;
+        drop(asked);
+        drop(counted);
+        drop(looks_below);
+    }
 }
 
 impl Resting {

@@ -16,7 +16,6 @@ use std::alloc::{AllocError, Global};
 /// begin, as far as these depend on basic variables. It settles any state of the task all the same. `new` reserves all memory
 /// that it needs, so `settle` takes no memory. Its space depends on the numbers of variables, rules and conditions, and not
 /// on which layers there are.
-#[derive(Drop)]
 pub struct Worklist {
     /// The derived variables.
     derived: Vec<u32>,
@@ -30,6 +29,23 @@ pub struct Worklist {
     start: usize,
     /// The evaluator of single layers.
     firing: Firing,
+}
+
+impl Drop for Worklist {
+    fn drop(self) {
+        let Worklist {
+            derived,
+            rules,
+            spans,
+            next: _,
+            start: _,
+            firing,
+        } = self;
+        drop(derived);
+        drop(rules);
+        drop(spans);
+        drop(firing);
+    }
 }
 
 impl Worklist {

@@ -14,10 +14,21 @@ use std::marker::Model;
 ///
 /// Most effects of most tasks have no conditions. So the lists of conditions reach only as far as there are some, and an
 /// effect behind the last list has none.
-#[derive(Debug, Drop)]
+#[derive(Debug)]
 pub struct Effects {
     changes: Vec<Change>,
     conditions: Lists<Fact>,
+}
+
+impl Drop for Effects {
+    fn drop(self) {
+        let Effects {
+            changes,
+            conditions,
+        } = self;
+        drop(changes);
+        drop(conditions);
+    }
 }
 
 impl Model for Effects {

@@ -24,12 +24,27 @@ struct Head {
 }
 
 /// The columns of operators: the items of all operators one after another, and the head of each operator.
-#[derive(Debug, Drop)]
+#[derive(Debug)]
 pub struct Columns {
     names: Vec<u8>,
     prevail: Vec<Fact>,
     effects: Effects,
     heads: Vec<Head>,
+}
+
+impl Drop for Columns {
+    fn drop(self) {
+        let Columns {
+            names,
+            prevail,
+            effects,
+            heads,
+        } = self;
+        drop(names);
+        drop(prevail);
+        drop(effects);
+        drop(heads);
+    }
 }
 
 /// Operators. In a contract their value is the list of the operators.

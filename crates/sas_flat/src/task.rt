@@ -9,9 +9,16 @@ use sas_core::{Change, Fact, Grounded};
 use std::marker::Model;
 
 /// A task in a few blocks of memory: its parts are well ranged. In a contract its value is the task's parts.
-#[derive(Debug, Drop)]
+#[derive(Debug)]
 pub struct FlatTask {
     columns: TaskColumns,
+}
+
+impl Drop for FlatTask {
+    fn drop(self) {
+        let FlatTask { columns } = self;
+        drop(columns);
+    }
 }
 
 impl Model for FlatTask {

@@ -12,12 +12,27 @@ use std::marker::Model;
 
 /// The columns of variables. The names of all values are stored one after another, and `ends` holds where those of each
 /// variable end.
-#[derive(Debug, Drop)]
+#[derive(Debug)]
 pub struct Columns {
     names: Lists<u8>,
     layers: Vec<Option<u32>>,
     values: Lists<u8>,
     ends: Ends,
+}
+
+impl Drop for Columns {
+    fn drop(self) {
+        let Columns {
+            names,
+            layers,
+            values,
+            ends,
+        } = self;
+        drop(names);
+        drop(layers);
+        drop(values);
+        drop(ends);
+    }
 }
 
 /// Variables. In a contract their value is the list of the variables.

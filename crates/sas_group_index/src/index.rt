@@ -20,7 +20,6 @@ const FEW_GROUPS: usize = 4;
 
 /// Which groups have which fact, and which effects of large operators set which variable. Facts are numbered, variable after
 /// variable, so one is looked up in a fixed time.
-#[derive(Drop)]
 pub struct Index {
     /// The number of each variable's first fact.
     pub firsts: Vec<usize>,
@@ -32,6 +31,23 @@ pub struct Index {
     pub runs: Items<Items<u32>>,
     /// The effects of large operators under the places of the operator and the variable.
     pub effects: Lists<u32>,
+}
+
+impl Drop for Index {
+    fn drop(self) {
+        let Index {
+            firsts,
+            groups,
+            own_facts,
+            runs,
+            effects,
+        } = self;
+        drop(firsts);
+        drop(groups);
+        drop(own_facts);
+        drop(runs);
+        drop(effects);
+    }
 }
 
 impl Index {

@@ -74,7 +74,6 @@ impl Noted {
 }
 
 /// Some facts, noted by variable and by group. What is noted for a group doesn't depend on whether it counts.
-#[derive(Drop)]
 pub struct Notes {
     /// For each variable, the value of a fact on it.
     pub values: Items<Option<u32>>,
@@ -88,6 +87,20 @@ pub struct Notes {
     pub spread: usize,
     /// Whether some fact of the task may stand apart: in most tasks none has so many groups. It is a hint, too.
     pub some_wide: bool,
+}
+
+impl Drop for Notes {
+    fn drop(self) {
+        let Notes {
+            values,
+            groups,
+            apart: _,
+            spread: _,
+            some_wide: _,
+        } = self;
+        drop(values);
+        drop(groups);
+    }
 }
 
 impl Notes {

@@ -8,10 +8,18 @@ use std::alloc::{AllocError, Global};
 use std::marker::Model;
 
 /// Lists in one block of memory, and where each ends. In a contract their value is the list of these lists.
-#[derive(Debug, Drop)]
+#[derive(Debug)]
 pub struct Lists<T> {
     items: Vec<T>,
     ends: Ends,
+}
+
+impl<T: Drop> Drop for Lists<T> {
+    fn drop(self) {
+        let Lists { items, ends } = self;
+        drop(items);
+        drop(ends);
+    }
 }
 
 impl<T> Model for Lists<T> {

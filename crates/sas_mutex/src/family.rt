@@ -7,7 +7,6 @@ ghost use Rattle.sas_mutex.specs.Basis.{IsBasis, IsBasisKept, IsOfNone, IsWithou
 use sas_core::Items;
 
 /// The groups that may still be kept jointly, and those that fell out of them.
-#[derive(Drop)]
 pub struct Family {
     /// For each group, whether it is in the family.
     pub kept: Items<bool>,
@@ -18,6 +17,21 @@ pub struct Family {
     pub basis: Items<bool>,
     /// The groups of the basis, which are few.
     pub supports: Items<u32>,
+}
+
+impl Drop for Family {
+    fn drop(self) {
+        let Family {
+            kept,
+            fallen,
+            basis,
+            supports,
+        } = self;
+        drop(kept);
+        drop(fallen);
+        drop(basis);
+        drop(supports);
+    }
 }
 
 /// Takes these groups out of a list that has a place for each group.

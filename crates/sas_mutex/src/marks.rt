@@ -19,7 +19,6 @@ use sas_meaning::Layered;
 use std::alloc::{AllocError, Global};
 
 /// What is noted while effects are looked at.
-#[derive(Drop)]
 pub struct Marks {
     /// The known facts where effects fire.
     pub known: Notes,
@@ -27,6 +26,19 @@ pub struct Marks {
     pub others: Notes,
     /// Which groups decided tests.
     pub deciding: Deciding,
+}
+
+impl Drop for Marks {
+    fn drop(self) {
+        let Marks {
+            known,
+            others,
+            deciding,
+        } = self;
+        drop(known);
+        drop(others);
+        drop(deciding);
+    }
 }
 
 impl Marks {

@@ -16,7 +16,6 @@ pub struct Watch {
 }
 
 /// The watches that were made, one after another. Those of each group are a chain.
-#[derive(Drop)]
 pub struct Watches {
     pub made: Items<Watch>,
     /// For each group, the place of its last watch.
@@ -27,6 +26,20 @@ pub struct Watches {
     pub since: Items<Option<u32>>,
     /// How many watches there is room for.
     pub room: usize,
+}
+
+impl Drop for Watches {
+    fn drop(self) {
+        let Watches {
+            made,
+            last,
+            since,
+            room: _,
+        } = self;
+        drop(made);
+        drop(last);
+        drop(since);
+    }
 }
 
 /// How many watches are reserved for each operator. Memory that isn't used isn't taken from the system.

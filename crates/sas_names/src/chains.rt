@@ -8,10 +8,17 @@ use sas_core::Grounded;
 use std::alloc::{AllocError, Global};
 
 /// For each of some names the lowest operator, and for each operator of one of these names the next one of the same name.
-#[derive(Drop)]
 pub struct Chains {
     first: Vec<Option<u32>>,
     next: Vec<Option<u32>>,
+}
+
+impl Drop for Chains {
+    fn drop(self) {
+        let Chains { first, next } = self;
+        drop(first);
+        drop(next);
+    }
 }
 
 impl Chains {
@@ -58,7 +65,7 @@ impl Chains {
     pub fn into_next(self) -> Vec<Option<u32>>
         ensures { result ≡ self.next }
     {
-        let Chains { next, .. } = self;
+        let Chains { next, first: _ } = self;
         next
     }
 }

@@ -14,11 +14,22 @@ use std::marker::Model;
 /// For each name the lowest operator of it, and for each operator the next one of the same name. The keys are the names where they
 /// stand in the task. So a look-up is faster than by digests (`Names`), and the map can't be kept beside its task. In a contract its
 /// value is the parts that the task represents.
-#[derive(Drop)]
 pub struct NameMap<'a, T: Grounded> {
     task: &'a T,
     first: IndexMap<NameKey<'a>, u32>,
     next: Vec<Option<u32>>,
+}
+
+impl<'a, T: Grounded> Drop for NameMap<'a, T> {
+    fn drop(self) {
+        let NameMap {
+            task: _,
+            first,
+            next,
+        } = self;
+        drop(first);
+        drop(next);
+    }
 }
 
 impl<'a, T: Grounded> Model for NameMap<'a, T> {
@@ -53,7 +64,7 @@ impl<'a, T: Grounded> NameMap<'a, T> {
     pub fn into_next(self) -> Vec<Option<u32>>
         ensures { (first : ℕ) → IsChain self.entry first result.items }
     {
-        let NameMap { next, .. } = self;
+        let NameMap { next, first: _, task: _ } = self;
         next
     }
 }

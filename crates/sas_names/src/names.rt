@@ -17,7 +17,6 @@ use std::marker::Model;
 
 /// The operators of a task by their names, to be kept beside the task. The map's keys are digests, so no name is stored twice, and none
 /// is borrowed: an operator whose name has the digest that is asked for is looked at in the task.
-#[derive(Drop)]
 pub struct Names {
     /// For each digest of a name, the lowest operator whose name has it.
     first: IndexMap<u64, u32>,
@@ -27,6 +26,15 @@ pub struct Names {
     next: Vec<Option<u32>>,
 }
 
+impl Drop for Names {
+    fn drop(self) {
+        let Names { first, alike, next } = self;
+        drop(first);
+        drop(alike);
+        drop(next);
+    }
+}
+
 impl Names {
     /// Returns the names of the task's operators. It goes from the last operator to the first, so that the lowest operator of
     /// each name is put last.
@@ -34,17 +42,28 @@ impl Names {
         ensures { IfOk result (λ names. AreNames (T.says task.now) names) }
     {
         let operators = task.operators();
+        let alike = vec![in alloc; None; operators as usize]?;
+        let next = vec![in alloc; None; operators as usize]?;
         let mut names = Names {
             first: IndexMap::with_capacity(alloc, operators as usize)?,
-            alike: vec![in alloc; None; operators as usize]?,
-            next: vec![in alloc; None; operators as usize]?,
+            alike,
+            next,
         };
-        let mut operator = operators;
+        names.add_all(task)?;
+        Ok(names)
+    }
+
+    /// Adds the operators of the task to the names of none.
+    fn add_all<T: Grounded>(&mut self, task: &T) -> Result<(), AllocError>
+        requires { AreNamesFrom (T.says task.now) (length (T.says task.now).operators) self.old }
+        ensures { OnOk result (AreNames (T.says task.now) self.new) }
+    {
+        let mut operator = task.operators();
         while operator > 0 {
             operator -= 1;
-            names.add(task, operator)?;
+            self.add(task, operator)?;
         }
-        Ok(names)
+        Ok(())
     }
 
     /// Adds the operator, where those behind it were added.

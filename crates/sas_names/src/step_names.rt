@@ -9,10 +9,17 @@ use sas_core::Stepwise;
 use std::alloc::{AllocError, Global};
 
 /// The names of a plan's steps, numbered from 0 on, each name once.
-#[derive(Drop)]
 pub struct StepNames<'p> {
     numbers: IndexMap<NameKey<'p>, usize>,
     of_steps: Vec<usize>,
+}
+
+impl<'p> Drop for StepNames<'p> {
+    fn drop(self) {
+        let StepNames { numbers, of_steps } = self;
+        drop(numbers);
+        drop(of_steps);
+    }
 }
 
 impl<'p> StepNames<'p> {

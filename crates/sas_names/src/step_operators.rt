@@ -11,12 +11,19 @@ use sas_core::{Grounded, Stepwise};
 use std::alloc::{AllocError, Global};
 
 /// The operators that the steps of one plan may mean.
-#[derive(Drop)]
 pub struct StepOperators {
     /// The lowest operators of the steps' names, up to the first name that no operator has.
     pub firsts: Vec<u32>,
     /// For each operator of the name of one of these, the next one of its name.
     pub next: Vec<Option<u32>>,
+}
+
+impl Drop for StepOperators {
+    fn drop(self) {
+        let StepOperators { firsts, next } = self;
+        drop(firsts);
+        drop(next);
+    }
 }
 
 /// What the names of a plan's steps mean.

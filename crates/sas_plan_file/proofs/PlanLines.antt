@@ -33,10 +33,13 @@ same_step a b e = let t : a ++ 41 ∷ [] ≡ b ++ 41 ∷ [] = cc in append_cance
 cost_number : (m n : ℕ) → IsPlanCost m → IsPlanCost n → decimal m ≡ decimal n → m ≡ n
 cost_number m n f g e = decimal_injective m n (omega arith) (omega arith) e
 
+abbrev second_of : List ℕ → ℕ
+second_of l = get_or l 1 0
+
 same_cost_end : (m n : ℕ) (k l : CostKind) → IsPlanCost m → IsPlanCost n → decimal m ++ cost_words k ≡ decimal n ++ cost_words l → cost m k ≡ cost n l
 same_cost_end m n costs.Unit costs.Unit f g e = ap (λ (x : ℕ). cost x costs.Unit) (cost_number m n f g ((same_first (decimal m) (decimal n) _ _ (NoSpace-decimal m) (NoSpace-decimal n) e).0))
-same_cost_end m n costs.Unit costs.General f g e = absurd (let h = (same_first (decimal m) (decimal n) _ _ (NoSpace-decimal m) (NoSpace-decimal n) e).1 in cc)
-same_cost_end m n costs.General costs.Unit f g e = absurd (let h = (same_first (decimal m) (decimal n) _ _ (NoSpace-decimal m) (NoSpace-decimal n) e).1 in cc)
+same_cost_end m n costs.Unit costs.General f g e = absurd (let h = ap second_of (same_first (decimal m) (decimal n) _ _ (NoSpace-decimal m) (NoSpace-decimal n) e).1 in omega (arith, h))
+same_cost_end m n costs.General costs.Unit f g e = absurd (let h = ap second_of (same_first (decimal m) (decimal n) _ _ (NoSpace-decimal m) (NoSpace-decimal n) e).1 in omega (arith, h))
 same_cost_end m n costs.General costs.General f g e = ap (λ (x : ℕ). cost x costs.General) (cost_number m n f g ((same_first (decimal m) (decimal n) _ _ (NoSpace-decimal m) (NoSpace-decimal n) e).0))
 
 same_cost : (m n : ℕ) (k l : CostKind) → IsPlanCost m → IsPlanCost n → plan_line_bytes (cost m k) ≡ plan_line_bytes (cost n l) → cost m k ≡ cost n l

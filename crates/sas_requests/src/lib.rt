@@ -76,7 +76,9 @@ pub fn run<T: Read, P: Read, W: Write>(
     ensures writes { IsErrAnd result IsWrite ↔ IsTrue out.new.failed }
 {
     let answer = answer_to(alloc, request, task, plan)?;
-    write_answer(alloc, &answer, out)
+    let written = write_answer(alloc, &answer, out);
+    drop(answer);
+    written
 }
 
 /// Answers the request about the inputs as `run` does, and tells the reasons for a no: behind the line that says why a plan
@@ -127,5 +129,7 @@ pub fn explain<T: Read, P: Read, W: Write>(
     ensures writes { IsErrAnd result IsWrite ↔ IsTrue out.new.failed }
 {
     let answer = explanation_to(alloc, request, task, plan)?;
-    write_answer(alloc, &answer, out)
+    let written = write_answer(alloc, &answer, out);
+    drop(answer);
+    written
 }

@@ -19,13 +19,27 @@ use std::marker::Model;
 /// A plan under way: the steps so far were made, from the initial state on, and it can go on by one step. In a
 /// contract its value is the task, the plan, the operators of the steps so far and the state to which they led, and what is
 /// told of the last one.
-#[derive(Drop)]
 pub struct Course<'t, 'p, E: Settle<T> + Drop, T: Grounded, P: Stepwise> {
     layered: &'t Layered<T>,
     plan: &'p P,
     walker: Walker<E>,
     operators: StepOperators,
     walk: Walk,
+}
+
+impl<'t, 'p, E: Settle<T> + Drop, T: Grounded, P: Stepwise> Drop for Course<'t, 'p, E, T, P> {
+    fn drop(self) {
+        let Course {
+            layered: _,
+            plan: _,
+            walker,
+            operators,
+            walk,
+        } = self;
+        drop(walker);
+        drop(operators);
+        drop(walk);
+    }
 }
 
 impl<'t, 'p, E: Settle<T> + Drop, T: Grounded, P: Stepwise> Model for Course<'t, 'p, E, T, P> {
@@ -202,7 +216,13 @@ impl<'t, 'p, E: Settle<T> + Drop, T: Grounded, P: Stepwise> Course<'t, 'p, E, T,
         ensures state { result.state ≡ self.entry.state }
         ensures operators { result.operators.items ≡ self.entry.operators }
     {
-        let Course { walk, .. } = self;
+        let Course {
+            layered: _,
+            plan: _,
+            walker: _,
+            operators: _,
+            walk,
+        } = self;
         walk
     }
 }

@@ -14,11 +14,23 @@ use std::marker::Model;
 /// A layered task that is held with all that its plans need: its operators by their names, an evaluator that is ready for it, and the
 /// memory that a step uses. So a plan costs its own steps. A `Runner` borrows its task; this owns it, and can be kept. In a contract its
 /// value is the parts that the task represents.
-#[derive(Drop)]
 pub struct Held<E: Settle<T> + Drop, T: Grounded + Drop = Task> {
     layered: Layered<T>,
     names: Names,
     walker: Walker<E>,
+}
+
+impl<E: Settle<T> + Drop, T: Grounded + Drop> Drop for Held<E, T> {
+    fn drop(self) {
+        let Held {
+            layered,
+            names,
+            walker,
+        } = self;
+        drop(layered);
+        drop(names);
+        drop(walker);
+    }
 }
 
 impl<E: Settle<T> + Drop, T: Grounded + Drop> Model for Held<E, T> {

@@ -31,11 +31,22 @@ pub enum Choice {
 
 /// A runner, which makes the steps of a layered task, with an evaluator that is ready for the task. In a contract its value
 /// is the parts that the task represents.
-#[derive(Drop)]
 pub struct Runner<'a, E: Settle<T> + Drop, T: Grounded = Task> {
     pub(crate) layered: &'a Layered<T>,
     pub(crate) names: Names,
     pub(crate) walker: Walker<E>,
+}
+
+impl<'a, E: Settle<T> + Drop, T: Grounded> Drop for Runner<'a, E, T> {
+    fn drop(self) {
+        let Runner {
+            layered: _,
+            names,
+            walker,
+        } = self;
+        drop(names);
+        drop(walker);
+    }
 }
 
 impl<'a, E: Settle<T> + Drop, T: Grounded> Model for Runner<'a, E, T> {

@@ -14,7 +14,6 @@ use sas_meaning::{Layered, Settle, State, Touched};
 use std::alloc::{AllocError, Global};
 
 /// An evaluator, and the memory that a step uses.
-#[derive(Drop)]
 pub struct Walker<E> {
     pub evaluator: E,
     /// For each variable, the value to which the effects that fire in a step set it. Between two steps there is none.
@@ -23,6 +22,21 @@ pub struct Walker<E> {
     pub gone: Vec<Fact>,
     /// The derived variables that may have changed in the last step, if it went on from the one before.
     pub touched: Touched,
+}
+
+impl<E: Drop> Drop for Walker<E> {
+    fn drop(self) {
+        let Walker {
+            evaluator,
+            given,
+            gone,
+            touched,
+        } = self;
+        drop(evaluator);
+        drop(given);
+        drop(gone);
+        drop(touched);
+    }
 }
 
 /// Returns a walker with this evaluator, which doesn't list the derived variables that may have changed. All memory that steps

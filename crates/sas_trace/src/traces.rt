@@ -35,7 +35,9 @@ pub fn write_trace<W: Write>(
 {
     let worklist = Worklist::new(alloc, task)?;
     let mut course = Course::new(alloc, task, worklist, plan)?;
-    write_course(alloc, task, plan, &mut course, out)
+    let written = write_course(alloc, task, plan, &mut course, out);
+    drop(course);
+    written
 }
 
 /// Writes the trace of the course of the plan, which is at its start, as `write_trace` does.

@@ -9,7 +9,7 @@ use Rattle.sas_requests.proofs.explain.Goals as goal
 
 pub returns-clause-output : goal.returns-clause-output
 returns-clause-output g c = λ b c' inputs.
-    ends_as (output_of c.in_ok-answer.answer) _ (OutWhy c.args.request b c') _ (c.in_ok-answer.ensures.output b c' inputs) c.write_answer.ensures.ends
+    ends_as (output_of c.in_ok-answer.answer) _ (OutWhy c.args.request b c') _ (c.in_ok-answer.ensures.output b c' inputs) c.write_answer-written.ensures.ends
 
 pub returns-in_err-answer-clause-output : goal.returns-in_err-answer-clause-output
 returns-in_err-answer-clause-output g c = λ b c' inputs.
@@ -19,16 +19,16 @@ returns-in_err-answer-clause-output g c = λ b c' inputs.
 pub returns-clause-taken : goal.returns-clause-taken
 returns-clause-taken g c = λ decided.
     let (b, c', task, plan, is) = c.in_ok-answer.ensures.taken tt in
-    (b, c', task, plan, ends_as (output_of c.in_ok-answer.answer) _ (OutWhy c.args.request b c') _ is c.write_answer.ensures.ends)
+    (b, c', task, plan, ends_as (output_of c.in_ok-answer.answer) _ (OutWhy c.args.request b c') _ is c.write_answer-written.ensures.ends)
 
 pub returns-clause-headline : goal.returns-clause-headline
 returns-clause-headline g c =
-    ends_well (output_of c.in_ok-answer.answer) _ _ _ c.write_answer.ensures.ends (λ status same sent. λ plan b c' before known_b known_c known.
+    ends_well (output_of c.in_ok-answer.answer) _ _ _ c.write_answer-written.ensures.ends (λ status same sent. λ plan b c' before known_b known_c known.
     let answer = c.in_ok-answer.ensures.output b c' (λ _. known_b, λ _. known_c) in
     headline_why b c' (output_of c.in_ok-answer.answer) (rw plan at answer) _ _ before status known same sent)
 
 pub returns-clause-invariants : goal.returns-clause-invariants
 returns-clause-invariants g c =
-    ends_well (output_of c.in_ok-answer.answer) _ _ _ c.write_answer.ensures.ends (λ status same sent. λ mutex b before known_b known.
+    ends_well (output_of c.in_ok-answer.answer) _ _ _ c.write_answer-written.ensures.ends (λ status same sent. λ mutex b before known_b known.
     let answer = c.in_ok-answer.ensures.output b [] (rw mutex (λ _. known_b, λ e. absurd cc)) in
     invariants_why b [] (output_of c.in_ok-answer.answer) (rw mutex at answer) _ _ before known sent)

@@ -6,8 +6,8 @@ use Rattle.sas_task_reasons.proofs.tasks.explain_layered.Goals as goal
 
 pub new-requires : goal.new-requires
 new-requires c =
-    let verdicts = c.in_ok-verdicts.verdicts.items in
-    let reasons = c.in_ok-reasons.reasons.items in
-    let are = rw c.as_slice.ensures.value at c.in_ok-reasons.ensures in
-    let fits = c.requires _ (verdicts, reasons, c.in_ok-verdicts.ensures.verdicts, are, refl) in
+    let told = c.in-Ok.ensures in
+    let verdicts = c.in-Ok.verdicts.items in
+    let reasons = c.in-Ok.reasons.items in
+    let fits = c.requires _ (verdicts, reasons, told.verdicts, told.reasons, refl) in
     subst (λ (p : Parts). length (text (why_lines p verdicts reasons)) < 2 ^ 64) (sym c.into_task.ensures) fits

@@ -1,12 +1,12 @@
 -- From the operator on the map and the tables are as they are to be.
-use Rattle.std.proofs.Common.{◌≤◌}
+use Rattle.std.proofs.Common.{◌≤◌, length}
 use Rattle.sas_names.specs.NameTable.{AreNamesFrom}
-use Rattle.sas_names.proofs.names.Names.new.Given as goal
+use Rattle.sas_names.proofs.names.Names.add_all.Given as goal
 
 abbrev pub invariant-loop-operator : goal.invariant-loop-operator
 invariant-loop-operator g l = record {
-  within : l.operator ≤ l.operators;
-  are : AreNamesFrom (g.T.Grounded.says l.task) l.operator l.names;
+  within : l.operator ≤ length (g.T.Grounded.says l.task).operators;
+  are : AreNamesFrom (g.T.Grounded.says l.task) l.operator l.self;
 }
 
 abbrev pub decreases-loop-operator : goal.decreases-loop-operator
