@@ -10,10 +10,10 @@
 #
 # `rt`, the command of the toolchain, has to be on the PATH, and python3; `make lib`, `make dist` and `make test` want a C compiler, $CC or
 # cc, too.
-# The tests of the library use what is there of gcc, g++, clang, clang++, rustc, nm and valgrind. JOBS is how many crates are begun at
-# a time. One that waits for others counts too, so it is more than there are processors; each that is proved takes one to four GB.
+# The tests of the library use what is there of gcc, g++, clang, clang++, rustc, nm and valgrind. JOBS is how many processors `make` uses
+# to prove; each takes one to four GB.
 
-JOBS ?= $(shell expr $(shell nproc) + 4)
+JOBS ?= $(shell nproc)
 
 .PHONY: program test lib install uninstall dist bench clean
 
@@ -22,7 +22,9 @@ NAME = sas
 PLACE = "PREFIX=$(PREFIX)" "NAME=$(NAME)" "DESTDIR=$(DESTDIR)"
 
 program:
-	@python3 build.py $(JOBS)
+	@python3 build.py sas $(JOBS)
+	@cp crates/sas/out/sas sas
+	@echo "built ./sas"
 
 test:
 	@python3 cases/gate.py
@@ -44,4 +46,4 @@ bench:
 	@python3 bench/run.py ./sas bench/out --scale 0.02 --rounds 3
 
 clean:
-	rm -rf crates/*/out bench/out library/out sas build.log gate.log sas-*.tar.gz
+	rm -rf crates/*/out out bench/out library/out sas build.log gate.log sas-*.tar.gz

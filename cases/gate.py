@@ -67,7 +67,7 @@ def main():
     if os.path.isfile("crates/sas/out/sas"):
         shutil.copy("crates/sas/out/sas", "sas")
     # where it isn't built its tests end without a last line, which counts as a failure
-    subprocess.run([sys.executable, "library/build.py"], check=False)
+    subprocess.run([sys.executable, "library/build.py", "--over-gate"], check=False)
     parts += [counts([sys.executable, *command]) for command in CASES]
     passed, failed = map(sum, zip(*parts))
     last = f"{passed} passed, {failed} failed"

@@ -2,14 +2,16 @@
 """Builds the library, into library/out/: libsas.a and libsas.so, and beside them what a program includes or imports, sas.h, sas.hpp,
 sas.py and sas.rs.
 
-    python3 library/build.py
+    python3 library/build.py [--over-gate]
 
-The archive of the proved crate sas_c is its heart. Where there is none yet, or a file of a crate is younger, `rt lib` proves the crate
-and what it stands on, and builds it. What the heart asks of memory is added, sas_memory.c. The C compiler is $CC or cc, and `ar` is
-$AR or ar.
+The archive of the proved crate sas_c is its heart. Where there is none yet, or a file of a crate is younger, build.py proves the crate
+and what it stands on, and builds it. With --over-gate the archive is built over the libraries that `rt ci` has just proved and left in
+each out/rlib/, since `rt lib` would prove them once more. What the heart asks of memory is added, sas_memory.c. The C compiler is $CC or
+cc, and `ar` is $AR or ar.
 """
 import glob
 import os
+import re
 import shlex
 import shutil
 import subprocess
@@ -18,8 +20,9 @@ import sys
 HERE = os.path.dirname(os.path.abspath(__file__))
 TOP = os.path.dirname(HERE)
 OUT = f"{HERE}/out"
-CRATE = f"{TOP}/crates/sas_c"
-HEART = f"{CRATE}/out/libsas_c.a"
+NAME = "sas_c"
+CRATE = f"{TOP}/crates/{NAME}"
+HEART = f"{CRATE}/out/lib{NAME}.a"
 BESIDE = ("sas.h", "sas.hpp", "python/sas.py", "rust/sas.rs")
 
 
@@ -45,10 +48,27 @@ def is_there():
     return os.path.getmtime(HEART) >= max(map(os.path.getmtime, sources))
 
 
+def build_over_gate():
+    """Builds the archive over the libraries that `rt ci` left, by the compiler of its toolchain. It proves the crate alone."""
+    kit = os.path.dirname(os.path.dirname(os.path.realpath(shutil.which("rt"))))
+    with open(f"{TOP}/crates.txt", encoding="utf-8") as file:
+        used = re.search(rf"(?m)^{NAME} staticlib:(.*)$", file.read())[1].split()
+    words = ["--crate-name", NAME, "src/lib.rt", "--crate-type", "staticlib", "--links", f"{NAME}=", "--jobs", str(os.cpu_count())]
+    words += ["--antt-project", f"{kit}/rattle/logic/antt-project.json", "--logic-built", f"{kit}/logic_built"]
+    words += ["--extern", f"std={kit}/rlibs/std.rlib", "-L", f"dependency={kit}/rlibs"]
+    for rlib in sorted(glob.glob(f"{TOP}/crates/*/out/rlib/*.rlib")):
+        crate = os.path.basename(rlib).removesuffix(".rlib")
+        words += ["--extern", f"{crate}={rlib}"] if crate in used else []
+        words += ["-L", f"dependency={os.path.dirname(rlib)}"]
+    run(f"{kit}/bin/rattle", "build", *words, "--toolchain", f"{kit}/toolchain", "--backend", "llvm", "-o", HEART, cwd=CRATE)
+
+
 def main():
     shutil.rmtree(OUT, ignore_errors=True)
-    if not is_there():
-        run("rt", "lib", "--jobs", str(os.cpu_count()), cwd=CRATE)
+    if sys.argv[1:] == ["--over-gate"]:
+        build_over_gate()
+    elif not is_there():
+        run(sys.executable, f"{TOP}/build.py", NAME)
     os.mkdir(OUT)
     compiler = tool("CC", "cc")
     run(*compiler, "-std=c99", "-O2", "-fPIC", "-Wall", "-Wextra", "-c", f"{HERE}/sas_memory.c", "-o", f"{OUT}/sas_memory.o")

@@ -1,10 +1,8 @@
 //! The answers about a task or a plan that is at hand. No file is read.
 #![tactic(auto)]
 
-mod groups;
 mod layers;
 mod plans;
 
-pub use groups::{groups_answer, groups_status};
 pub use layers::{accept_layers, layers_answer, refuse_layers};
 pub use plans::{accept_plan, answer_by, refuse_plan, verdict_answer};

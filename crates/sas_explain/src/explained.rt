@@ -19,12 +19,26 @@ use std::marker::Model;
 
 /// The answer about a plan that isn't valid, with its reasons. Its status is `No`. In a contract its value is its text. A `usize` can
 /// hold the text's length, so the bytes of it that are written can be counted.
-#[derive(Drop)]
 pub struct Explained {
     verdict: Vec<u8>,
     reasons: Vec<Line>,
     task: Layered<FlatTask>,
     plan: FlatPlan,
+}
+
+impl Drop for Explained {
+    fn drop(self) {
+        let Explained {
+            verdict,
+            reasons,
+            task,
+            plan,
+        } = self;
+        drop(verdict);
+        drop(reasons);
+        drop(task);
+        drop(plan);
+    }
 }
 
 impl Model for Explained {

@@ -3,3 +3,4 @@ pub mod GreatestFamily
 pub mod Turns
 pub mod Effects
 pub mod JointVerdicts
+pub mod JointLists

@@ -1,7 +1,7 @@
 pub mod TaskFacts
 pub mod KnownFacts
 pub mod ToldByNotes
-pub mod JointLists
+mod JointLists
 pub mod Keeping
 pub mod FallingGroups
 pub mod Counting

@@ -23,8 +23,8 @@ use Rattle.sas_reader.proofs.Plain.{plain, plain-decimal, plain_bytes, plain-app
 use Rattle.sas_task_format.specs.TaskFormat.{task_format}
 use Rattle.sas_groups.specs.declared.verdict.Verdict.{Verdict}
 use Rattle.sas_groups.specs.declared.verdict.Verdict.TheVariants.{Exclusive, Derived, Initial, Broken}
-use Rattle.sas_mutex.specs.Joint.{AreJointVerdicts}
-use Rattle.sas_mutex.proofs.JointLists.{listed_invariants}
+use Rattle.sas_groups.specs.Joint.{AreJointVerdicts}
+use Rattle.sas_groups.proofs.JointLists.{listed_invariants}
 use Rattle.sas_group_reasons.specs.declared.reason.Reason.{Reason}
 use Rattle.sas_group_reasons.specs.Reasons.{reason_at}
 use Rattle.sas_outputs.specs.Headline.{HasInvariant, Invariants}

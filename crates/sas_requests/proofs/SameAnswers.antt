@@ -10,7 +10,7 @@ use Rattle.sas_meaning.specs.LayerChecks.{layer_checks}
 use Rattle.sas_lines.specs.Lines.{text}
 use Rattle.sas_groups.specs.declared.verdict.Verdict.{Verdict}
 use Rattle.sas_groups.specs.declared.verdict.Verdict.TheVariants.{Exclusive}
-use Rattle.sas_mutex.specs.Joint.{AreJointVerdicts}
+use Rattle.sas_groups.specs.Joint.{AreJointVerdicts}
 use Rattle.sas_group_reasons.specs.declared.reason.Reason.{Reason}
 use Rattle.sas_group_reasons.specs.Reasons.{IsReasonIfAny, AreReasons, reason_at}
 use Rattle.sas_reader.specs.declared.fault.Fault.{Fault}

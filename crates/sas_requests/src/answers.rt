@@ -9,7 +9,7 @@ ghost use Rattle.sas_outputs.specs.Output.{IsLayeredText, reads_plan, reads_task
 
 use crate::plans::plan_answer;
 use crate::{Request, Status, ToolFault};
-use sas_answers::{groups_answer, layers_answer};
+use sas_answers::layers_answer;
 use sas_explain::Explained;
 use sas_lines::Watched;
 use sas_output::Told;
@@ -18,7 +18,7 @@ use sas_plan_file::read_plan_text;
 use sas_reader::{Fault, Kind};
 use sas_summary::Summary;
 use sas_task_reader::{read_flat_task, read_outline, read_task_text};
-use sas_task_reasons::{ExplainedGroups, ExplainedTask};
+use sas_task_reasons::{ExplainedGroups, ExplainedTask, groups_answer};
 use std::alloc::Global;
 use std::io::{Read, Write};
 

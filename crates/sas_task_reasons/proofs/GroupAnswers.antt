@@ -6,8 +6,8 @@ use Rattle.sas_core.specs.declared.parts.Parts.{Parts}
 use Rattle.sas_groups.specs.declared.verdict.Verdict.{Verdict}
 use Rattle.sas_groups.specs.declared.verdict.Verdict.TheVariants.{Exclusive, Derived, Initial, Broken}
 use Rattle.sas_groups.specs.Verdicts.{IsJointVerdict}
-use Rattle.sas_mutex.specs.Joint.{verdict_at, AreJointVerdicts}
-use Rattle.sas_mutex.proofs.JointLists.{one_list, some_list}
+use Rattle.sas_groups.specs.Joint.{verdict_at, AreJointVerdicts}
+use Rattle.sas_groups.proofs.JointLists.{one_list, some_list}
 use Rattle.sas_group_reasons.specs.declared.reason.Reason.{Reason}
 use Rattle.sas_group_reasons.specs.declared.reason.Reason.TheVariants.{OnDerived, HoldsTwo, Breaks}
 use Rattle.sas_group_reasons.specs.Reasons.{verdict_of, IsReasonIfAny, reason_at, AreReasons}

@@ -6,7 +6,7 @@ use Rattle.sas_core.specs.declared.parts.Parts.{Parts}
 use Rattle.sas_core.specs.Grounded.{group_at}
 use Rattle.sas_lines.specs.Lines.{text}
 use Rattle.sas_groups.specs.declared.verdict.Verdict.{Verdict}
-use Rattle.sas_mutex.specs.Joint.{AreJointVerdicts}
+use Rattle.sas_groups.specs.Joint.{AreJointVerdicts}
 use Rattle.sas_group_reasons.specs.declared.reason.Failure.{Failure}
 use Rattle.sas_group_reasons.specs.declared.reason.Failure.TheVariants.{SetsTwo, MayStay}
 use Rattle.sas_group_reasons.specs.declared.reason.Reason.{Reason}

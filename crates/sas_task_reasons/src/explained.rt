@@ -18,11 +18,23 @@ use std::marker::Model;
 
 /// The answer about a task that is refused, with its reasons. Its status is `No`. In a contract its value is its text. A `usize`
 /// can hold the text's length, so the bytes of it that are written can be counted.
-#[derive(Drop)]
 pub struct ExplainedTask {
     refusal: Vec<u8>,
     reasons: Vec<Line>,
     task: FlatTask,
+}
+
+impl Drop for ExplainedTask {
+    fn drop(self) {
+        let ExplainedTask {
+            refusal,
+            reasons,
+            task,
+        } = self;
+        drop(refusal);
+        drop(reasons);
+        drop(task);
+    }
 }
 
 impl Model for ExplainedTask {

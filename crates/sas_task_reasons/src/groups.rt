@@ -16,7 +16,7 @@ ghost use Rattle.sas_task_reasons.specs.WhyGroups.{why_lines, groups_output};
 use crate::explained::push_reasons;
 use crate::facts::member_of;
 use crate::line::Line;
-use sas_answers::groups_status;
+use crate::verdicts::groups_status;
 use sas_flat::FlatTask;
 use sas_group_reasons::{Failure, Reason};
 use sas_lines::{Short, Watched};
@@ -29,11 +29,23 @@ use std::marker::Model;
 /// The answer about the mutex groups of a layered task: the verdict on each, with the reason behind it where the group isn't
 /// exclusive. In a contract its value is its text and its status. A `usize` can hold the text's length, so the bytes of it that are
 /// written can be counted.
-#[derive(Drop)]
 pub struct ExplainedGroups {
     verdicts: Vec<Verdict>,
     reasons: Vec<Option<Reason>>,
     task: FlatTask,
+}
+
+impl Drop for ExplainedGroups {
+    fn drop(self) {
+        let ExplainedGroups {
+            verdicts,
+            reasons,
+            task,
+        } = self;
+        drop(verdicts);
+        drop(reasons);
+        drop(task);
+    }
 }
 
 impl Model for ExplainedGroups {

@@ -2,7 +2,7 @@
 ghost use Rattle.std.specs.Prelude.{◌≡◌, Some, None, IfOk, map};
 ghost use Rattle.sas_answers.specs.Answers.{layers_verdict, layers_refusal};
 ghost use Rattle.sas_output.specs.Ending.{output_told};
-ghost use Rattle.sas_mutex.specs.Joint.{AreJointVerdicts};
+ghost use Rattle.sas_groups.specs.Joint.{AreJointVerdicts};
 ghost use Rattle.sas_group_reasons.specs.Reasons.{AreReasons};
 ghost use Rattle.sas_task_reasons.specs.LayerReasons as spec;
 ghost use Rattle.sas_task_reasons.specs.Line.{line_bytes};

@@ -18,7 +18,7 @@ end unless it is told to keep it (--keep-sas-file). A compressed file is read fr
   zcat output.sas.gz | sas plan - sas_plan";
 
 /// Where an input comes from.
-#[derive(Debug, PartialEq, Eq, Drop)]
+#[derive(PartialEq, Eq, Drop)]
 pub enum Source {
     /// Standard input.
     Input,
@@ -38,7 +38,7 @@ pub enum Asked {
 }
 
 /// What the words ask for.
-#[derive(Debug, PartialEq, Eq, Drop)]
+#[derive(PartialEq, Eq, Drop)]
 pub enum Job {
     /// Something about a task, a plan or both. An input that isn't read has no source.
     Files {
@@ -222,26 +222,26 @@ fn the_plans<'a>(alloc: Global) -> Arg<'a> {
 /// Returns the job of words that were understood. Without a request, it is the steps of the plan on standard input.
 fn job_of(alloc: Global, matches: &ArgMatches<'_>) -> Result<Job, AllocError> {
     match matches.subcommand() {
-        Some(("plans", inner)) => Ok(Job::Plans {
-            task: named(alloc, inner, "TASK")?,
-            labels: labels_of(alloc, inner)?,
-        }),
-        Some(("trace", inner)) => job_over_both(alloc, Asked::Trace, inner),
-        Some(("plan", inner)) => job_over_both(alloc, by_flag(Request::Plan, inner), inner),
-        Some(("show", inner)) => job_over_task(alloc, Request::Show, inner),
-        Some(("check", inner)) => job_over_task(alloc, Request::Check, inner),
-        Some(("print", inner)) => job_over_task(alloc, Request::Print, inner),
-        Some(("mutex", inner)) => job_over_task(alloc, Request::Mutex, inner),
-        Some((_steps, inner)) => Ok(Job::Files {
-            asked: by_flag(Request::Steps, inner),
-            task: None,
-            plan: named(alloc, inner, "PLAN")?,
-        }),
+        Some((name, inner)) => job_named(alloc, name, inner),
         None => Ok(Job::Files {
             asked: Asked::Answer(Request::Steps),
             task: None,
             plan: Some(Source::Input),
         }),
+    }
+}
+
+/// Returns the job of the request of this name.
+fn job_named(alloc: Global, name: &str, matches: &ArgMatches<'_>) -> Result<Job, AllocError> {
+    match name {
+        "plan" => job_over_both(alloc, by_flag(Request::Plan, matches), matches),
+        "plans" => job_over_many(alloc, matches),
+        "trace" => job_over_both(alloc, Asked::Trace, matches),
+        "mutex" => job_over_task(alloc, Request::Mutex, matches),
+        "show" => job_over_task(alloc, Request::Show, matches),
+        "check" => job_over_task(alloc, Request::Check, matches),
+        "print" => job_over_task(alloc, Request::Print, matches),
+        _ => job_over_plan(alloc, Request::Steps, matches),
     }
 }
 
@@ -267,11 +267,31 @@ fn job_over_task(
     })
 }
 
+/// Returns the job over a plan alone.
+fn job_over_plan(
+    alloc: Global,
+    request: Request,
+    matches: &ArgMatches<'_>,
+) -> Result<Job, AllocError> {
+    Ok(Job::Files {
+        asked: by_flag(request, matches),
+        task: None,
+        plan: named(alloc, matches, "PLAN")?,
+    })
+}
+
 /// Returns the job over a task and a plan.
 fn job_over_both(alloc: Global, asked: Asked, matches: &ArgMatches<'_>) -> Result<Job, AllocError> {
     let task = named(alloc, matches, "TASK")?;
     let plan = named(alloc, matches, "PLAN")?;
     Ok(Job::Files { asked, task, plan })
+}
+
+/// Returns the job over a task and many plans.
+fn job_over_many(alloc: Global, matches: &ArgMatches<'_>) -> Result<Job, AllocError> {
+    let labels = labels_of(alloc, matches)?;
+    let task = named(alloc, matches, "TASK")?;
+    Ok(Job::Plans { task, labels })
 }
 
 /// Returns the words that name the plans.

@@ -117,7 +117,7 @@ fn blocked<T: Grounded>(
             tell_inapplicable(task, noted, operator, &mut told)?;
         }
     }
-    Ok(told.lines)
+    Ok(told.into_lines())
 }
 
 /// Tells the operator, and the cause of each of its preconditions that fails.
@@ -196,7 +196,7 @@ fn missed<T: Grounded>(
             tell_cause(task, noted, *fact, &mut told)?;
         }
     }
-    Ok(told.lines)
+    Ok(told.into_lines())
 }
 
 /// The cost differs: returns the lines that tell what it is made of.

@@ -15,7 +15,6 @@ use sas_meaning::{Layered, State};
 use std::alloc::{AllocError, Global};
 
 /// What has been told of causes, and what has to be known to tell no line of a rule twice.
-#[derive(Drop)]
 pub struct Told {
     pub lines: Items<Line>,
     /// Where derived variables have their values from. It notes which rules were told for that.
@@ -26,6 +25,23 @@ pub struct Told {
     pub kept: Items<bool>,
     /// The rules of one derivation that are told next.
     pub next: Vec<u32>,
+}
+
+impl Drop for Told {
+    fn drop(self) {
+        let Told {
+            lines,
+            origins,
+            rules,
+            kept,
+            next,
+        } = self;
+        drop(lines);
+        drop(origins);
+        drop(rules);
+        drop(kept);
+        drop(next);
+    }
 }
 
 impl Told {
@@ -48,6 +64,20 @@ impl Told {
             kept: Items::from_vec(vec![in alloc; false; task.variables() as usize]?),
             next: Vec::new(alloc),
         })
+    }
+
+    /// Returns the lines, and drops all else.
+    pub fn into_lines(self) -> Items<Line>
+        ensures { result ≡ self.entry.lines }
+    {
+        let Told {
+            lines,
+            origins: _,
+            rules: _,
+            kept: _,
+            next: _,
+        } = self;
+        lines
     }
 }
 

@@ -10,7 +10,8 @@ use Rattle.std.specs.List.{All}
 use Rattle.sas_mutex.specs.Joint.{verdict_at, AreJointVerdicts, AreInvariants}
 use Rattle.sas_mutex.proofs.Counting.{count_within}
 use Rattle.sas_mutex.proofs.Telling.{candidates_from}
-use Rattle.sas_mutex.proofs.JointLists.{listed_invariants, decided_at_first}
+use Rattle.sas_groups.proofs.JointLists.{listed_invariants}
+use Rattle.sas_mutex.proofs.JointLists.{decided_at_first}
 use Rattle.sas_mutex.proofs.joint.check_groups.Goals as goal
 use Rattle.sas_mutex.proofs.joint.check_groups.Goals.{Then-not-some_exclusive}
 use Rattle.sas_mutex.proofs.joint.check_groups.Given.{Over}

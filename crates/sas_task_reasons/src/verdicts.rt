@@ -6,7 +6,7 @@ ghost use Rattle.sas_output.specs.Ending.{output_told};
 ghost use Rattle.sas_answers.specs.GroupWords as spec;
 ghost use Rattle.sas_answers.specs.GroupWords.{verdict_lines};
 
-use crate::layers::refuse_layers;
+use sas_answers::refuse_layers;
 use sas_flat::FlatTask;
 use sas_lines::{push_line, push_number};
 use sas_meaning::Layered;
@@ -82,7 +82,7 @@ fn push_broken(out: &mut Vec<u8>, operator: u32) -> Result<(), AllocError>
 }
 
 /// Returns `Yes` if all groups are exclusive, else `No`.
-pub fn groups_status(verdicts: &[Verdict]) -> Status
+pub(crate) fn groups_status(verdicts: &[Verdict]) -> Status
     ensures { result ≡ spec.groups_status verdicts.now }
 {
     for verdict in verdicts {

@@ -1,6 +1,6 @@
 use Rattle.sas_answers.proofs.MutexAnswers.{groups_answered}
 use Rattle.sas_answers.proofs.AnswerLaws.{so_if_ok}
-use Rattle.sas_answers.proofs.groups.groups_answer.Goals as goal
+use Rattle.sas_task_reasons.proofs.verdicts.groups_answer.Goals as goal
 
 pub returns-in-Ok : goal.returns-in-Ok
 returns-in-Ok c =

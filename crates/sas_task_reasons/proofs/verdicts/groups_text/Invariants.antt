@@ -1,7 +1,7 @@
 use Rattle.std.proofs.Common.{◌≡◌, take}
 use Rattle.sas_lines.specs.Lines.{text}
 use Rattle.sas_answers.specs.GroupWords.{verdict_lines}
-use Rattle.sas_answers.proofs.groups.groups_text.Given as goal
+use Rattle.sas_task_reasons.proofs.verdicts.groups_text.Given as goal
 
 -- the lines of the groups so far
 abbrev pub invariant-loop-place : goal.invariant-loop-place
