@@ -25,12 +25,16 @@ MOST = 4
 BEGAN = time.monotonic()
 
 
+def entries():
+    """Returns the lines of crates.txt by the names of their crates."""
+    with open(f"{TOP}/crates.txt", encoding="utf-8") as file:
+        return {line.split(":")[0].split()[0]: line for line in file if line.strip() and not line.startswith("#")}
+
+
 def libraries():
     """Returns the crates of the repository that each crate of it uses."""
-    with open(f"{TOP}/crates.txt", encoding="utf-8") as file:
-        lines = [line.split(":") for line in file if line.strip() and not line.startswith("#")]
-    names = [words.split()[0] for words, _ in lines]
-    return {name: [it for it in used.split() if it in names] for name, (_, used) in zip(names, lines)}
+    lines = entries()
+    return {name: [it for it in line.split(":")[1].split() if it in lines] for name, line in lines.items()}
 
 
 def with_those_below(name, used):
@@ -68,7 +72,8 @@ class Room:
             for part in PARTS:
                 if os.path.isdir(f"{CRATES}/{other}/{part}"):
                     shutil.copytree(f"{CRATES}/{other}/{part}", f"{self.top}/crates/{other}/{part}", copy_function=os.link)
-        os.link(f"{TOP}/crates.txt", f"{self.top}/crates.txt")
+        with open(f"{self.top}/crates.txt", "w", encoding="utf-8") as file:
+            file.writelines(entries()[it] for it in with_those_below(crate, used))
         self.move("incremental", self.home, self.own)
 
     @staticmethod

@@ -68,7 +68,7 @@ impl Told {
 
     /// Returns the lines, and drops all else.
     pub fn into_lines(self) -> Items<Line>
-        ensures { result ≡ self.entry.lines }
+        ensures { result ≡ self.lines }
     {
         let Told {
             lines,

@@ -47,8 +47,8 @@ loop-operator-preserved g c =
 pub returns : goal.returns
 returns g c plan run behind named =
     let p = c.args.task.now in
-    blocked_told p c.args.noted.now plan run c.args.step c.args.name.now c.in_ok-told.told c.loop-operator.told c.push.new.self behind named
+    rw c.into_lines.ensures (blocked_told p c.args.noted.now plan run c.args.step c.args.name.now c.in_ok-told.told c.loop-operator.told c.push.new.self behind named
     (c.in_ok-told.ensures plan) c.in_ok-push.ensures.ok
     (same_items p c.args.noted.now (λ r. TellsInapplicable p r) _ (operators_of p c.args.name.now) _ c.loop-operator.told
     (places_all (λ o. bytes_eq o.name c.args.name.now) c.loop-operator.operator p.operators (omega (arith, c.operators-operator-end.ensures, c.loop-operator-test.false)))
-    c.loop-operator.invariant)
+    c.loop-operator.invariant))

@@ -68,7 +68,7 @@ returns g c plan run behind =
     let p = c.args.task.now in
     let s = c.args.noted.now.last in
     let all : length p.goal ≤ c.loop-index.index = subst (λ (l : List Fact). length l ≤ c.loop-index.index) c.goal-fact-items.ensures c.loop-index-test.false in
-    missed_told p c.args.noted.now plan run c.in_ok-told.told c.loop-index.told behind (c.in_ok-told.ensures plan)
+    rw c.into_lines.ensures (missed_told p c.args.noted.now plan run c.in_ok-told.told c.loop-index.told behind (c.in_ok-told.ensures plan)
     (at_last p c.args.noted.now (λ r. TellsGoalFact p r) (λ t. places (fails t) p.goal) c.in_ok-told.told c.loop-index.told
     (same_items p c.args.noted.now (λ r. TellsGoalFact p r) (places_to (fails s) c.loop-index.index p.goal) (places (fails s) p.goal) c.in_ok-told.told c.loop-index.told
-    (places_all (fails s) c.loop-index.index p.goal all) c.loop-index.invariant))
+    (places_all (fails s) c.loop-index.index p.goal all) c.loop-index.invariant)))
