@@ -6,7 +6,7 @@
 CRATE is a program, as sas, or a static library, as sas_c. PROCESSORS is how many to use; all, if left out. A check takes one to four GB.
 
 Each crate is proved by `rt lib`, once those that it uses are proved: first the crate with the longest chain of others above it. Where
-fewer crates are ready than there are processors, each gets several. `rt lib` keeps every other run out of the folders of all crates
+fewer crates are ready than there are processors, that one gets several. `rt lib` keeps every other run out of the folders of all crates
 below, so it runs in a room: a folder of the crate's own with links to the files of these crates.
 """
 import concurrent.futures
@@ -45,29 +45,29 @@ def with_those_below(name, used):
     return found
 
 
-def lines_of(crate):
-    """Returns how many lines of code a crate has."""
-    files = [f"{at}/{name}" for at, _, names in os.walk(f"{CRATES}/{crate}/src") for name in names]
-    return sum(len(open(it, "rb").readlines()) for it in files)
+def size_of(crate):
+    """Returns how many bytes of code a crate has."""
+    return sum(os.path.getsize(f"{at}/{it}") for at, _, names in os.walk(f"{CRATES}/{crate}/src") for it in names)
 
 
 def longest_above(names, used):
-    """Returns for each crate the lines of the longest chain from it upwards."""
+    """Returns for each crate how many bytes of code the longest chain from it upwards has."""
     found = {}
 
     def of(crate):
         if crate not in found:
-            found[crate] = lines_of(crate) + max((of(it) for it in names if crate in used[it]), default=0)
+            found[crate] = size_of(crate) + max((of(it) for it in names if crate in used[it]), default=0)
         return found[crate]
 
     return {it: of(it) for it in names}
 
 
 class Room:
-    """A folder in which one crate is proved: its files and its kept work, and links to the crates below."""
+    """A folder in which one crate is proved: its kept work, and links to its files and to the crates below."""
 
     def __init__(self, crate, used):
-        self.own, self.top, self.home = f"{ROOMS}/{crate}/crates/{crate}", f"{ROOMS}/{crate}", f"{CRATES}/{crate}"
+        self.top, self.home = f"{ROOMS}/{crate}", f"{CRATES}/{crate}"
+        self.own = f"{self.top}/crates/{crate}"
         for other in with_those_below(crate, used):
             for part in PARTS:
                 if os.path.isdir(f"{CRATES}/{other}/{part}"):
@@ -92,7 +92,7 @@ class Room:
 
 
 class Build:
-    """The crates to prove and those that are proved, with the log."""
+    """The crates to prove, those that are proved, and the log."""
 
     def __init__(self, crate, used, log):
         self.crate, self.used, self.log = crate, used, log
@@ -116,7 +116,7 @@ class Build:
                 ready = [it for it in waiting if well and self.proved.issuperset(self.used[it])]
                 idle = processors - sum(jobs for _, jobs in running.values())
                 for at, crate in enumerate(ready[:idle]):
-                    jobs = min(MOST, max(1, idle // (len(ready) - at)))
+                    jobs = min(MOST, max(1, idle - (len(ready) - at - 1)))
                     idle -= jobs
                     waiting.remove(crate)
                     running[pool.submit(prove, crate, self.used, jobs)] = crate, jobs
