@@ -60,6 +60,7 @@ def build_over_gate():
         crate = os.path.basename(rlib).removesuffix(".rlib")
         words += ["--extern", f"{crate}={rlib}"] if crate in used else []
         words += ["-L", f"dependency={os.path.dirname(rlib)}"]
+    os.makedirs(os.path.dirname(HEART), exist_ok=True)
     run(f"{kit}/bin/rattle", "build", *words, "--toolchain", f"{kit}/toolchain", "--backend", "llvm", "-o", HEART, cwd=CRATE)
 
 
