@@ -129,5 +129,12 @@ same_more w w' w'' a b = record { layer = b.layer ∙ a.layer; stack = b.stack �
 pub same_but : (w w' : Work) (a : Agenda) → SameWork w w' → SameWork w (record { layer = w'.layer; counters = w'.counters; stack = w'.stack; sources = w'.sources; agenda = a })
 same_but w w' a same = record { layer = same.layer; stack = same.stack; one_each = same.one_each; sources = same.sources }
 
+-- and the same work has as much room
+pub room_same : (w w' : Work) → SameWork w w' → KeepsRoom w w'
+room_same w w' same = record { layer = same.layer; stack = same.stack; one_each = same.one_each; sources = ap length same.sources }
+
+pub room_but : (w w' : Work) (a : Agenda) → KeepsRoom w w' → KeepsRoom w (record { layer = w'.layer; counters = w'.counters; stack = w'.stack; sources = w'.sources; agenda = a })
+room_but w w' a keeps = record { layer = keeps.layer; stack = keeps.stack; one_each = keeps.one_each; sources = keeps.sources }
+
 pub room_more : (w w' w'' : Work) → KeepsRoom w w' → KeepsRoom w' w'' → KeepsRoom w w''
 room_more w w' w'' a b = record { layer = b.layer ∙ a.layer; stack = b.stack ∙ a.stack; one_each = b.one_each ∙ a.one_each; sources = b.sources ∙ a.sources }
