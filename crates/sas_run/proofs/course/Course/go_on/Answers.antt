@@ -4,7 +4,7 @@ use Rattle.std.proofs.lemmas.Result.{err_from_is_err_and}
 use Rattle.sas_run.specs.Courses.{UnderWay, GoesOnBy, Continues}
 use Rattle.sas_run.specs.declared.walk.Walk.{Walk}
 use Rattle.sas_run.proofs.Going.{passed_on}
-use Rattle.sas_run.proofs.UnderWay.{course_of, found_chosen, one_further, no_further, goes_on_by, there, stops_there}
+use Rattle.sas_run.proofs.UnderWay.{course_of, one_further, no_further, goes_on_by, there, stops_there}
 use Rattle.sas_run.proofs.course.Course.go_on.Goals as goal
 
 pub returns-in_err-make : goal.returns-in_err-make
