@@ -1,4 +1,4 @@
-use Rattle.std.proofs.Common.{◌≡◌, ◌+◌, ℕ, ap, rules, sym, subst, Err, Ok, ◌∙◌, refl, arith, length-drop}
+use Rattle.std.proofs.Common.{◌≡◌, ◌+◌, ℕ, ap, rules, length, sym, subst, Err, Ok, ◌∙◌, refl, arith, length-drop}
 use Rattle.sas_lines.specs.Progress.{Progress}
 use Rattle.sas_reader.specs.Reader.{TookFront}
 use Rattle.sas_reader.proofs.Advancing.{advances_no_more, took_none, took_behind, stopped_behind, advances_wider, within_fits, rest_is}
