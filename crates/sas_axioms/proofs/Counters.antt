@@ -353,3 +353,50 @@ at_work_fired t s w s' w' counters left k within work is f = record {
   fired = rw (f.goes_on.layer, f.counters, is)
       (fired_set t w.layer s' w.counters k (get_or w.counters k 0 - 1) within (λ _. f.fired) (fired_kept t w.layer s s' w.counters f.kept work.fired));
 }
+
+-- a rule that waits has an open condition
+pub counted_some : (t : Parts) (layer : ℕ) (s stack counters left : List ℕ) (k : ℕ) → IsRuleOn t layer k → AreCounted t layer s stack counters (k ∷ left) → 1 ≤ get_or counters k 0
+counted_some t layer s stack counters left k on counts =
+    let n : get_or counters k 0 ≡ open_conditions (value_seen t s stack) (rule_at t k).conditions + (1 + occurrences k left) = rw (eq-eqb k k refl) at (counts k on) in
+    omega arith
+
+-- a counter of the layer is set
+pub goes_on_counted : (t : Parts) (s : List ℕ) (w : Work) (k n : ℕ) (counters : List ℕ) → IsRuleOn t w.layer k → counters ≡ set w.counters k n
+    → WorkGoesOn t s w s (record { layer = w.layer; counters = counters; stack = w.stack; sources = w.sources; agenda = w.agenda })
+goes_on_counted t s w k n counters on_k is = record {
+  layer = refl;
+  off = λ v off. refl;
+  counts = λ m rule ne on. ap (λ (xs : List ℕ). get_or xs rule 0) is ∙ counts_set_off t w.layer k n w.counters on_k m rule ne on;
+  sources = λ v off. refl;
+  left = omega arith;
+}
+
+-- the rule is counted down, and still has an open condition
+pub at_work_counted : (t : Parts) (s : List ℕ) (w : Work) (counters left : List ℕ) (k : ℕ) → k < length w.counters → get_or w.counters k 0 - 1 ≢ 0 → IsAtWork t s w (k ∷ left)
+    → counters ≡ set w.counters k (get_or w.counters k 0 - 1)
+    → IsAtWork t s (record { layer = w.layer; counters = counters; stack = w.stack; sources = w.sources; agenda = w.agenda }) left
+at_work_counted t s w counters left k within some work is = record {
+  room = record {
+    one_each = ap length is ∙ (length-set w.counters k (get_or w.counters k 0 - 1) ∙ work.room.one_each);
+    variables = work.room.variables;
+    sources = work.room.sources;
+  };
+  running = work.running;
+  counts = rw is (counted_down t w.layer s w.stack.items w.counters left k within work.counts);
+  fired = rw is (fired_set t w.layer s w.counters k (get_or w.counters k 0 - 1) within (λ none. absurd (some none)) work.fired);
+  given = work.given;
+}
+
+-- a rule that has fired changes nothing
+pub fires_nothing : (t : Parts) (s : List ℕ) (w : Work) (k : ℕ) → IsRunning t w.layer s w.stack.items → get_or s (rule_at t k).var 0 ≡ (rule_at t k).new → FiresRule t k s w s w
+fires_nothing t s w k running fired = record {
+  goes_on = goes_on_still t s w;
+  counters = refl;
+  sources = refl;
+  given = λ given. given;
+  room = omega arith;
+  running = running;
+  seen = λ v. refl;
+  fired = fired;
+  kept = λ v differs. refl;
+}

@@ -6,16 +6,19 @@ use Rattle.std.proofs.lemmas.List.{get_or-set_same, get_or-set_other}
 use Rattle.std.proofs.lemmas.List.Elements.{All-nil, All-cons, Contains-append_left, Contains-append_right, Contains-push, All-contains}
 use Rattle.std.specs.declared.cmp.Reverse.{Reverse}
 use Rattle.sas_core.specs.declared.parts.Parts.{Parts}
+use Rattle.sas_core.specs.declared.grounded.Change.{Change}
+use Rattle.sas_core.specs.Changes.{rule_change}
+use Rattle.sas_core.specs.WellRanged.{WellRanged}
 use Rattle.sas_core.specs.Grounded.{rule_at}
 use Rattle.sas_core.specs.Variables.{IsState}
 use Rattle.sas_meaning.specs.Layers.{IsOnLayer, default_of, IsLayered}
 use Rattle.sas_meaning.specs.Settled.{differs, IsSettled}
-use Rattle.sas_meaning.proofs.Forced.{differs_true, differs_not}
+use Rattle.sas_meaning.proofs.Forced.{state_set, differs_true, differs_not}
 use Rattle.sas_axioms.specs.declared.agenda.Agenda.{Agenda}
 use Rattle.sas_axioms.specs.declared.firing.Work.{Work}
 use Rattle.sas_axioms.specs.declared.layer_rules.LayerRule.{LayerRule}
 use Rattle.std.specs.BinaryHeap.{heap_items}
-use Rattle.sas_axioms.specs.Agenda.{entry_for, IsNoted, IsAwaited, AreBehind, Takes, IsMadeReady, AreMadeReady}
+use Rattle.sas_axioms.specs.Agenda.{entry_for, IsNoted, IsAwaited, AreBehind, Takes, IsMadeReady, AreMadeReady, work_left}
 use Rattle.sas_axioms.specs.Following.{SameFrom, AreNoted, SameWork, Moves, IsOnTrack, IsFalling, IsRising}
 use Rattle.sas_axioms.specs.Sources.{IsHolding, HaveSources, SourcesHold}
 use Rattle.sas_axioms.specs.LayerRules.{IsRuleOn}
@@ -217,3 +220,20 @@ risen_from_fallen p s0 s w falling behind = record {
     not_noted : (other : ℕ) → IsNoted w.agenda w.layer other → {A : Type 0} → A
     not_noted other noted =
         let lt : w.layer < w.layer = All-contains (λ (e : Reverse LayerRule). w.layer < e.0.layer) (heap_items w.agenda.noted) (entry_for w.layer other) behind noted in absurd (omega arith)
+
+-- the variable of a rule gets its default
+module _ (p : Parts) (s s' : List ℕ) (rule value : ℕ) (change : Change) (of_rule : change ≡ rule_change (rule_at p rule)) (is_default : value ≡ default_of p change.var)
+    (is_set : s' ≡ set s change.var value) where
+  pub fallen_is : s' ≡ set s (rule_at p rule).var (default_of p (rule_at p rule).var)
+  fallen_is = is_set ∙ (ap (λ x. set s change.var x) is_default ∙ ap (λ (c : Change). set s c.var (default_of p c.var)) of_rule)
+
+  pub fallen_state : WellRanged p → (rule_at p rule).var < length p.variables → IsState p.variables s → IsState p.variables s'
+  fallen_state ranged within state = rw fallen_is
+      (state_set p s (rule_at p rule).var (default_of p (rule_at p rule).var) state (ranged.init.in_range (rule_at p rule).var within))
+
+-- less is left in the end: what was noted on the layer was taken off
+pub less_in_the_end : (layer rule : ℕ) (a0 a : Agenda) → IsNoted a0 layer rule → AreBehind layer a → (work_left a < work_left a0) ⊎ (a ≡ a0) → work_left a < work_left a0
+less_in_the_end layer rule a0 a noted behind (inl lt) = lt
+less_in_the_end layer rule a0 a noted behind (inr e) =
+    let lt : layer < layer = All-contains (λ (e : Reverse LayerRule). layer < e.0.layer) (heap_items a.noted) (entry_for layer rule) behind (subst (λ x. IsNoted x layer rule) (sym e) noted) in
+    absurd (omega arith)

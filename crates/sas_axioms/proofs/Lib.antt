@@ -11,6 +11,7 @@ pub mod Spans
 pub mod LayerStart
 pub mod Sources
 pub mod Tracking
+pub mod RuleChanges
 pub mod FallingSteps
 pub mod RisingSteps
 pub mod GoneSteps

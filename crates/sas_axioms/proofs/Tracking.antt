@@ -25,7 +25,7 @@ use Rattle.sas_axioms.specs.Following.{AsksAbout, Moves, IsOnTrack, SameWork, Ke
 use Rattle.sas_axioms.specs.LayerRules.{IsRuleOn}
 use Rattle.sas_axioms.proofs.Counters.{all_hold_when_none_open, none_open_when_all_hold}
 
-abbrev no_rule : Rule
+abbrev pub no_rule : Rule
 no_rule = record { conditions = []; var = 0; old = None; new = 0 }
 
 -- what holds of all elements of a list holds of those of one that has no others
@@ -124,6 +124,17 @@ told_step p layer s0 s s' var value t0 t t' so_far on is notes before tells = te
 
 pub same_more : (w w' w'' : Work) → SameWork w w' → SameWork w' w'' → SameWork w w''
 same_more w w' w'' a b = record { layer = b.layer ∙ a.layer; stack = b.stack ∙ a.stack; one_each = b.one_each ∙ a.one_each; sources = b.sources ∙ a.sources }
+
+-- another agenda is no other work
+pub same_but : (w w' : Work) (a : Agenda) → SameWork w w' → SameWork w (record { layer = w'.layer; counters = w'.counters; stack = w'.stack; sources = w'.sources; agenda = a })
+same_but w w' a same = record { layer = same.layer; stack = same.stack; one_each = same.one_each; sources = same.sources }
+
+-- and the same work has as much room
+pub room_same : (w w' : Work) → SameWork w w' → KeepsRoom w w'
+room_same w w' same = record { layer = same.layer; stack = same.stack; one_each = same.one_each; sources = ap length same.sources }
+
+pub room_but : (w w' : Work) (a : Agenda) → KeepsRoom w w' → KeepsRoom w (record { layer = w'.layer; counters = w'.counters; stack = w'.stack; sources = w'.sources; agenda = a })
+room_but w w' a keeps = record { layer = keeps.layer; stack = keeps.stack; one_each = keeps.one_each; sources = keeps.sources }
 
 pub room_more : (w w' w'' : Work) → KeepsRoom w w' → KeepsRoom w' w'' → KeepsRoom w w''
 room_more w w' w'' a b = record { layer = b.layer ∙ a.layer; stack = b.stack ∙ a.stack; one_each = b.one_each ∙ a.one_each; sources = b.sources ∙ a.sources }

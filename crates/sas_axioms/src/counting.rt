@@ -3,7 +3,7 @@ ghost use Rattle.std.specs.Prelude.{◌≡◌, ◌≢◌, ◌+◌, ◌<◌, ◌�
 ghost use Rattle.sas_core.specs.declared.parts.Parts.{Parts};
 ghost use Rattle.sas_axioms.specs.declared.waiting.Waiting.{Waiting};
 ghost use Rattle.sas_axioms.specs.Waiting.{occurrences, released};
-ghost use Rattle.sas_axioms.specs.Conditions.{AreCounted, IsCounted};
+ghost use Rattle.sas_axioms.specs.Conditions.{AreCounted, IsCounted, IsFullIndex};
 
 use crate::conditions::index_of_all;
 use crate::firing::open_of;
@@ -45,12 +45,17 @@ impl Counted {
         // By its contract the task is well ranged and layered.
         let _ = task.task();
         let values = State::of_section(alloc, task)?;
-        let counters = open_counters(alloc, task, &values)?;
-        Ok(Counted {
-            index: index_of_all(alloc, task)?,
-            values,
-            counters,
-        })
+        match index_and_counters(alloc, task, &values) {
+            Ok((index, counters)) => Ok(Counted {
+                index,
+                values,
+                counters,
+            }),
+            Err(error) => {
+                drop(values);
+                Err(error)
+            }
+        }
     }
 
     /// Sets the fact's variable to the fact's value, and updates the counters of the rules that wait for a value of it.
@@ -66,6 +71,26 @@ impl Counted {
             count_change(waiting, former, fact.value, &mut self.counters);
         }
         self.values.set(fact);
+    }
+}
+
+/// Returns the index of all conditions, and how many of each rule these values leave open.
+fn index_and_counters<T: Grounded>(
+    alloc: Global,
+    task: &Layered<T>,
+    values: &State,
+) -> Result<(Lists<Waiting>, Items<u32>), AllocError>
+    requires known { length values.now ≡ length task.now.variables }
+    ensures index { IfOk result (λ r. IsFullIndex task.now r.0) }
+    ensures counters { IfOk result (λ r. AreCounted task.now values.now r.1) }
+{
+    let counters = open_counters(alloc, task, values)?;
+    match index_of_all(alloc, task) {
+        Ok(index) => Ok((index, counters)),
+        Err(error) => {
+            drop(counters);
+            Err(error)
+        }
     }
 }
 

@@ -47,12 +47,17 @@ impl Resting {
         ensures { IfOk result (λ r. IsResting task.now r) }
     {
         let looks_below = looks_of(alloc, task)?;
-        let counted = Counted::new(alloc, task)?;
-        Ok(Resting {
-            asked: asked_variables(alloc, task, &counted.index)?,
-            counted,
-            looks_below,
-        })
+        match asked_and_counted(alloc, task) {
+            Ok((asked, counted)) => Ok(Resting {
+                asked,
+                counted,
+                looks_below,
+            }),
+            Err(error) => {
+                drop(looks_below);
+                Err(error)
+            }
+        }
     }
 
     /// Takes over the state's values of the basic variables that conditions are on, and updates the counts.
@@ -106,6 +111,25 @@ fn follow_asked<T: Grounded>(task: &Layered<T>, asked: &[u32], state: &State, co
         let value = state.value(*var);
         if value != counted.values.value(*var) {
             counted.recount(Fact { var: *var, value });
+        }
+    }
+}
+
+/// Returns the basic variables that conditions are on, and the counts for the values of the state section.
+fn asked_and_counted<T: Grounded>(
+    alloc: Global,
+    task: &Layered<T>,
+) -> Result<(Vec<u32>, Counted), AllocError>
+    ensures asked { IfOk result (λ r. AreAskedBasic task.now r.0.items) }
+    ensures values { IfOk result (λ r. r.1.values ≡ task.now.init) }
+    ensures counts { IfOk result (λ r. IsCounted task.now r.1) }
+{
+    let counted = Counted::new(alloc, task)?;
+    match asked_variables(alloc, task, &counted.index) {
+        Ok(asked) => Ok((asked, counted)),
+        Err(error) => {
+            drop(counted);
+            Err(error)
         }
     }
 }

@@ -1,12 +1,17 @@
 -- Words that are given to a hasher one after the other, and then their digest.
-use Rattle.std.proofs.Common.{◌≡◌, ℕ, ◌-◌, ◌/◌, ◌≤◌, List, [], ◌∷◌, ◌++◌, length, take, drop, sym, ap, ◌∙◌, if◌then◌else◌}
-use Rattle.std.proofs.lemmas.Bool.{le-ltb}
+use Rattle.std.proofs.Common.{◌≡◌, ℕ, ◌-◌, ◌/◌, ◌<◌, ◌≤◌, List, [], ◌∷◌, ◌++◌, length, take, drop, sym, ap, ◌∙◌, if◌then◌else◌}
+use Rattle.std.proofs.lemmas.Bool.{le-ltb, lt-ltb}
 use Rattle.std.proofs.lemmas.List.{take_all}
 use Rattle.std.proofs.lemmas.List.Sums.{fold-append, fold_push}
 use Rattle.std.specs.Hash.{u64}
 use Rattle.std.specs.List.{fold}
 use Rattle.std.specs.Simd.{first_chunks}
 use Rattle.sas_names.specs.NameHash.{digest_start, digest_with, words, hashed}
+
+-- a name of less than eight bytes is given as it is
+pub hashed_short : {S : Type 0} (write : S → List ℕ → S) (before : S) (name : List ℕ) → length name < 8 → write before name ≡ fold write before (hashed name)
+hashed_short write before name short =
+    ap (λ is. fold write before (if is then name ∷ [] else words name ++ u64 (fold digest_with (digest_start (length name)) (words name)))) (sym (lt-ltb (length name) 8 short))
 
 module _ {S : Type 0} (write : S → List ℕ → S) (before : S) (name : List ℕ) (long : 8 ≤ length name) where
   -- the digest of all words

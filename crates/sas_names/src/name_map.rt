@@ -1,8 +1,8 @@
 // The operators of a task by their names, for one plan.
-ghost use Rattle.std.specs.Prelude.{◌≡◌, ℕ, IfOk, OnOk};
+ghost use Rattle.std.specs.Prelude.{◌≡◌, ℕ, List, None, IfOk, OnOk};
 ghost use Rattle.indexmap.specs.IndexMap.{get_by};
 ghost use Rattle.sas_names.specs.Chains.{IsChain};
-ghost use Rattle.sas_names.specs.NameTable.{Puts, is_called};
+ghost use Rattle.sas_names.specs.NameTable.{Puts, AreMappedFrom, is_called, told_by};
 
 use crate::looking_up::FirstNamed;
 use crate::name_key::NameKey;
@@ -44,27 +44,29 @@ impl<'a, T: Grounded> Model for NameMap<'a, T> {
 }
 
 impl<'a, T: Grounded> NameMap<'a, T> {
-    /// Returns the map of the task's operators. It goes from the last operator to the first, so that the lowest operator of
-    /// each name is inserted last.
+    /// Returns the map of the task's operators.
     pub fn new(alloc: Global, task: &'a T) -> Result<NameMap<'a, T>, AllocError>
         ensures { IfOk result (λ map. map ≡ T.says task.now) }
     {
-        let operators = task.operators();
-        let mut first = IndexMap::with_capacity(alloc, operators as usize)?;
-        let mut next = vec![in alloc; None; operators as usize]?;
-        let mut operator = operators;
-        while operator > 0 {
-            operator -= 1;
-            next[operator as usize] = put(&mut first, task.name(operator), operator)?;
+        let mut first = IndexMap::with_capacity(alloc, task.operators() as usize)?;
+        match put_all(alloc, task, &mut first) {
+            Ok(next) => Ok(NameMap { task, first, next }),
+            Err(error) => {
+                drop(first);
+                Err(error)
+            }
         }
-        Ok(NameMap { task, first, next })
     }
 
     /// Returns for each operator the next one of the same name, and lets all else go.
     pub fn into_next(self) -> Vec<Option<u32>>
         ensures { (first : ℕ) → IsChain self.entry first result.items }
     {
-        let NameMap { next, first: _, task: _ } = self;
+        let NameMap {
+            next,
+            first: _,
+            task: _,
+        } = self;
         next
     }
 }
@@ -75,6 +77,26 @@ impl<'a, T: Grounded> FirstNamed for NameMap<'a, T> {
     fn first(&self, name: &[u8]) -> Option<u32> {
         self.first.get(NameKey { bytes: name }).copied()
     }
+}
+
+/// Maps each name to the lowest operator of it, and returns for each operator the next one of the same name. It goes from the last
+/// operator to the first, so that the lowest operator of each name is inserted last.
+fn put_all<'a, T: Grounded>(
+    alloc: Global,
+    task: &'a T,
+    first: &mut IndexMap<NameKey<'a>, u32>,
+) -> Result<Vec<Option<u32>>, AllocError>
+    requires { (name : List ℕ) → told_by first.old name ≡ None }
+    ensures { IfOk result (λ next. AreMappedFrom (T.says task.now) 0 (told_by first.new) next.items) }
+{
+    let operators = task.operators();
+    let mut next = vec![in alloc; None; operators as usize]?;
+    let mut operator = operators;
+    while operator > 0 {
+        operator -= 1;
+        next[operator as usize] = put(first, task.name(operator), operator)?;
+    }
+    Ok(next)
 }
 
 /// Maps the name to this operator, and returns the operator to which it was mapped before, if any.

@@ -28,12 +28,13 @@ impl<'p> StepNames<'p> {
         ensures { IfOk result (λ names. AreStepNames (P.says plan.now).steps names) }
     {
         let mut numbers = IndexMap::with_capacity(alloc, plan.steps())?;
-        let mut of_steps = Vec::with_capacity(alloc, plan.steps())?;
-        for _step in 0..plan.steps() {
-            let number = next_number(plan, &mut numbers, of_steps.as_slice())?;
-            of_steps.push(number).unwrap();
+        match number_all(alloc, plan, &mut numbers) {
+            Ok(of_steps) => Ok(StepNames { numbers, of_steps }),
+            Err(error) => {
+                drop(numbers);
+                Err(error)
+            }
         }
-        Ok(StepNames { numbers, of_steps })
     }
 
     /// Returns how many names there are. It takes no memory.
@@ -56,6 +57,27 @@ impl<'p> StepNames<'p> {
     {
         self.of_steps.as_slice()
     }
+}
+
+/// Numbers the names of the plan's steps, and returns for each step the number of its name.
+fn number_all<'p, P: Stepwise>(
+    alloc: Global,
+    plan: &'p P,
+    numbers: &mut IndexMap<NameKey<'p>, usize>,
+) -> Result<Vec<usize>, AllocError>
+    requires { AreNumbers numbers.old }
+    ensures numbers { IfOk result (λ _. AreNumbers numbers.new) }
+    ensures one_each { IfOk result (λ of_steps. length of_steps.items
+        ≡ length (P.says plan.now).steps) }
+    ensures each { IfOk result (λ of_steps.
+        HaveNumbers (P.says plan.now).steps numbers.new of_steps.items) }
+{
+    let mut of_steps = Vec::with_capacity(alloc, plan.steps())?;
+    for _step in 0..plan.steps() {
+        let number = next_number(plan, numbers, of_steps.as_slice())?;
+        of_steps.push(number).unwrap();
+    }
+    Ok(of_steps)
 }
 
 /// Returns the number of the next step's name. `of_steps` has those of the steps before it. A name that comes several times in a

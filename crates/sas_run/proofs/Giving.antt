@@ -11,7 +11,7 @@ use Rattle.sas_core.specs.Variables.{HasValue, IsState}
 use Rattle.sas_core.specs.WellRanged.{EffectFits}
 use Rattle.sas_meaning.specs.States.{AllHold}
 use Rattle.sas_meaning.specs.Steps.{preconditions, Fires}
-use Rattle.sas_run.specs.Given.{given_to, value_after, IsGiven, IsGivenTo, GivesValue}
+use Rattle.sas_run.specs.Given.{given_to, value_after, IsClean, IsGiven, IsGivenTo, GivesValue}
 use Rattle.sas_run.specs.Running.{IsApplied}
 use Rattle.sas_run.proofs.Ranges.{no_effect}
 
@@ -20,6 +20,14 @@ same_inside a b is = cc
 
 not_both : (a : ℕ) (given : Option ℕ) → given ≡ None → given ≡ Some a → ⊥
 not_both a given none some = let e : None ≡ Some a = sym none ∙ some in absurd cc
+
+-- no effect gives anything
+pub gives_none : (p : Parts) (s : List ℕ) (o : Operator) (given : List (Option ℕ)) → IsClean p given → IsGiven p s o 0 given
+gives_none p s o given clean = record {
+  one_each = clean.one_each;
+  gives = λ k lt. absurd (omega arith);
+  giver = λ var value at. absurd (not_both value (given_to given var) (clean.none var) at);
+}
 
 module _ (p : Parts) (s : List ℕ) (o : Operator) (n : ℕ) (given : List (Option ℕ)) (is : IsGiven p s o n given) where
   -- what the effects give is a value of its variable
@@ -87,6 +95,14 @@ module _ (given : List (Option ℕ)) (v : ℕ) (within : v < length given) where
     | inr ne ↦ get_or-set_other given v w None None ne ∙ none
   ]
 
+  -- so nothing is given to the variables of the effects up to one on this variable
+  pub one_more_taken : (o : Operator) (n : ℕ) → v ≡ (effect_at o n).var → ((k : ℕ) → k < n → given_to given (effect_at o k).var ≡ None)
+      → (k : ℕ) → k < n + 1 → given_to (set given v None) (effect_at o k).var ≡ None
+  one_more_taken o n on taken k lt = elim (cases_eq k n) [
+    | inl e ↦ subst (λ x. given_to (set given v None) x ≡ None) (on ∙ ap (λ i. (effect_at o i).var) (sym e)) none_there
+    | inr ne ↦ still_none (effect_at o k).var (taken k (omega arith))
+  ]
+
   was_given : (w value : ℕ) → given_to (set given v None) w ≡ Some value → given_to given w ≡ Some value
   was_given w value at = elim (cases_eq w v) [
     | inl e ↦ absurd (not_both value (given_to (set given v None) w) (ap (given_to (set given v None)) e ∙ none_there) at)
@@ -126,3 +142,16 @@ applied p s o given s' applicable is state written = record {
     nothing : (x : Option ℕ) (otherwise : ℕ) → ((value : ℕ) → x ≡ Some value → ⊥) → unwrap_or x otherwise ≡ otherwise
     nothing None otherwise none = refl
     nothing (Some value) otherwise none = absurd (none value refl)
+
+none_left : (x : Option ℕ) → ((value : ℕ) → x ≡ Some value → x ≡ None) → x ≡ None
+none_left None none = refl
+none_left (Some value) none = none value refl
+
+-- nothing is given once what was given to the variables of all effects is taken back
+pub all_taken : (p : Parts) (o : Operator) (n : ℕ) (given : List (Option ℕ)) → IsGivenTo p o given → length o.effects ≤ n
+    → ((k : ℕ) → k < n → given_to given (effect_at o k).var ≡ None) → IsClean p given
+all_taken p o n given on within taken = record {
+  one_each = on.one_each;
+  none = λ var. none_left (given_to given var)
+      (λ value at. (let (k, lt, same) = on.effect var value at in subst (λ v. given_to given v ≡ None) same (taken k (omega arith))));
+}

@@ -74,3 +74,7 @@ pub judged_as_fault : (p : Parts) (plan : PlanParts) (operators last : List ℕ)
     → IsJudged p operators last plan.cost result → IfErr result (IsFaultOf p plan)
 judged_as_fault p plan operators last (Ok _) leads is = tt
 judged_as_fault p plan operators last (Err fault) leads is = judged_is_fault p plan operators last fault leads is
+
+-- what a `?` passes on is the fault
+pub passed_on : {A E : Type 0} (result : Result A E) (fault : E) → (f : E) × (result ≡ Err f) × (f ≡ fault) → result ≡ Err fault
+passed_on {E = E} result fault (f, is, same) = is ∙ ap (λ (x : E). Err x) same

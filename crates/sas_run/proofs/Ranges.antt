@@ -1,5 +1,5 @@
 -- The operators of a task and their effects fit, and the variables of these exist.
-use Rattle.std.proofs.Common.{ℕ, ◌<◌, List, [], ◌∷◌, length, Option, None, Some}
+use Rattle.std.proofs.Common.{◌≡◌, ℕ, ◌<◌, List, [], ◌∷◌, length, Option, None, Some, sym, subst}
 use Rattle.std.specs.Prelude.{filter_map, option_map}
 use Rattle.std.specs.List.{All, AllByRecursion, cons_option}
 use Rattle.std.proofs.lemmas.List.Elements.{All-append, All-weaker, All-from_recursion}
@@ -8,6 +8,8 @@ use Rattle.sas_core.specs.declared.parts.Variable.{Variable}
 use Rattle.sas_core.specs.Variables.{FactExists, MayHaveValue}
 use Rattle.sas_core.specs.declared.parts.Effect.{Effect}
 use Rattle.sas_core.specs.declared.parts.Parts.{Parts}
+use Rattle.sas_core.specs.declared.grounded.Change.{Change}
+use Rattle.sas_core.specs.Changes.{effect_change}
 use Rattle.sas_core.specs.Grounded.{operator_at, effect_at}
 use Rattle.sas_core.specs.WellRanged.{WellRanged, OperatorFits, EffectFits}
 use Rattle.sas_core.proofs.Places.{holds_at}
@@ -41,6 +43,17 @@ module _ (p : Parts) (ranged : WellRanged p) (operator : ℕ) (exists : operator
   -- the variable of an effect exists
   pub effect_within : (effect : ℕ) → effect < length (operator_at p operator).effects → (effect_at (operator_at p operator) effect).var < length p.variables
   effect_within effect lt = fact_within p (effect_at (operator_at p operator) effect).var (effect_at (operator_at p operator) effect).new (effect_fits effect lt).new
+
+  -- also where it is read as a change
+  pub change_within : (effect : ℕ) → effect < length (operator_at p operator).effects → (change : Change) → change ≡ effect_change (effect_at (operator_at p operator) effect)
+      → change.var < length p.variables
+  change_within effect lt change is = subst (λ (change : Change). change.var < length p.variables) (sym is) (effect_within effect lt)
+
+  -- and so do those of its conditions
+  pub conditions_within : (effect : ℕ) → effect < length (operator_at p operator).effects
+      → All (λ (f : Fact). f.var < length p.variables) (effect_at (operator_at p operator) effect).conditions
+  conditions_within effect lt = All-weaker (FactExists p.variables) (λ (f : Fact). f.var < length p.variables) (λ f is. fact_within p f.var f.value is) (effect_at (operator_at p operator) effect).conditions
+      (All-from_recursion (FactExists p.variables) (effect_at (operator_at p operator) effect).conditions (effect_fits effect lt).conditions.each)
 
   -- the variables of its preconditions exist
   pub preconditions_within : All (λ (f : Fact). f.var < length p.variables) (preconditions (operator_at p operator))

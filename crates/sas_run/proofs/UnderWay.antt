@@ -1,9 +1,15 @@
 -- A plan under way goes on.
-use Rattle.std.proofs.Common.{◌≡◌, ℕ, ◌+◌, ◌<◌, List, [], length, get_or, Option, None, Result, Err, sym, ◌∙◌, ap, subst, inl, inr, arith}
+use Rattle.std.proofs.Common.{◌≡◌, ℕ, ◌+◌, ◌<◌, ◌≤◌, List, [], ◌∷◌, ◌++◌, length, get_or, Option, None, Result, Err, refl, sym, ◌∙◌, ap, subst, inl, inr, arith}
+use Rattle.std.specs.List.{All}
+use Rattle.std.specs.Prelude.{vec_capacity}
+use Rattle.std.proofs.Math.ListN.{length-append}
 use Rattle.std.proofs.lemmas.Bool.{cases_lt}
+use Rattle.std.proofs.lemmas.List.Elements.{All-push}
 use Rattle.sas_core.specs.declared.parts.Parts.{Parts}
 use Rattle.sas_core.specs.Grounded.{operator_at}
 use Rattle.sas_core.specs.PlanParts.{PlanParts}
+use Rattle.sas_core.specs.Variables.{IsState}
+use Rattle.sas_meaning.specs.Steps.{Step}
 use Rattle.sas_names.specs.Chains.{IsChain}
 use Rattle.sas_names.specs.Named.{IsNamed}
 use Rattle.sas_names.specs.Names.{IsNextNamed}
@@ -11,9 +17,9 @@ use Rattle.sas_run.specs.declared.plan_check.PlanFault.{PlanFault}
 use Rattle.sas_run.specs.declared.walk.Walk.{Walk}
 use Rattle.sas_run.specs.declared.walker.Walker.{Walker}
 use Rattle.sas_run.specs.Plans.{IsChosen}
-use Rattle.sas_run.specs.Courses.{UnderWay, IsUnderWay, next_name, Continues}
+use Rattle.sas_run.specs.Courses.{UnderWay, IsUnderWay, next_name, GoesOnBy, Continues}
 use Rattle.sas_run.specs.Running.{Makes, StopsAt}
-use Rattle.sas_run.specs.Walking.{TellsAsBefore}
+use Rattle.sas_run.specs.Walking.{IsPrepared, TellsStep, TellsAsBefore}
 use Rattle.sas_run.proofs.Going.{conflict_stops}
 
 -- what a contract says of the parts of a plan under way
@@ -57,6 +63,41 @@ module _ {E : Type 0} (Ready : E → Parts → Type 0) (Follows : E → Parts �
         let same : (operator_at p operator).name ≡ (operator_at p (get_or found (length walk.operators.items) 0)).name = chosen.of_name.named ∙ sym (name_is found_chosen) in
         subst (λ name. IsNextNamed p name (other + 1) (get_or nexts other None)) (sym same)
         (way.chains (length walk.operators.items) found_chosen other (subst (λ name. IsNamed p name other) same named))
+
+    -- once its step was made, the plan goes on
+    pub one_further : (walker' : Walker E) (walk' : Walk) → IsPrepared Ready p walker' → Follows walker'.evaluator p walk'.state → IsState p.variables walk'.state
+        → walk'.operators.items ≡ walk.operators.items ++ operator ∷ [] → vec_capacity walk.operators ≤ vec_capacity walk'.operators
+        → IsUnderWay Ready Follows p plan.steps walker' found nexts walk'
+    one_further walker' walk' prepared follows state items room = record {
+      prepared = prepared;
+      follows = follows;
+      firsts = way.firsts;
+      chains = way.chains;
+      state = state;
+      exist = subst (All (λ (o : ℕ). o < length p.operators)) (sym items) (All-push (λ (o : ℕ). o < length p.operators) walk.operators.items operator way.exist chosen.of_name.exists);
+      few = omega (arith, ap length items, length-append walk.operators.items (operator ∷ []), found_chosen);
+      room = omega (arith, way.room);
+    }
+
+  -- where its step was refused, it may still go on from here
+  pub no_further : (walker' : Walker E) (state : List ℕ) → IsPrepared Ready p walker' → Follows walker'.evaluator p state → state ≡ walk.state
+      → IsUnderWay Ready Follows p plan.steps walker' found nexts (record { state = state; operators = walk.operators })
+  no_further walker' state prepared follows same = record {
+    prepared = prepared;
+    follows = follows;
+    firsts = way.firsts;
+    chains = way.chains;
+    state = subst (IsState p.variables) (sym same) way.state;
+    exist = way.exist;
+    few = way.few;
+    room = way.room;
+  }
+
+-- what the step that was made leads to
+pub goes_on_by : {E : Type 0} (p : Parts) (plan : PlanParts) (walker walker' : Walker E) (walk walk' : Walk) (operator : ℕ) → walk'.operators.items ≡ walk.operators.items ++ operator ∷ []
+    → Step p walk.state (operator_at p operator) walk'.state → TellsStep p walk.state walk'.state walker'.gone.items walker'.touched
+    → GoesOnBy (course_of p plan walker walk) operator (course_of p plan walker' walk')
+goes_on_by p plan walker walker' walk walk' operator items step told = record { task = refl; plan = refl; operators = items; step = step; told = told }
 
 -- where the effects of the chosen operator conflict, the plan stops there
 module _ {E : Type 0} (p : Parts) (plan : PlanParts) (walker walker' : Walker E) (walk : Walk) (operator step : ℕ) (state : List ℕ) where

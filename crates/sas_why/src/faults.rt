@@ -1,5 +1,5 @@
 // Why a plan isn't valid.
-ghost use Rattle.std.specs.Prelude.{◌≡◌, ◌<◌, ◌-◌, ℕ, length, All, IfOk, OnOk, Some, map};
+ghost use Rattle.std.specs.Prelude.{◌≡◌, ◌<◌, ◌-◌, ℕ, [], length, All, IfOk, OnOk, Some, map};
 ghost use Rattle.sas_core.specs.PlanParts.{PlanParts};
 ghost use Rattle.sas_core.specs.Grounded.{operator_at};
 ghost use Rattle.sas_core.specs.Stepwise.{step_at};
@@ -10,7 +10,7 @@ ghost use Rattle.sas_reasons.specs.WhyPlan.{TellsInapplicable, TellsGoal, TellsF
 ghost use Rattle.sas_reasons.specs.WhyPlan.{cost_lines_sum};
 ghost use Rattle.sas_why.specs.Line.{line_bytes};
 ghost use Rattle.sas_why.specs.Retracing.{Retraces};
-ghost use Rattle.sas_why.specs.Told.{IsBehind, CanTell, Adds, TellsOnce};
+ghost use Rattle.sas_why.specs.Told.{IsBehind, IsTold, CanTell, Adds, TellsOnce};
 
 use crate::causes::tell_cause;
 use crate::conflicts::conflict;
@@ -111,13 +111,38 @@ fn blocked<T: Grounded>(
         → TellsOnce task.now plan lines (TellsFault task.now plan run (PlanFault.NotApplicable step))) }
 {
     let mut told = Told::new(alloc, task, &noted.last)?;
+    match tell_blocked(task, noted, name, step, &mut told) {
+        Ok(()) => Ok(told.into_lines()),
+        Err(error) => {
+            drop(told);
+            Err(error)
+        }
+    }
+}
+
+/// Tells the step, and why each operator of its name isn't applicable. Nothing was told before.
+fn tell_blocked<T: Grounded>(
+    task: &Layered<T>,
+    noted: &Retraced,
+    name: &[u8],
+    step: usize,
+    told: &mut Told,
+) -> Result<(), AllocError>
+    requires { CanTell task.now noted.now told.old }
+    ensures { OnOk result ((plan : PlanParts) (run : Run)
+        → IsBehind task.now plan noted.now run
+        → name.now ≡ step_at plan (step - 1)
+        → IsTold task.now plan noted.now.last told.old []
+        → TellsOnce task.now plan told.new.lines
+        (TellsFault task.now plan run (PlanFault.NotApplicable step))) }
+{
     told.lines.push(Line::Step { step })?;
     for operator in 0..task.operators() {
         if task.name(operator) == name {
-            tell_inapplicable(task, noted, operator, &mut told)?;
+            tell_inapplicable(task, noted, operator, told)?;
         }
     }
-    Ok(told.into_lines())
+    Ok(())
 }
 
 /// Tells the operator, and the cause of each of its preconditions that fails.
@@ -185,18 +210,36 @@ fn missed<T: Grounded>(
         → IsBehind task.now plan noted.now run
         → TellsOnce task.now plan lines (TellsGoal task.now run)) }
 {
+    let mut told = Told::new(alloc, task, &noted.last)?;
+    match tell_missed(task, noted, &mut told) {
+        Ok(()) => Ok(told.into_lines()),
+        Err(error) => {
+            drop(told);
+            Err(error)
+        }
+    }
+}
+
+/// Tells the cause of each goal fact that fails.
+fn tell_missed<T: Grounded>(
+    task: &Layered<T>,
+    noted: &Retraced,
+    told: &mut Told,
+) -> Result<(), AllocError>
+    requires { CanTell task.now noted.now told.old }
+    ensures { OnOk result (Adds task.now noted.now told.old told.new (TellsGoal task.now)) }
+{
     // By its contract the task is well ranged and layered.
     let _ = task.task();
-    let mut told = Told::new(alloc, task, &noted.last)?;
     for (index, fact) in task.goal().iter().enumerate() {
         if noted.last.value(fact.var) != fact.value {
             told.lines.push(Line::GoalFact {
                 index: index as u32,
             })?;
-            tell_cause(task, noted, *fact, &mut told)?;
+            tell_cause(task, noted, *fact, told)?;
         }
     }
-    Ok(told.into_lines())
+    Ok(())
 }
 
 /// The cost differs: returns the lines that tell what it is made of.

@@ -1,9 +1,10 @@
 -- The two writes.
-use Rattle.std.proofs.Common.{◌≡◌, ◌≢◌, true, [], ◌∷◌, ◌++◌, get_or, set, refl, sym, ap, ◌∙◌, arith}
+use Rattle.std.proofs.Common.{◌≡◌, ◌≢◌, true, [], ◌∷◌, ◌++◌, get_or, set, refl, sym, ap, subst, ◌∙◌, arith}
 use Rattle.std.specs.Result.{is_ok}
 use Rattle.sas_core.specs.declared.grounded.Change.{Change}
 use Rattle.sas_core.specs.Grounded.{rule_at}
-use Rattle.sas_axioms.proofs.Counters.{Pushed, pushed, fires_by, rule_within, was_default}
+use Rattle.sas_axioms.proofs.Counters.{Pushed, pushed, fires_by, fires_nothing, rule_within, was_default}
+use Rattle.sas_axioms.proofs.RuleChanges.{change_within}
 use Rattle.sas_axioms.proofs.Sources.{given_when_fired}
 use Rattle.sas_axioms.proofs.firing.fire.Goals as goal
 use Rattle.sas_axioms.proofs.firing.fire.Given.{Over}
@@ -43,3 +44,35 @@ returns-then-value-change g c =
     (c.set.ensures ∙ ap (λ (x : Change). set c.args.state.now x.var x.new) e)
     ((rw (succeeds g a) at c.push.ensures.items) ∙ ap (λ (x : Change). w.stack.items ++ x.var ∷ []) e)
     refl refl (omega arith)
+
+pub rule_change-change-requires : goal.rule_change-change-requires
+rule_change-change-requires g c = c.requires.rule.exists
+
+pub value-requires : goal.value-requires
+value-requires g c =
+    omega (
+      arith,
+      change_within c.args.task.now c.task.ensures.well_ranged c.args.rule c.requires.rule.exists c.rule_change-change.result c.rule_change-change.ensures,
+      c.requires.running.state.one_each,
+    )
+
+pub set-requires : goal.set-requires
+set-requires g c =
+    omega (
+      arith,
+      change_within c.args.task.now c.task.ensures.well_ranged c.args.rule c.requires.rule.exists c.rule_change-change.result c.rule_change-change.ensures,
+      c.requires.running.state.one_each,
+    )
+
+pub set-requires-then-value-change : goal.set-requires-then-value-change
+set-requires-then-value-change g c =
+    omega (
+      arith,
+      change_within c.args.task.now c.task.ensures.well_ranged c.args.rule c.requires.rule.exists c.rule_change-change.result c.rule_change-change.ensures,
+      c.requires.room.sources,
+    )
+
+pub returns-else-value-change : goal.returns-else-value-change
+returns-else-value-change g c =
+    fires_nothing c.args.task.now c.args.state.now c.args.work.now c.args.rule c.requires.running
+    (subst (λ (x : Change). get_or c.args.state.now x.var 0 ≡ x.new) c.rule_change-change.ensures (sym c.value.ensures ∙ c.if-value-change.false))

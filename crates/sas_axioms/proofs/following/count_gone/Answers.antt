@@ -1,8 +1,9 @@
 -- One fact after another is counted as gone.
-use Rattle.std.proofs.Common.{◌≡◌, ◌+◌, ◌<◌, List, ◌∷◌, length, get_or, set, drop, refl, subst, ◌∙◌, arith}
+use Rattle.std.proofs.Common.{◌≡◌, ℕ, ◌+◌, ◌<◌, List, ◌∷◌, length, get_or, set, drop, refl, subst, ◌∙◌, arith}
 use Rattle.std.proofs.lemmas.List.{drop_more, at_drop_all}
 use Rattle.std.proofs.lemmas.List.Elements.{All-head}
 use Rattle.sas_core.specs.declared.parts.Fact.{Fact}
+use Rattle.sas_core.specs.declared.parts.Parts.{Parts}
 use Rattle.sas_meaning.specs.Following.{HaveGone}
 use Rattle.sas_meaning.specs.States.{Holds}
 use Rattle.sas_meaning.specs.Layers.{IsBasic}
@@ -13,6 +14,12 @@ use Rattle.sas_axioms.proofs.following.count_gone.Goals.{then-moved+in_ok-recoun
 
 abbrev no_fact : Fact
 no_fact = record { var = 0; value = 0 }
+
+-- the variable of the next fact exists
+exists_here : (p : Parts) (gone : List Fact) (i : ℕ) → i < length gone → (s s' : List ℕ) → HaveGone p (drop i gone) s s' → (get_or gone i no_fact).var < length p.variables
+exists_here p gone i lt s s' have =
+    let here : HaveGone p (get_or gone i no_fact ∷ drop (i + 1) gone) s s' = rw (drop_more gone i no_fact lt) at have in
+    All-head (λ (h : Fact). h.var < length p.variables) (get_or gone i no_fact) (drop (i + 1) gone) here.exist
 
 pub loop-fact-init : goal.loop-fact-init
 loop-fact-init g c = record {
@@ -67,3 +74,25 @@ loop-fact-preserved g c =
             (so_far.0, gone_same p f rest so_far.0 state here (w.if-moved.false ∙ c.value.ensures), so_far.2));
       }
     ]
+
+pub value-requires : goal.value-requires
+value-requires g c =
+    let so_far = c.loop-fact.invariant.so_far c.requires.follows.0 c.requires.follows.1 c.requires.follows.2 in
+    omega (arith, exists_here c.args.task.now c.args.gone.now c.loop-fact.fact-index c.loop-fact-test.true so_far.0 c.args.state.now so_far.1, c.requires.state.one_each)
+
+pub recount-requires-clause-exists : goal.recount-requires-clause-exists
+recount-requires-clause-exists g c =
+    let so_far = c.loop-fact.invariant.so_far c.requires.follows.0 c.requires.follows.1 c.requires.follows.2 in
+    exists_here c.args.task.now c.args.gone.now c.loop-fact.fact-index c.loop-fact-test.true so_far.0 c.args.state.now so_far.1
+
+pub recount-requires-clause-differ : goal.recount-requires-clause-differ
+recount-requires-clause-differ g c = c.if-moved.true
+
+pub recount-requires-clause-ordered : goal.recount-requires-clause-ordered
+recount-requires-clause-ordered g c = (c.loop-fact.invariant.so_far c.requires.follows.0 c.requires.follows.1 c.requires.follows.2).2.ordered
+
+pub returns-in_err-recount-clause-same : goal.returns-in_err-recount-clause-same
+returns-in_err-recount-clause-same g c = same_more c.args.work.now c.loop-fact.work c.recount.new.work c.loop-fact.invariant.same c.recount.ensures.same
+
+pub returns-clause-same : goal.returns-clause-same
+returns-clause-same g c = c.loop-fact.invariant.same

@@ -12,12 +12,12 @@ use Rattle.sas_meaning.proofs.Layers.{on_layer_within}
 use Rattle.sas_meaning.proofs.Forced.{state_set, differs_not}
 use Rattle.sas_axioms.specs.declared.agenda.Agenda.{Agenda}
 use Rattle.sas_axioms.specs.declared.firing.Work.{Work}
-use Rattle.sas_axioms.specs.Agenda.{work_left}
+use Rattle.sas_axioms.specs.Agenda.{IsNoted, work_left}
 use Rattle.sas_axioms.specs.Following.{IsFalling}
 use Rattle.sas_axioms.specs.LayerRules.{IsRuleOn}
 use Rattle.sas_axioms.specs.Sources.{IsHolding}
-use Rattle.sas_axioms.proofs.FallingSteps.{FallingBut, falling_taken, falling_passed, falling_fell, risen_from_fallen}
-use Rattle.sas_axioms.proofs.Tracking.{holding_when_zero, off_step, told_step}
+use Rattle.sas_axioms.proofs.FallingSteps.{FallingBut, falling_taken, falling_passed, falling_fell, risen_from_fallen, fallen_is, fallen_state, less_in_the_end}
+use Rattle.sas_axioms.proofs.Tracking.{holding_when_zero, off_step, told_step, same_more, same_but}
 use Rattle.sas_axioms.proofs.following.fall.Goals as goal
 use Rattle.sas_axioms.proofs.following.fall.Given.{Over}
 use Rattle.sas_axioms.proofs.following.fall.Goals.{In-Some, After-rule_change-var}
@@ -134,9 +134,8 @@ loop-rule-preserved-in-Continue-branch-2 g c =
     let taken : Work = record { layer = work.layer; counters = work.counters; stack = work.stack; sources = work.sources; agenda = c.take.new.self } in
     let b = some g i in
     let var_is = ap (λ (x : Change). x.var) c.rule_change-var.ensures in
-    let value_is : c.initial_value-value.result ≡ default_of p (rule_at p rule).var = c.initial_value-value.ensures ∙ ap (λ v. default_of p v) var_is in
     let state_is : c.set_to.new.state ≡ set s (rule_at p rule).var (default_of p (rule_at p rule).var) =
-    c.set_to.ensures.state ∙ (ap (λ v. set s v c.initial_value-value.result) var_is ∙ ap (λ x. set s (rule_at p rule).var x) value_is) in
+    fallen_is p s c.set_to.new.state rule c.initial_value-value.result c.rule_change-var.result c.rule_change-var.ensures c.initial_value-value.ensures c.set_to.ensures.state in
     let state : IsState p.variables (set s (rule_at p rule).var (default_of p (rule_at p rule).var)) =
     state_set p s (rule_at p rule).var (default_of p (rule_at p rule).var) b.track.state (c.task.ensures.well_ranged.init.in_range (rule_at p rule).var (within g i)) in
     let moves = rw (var_is, state_is) at c.in_ok-set_to.ensures.moves in
@@ -180,3 +179,59 @@ loop-rule-preserved g c =
           (let a = c.in-Some.ensures.left in let made = c.in_ok-make_ready-2.ensures in
           let r = ap length made.ready in let l = length-append c.take.new.self.ready.items (rule ∷ []) in let n = ap (λ h. length (heap_items h)) made.noted in let m = made.left in omega arith));
     }
+
+pub loop-rule-init : goal.loop-rule-init
+loop-rule-init g c = record {
+  same = record { layer = refl; stack = refl; one_each = refl; sources = refl };
+  state = c.requires.falling.1.track.state;
+  off = λ v _. refl;
+  told = λ before tells. tells;
+  falling = λ s falling. falling;
+  left = inr refl;
+}
+
+pub returns-in_err-set_to-clause-same : goal.returns-in_err-set_to-clause-same
+returns-in_err-set_to-clause-same g c =
+    same_more c.args.work.now _ c.set_to.new.work (same_but c.args.work.now c.loop-rule.work c.take.new.self c.loop-rule.invariant.same) c.set_to.ensures.same
+
+pub returns-in_err-make_ready-clause-same : goal.returns-in_err-make_ready-clause-same
+returns-in_err-make_ready-clause-same g c =
+    same_but c.args.work.now c.set_to.new.work c.make_ready.new.agenda
+    (same_more c.args.work.now _ c.set_to.new.work (same_but c.args.work.now c.loop-rule.work c.take.new.self c.loop-rule.invariant.same) c.set_to.ensures.same)
+
+pub returns-in_err-make_ready-2-clause-same : goal.returns-in_err-make_ready-2-clause-same
+returns-in_err-make_ready-2-clause-same g c = same_but c.args.work.now c.loop-rule.work c.make_ready-else-has_lost.new.self c.loop-rule.invariant.same
+
+pub returns-clause-same : goal.returns-clause-same
+returns-clause-same g c = same_but c.args.work.now c.loop-rule.work c.take.new.self c.loop-rule.invariant.same
+
+pub returns-in_err-set_to-clause-state : goal.returns-in_err-set_to-clause-state
+returns-in_err-set_to-clause-state g c =
+    fallen_state c.args.task.now c.loop-rule.state c.set_to.new.state c.in-Some.rule c.initial_value-value.result c.rule_change-var.result
+    c.rule_change-var.ensures c.initial_value-value.ensures c.set_to.ensures.state c.task.ensures.well_ranged
+    (within g (goal.at.returns-in_err-set_to-clause-state g c).In-Some) c.loop-rule.invariant.state
+
+pub returns-in_err-make_ready-clause-state : goal.returns-in_err-make_ready-clause-state
+returns-in_err-make_ready-clause-state g c =
+    fallen_state c.args.task.now c.loop-rule.state c.set_to.new.state c.in-Some.rule c.initial_value-value.result c.rule_change-var.result
+    c.rule_change-var.ensures c.initial_value-value.ensures c.set_to.ensures.state c.task.ensures.well_ranged
+    (within g (goal.at.returns-in_err-make_ready-clause-state g c).In-Some) c.loop-rule.invariant.state
+
+pub returns-in_err-make_ready-2-clause-off : goal.returns-in_err-make_ready-2-clause-off
+returns-in_err-make_ready-2-clause-off g c = c.loop-rule.invariant.off
+
+pub returns-in_err-make_ready-2-clause-told : goal.returns-in_err-make_ready-2-clause-told
+returns-in_err-make_ready-2-clause-told g c = c.loop-rule.invariant.told
+
+pub returns-clause-off : goal.returns-clause-off
+returns-clause-off g c = c.loop-rule.invariant.off
+
+pub returns-clause-told : goal.returns-clause-told
+returns-clause-told g c = c.loop-rule.invariant.told
+
+pub returns-clause-left : goal.returns-clause-left
+returns-clause-left g c =
+    let inv = c.loop-rule.invariant in
+    let same = c.in_default.ensures.same in
+    let noted = subst (λ n. IsNoted c.args.work.now.agenda n c.requires.noted.0) (sym inv.same.layer) c.requires.noted.1 in
+    less_in_the_end c.loop-rule.work.layer c.requires.noted.0 c.args.work.now.agenda c.take.new.self noted c.in_default.ensures.none (rw same inv.left)

@@ -1,6 +1,7 @@
 -- One more entry is counted.
-use Rattle.std.proofs.Common.{ℕ, ◌+◌, List, get_or, ap, arith}
-use Rattle.sas_axioms.proofs.CountingEntries.{no_entry, value_waits, entry_of_former, entry_of_value, entry_passed}
+use Rattle.std.proofs.Common.{ℕ, ◌+◌, ◌∙◌, List, length, get_or, refl, ap, arith}
+use Rattle.sas_axioms.proofs.CountingEntries.{no_entry, counted_none, counted_all, value_waits, former_fits, entry_of_former, entry_of_value, entry_passed}
+use Rattle.sas_axioms.proofs.Tracking.{same_more}
 use Rattle.sas_axioms.proofs.following.recount_waiting.Goals as goal
 use Rattle.sas_axioms.proofs.following.recount_waiting.Goals.{then-entry-moved+in_ok-count_to, else-entry-moved+then-entry-moved-2+in_ok-count_to-2, else-entry-moved+else-entry-moved-2}
 
@@ -21,9 +22,68 @@ loop-entry-preserved g c =
           (entry_of_former p former value ws i w0 work lt inv _ w.count_to.new.work exists w.in_ok-count_to.ensures.counts c.requires.differ w.if-entry-moved.true
           (ap (λ (xs : List ℕ). get_or xs (get_or ws i no_entry).rule 0 + 1) c.as_slice.ensures))
       | else-entry-moved+then-entry-moved-2+in_ok-count_to-2 w ↦ rw w.work-is
-          (let le = value_waits p former value ws i w0 work lt inv w.if-entry-moved-2.true exists (c.requires.enough i no_entry lt) in
+          (let le = value_waits former value ws i w0.counters work.counters lt inv.counters w.if-entry-moved-2.true exists (c.requires.enough i no_entry lt) in
           let e = ap (λ (xs : List ℕ). get_or xs (get_or ws i no_entry).rule 0) c.as_slice.ensures in
           entry_of_value p former value ws i w0 work lt inv _ w.count_to-then-entry-moved-2.new.work exists w.in_ok-count_to-2.ensures.counts w.if-entry-moved.false w.if-entry-moved-2.true (omega arith))
       | else-entry-moved+else-entry-moved-2 w ↦ rw w.work-is
           (entry_passed p former value ws i w0 work lt inv w.if-entry-moved.false w.if-entry-moved-2.false)
     ]
+
+pub returns-in_err-pay-clause-same : goal.returns-in_err-pay-clause-same
+returns-in_err-pay-clause-same g c = record { layer = refl; stack = refl; one_each = refl; sources = refl }
+
+pub loop-entry-init : goal.loop-entry-init
+loop-entry-init g c =
+    counted_none c.args.task.now c.args.moved.former c.args.moved.value c.args.waiting.now c.args.work.now c.pay.new.self c.requires.ordered
+    c.pay.ensures.noted c.pay.ensures.ready c.in_ok-pay.ensures.left
+
+pub bounds-as_slice-entry : goal.bounds-as_slice-entry
+bounds-as_slice-entry g c =
+    omega (arith, c.requires.exist c.loop-entry.entry-index no_entry c.loop-entry-test.true, c.loop-entry.invariant.same.one_each, ap length c.as_slice.ensures)
+
+pub overflow_add-open : goal.overflow_add-open
+overflow_add-open g c =
+    let i = c.loop-entry.entry-index in
+    let lt = c.loop-entry-test.true in
+    let rule = (get_or c.args.waiting.now i no_entry).rule in
+    omega (
+      arith,
+      former_fits c.args.moved.former c.args.moved.value c.args.waiting.now i c.args.work.now.counters c.loop-entry.work.counters lt c.loop-entry.invariant.counters
+          4294967296 c.if-entry-moved.true (c.requires.exist i no_entry lt) (c.requires.small i no_entry lt),
+      ap (λ (xs : List ℕ). get_or xs rule 0) c.as_slice.ensures,
+    )
+
+pub overflow_sub-open : goal.overflow_sub-open
+overflow_sub-open g c =
+    let i = c.loop-entry.entry-index in
+    let lt = c.loop-entry-test.true in
+    let rule = (get_or c.args.waiting.now i no_entry).rule in
+    omega (
+      arith,
+      value_waits c.args.moved.former c.args.moved.value c.args.waiting.now i c.args.work.now.counters c.loop-entry.work.counters lt c.loop-entry.invariant.counters
+          c.if-entry-moved-2.true (c.requires.exist i no_entry lt) (c.requires.enough i no_entry lt),
+      ap (λ (xs : List ℕ). get_or xs rule 0) c.as_slice.ensures,
+    )
+
+pub count_to-requires-clause-exists : goal.count_to-requires-clause-exists
+count_to-requires-clause-exists g c = omega (arith, c.requires.exist c.loop-entry.entry-index no_entry c.loop-entry-test.true, c.requires.counters)
+
+pub count_to-requires-clause-counters : goal.count_to-requires-clause-counters
+count_to-requires-clause-counters g c = c.loop-entry.invariant.same.one_each ∙ c.requires.counters
+
+pub count_to-requires-clause-ordered : goal.count_to-requires-clause-ordered
+count_to-requires-clause-ordered g c = c.loop-entry.invariant.notes.ordered
+
+pub returns-in_err-count_to-clause-same : goal.returns-in_err-count_to-clause-same
+returns-in_err-count_to-clause-same g c = same_more c.args.work.now c.loop-entry.work c.count_to.new.work c.loop-entry.invariant.same c.count_to.ensures.same
+
+pub returns-in_err-count_to-2-clause-same : goal.returns-in_err-count_to-2-clause-same
+returns-in_err-count_to-2-clause-same g c =
+    same_more c.args.work.now c.loop-entry.work c.count_to-then-entry-moved-2.new.work c.loop-entry.invariant.same c.count_to-then-entry-moved-2.ensures.same
+
+pub returns-clause-same : goal.returns-clause-same
+returns-clause-same g c = c.loop-entry.invariant.same
+
+pub returns-clause-recounts : goal.returns-clause-recounts
+returns-clause-recounts g c =
+    counted_all c.args.task.now c.args.moved.former c.args.moved.value c.args.waiting.now c.loop-entry.entry-index c.args.work.now c.loop-entry.work (omega arith) c.loop-entry.invariant

@@ -11,7 +11,7 @@ use Rattle.sas_meaning.specs.Settled.{differs}
 use Rattle.sas_meaning.proofs.Forced.{differs_true}
 use Rattle.sas_axioms.specs.Sources.{IsHolding}
 use Rattle.sas_axioms.proofs.RisingSteps.{RisingBut, rising_taken, rising_passed, rising_set, fires, risen_in_the_end}
-use Rattle.sas_axioms.proofs.Tracking.{holding_when_zero, zero_when_holding, off_step, told_step, room_more}
+use Rattle.sas_axioms.proofs.Tracking.{holding_when_zero, zero_when_holding, off_step, told_step, room_same, room_but, room_more}
 use Rattle.sas_axioms.proofs.following.rise.Goals as goal
 use Rattle.sas_axioms.proofs.following.rise.Given.{Over}
 use Rattle.sas_axioms.proofs.following.rise.Goals.{In-Some}
@@ -141,3 +141,44 @@ pub returns-clause-risen : goal.returns-clause-risen
 returns-clause-risen g c s rising =
     let same = c.in_default.ensures.same in
     rw same (risen_in_the_end c.args.task.now s c.loop-rule.state c.loop-rule.work c.task.ensures.layered (c.loop-rule.invariant.rising s rising) (rw same at c.in_default.ensures.none) (rw same at c.in_default.ensures.empty))
+
+pub loop-rule-init : goal.loop-rule-init
+loop-rule-init g c = record {
+  room = record { layer = refl; stack = refl; one_each = refl; sources = refl };
+  sources = λ v off. refl;
+  state = c.requires.rising.1.track.state;
+  off = λ v off. refl;
+  told = λ before tells. tells;
+  rising = λ s rising. rising;
+  left = omega arith;
+}
+
+pub set_to-requires-clause-ordered : goal.set_to-requires-clause-ordered
+set_to-requires-clause-ordered g c = (some g (goal.at.set_to-requires-clause-ordered g c).In-Some).track.ordered
+
+pub set_to-requires-clause-other : goal.set_to-requires-clause-other
+set_to-requires-clause-other g c = λ same.
+    c.has_to_set.ensures.other c.if-has_to_set.true (subst (λ (x : Change). get_or c.loop-rule.state x.var 0 ≡ x.new) c.rule_change-change.ensures same)
+
+pub returns-in_err-set_to-clause-stands : goal.returns-in_err-set_to-clause-stands
+returns-in_err-set_to-clause-stands g c =
+    room_more c.args.work.now _ c.set_to.new.work (room_but c.args.work.now c.loop-rule.work c.next.new.self c.loop-rule.invariant.room)
+    (room_same _ c.set_to.new.work c.set_to.ensures.same)
+
+pub returns-in_err-set_to-clause-sources : goal.returns-in_err-set_to-clause-sources
+returns-in_err-set_to-clause-sources g c = λ v off. ap (λ (xs : List ℕ). get_or xs v 0) c.set_to.ensures.same.sources ∙ c.loop-rule.invariant.sources v off
+
+pub returns-clause-stands : goal.returns-clause-stands
+returns-clause-stands g c = room_but c.args.work.now c.loop-rule.work c.next.new.self c.loop-rule.invariant.room
+
+pub returns-clause-off : goal.returns-clause-off
+returns-clause-off g c = c.loop-rule.invariant.off
+
+pub returns-clause-told : goal.returns-clause-told
+returns-clause-told g c = c.loop-rule.invariant.told
+
+pub returns-clause-sources : goal.returns-clause-sources
+returns-clause-sources g c = c.loop-rule.invariant.sources
+
+pub returns-clause-left : goal.returns-clause-left
+returns-clause-left g c = rw c.in_default.ensures.same c.loop-rule.invariant.left

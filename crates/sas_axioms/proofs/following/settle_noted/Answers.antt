@@ -1,5 +1,5 @@
 -- One layer after another is settled.
-use Rattle.std.proofs.Common.{ℕ, ◌+◌, ◌≤◌, List, length, get_or, sym, ap, subst, ◌∙◌}
+use Rattle.std.proofs.Common.{ℕ, ◌+◌, ◌≤◌, List, length, get_or, refl, sym, ap, subst, ◌∙◌}
 use Rattle.std.specs.BinaryHeap.{heap_items}
 use Rattle.std.specs.declared.cmp.Reverse.{Reverse}
 use Rattle.std.proofs.lemmas.List.Elements.{All-contains}
@@ -69,3 +69,52 @@ loop-layer-preserved g c =
                 (c.in_ok-rise.ensures.risen s0 (c.in_ok-fall.ensures.rising s0 (begins g i s0 start))),
           ));
     }
+
+pub loop-layer-init : goal.loop-layer-init
+loop-layer-init g c = record {
+  stack = refl;
+  one_each = refl;
+  sources = refl;
+  state = c.requires.between.1.track.state;
+  basic = λ v basic. refl;
+  told = λ before tells. tells;
+  between = λ s between. (0, between);
+}
+
+pub fall-requires-clause-noted : goal.fall-requires-clause-noted
+fall-requires-clause-noted g c = c.in-Some.ensures.some.noted
+
+pub returns-in_err-fall-clause-basic : goal.returns-in_err-fall-clause-basic
+returns-in_err-fall-clause-basic g c = λ v basic.
+    c.loop-layer.invariant.basic v basic ∙ basic_off c.args.task.now c.in-Some.layer c.loop-layer.state c.fall.new.state c.task.ensures.layered c.fall.ensures.off v basic
+
+pub returns-in_err-fall-clause-stack : goal.returns-in_err-fall-clause-stack
+returns-in_err-fall-clause-stack g c = c.fall.ensures.same.stack ∙ c.loop-layer.invariant.stack
+
+pub returns-in_err-fall-clause-one_each : goal.returns-in_err-fall-clause-one_each
+returns-in_err-fall-clause-one_each g c = c.fall.ensures.same.one_each ∙ c.loop-layer.invariant.one_each
+
+pub returns-in_err-fall-clause-sources : goal.returns-in_err-fall-clause-sources
+returns-in_err-fall-clause-sources g c = ap length c.fall.ensures.same.sources ∙ c.loop-layer.invariant.sources
+
+pub returns-in_err-rise-clause-basic : goal.returns-in_err-rise-clause-basic
+returns-in_err-rise-clause-basic g c = λ v basic.
+    let p = c.args.task.now in
+    let layer = c.in-Some.layer in
+    let off : SameOff p layer c.loop-layer.state c.rise.new.state = λ v not. c.fall.ensures.off v not ∙ c.rise.ensures.off v (subst (λ n. IsOnLayer p n v → ⊥) (sym c.fall.ensures.same.layer) not) in
+    c.loop-layer.invariant.basic v basic ∙ basic_off p layer c.loop-layer.state c.rise.new.state c.task.ensures.layered off v basic
+
+pub returns-in_err-rise-clause-stack : goal.returns-in_err-rise-clause-stack
+returns-in_err-rise-clause-stack g c = c.rise.ensures.stands.stack ∙ (c.fall.ensures.same.stack ∙ c.loop-layer.invariant.stack)
+
+pub returns-in_err-rise-clause-one_each : goal.returns-in_err-rise-clause-one_each
+returns-in_err-rise-clause-one_each g c = c.rise.ensures.stands.one_each ∙ (c.fall.ensures.same.one_each ∙ c.loop-layer.invariant.one_each)
+
+pub returns-in_err-rise-clause-sources : goal.returns-in_err-rise-clause-sources
+returns-in_err-rise-clause-sources g c = c.rise.ensures.stands.sources ∙ (ap length c.fall.ensures.same.sources ∙ c.loop-layer.invariant.sources)
+
+pub returns-clause-basic : goal.returns-clause-basic
+returns-clause-basic g c = c.loop-layer.invariant.basic
+
+pub returns-clause-told : goal.returns-clause-told
+returns-clause-told g c = c.loop-layer.invariant.told

@@ -1,5 +1,28 @@
-use Rattle.std.proofs.Common.{rules}
+-- What the rule changes and asks about exists.
+use Rattle.std.proofs.Common.{arith, rules}
+use Rattle.sas_axioms.proofs.RuleChanges.{change_within, conditions_within}
 use Rattle.sas_axioms.proofs.rounds.changes.Goals as goal
 
+pub layer-requires : goal.layer-requires
+layer-requires g c =
+    change_within c.args.task.now c.task.ensures.well_ranged c.args.rule c.requires.rule c.rule_change-change.result c.rule_change-change.ensures
+
+pub initial_value-requires : goal.initial_value-requires
+initial_value-requires g c =
+    change_within c.args.task.now c.task.ensures.well_ranged c.args.rule c.requires.rule c.rule_change-change.result c.rule_change-change.ensures
+
+pub value-requires : goal.value-requires
+value-requires g c =
+    omega (
+      arith,
+      change_within c.args.task.now c.task.ensures.well_ranged c.args.rule c.requires.rule c.rule_change-change.result c.rule_change-change.ensures,
+      c.requires.state.one_each,
+    )
+
+pub holds_all-requires : goal.holds_all-requires
+holds_all-requires g c =
+    conditions_within c.args.task.now c.task.ensures.well_ranged c.args.rule c.requires.rule c.args.state.now c.requires.state.one_each
+    c.rule_conditions.result.now c.rule_conditions.ensures
+
 pub returns-then-change-value-clause-yes : goal.returns-then-change-value-clause-yes
-returns-then-change-value-clause-yes c = search rules
+returns-then-change-value-clause-yes g c = search rules

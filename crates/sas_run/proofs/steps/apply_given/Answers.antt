@@ -1,5 +1,5 @@
 -- All that the effects give is written.
-use Rattle.std.proofs.Common.{rules}
+use Rattle.std.proofs.Common.{refl, arith}
 use Rattle.sas_core.specs.Grounded.{operator_at}
 use Rattle.sas_run.proofs.Giving.{applied}
 use Rattle.sas_run.proofs.steps.apply_given.Goals as goal
@@ -11,4 +11,28 @@ returns-clause-applies g c =
     c.requires.applicable c.in_default.ensures.none c.write_given.ensures.state c.write_given.ensures.written
 
 pub take_back-requires-clause-given_to : goal.take_back-requires-clause-given_to
-take_back-requires-clause-given_to g c = search rules
+take_back-requires-clause-given_to g c = c.give_effects.ensures.given_to
+
+pub returns-in-Some-clause-applies : goal.returns-in-Some-clause-applies
+returns-in-Some-clause-applies g c = ((c.requires.applicable, c.in-Some.ensures.some), refl)
+
+pub returns-in-Some-clause-clean : goal.returns-in-Some-clause-clean
+returns-in-Some-clause-clean g c = c.take_back.ensures
+
+pub write_given-requires-clause-given_to : goal.write_given-requires-clause-given_to
+write_given-requires-clause-given_to g c = c.give_effects.ensures.given_to
+
+pub write_given-requires-clause-empty : goal.write_given-requires-clause-empty
+write_given-requires-clause-empty g c = c.clear.ensures.items
+
+pub write_given-requires-clause-room : goal.write_given-requires-clause-room
+write_given-requires-clause-room g c = omega (arith, c.requires.room, c.clear.ensures.capacity)
+
+pub returns-clause-gone : goal.returns-clause-gone
+returns-clause-gone g c = c.write_given.ensures.gone
+
+pub returns-clause-clean : goal.returns-clause-clean
+returns-clause-clean g c = c.write_given.ensures.clean
+
+pub returns-clause-room : goal.returns-clause-room
+returns-clause-room g c = omega (arith, c.clear.ensures.capacity, c.write_given.ensures.room)

@@ -1,12 +1,14 @@
 -- One more effect has given its value, if it fires.
-use Rattle.std.proofs.Common.{◌≡◌, ◌+◌, sym, subst, arith, rules}
+use Rattle.std.proofs.Common.{◌≡◌, ◌+◌, ◌<◌, length, sym, subst, arith, rules}
+use Rattle.std.specs.List.{All}
+use Rattle.sas_core.specs.declared.parts.Fact.{Fact}
 use Rattle.std.specs.Prelude.{slice_index}
 use Rattle.sas_core.specs.declared.grounded.Change.{Change}
-use Rattle.sas_core.specs.Grounded.{operator_at}
+use Rattle.sas_core.specs.Grounded.{operator_at, effect_at}
 use Rattle.sas_meaning.specs.States.{AllHold}
 use Rattle.sas_run.specs.Given.{IsGiven, IsGivenTo, GivesValue}
-use Rattle.sas_run.proofs.Ranges.{effect_fits, effect_within}
-use Rattle.sas_run.proofs.Giving.{given_on_effects, gives_nothing, gives_one_more}
+use Rattle.sas_run.proofs.Ranges.{effect_fits, effect_within, conditions_within, change_within}
+use Rattle.sas_run.proofs.Giving.{given_on_effects, gives_none, gives_nothing, gives_one_more}
 use Rattle.sas_run.proofs.steps.give_effects.Goals as goal
 use Rattle.sas_run.proofs.steps.give_effects.Goals.{then-holds_all+else-not-give, else-holds_all}
 
@@ -45,3 +47,29 @@ returns-clause-given_to g c =
 
 pub returns-then-not-give-clause-some : goal.returns-then-not-give-clause-some
 returns-then-not-give-clause-some g c = search rules
+
+pub loop-effect-init : goal.loop-effect-init
+loop-effect-init g c = gives_none c.args.task.now c.args.state.now (operator_at c.args.task.now c.args.operator) c.args.given.now c.requires.clean
+
+pub holds_all-requires : goal.holds_all-requires
+holds_all-requires g c =
+    let p = c.args.task.now in
+    subst (All (λ (f : Fact). f.var < length c.args.state.now)) (sym c.effect_conditions.ensures)
+    (subst (λ n. All (λ (f : Fact). f.var < n) (effect_at (operator_at p c.args.operator) c.loop-effect.effect).conditions) (sym c.requires.state.one_each)
+    (conditions_within p c.task.ensures.well_ranged c.args.operator c.requires.operator c.loop-effect.effect (omega arith)))
+
+pub give-requires : goal.give-requires
+give-requires g c =
+    omega (
+      arith,
+      change_within c.args.task.now c.task.ensures.well_ranged c.args.operator c.requires.operator c.loop-effect.effect (omega arith)
+          c.effect_change-change.result c.effect_change-change.ensures,
+      c.loop-effect.invariant.one_each,
+    )
+
+pub returns-clause-none : goal.returns-clause-none
+returns-clause-none g c =
+    let p = c.args.task.now in
+    let o = operator_at p c.args.operator in
+    let all : c.loop-effect.effect ≡ length o.effects = omega arith in
+    subst (λ n. IsGiven p c.args.state.now o n c.loop-effect.given) all c.loop-effect.invariant

@@ -6,8 +6,8 @@ use Rattle.sas_core.specs.Grounded.{operator_at, effect_at}
 use Rattle.sas_meaning.specs.Layers.{IsBasic}
 use Rattle.sas_meaning.proofs.Forced.{state_set}
 use Rattle.sas_run.specs.Given.{given_to}
-use Rattle.sas_run.proofs.Ranges.{no_effect, effect_within}
-use Rattle.sas_run.proofs.Giving.{none_there, still_none, fewer_on_effects, written_same}
+use Rattle.sas_run.proofs.Ranges.{no_effect, change_within}
+use Rattle.sas_run.proofs.Giving.{fewer_on_effects, one_more_taken, written_same, all_taken}
 use Rattle.sas_run.proofs.Gone.{GoneSoFar, gone_nothing, gone_more, gone_few, gone_in_the_end}
 use Rattle.sas_run.proofs.NextStates.{effects_basic}
 use Rattle.sas_run.proofs.steps.write_given.Goals as goal
@@ -23,7 +23,7 @@ loop-effect-preserved g c =
     let inv = c.loop-effect.invariant in
     let v = c.effect_change-var.result.var in
     let on : v ≡ (effect_at o n).var = ap (λ (change : Change). change.var) c.effect_change-var.ensures in
-    let exists : v < length p.variables = subst (λ x. x < length p.variables) (sym on) (effect_within p c.task.ensures.well_ranged c.args.operator c.requires.operator n (omega arith)) in
+    let exists : v < length p.variables = change_within p c.task.ensures.well_ranged c.args.operator c.requires.operator n (omega arith) c.effect_change-var.result c.effect_change-var.ensures in
     let basic : IsBasic p v = subst (IsBasic p) (sym on) (effects_basic p c.args.operator c.task.ensures.layered c.requires.operator n no_effect (omega arith)) in
     let read : given_to given v ≡ given_to c.as_slice.result.now v = ap (λ list. given_to list v) (sym c.as_slice.ensures) in
     elim c.match-as_slice-var.branch [
@@ -37,10 +37,7 @@ loop-effect-preserved g c =
           rw (given-is, state-is, w.gone-is) record {
             state = state_set p s v value inv.state (inv.on_effects.value v value at);
             on_effects = fewer_on_effects given v (omega arith) p o inv.on_effects;
-            taken = λ k lt. elim (cases_eq k n) [
-              | inl e ↦ subst (λ x. given_to (set given v None) x ≡ None) (on ∙ ap (λ i. (effect_at o i).var) (sym e)) (none_there given v (omega arith))
-              | inr ne ↦ still_none given v (omega arith) (effect_at o k).var (inv.taken k (omega arith))
-            ];
+            taken = one_more_taken given v (omega arith) o n on inv.taken;
             written = λ var. written_same given v (omega arith) s value (omega arith) at var ∙ inv.written var;
             gone = gone_more p given c.args.state.now s c.loop-effect.gone.items inv.gone v value (omega arith) (omega arith) at basic exists w.replace.new.gone.items w.replace.ensures.gone;
             few = (let more = gone_few s (record { var = v; value = value }) c.loop-effect.gone.items w.replace.new.gone.items w.replace.ensures.gone in let few = inv.few in omega arith);
@@ -76,3 +73,51 @@ loop-effect-init g c = record {
 pub returns-clause-gone : goal.returns-clause-gone
 returns-clause-gone g c =
     gone_in_the_end c.args.task.now c.loop-effect.given c.args.state.now c.loop-effect.state c.loop-effect.gone.items c.loop-effect.invariant.gone
+
+pub effect_change-var-requires-clause-operator : goal.effect_change-var-requires-clause-operator
+effect_change-var-requires-clause-operator g c = c.requires.operator
+
+pub effect_change-var-requires-clause-effect : goal.effect_change-var-requires-clause-effect
+effect_change-var-requires-clause-effect g c = omega arith
+
+pub bounds : goal.bounds
+bounds g c =
+    omega (
+      arith,
+      change_within c.args.task.now c.task.ensures.well_ranged c.args.operator c.requires.operator c.loop-effect.effect (omega arith)
+          c.effect_change-var.result c.effect_change-var.ensures,
+      ap length c.as_slice.ensures,
+      c.loop-effect.invariant.on_effects.one_each,
+    )
+
+pub replace-requires-clause-exists : goal.replace-requires-clause-exists
+replace-requires-clause-exists g c =
+    omega (
+      arith,
+      change_within c.args.task.now c.task.ensures.well_ranged c.args.operator c.requires.operator c.loop-effect.effect (omega arith)
+          c.effect_change-var.result c.effect_change-var.ensures,
+      c.loop-effect.invariant.state.one_each,
+    )
+
+pub replace-requires-clause-room : goal.replace-requires-clause-room
+replace-requires-clause-room g c = omega (arith, c.loop-effect.invariant.few, c.loop-effect.invariant.room)
+
+pub set-requires : goal.set-requires
+set-requires g c =
+    omega (
+      arith,
+      change_within c.args.task.now c.task.ensures.well_ranged c.args.operator c.requires.operator c.loop-effect.effect (omega arith)
+          c.effect_change-var.result c.effect_change-var.ensures,
+      c.loop-effect.invariant.on_effects.one_each,
+    )
+
+pub returns-clause-state : goal.returns-clause-state
+returns-clause-state g c = c.loop-effect.invariant.state
+
+pub returns-clause-clean : goal.returns-clause-clean
+returns-clause-clean g c =
+    let inv = c.loop-effect.invariant in
+    all_taken c.args.task.now (operator_at c.args.task.now c.args.operator) c.loop-effect.effect c.loop-effect.given inv.on_effects (omega arith) inv.taken
+
+pub returns-clause-room : goal.returns-clause-room
+returns-clause-room g c = c.loop-effect.invariant.room

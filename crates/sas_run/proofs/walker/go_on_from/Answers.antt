@@ -1,7 +1,8 @@
 -- The effects, and what settles them from the state before.
-use Rattle.std.proofs.Common.{◌≢◌, ◌⊎◌, ℕ, ◌∷◌, List, [], is_some, sym, ◌∙◌, ap, subst, inl, inr}
+use Rattle.std.proofs.Common.{arith, Err, ◌≡◌, ◌≢◌, ◌⊎◌, ℕ, ◌∷◌, List, [], is_some, sym, ◌∙◌, ap, subst, inl, inr}
 use Rattle.std.specs.List.{All}
 use Rattle.std.proofs.lemmas.Bool.{cases_eq}
+use Rattle.std.proofs.lemmas.Result.{err_from_is_err_and}
 use Rattle.std.proofs.lemmas.List.Elements.{All-nil, All-cons, Contains-append_left, Contains-append_right, Contains-push}
 use Rattle.sas_core.specs.declared.parts.Fact.{Fact}
 use Rattle.sas_core.specs.declared.parts.Parts.{Parts}
@@ -12,6 +13,8 @@ use Rattle.sas_meaning.specs.Settled.{SameBasic}
 use Rattle.sas_meaning.specs.Touched.{TellsChanges}
 use Rattle.sas_meaning.proofs.Layers.{layer_cases}
 use Rattle.sas_run.specs.Walking.{HasFactOn, TellsStep}
+use Rattle.sas_run.specs.Running.{Steps}
+use Rattle.sas_run.proofs.Going.{passed_on}
 use Rattle.sas_run.proofs.NextStates.{effects_basic, step_from_applied}
 use Rattle.sas_run.proofs.walker.go_on_from.Goals as goal
 
@@ -67,3 +70,42 @@ returns-clause-told g c =
     let gone = c.apply.new.gone.items in
     tells_step p s c.apply.new.state c.settle_on.new.state gone c.settle_on.new.touched c.in_ok-apply.ensures.gone c.settle_on.ensures.settles.basic
     (c.settle_on.ensures.told s c.requires.follows (subst (λ (facts : List Fact). HaveGone p facts s c.apply.new.state) (sym c.as_slice.ensures.value) c.in_ok-apply.ensures.gone))
+
+pub apply-requires-clause-clean : goal.apply-requires-clause-clean
+apply-requires-clause-clean g c = c.requires.prepared.clean
+
+pub apply-requires-clause-room : goal.apply-requires-clause-room
+apply-requires-clause-room g c = c.requires.prepared.room c.args.operator c.requires.operator
+
+pub returns-in_err-apply-clause-prepared : goal.returns-in_err-apply-clause-prepared
+returns-in_err-apply-clause-prepared g c = record {
+  ready = c.requires.prepared.ready;
+  clean = c.apply.ensures.clean;
+  room = λ operator lt. omega (arith, c.requires.prepared.room operator lt, c.apply.ensures.room);
+}
+
+pub returns-in_err-apply-clause-steps : goal.returns-in_err-apply-clause-steps
+returns-in_err-apply-clause-steps g c =
+    let told : c.from_residual.result ≡ Err c.in_err-apply.field-0.0 =
+    passed_on c.from_residual.result c.in_err-apply.field-0.0 (err_from_is_err_and c.from_residual.result c.from_residual.ensures.1) in
+    subst (Steps c.args.layered.now c.args.state.now c.args.operator c.apply.new.state) (sym told) c.in_err-apply.ensures.applies
+
+pub returns-in_err-apply-clause-follows : goal.returns-in_err-apply-clause-follows
+returns-in_err-apply-clause-follows g c =
+    subst (λ (s : List ℕ). g.E.Settle.follows c.args.walker.now.evaluator c.args.layered.now s) (sym c.in_err-apply.ensures.applies.1) c.requires.follows
+
+pub settle_on-requires-clause-ready : goal.settle_on-requires-clause-ready
+settle_on-requires-clause-ready g c = c.requires.prepared.ready
+
+pub settle_on-requires-clause-state : goal.settle_on-requires-clause-state
+settle_on-requires-clause-state g c = c.in_ok-apply.ensures.applies.state
+
+pub returns-clause-prepared : goal.returns-clause-prepared
+returns-clause-prepared g c = record {
+  ready = c.settle_on.ensures.ready;
+  clean = c.apply.ensures.clean;
+  room = λ operator lt. omega (arith, c.requires.prepared.room operator lt, c.apply.ensures.room);
+}
+
+pub returns-clause-follows : goal.returns-clause-follows
+returns-clause-follows g c = c.settle_on.ensures.follows

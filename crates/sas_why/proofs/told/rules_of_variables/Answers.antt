@@ -14,6 +14,14 @@ use Rattle.sas_why.proofs.told.rules_of_variables.Goals.{then-change-initial_val
 pub loop-rule-init : goal.loop-rule-init
 loop-rule-init g c = subst (RulesTo c.args.task.now 0) (sym c.new-entries.ensures.items) (rules_none c.args.task.now)
 
+pub initial_value-requires : goal.initial_value-requires
+initial_value-requires g c =
+    let p = c.args.task.now in
+    let k = c.loop-rule.rule in
+    let lt : k < length p.rules = omega (arith, c.rules-rule-end.ensures, c.loop-rule-test.true) in
+    subst (λ (x : Change). x.var < length p.variables) (sym c.rule_change-change.ensures)
+    (fact_within p (rule_at p k).var (rule_at p k).new (rule_new p c.task.ensures.well_ranged k _ lt))
+
 pub loop-rule-preserved : goal.loop-rule-preserved
 loop-rule-preserved g c =
     let p = c.args.task.now in

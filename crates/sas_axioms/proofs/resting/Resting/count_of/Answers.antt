@@ -1,6 +1,9 @@
 -- What is kept, where the rule doesn't look below.
-use Rattle.std.proofs.Common.{◌≡◌, true, rules, sym, ap, ◌∙◌, get_or}
+use Rattle.std.proofs.Common.{◌≡◌, List, length, true, rules, arith, sym, ap, ◌∙◌, get_or}
+use Rattle.sas_core.specs.declared.parts.Fact.{Fact}
+use Rattle.sas_axioms.specs.Conditions.{open_conditions}
 use Rattle.sas_axioms.proofs.LayerStart.{begins_as_kept}
+use Rattle.sas_axioms.proofs.RuleChanges.{conditions_within, conditions_few}
 use Rattle.sas_axioms.proofs.resting.Resting.count_of.Goals as goal
 
 pub returns-else-index : goal.returns-else-index
@@ -12,3 +15,22 @@ returns-else-index g c =
     ∙ (resting.counted.counts.exact c.args.layer c.args.rule c.requires.rule
     ∙ begins_as_kept p c.args.layer c.args.rule c.args.state.now c.args.self.now.counted.values c.requires.rule
     ((resting.looks.each c.args.layer c.args.rule true c.requires.rule).0 (sym told ∙ c.if-index.false)) c.requires.follows c.requires.default resting.default)
+
+pub index-requires : goal.index-requires
+index-requires g c = omega (arith, c.requires.rule.exists, c.requires.resting.looks.one_each)
+
+pub open_of-requires-clause-exist : goal.open_of-requires-clause-exist
+open_of-requires-clause-exist g c =
+    conditions_within c.args.task.now c.task.ensures.well_ranged c.args.rule c.requires.rule.exists c.args.state.now c.requires.state.one_each
+    c.rule_conditions.result.now c.rule_conditions.ensures
+
+pub open_of-requires-clause-few : goal.open_of-requires-clause-few
+open_of-requires-clause-few g c =
+    conditions_few c.args.task.now c.task.ensures.well_ranged c.args.rule c.requires.rule.exists c.rule_conditions.result.now c.rule_conditions.ensures
+
+pub bounds-as_slice-rule : goal.bounds-as_slice-rule
+bounds-as_slice-rule g c = omega (arith, c.requires.rule.exists, c.requires.resting.counted.counts.one_each, ap length c.as_slice.ensures)
+
+pub returns-then-index : goal.returns-then-index
+returns-then-index g c =
+    c.open_of.ensures ∙ ap (λ (cs : List Fact). open_conditions (λ v. get_or c.args.state.now v 0) cs) c.rule_conditions.ensures

@@ -1,7 +1,73 @@
-use Rattle.std.proofs.Common.{◌≡◌, ap, rules, Err, ◌∙◌}
+use Rattle.std.proofs.Common.{◌≡◌, ◌+◌, ℕ, ap, rules, length, sym, subst, Err, Ok, ◌∙◌, refl, arith, length-drop}
 use Rattle.sas_lines.specs.Progress.{Progress}
-use Rattle.sas_reader.proofs.Advancing.{advances_no_more, took_behind, stopped_behind, advances_wider}
+use Rattle.sas_reader.specs.Reader.{TookFront}
+use Rattle.sas_reader.proofs.Advancing.{advances_no_more, took_none, took_behind, stopped_behind, advances_wider, within_fits, rest_is}
+use Rattle.sas_reader.proofs.Tested.{nil_when}
 use Rattle.sas_reader.proofs.reader.Reader.go_ahead.Goals as goal
+
+pub returns-then-not-is_empty : goal.returns-then-not-is_empty
+returns-then-not-is_empty g c = record {
+  took = took_none g.M.Machine.led_by g.M.Machine.ended g.M.Machine.rejects g.M.Machine.stopped c.args.self.now c.args.piece.now;
+  stopped = tt;
+  fault = refl;
+  limit = refl;
+}
+
+pub loop-at-init : goal.loop-at-init
+loop-at-init g c = record {
+  took = took_none g.M.Machine.led_by g.M.Machine.ended g.M.Machine.rejects g.M.Machine.stopped c.args.self.now c.within_limit-within.result.now;
+  room = within_fits _ _ c.args.piece.now _ c.within_limit-within.ensures c.args.self.now.within;
+  whole = sym c.pending.ensures ∙ nil_when _ _ c.is_empty.ensures c.if-not-is_empty.false;
+  fault = refl;
+  limit = refl;
+}
+
+pub take_ahead-requires-clause-room : goal.take_ahead-requires-clause-room
+take_ahead-requires-clause-room g c =
+    let within = c.within_limit-within.result.now in
+    let v = c.loop-at.invariant in
+    omega (arith, v.took.count, v.room, v.limit, ap length (rest_is c.loop-at.at within), length-drop c.loop-at.at within)
+
+pub take_ahead-requires-clause-some : goal.take_ahead-requires-clause-some
+take_ahead-requires-clause-some g c =
+    let within = c.within_limit-within.result.now in
+    omega (arith, ap length (rest_is c.loop-at.at within), length-drop c.loop-at.at within)
+
+pub take_ahead-requires-clause-whole : goal.take_ahead-requires-clause-whole
+take_ahead-requires-clause-whole g c = c.loop-at.invariant.whole
+
+pub returns-then-taken-eq0 : goal.returns-then-taken-eq0
+returns-then-taken-eq0 g c =
+    let v = c.loop-at.invariant in
+    let within = c.within_limit-within.result.now in
+    let step = c.in_ok-taken.ensures.advances in
+    let same : c.loop-at.at + c.in_ok-taken.taken ≡ c.loop-at.at = omega (arith, c.if-taken-eq0.true) in
+    let took = took_behind g.M.Machine.led_by g.M.Machine.ended g.M.Machine.rejects g.M.Machine.stopped c.args.self.now c.loop-at.self c.take_ahead.new.self within c.loop-at.at c.in_ok-taken.taken v.took step.took in
+    advances_wider g.M.Machine.led_by g.M.Machine.ended g.M.Machine.rejects g.M.Machine.stopped c.args.self.now _ c.args.piece.now within _ _ c.within_limit-within.ensures (record {
+      took = subst (λ (n : ℕ). TookFront g.M.Machine.led_by g.M.Machine.ended g.M.Machine.rejects g.M.Machine.stopped c.args.self.now c.take_ahead.new.self within n) same took;
+      stopped = tt;
+      fault = step.fault ∙ v.fault;
+      limit = step.limit ∙ v.limit;
+    })
+
+pub returns : goal.returns
+returns g c =
+    let v = c.loop-at.invariant in
+    advances_wider g.M.Machine.led_by g.M.Machine.ended g.M.Machine.rejects g.M.Machine.stopped c.args.self.now _ c.args.piece.now c.within_limit-within.result.now _ (Ok c.loop-at.at) c.within_limit-within.ensures (record {
+      took = v.took;
+      stopped = tt;
+      fault = v.fault;
+      limit = v.limit;
+    })
+
+pub loop-at-smaller : goal.loop-at-smaller
+loop-at-smaller g c = omega (arith, c.if-taken-eq0.false, c.loop-at-test.true)
+
+pub overflow_add-at : goal.overflow_add-at
+overflow_add-at g c =
+    let within = c.within_limit-within.result.now in
+    let step = c.in_ok-taken.ensures.advances in
+    omega (arith, step.took.within, ap length (rest_is c.loop-at.at within), length-drop c.loop-at.at within)
 
 pub returns-in_err-taken : goal.returns-in_err-taken
 returns-in_err-taken g c =

@@ -1,12 +1,35 @@
 -- The initial lines, behind them those of the steps, and the answer.
-use Rattle.std.proofs.Common.{[], length, flat_map, append-nil, Err}
+use Rattle.std.proofs.Common.{[], ◌∙◌, ap, length, flat_map, append-nil, Err}
 use Rattle.std.specs.List.{range_with_len}
 use Rattle.std.proofs.lemmas.Result.{err_from_is_err_and}
+use Rattle.sas_core.specs.declared.parts.Parts.{Parts}
 use Rattle.sas_lines.specs.Lines.{text}
-use Rattle.sas_output.proofs.Putting.{breaks_with_more, puts_then, puts_then_breaks, puts_then_either}
+use Rattle.sas_output.proofs.Putting.{no_failure, breaks_with_more, puts_then, puts_then_breaks, puts_then_either}
 use Rattle.sas_trace.specs.Trace.{step_lines}
 use Rattle.sas_trace.proofs.StepTexts.{whole_puts}
 use Rattle.sas_trace.proofs.tracing.Tracer.write.Goals as goal
+
+pub push_initial_lines-requires-clause-state : goal.push_initial_lines-requires-clause-state
+push_initial_lines-requires-clause-state g c =
+    let fits = c.state.ensures.fits in
+    ap length c.state.ensures.now ∙ fits.one_each ∙ ap (λ (p : Parts). length p.variables) c.requires.way.2.task
+
+pub push_steps-requires-clause-out : goal.push_steps-requires-clause-out
+push_steps-requires-clause-out g c = no_failure _ c.in_ok-push_initial_lines.ensures.note
+
+pub push_steps-requires-clause-way : goal.push_steps-requires-clause-way
+push_steps-requires-clause-way g c =
+    let w = c.requires.way in
+    rw c.as_slice.ensures.value (w.0, w.1.goes, w.2)
+
+pub push-requires : goal.push-requires
+push-requires g c = no_failure _ c.in_ok-push_steps.ensures.note
+
+pub flush-requires : goal.flush-requires
+flush-requires g c = no_failure _ c.in_ok-push.ensures.note
+
+pub returns-clause-note : goal.returns-clause-note
+returns-clause-note g c = c.flush.ensures.note
 
 pub returns-in_err-push_initial_lines-clause-puts : goal.returns-in_err-push_initial_lines-clause-puts
 returns-in_err-push_initial_lines-clause-puts g c =

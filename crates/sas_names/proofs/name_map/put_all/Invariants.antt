@@ -1,7 +1,7 @@
 -- From the operator on the map and the table are as they are to be.
 use Rattle.std.proofs.Common.{◌≤◌}
 use Rattle.sas_names.specs.NameTable.{AreMappedFrom, told_by}
-use Rattle.sas_names.proofs.name_map.NameMap.new.Given as goal
+use Rattle.sas_names.proofs.name_map.put_all.Given as goal
 
 abbrev pub invariant-loop-operator : goal.invariant-loop-operator
 invariant-loop-operator g l = record {

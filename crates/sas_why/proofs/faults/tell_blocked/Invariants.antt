@@ -5,7 +5,7 @@ use Rattle.sas_reasons.specs.Lines.{TellsEach}
 use Rattle.sas_reasons.specs.WhyPlan.{TellsInapplicable}
 use Rattle.sas_why.specs.Told.{Adds}
 use Rattle.sas_why.proofs.RulesOf.{places_to}
-use Rattle.sas_why.proofs.faults.blocked.Given as goal
+use Rattle.sas_why.proofs.faults.tell_blocked.Given as goal
 
 abbrev pub invariant-loop-operator : goal.invariant-loop-operator
 invariant-loop-operator g l = Adds l.task l.noted l.initial.told l.told

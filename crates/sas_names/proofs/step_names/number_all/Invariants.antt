@@ -2,7 +2,7 @@
 use Rattle.std.proofs.Common.{◌≡◌, ◌≤◌, length}
 use Rattle.std.specs.Prelude.{vec_capacity}
 use Rattle.sas_names.specs.StepNames.{AreNumbers, HaveNumbers}
-use Rattle.sas_names.proofs.step_names.StepNames.new.Given as goal
+use Rattle.sas_names.proofs.step_names.number_all.Given as goal
 
 abbrev pub invariant-loop-step : goal.invariant-loop-step
 invariant-loop-step g l = record {

@@ -1,0 +1,36 @@
+-- The entry of one more condition is added.
+use Rattle.std.proofs.Common.{◌≡◌, ℕ, ◌+◌, ◌<◌, ◌≤◌, List, [], ◌∷◌, ◌++◌, length, get_or, drop, refl, sym, ap, ◌∙◌, arith, append-nil}
+use Rattle.std.proofs.Math.Seq.{append_snoc}
+use Rattle.std.proofs.lemmas.List.{drop_all, drop_more}
+use Rattle.sas_core.specs.declared.parts.Fact.{Fact}
+use Rattle.sas_core.specs.Grounded.{rule_at}
+use Rattle.sas_lists.specs.declared.by_key.Entry.{Entry}
+use Rattle.sas_axioms.specs.declared.waiting.Waiting.{Waiting}
+use Rattle.sas_axioms.specs.Conditions.{entries}
+use Rattle.sas_axioms.specs.Waiting.{entry_of}
+use Rattle.sas_axioms.proofs.conditions.push_conditions.Goals as goal
+
+-- the entry of the next condition stands before the others that are left
+one_more : (rule : ℕ) (cs : List Fact) (i : ℕ) (d : Fact) → i < length cs → (es : List (Entry Waiting))
+    → (es ++ entry_of (get_or cs i d) rule ∷ []) ++ entries rule (drop (i + 1) cs) ≡ es ++ entries rule (drop i cs)
+one_more rule cs i d lt es = append_snoc es (entry_of (get_or cs i d) rule) (entries rule (drop (i + 1) cs)) ∙ ap (λ (fs : List Fact). es ++ entries rule fs) (sym (drop_more cs i d lt))
+
+pub loop-condition-init : goal.loop-condition-init
+loop-condition-init g c = refl
+
+pub loop-condition-preserved : goal.loop-condition-preserved
+loop-condition-preserved g c =
+    let cs = (rule_at c.args.task.now c.args.rule).conditions in
+    let i = c.loop-condition.condition-index in
+    let none : Fact = record { var = 0; value = 0 } in
+    let lt : i < length cs = omega (arith, ap length c.rule_conditions-condition-items.ensures) in
+    let entry : c.entry_of.result ≡ entry_of (get_or cs i none) c.args.rule =
+    c.entry_of.ensures ∙ ap (λ (fs : List Fact). entry_of (get_or fs i none) c.args.rule) c.rule_conditions-condition-items.ensures in
+    rw (c.in_ok-push.ensures.items, entry) (one_more c.args.rule cs i none lt c.loop-condition.waiting.items ∙ c.loop-condition.invariant)
+
+pub returns : goal.returns
+returns g c =
+    let cs = (rule_at c.args.task.now c.args.rule).conditions in
+    let es = c.loop-condition.waiting.items in
+    let all : length cs ≤ c.loop-condition.condition-index = omega (arith, ap length c.rule_conditions-condition-items.ensures) in
+    sym (append-nil es) ∙ (ap (λ (fs : List Fact). es ++ entries c.args.rule fs) (sym (drop_all c.loop-condition.condition-index cs all)) ∙ c.loop-condition.invariant)

@@ -1,0 +1,46 @@
+-- The conditions of one more rule are counted.
+use Rattle.std.proofs.Common.{◌≡◌, ℕ, ◌+◌, ◌<◌, List, [], ◌∷◌, ◌++◌, length, get_or, sym, ap, ◌∙◌, inl, inr, arith}
+use Rattle.std.specs.Prelude.{slice_index}
+use Rattle.std.proofs.lemmas.Bool.{cases_eq}
+use Rattle.std.proofs.lemmas.List.{get_or_append_left, get_or_push, length-append}
+use Rattle.sas_core.specs.declared.parts.Fact.{Fact}
+use Rattle.sas_core.specs.Grounded.{rule_at}
+use Rattle.sas_axioms.specs.Conditions.{open_conditions}
+use Rattle.sas_axioms.proofs.RuleChanges.{conditions_within, conditions_few}
+use Rattle.sas_axioms.proofs.counting.open_counters.Goals as goal
+
+-- what holds at each place holds with one item more
+one_more : (f : ℕ → ℕ) (xs : List ℕ) (x n : ℕ) → length xs ≡ n → ((k : ℕ) → k < n → get_or xs k 0 ≡ f k) → x ≡ f n → (k : ℕ) → k < n + 1 → get_or (xs ++ x ∷ []) k 0 ≡ f k
+one_more f xs x n len each is k lt = elim (cases_eq k n) [
+  | inl same ↦ get_or_push xs x 0 k (len ∙ sym same) ∙ (is ∙ ap f (sym same))
+  | inr ne ↦ get_or_append_left xs (x ∷ []) 0 k (omega arith) ∙ each k (omega arith)
+]
+
+pub open_of-requires-clause-exist : goal.open_of-requires-clause-exist
+open_of-requires-clause-exist g c =
+    conditions_within c.args.task.now c.task.ensures.well_ranged c.loop-rule.rule (omega arith) c.args.values.now c.requires.known
+    c.rule_conditions.result.now c.rule_conditions.ensures
+
+pub open_of-requires-clause-few : goal.open_of-requires-clause-few
+open_of-requires-clause-few g c =
+    conditions_few c.args.task.now c.task.ensures.well_ranged c.loop-rule.rule (omega arith) c.rule_conditions.result.now c.rule_conditions.ensures
+
+pub loop-rule-preserved : goal.loop-rule-preserved
+loop-rule-preserved g c =
+    let p = c.args.task.now in
+    let n = c.loop-rule.rule in
+    let inv = c.loop-rule.invariant in
+    let is = c.in_ok-push.ensures.ok in
+    let opens : c.open_of.result ≡ open_conditions (slice_index c.args.values.now) (rule_at p n).conditions =
+    c.open_of.ensures ∙ ap (λ (cs : List Fact). open_conditions (slice_index c.args.values.now) cs) c.rule_conditions.ensures in
+    record {
+      so_far = rw is (omega (arith, length-append c.loop-rule.counters (c.open_of.result ∷ [])));
+      exact = rw is (one_more (λ k. open_conditions (slice_index c.args.values.now) (rule_at p k).conditions) c.loop-rule.counters c.open_of.result n inv.so_far inv.exact opens);
+    }
+
+pub returns : goal.returns
+returns g c = record {
+  one_each = omega arith;
+  known = c.requires.known;
+  exact = λ layer rule is. c.loop-rule.invariant.exact rule (omega (arith, is.exists));
+}

@@ -1,0 +1,42 @@
+-- What is ready stays ready.
+use Rattle.std.proofs.Common.{length, ap, ◌∙◌}
+use Rattle.sas_axioms.proofs.firing.Firing.follow_on.Goals as goal
+
+pub returns-in_err-count_gone-clause-prepared : goal.returns-in_err-count_gone-clause-prepared
+returns-in_err-count_gone-clause-prepared g c =
+    let was = c.requires.prepared in
+    let same = c.count_gone.ensures.same in
+    record {
+      index = was.index;
+      resting = was.resting;
+      rules_of = was.rules_of;
+      room = record { one_each = same.one_each ∙ was.room.one_each; variables = rw same.stack was.room.variables; sources = ap length same.sources ∙ was.room.sources };
+      empty = rw same.stack was.empty;
+    }
+
+pub settle_noted-requires-clause-between : goal.settle_noted-requires-clause-between
+settle_noted-requires-clause-between g c =
+    (c.requires.follows.0, c.in_ok-count_gone.ensures.between c.requires.follows.0 c.requires.follows.1 c.requires.follows.2)
+
+pub returns-clause-prepared : goal.returns-clause-prepared
+returns-clause-prepared g c =
+    let was = c.requires.prepared in
+    let same = c.count_gone.ensures.same in
+    let settled = c.settle_noted.ensures in
+    record {
+      index = was.index;
+      resting = was.resting;
+      rules_of = was.rules_of;
+      room = record {
+        one_each = settled.one_each ∙ (same.one_each ∙ was.room.one_each);
+        variables = rw (settled.stack, same.stack) was.room.variables;
+        sources = settled.sources ∙ (ap length same.sources ∙ was.room.sources);
+      };
+      empty = rw (settled.stack, same.stack) was.empty;
+    }
+
+pub returns-clause-told : goal.returns-clause-told
+returns-clause-told g c = c.settle_noted.ensures.told
+
+pub returns-clause-followed : goal.returns-clause-followed
+returns-clause-followed g c = c.settle_noted.ensures.followed

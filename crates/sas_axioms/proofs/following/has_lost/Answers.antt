@@ -1,0 +1,36 @@
+-- The rule's variable exists, and its values are read in turn.
+use Rattle.std.proofs.Common.{length, sym, ap, ◌∙◌, arith}
+use Rattle.sas_axioms.proofs.RuleChanges.{change_within, differs_read}
+use Rattle.sas_axioms.proofs.following.has_lost.Goals as goal
+
+pub rule_change-var-requires : goal.rule_change-var-requires
+rule_change-var-requires g c = c.requires.rule.1.exists
+
+pub bounds-as_slice-rule : goal.bounds-as_slice-rule
+bounds-as_slice-rule g c = omega (arith, c.requires.rule.1.exists, c.requires.counters, ap length c.as_slice.ensures)
+
+pub bounds-as_slice-var : goal.bounds-as_slice-var
+bounds-as_slice-var g c =
+    omega (
+      arith,
+      change_within c.args.task.now c.task.ensures.well_ranged c.args.rule c.requires.rule.1.exists c.rule_change-var.result c.rule_change-var.ensures,
+      c.requires.places,
+      ap length c.as_slice-else-as_slice-rule-eq0.ensures,
+    )
+
+pub value-requires : goal.value-requires
+value-requires g c =
+    omega (
+      arith,
+      change_within c.args.task.now c.task.ensures.well_ranged c.args.rule c.requires.rule.1.exists c.rule_change-var.result c.rule_change-var.ensures,
+      c.requires.state.one_each,
+    )
+
+pub initial_value-requires : goal.initial_value-requires
+initial_value-requires g c =
+    change_within c.args.task.now c.task.ensures.well_ranged c.args.rule c.requires.rule.1.exists c.rule_change-var.result c.rule_change-var.ensures
+
+pub returns-clause-yes : goal.returns-clause-yes
+returns-clause-yes g c = λ differs.
+    sym (differs_read c.args.task.now c.args.state.now c.args.rule c.value.result c.initial_value.result c.rule_change-var.result
+    c.rule_change-var.ensures c.value.ensures c.initial_value.ensures) ∙ differs

@@ -1,0 +1,44 @@
+-- What was given to one more variable is taken back.
+use Rattle.std.proofs.Common.{◌≡◌, ◌<◌, length, ap, arith}
+use Rattle.sas_core.specs.declared.grounded.Change.{Change}
+use Rattle.sas_core.specs.Grounded.{operator_at, effect_at}
+use Rattle.sas_run.proofs.Ranges.{change_within}
+use Rattle.sas_run.proofs.Giving.{fewer_on_effects, one_more_taken, all_taken}
+use Rattle.sas_run.proofs.steps.take_back.Goals as goal
+
+pub set-requires : goal.set-requires
+set-requires g c =
+    omega (
+      arith,
+      change_within c.args.task.now c.task.ensures.well_ranged c.args.operator c.requires.operator c.loop-effect.effect (omega arith)
+          c.effect_change-change.result c.effect_change-change.ensures,
+      c.loop-effect.invariant.on_effects.one_each,
+    )
+
+pub loop-effect-init : goal.loop-effect-init
+loop-effect-init g c = record {
+  on_effects = c.requires.given_to;
+  taken = λ k lt. absurd (omega arith);
+}
+
+pub loop-effect-preserved : goal.loop-effect-preserved
+loop-effect-preserved g c =
+    let p = c.args.task.now in
+    let o = operator_at p c.args.operator in
+    let n = c.loop-effect.effect in
+    let given = c.loop-effect.given in
+    let inv = c.loop-effect.invariant in
+    let v = c.effect_change-change.result.var in
+    let on : v ≡ (effect_at o n).var = ap (λ (change : Change). change.var) c.effect_change-change.ensures in
+    let exists : v < length p.variables = change_within p c.task.ensures.well_ranged c.args.operator c.requires.operator n (omega arith)
+    c.effect_change-change.result c.effect_change-change.ensures in
+    let place : v < length given = omega (arith, inv.on_effects.one_each) in
+    rw c.set.ensures record {
+      on_effects = fewer_on_effects given v place p o inv.on_effects;
+      taken = one_more_taken given v place o n on inv.taken;
+    }
+
+pub returns : goal.returns
+returns g c =
+    let inv = c.loop-effect.invariant in
+    all_taken c.args.task.now (operator_at c.args.task.now c.args.operator) c.loop-effect.effect c.loop-effect.given inv.on_effects (omega arith) inv.taken
