@@ -2,7 +2,7 @@
 use sas_core::Fact;
 
 /// A line that tells why a task isn't layered, or why a group of it isn't exclusive, as its numbers. Which bytes it has follows from the task. All is counted from 0.
-#[derive(Clone, Copy, PartialEq, Eq)]
+#[derive(Clone, Copy)]
 pub enum Line {
     /// `operator I NAME`.
     Operator { operator: u32 },

@@ -3,7 +3,7 @@ use sas_core::Fact;
 
 /// A line that tells a reason, as its numbers. Which bytes it has follows from the task and the plan. Steps are counted from 1,
 /// all else from 0.
-#[derive(Clone, Copy, PartialEq, Eq)]
+#[derive(Clone, Copy)]
 pub enum Line {
     /// `step S NAME`.
     Step { step: usize },
