@@ -13,6 +13,7 @@ pub mod Reading
 pub mod Known
 pub mod Telling
 pub mod KnownTelling
+mod Tested
 mod Ending
 mod Keeping
 mod BehindEnds

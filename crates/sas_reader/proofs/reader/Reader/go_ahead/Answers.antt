@@ -1,9 +1,8 @@
 use Rattle.std.proofs.Common.{◌≡◌, ◌+◌, ℕ, ap, rules, length, sym, subst, Err, Ok, ◌∙◌, refl, arith, length-drop}
-use Rattle.std.proofs.lemmas.Bool.{eqb-true}
-use Rattle.std.proofs.lemmas.List.{nil_from_length}
 use Rattle.sas_lines.specs.Progress.{Progress}
 use Rattle.sas_reader.specs.Reader.{TookFront}
 use Rattle.sas_reader.proofs.Advancing.{advances_no_more, took_none, took_behind, stopped_behind, advances_wider, within_fits, rest_is}
+use Rattle.sas_reader.proofs.Tested.{nil_when}
 use Rattle.sas_reader.proofs.reader.Reader.go_ahead.Goals as goal
 
 pub returns-then-not-is_empty : goal.returns-then-not-is_empty
@@ -18,7 +17,7 @@ pub loop-at-init : goal.loop-at-init
 loop-at-init g c = record {
     took = took_none g.M.Machine.led_by g.M.Machine.ended g.M.Machine.rejects g.M.Machine.stopped c.args.self.now c.within_limit-within.result.now;
     room = within_fits _ _ c.args.piece.now _ c.within_limit-within.ensures c.args.self.now.within;
-    whole = sym c.pending.ensures ∙ nil_from_length _ (eqb-true _ _ (sym c.is_empty.ensures ∙ c.if-not-is_empty.false));
+    whole = sym c.pending.ensures ∙ nil_when _ _ c.is_empty.ensures c.if-not-is_empty.false;
     fault = refl;
     limit = refl;
   }

@@ -1,11 +1,11 @@
-use Rattle.std.proofs.Common.{◌≡◌, ◌+◌, ◌-◌, ◌≤◌, [], length, take, refl, ap, subst, ◌∙◌, Ok, Err, arith}
-use Rattle.std.proofs.lemmas.List.{nil_from_length, length-take, length-take-le}
-use Rattle.std.proofs.lemmas.Bool.Decides.{nat_tests}
+use Rattle.std.proofs.Common.{◌≡◌, ◌+◌, ◌-◌, ◌≤◌, ℕ, List, length, take, refl, ap, subst, sym, ◌∙◌, Ok, Err, arith}
+use Rattle.std.proofs.lemmas.List.{length-take, length-take-le}
 use Rattle.sas_reader.specs.Reader.{TookFront, Stopped}
 use Rattle.sas_reader.specs.Returns.{without_returns}
-use Rattle.sas_reader.proofs.Advancing.{advances_wider, within_fits}
+use Rattle.sas_reader.proofs.Advancing.{took_none, advances_wider, within_fits}
 use Rattle.sas_reader.proofs.FeedingPlain.{fewer, stopped_plain, took_plain}
 use Rattle.sas_reader.proofs.WithLfAlone.{each_ends}
+use Rattle.sas_reader.proofs.Tested.{nil_when}
 use Rattle.sas_reader.proofs.reader.Reader.run_copy.Goals as goal
 
 pub returns-in-Err : goal.returns-in-Err
@@ -15,7 +15,7 @@ returns-in-Err g c =
     let bytes = c.without_last_return-bytes.result.now in
     let front = c.without_last_return-bytes.ensures in
     let step = c.in-Err.ensures.advances in
-    let nothing : old.pending.pending ≡ [] = nil_from_length _ (grind (arith, nat_tests)) in
+    let nothing = sym c.pending.ensures ∙ nil_when _ _ c.is_empty.ensures c.if-not-is_empty.false in
     let fits = within_fits _ _ c.args.piece.now _ c.within_limit.ensures old.within in
     let room : old.taken + length bytes ≤ old.limit = omega (arith, fits, c.if-within_limit-piece.false, ap length front.1, length-take front.0 c.args.piece.now) in
     let copy = c.in-Some.ensures in
@@ -40,7 +40,7 @@ returns-in-Ok g c =
     let bytes = c.without_last_return-bytes.result.now in
     let front = c.without_last_return-bytes.ensures in
     let step = c.in-Ok.ensures.advances in
-    let nothing : old.pending.pending ≡ [] = nil_from_length _ (grind (arith, nat_tests)) in
+    let nothing = sym c.pending.ensures ∙ nil_when _ _ c.is_empty.ensures c.if-not-is_empty.false in
     let copy = c.in-Some.ensures in
     let kept = c.in-Some.kept in
     let is : take kept c.deref.result.now ≡ without_returns bytes = ap (take kept) c.deref.ensures.value ∙ copy.front in
@@ -54,3 +54,59 @@ returns-in-Ok g c =
       fault = step.fault;
       limit = step.limit;
     })
+
+pub returns-then-not-is_empty : goal.returns-then-not-is_empty
+returns-then-not-is_empty g c = record {
+    took = took_none g.M.Machine.led_by g.M.Machine.ended g.M.Machine.rejects g.M.Machine.stopped c.args.self.now c.args.piece.now;
+    stopped = tt;
+    fault = refl;
+    limit = refl;
+  }
+
+pub returns-in_default : goal.returns-in_default
+returns-in_default g c = record {
+    took = took_none g.M.Machine.led_by g.M.Machine.ended g.M.Machine.rejects g.M.Machine.stopped c.args.self.now c.args.piece.now;
+    stopped = tt;
+    fault = refl;
+    limit = refl;
+  }
+
+pub slice_bounds-run-end : goal.slice_bounds-run-end
+slice_bounds-run-end g c =
+    let kept = c.in-Some.kept in
+    sym (length-take-le kept c.deref.result.now (subst (λ (x : List ℕ). kept ≤ length x) (sym c.deref.ensures.value) c.in-Some.ensures.within))
+
+pub overflow_add-self : goal.overflow_add-self
+overflow_add-self g c =
+    let old = c.args.self.now in
+    let bytes = c.without_last_return-bytes.result.now in
+    let front = c.without_last_return-bytes.ensures in
+    let fits = within_fits old.limit old.taken c.args.piece.now _ c.within_limit.ensures old.within in
+    let room : old.taken + length bytes ≤ old.limit = omega (arith, fits, c.if-within_limit-piece.false, ap length front.1, length-take front.0 c.args.piece.now) in
+    let copy = c.in-Some.ensures in
+    let kept = c.in-Some.kept in
+    let all : c.in-Ok.field-0 ≡ length (without_returns bytes) = c.in-Ok.ensures.all ∙ ap length (ap (take kept) c.deref.ensures.value ∙ copy.front) in
+    let long = length-take-le kept _ copy.within in
+    omega (arith, room, c.in-Ok.ensures.advances.took.count, all, ap length copy.front, long, fewer bytes, old.small)
+
+pub invariant_of-self : goal.invariant_of-self
+invariant_of-self g c =
+    let old = c.args.self.now in
+    let new = c.run.new.self in
+    let bytes = c.without_last_return-bytes.result.now in
+    let front = c.without_last_return-bytes.ensures in
+    let fits = within_fits old.limit old.taken c.args.piece.now _ c.within_limit.ensures old.within in
+    let room : old.taken + length bytes ≤ old.limit = omega (arith, fits, c.if-within_limit-piece.false, ap length front.1, length-take front.0 c.args.piece.now) in
+    let step = c.in-Ok.ensures.advances in
+    let copy = c.in-Some.ensures in
+    let kept = c.in-Some.kept in
+    let all : c.in-Ok.field-0 ≡ length (without_returns bytes) = c.in-Ok.ensures.all ∙ ap length (ap (take kept) c.deref.ensures.value ∙ copy.front) in
+    let long = length-take-le kept _ copy.within in
+    record {
+      within = omega (arith, room, step.took.count, step.limit, all, ap length copy.front, long, fewer bytes);
+      small = new.small;
+      few = omega (arith, new.few);
+    }
+
+pub invariant_of-self-in-Err : goal.invariant_of-self-in-Err
+invariant_of-self-in-Err g c = let r = c.run.new.self in record { within = r.within; small = r.small; few = r.few }

@@ -1,12 +1,13 @@
-use Rattle.std.proofs.Common.{◌≡◌, ◌<◌, ◌≤◌, ◌+◌, [], length, refl, arith}
-use Rattle.std.proofs.lemmas.List.{nil_from_length}
-use Rattle.std.proofs.lemmas.Bool.Decides.{nat_tests}
-use Rattle.sas_reader.proofs.Advancing.{took_whole, stopped_whole, stopped_full, stopped_over, advances_wider, within_fits, within_none}
+use Rattle.std.proofs.Common.{◌≤◌, ◌+◌, ◌∙◌, true, length, refl, ap, sym, arith}
+use Rattle.std.proofs.lemmas.Bool.{false≢true}
+use Rattle.sas_reader.proofs.Advancing.{takes_some, took_whole, stopped_whole, stopped_full, stopped_over, advances_wider, within_fits, within_none}
+use Rattle.sas_reader.proofs.Pieces.{takes_bound}
+use Rattle.sas_reader.proofs.Tested.{nil_when, some_when}
 use Rattle.sas_reader.proofs.reader.Reader.take_line.Goals as goal
 
 pub returns-then-is_empty-clause-advances : goal.returns-then-is_empty-clause-advances
 returns-then-is_empty-clause-advances g c =
-    let none : length c.within_limit-within.result.now ≡ 0 = grind (arith, nat_tests) in
+    let none = ap length (nil_when _ _ c.is_empty.ensures c.if-is_empty.true) in
     record {
       took = tt;
       stopped = stopped_full g.M.Machine.led_by g.M.Machine.ended g.M.Machine.rejects g.M.Machine.stopped c.args.self.now c.args.piece.now c.requires.some (within_none _ _ c.args.piece.now _ c.within_limit-within.ensures c.args.self.now.within c.requires.some none);
@@ -17,7 +18,7 @@ returns-then-is_empty-clause-advances g c =
 pub returns-then-has_ended-clause-advances : goal.returns-then-has_ended-clause-advances
 returns-then-has_ended-clause-advances g c =
     let front = c.within_limit-within.result.now in
-    let some : 0 < length c.within_limit-within.result.now = grind (arith, nat_tests) in
+    let some = some_when _ _ c.is_empty.ensures c.if-is_empty.false in
     let fits : c.args.self.now.taken + length c.within_limit-within.result.now ≤ c.args.self.now.limit = within_fits _ _ c.args.piece.now _ c.within_limit-within.ensures c.args.self.now.within in
     advances_wider g.M.Machine.led_by g.M.Machine.ended g.M.Machine.rejects g.M.Machine.stopped c.args.self.now _ c.args.piece.now front _ _ c.within_limit-within.ensures (record {
       took = tt;
@@ -35,13 +36,13 @@ returns-in_default-clause-advances g c = advances_wider g.M.Machine.led_by g.M.M
 pub returns-in-Err-clause-advances : goal.returns-in-Err-clause-advances
 returns-in-Err-clause-advances g c =
     let front = c.within_limit-within.result.now in
-    let some : 0 < length c.within_limit-within.result.now = grind (arith, nat_tests) in
-    let nothing : c.args.self.now.pending.pending ≡ [] = nil_from_length _ (grind (arith, nat_tests)) in
+    let some = some_when _ _ c.is_empty.ensures c.if-is_empty.false in
+    let nothing = sym c.pending.ensures ∙ nil_when _ _ c.is_empty-2.ensures c.if-not-is_empty.false in
     let fits = within_fits _ _ c.args.piece.now front c.within_limit-within.ensures c.args.self.now.within in
     advances_wider g.M.Machine.led_by g.M.Machine.ended g.M.Machine.rejects g.M.Machine.stopped c.args.self.now _ c.args.piece.now front _ _ c.within_limit-within.ensures (record {
       took = tt;
       stopped = stopped_whole g.M.Machine.led_by g.M.Machine.ended g.M.Machine.rejects g.M.Machine.stopped c.args.self.now _ front c.in-Some.first.line.now c.in-Some.first.taken c.in-Err.kind
-          some (λ d. let e = c.if-has_ended.ensures.1 d in cc) nothing c.in-Some.ensures.some fits c.in-Err.ensures.kind c.in-Err.ensures.rejects c.in-Err.ensures.stopped c.of-self-in-Err.ensures refl;
+          some (λ d. false≢true (c.if-has_ended.ensures.1 d)) nothing c.in-Some.ensures.some fits c.in-Err.ensures.kind c.in-Err.ensures.rejects c.in-Err.ensures.stopped c.of-self-in-Err.ensures refl;
       fault = refl;
       limit = refl;
     })
@@ -49,10 +50,77 @@ returns-in-Err-clause-advances g c =
 pub returns-in-Ok-clause-advances : goal.returns-in-Ok-clause-advances
 returns-in-Ok-clause-advances g c =
     let front = c.within_limit-within.result.now in
-    let nothing : c.args.self.now.pending.pending ≡ [] = nil_from_length _ (grind (arith, nat_tests)) in
+    let nothing = sym c.pending.ensures ∙ nil_when _ _ c.is_empty-2.ensures c.if-not-is_empty.false in
     advances_wider g.M.Machine.led_by g.M.Machine.ended g.M.Machine.rejects g.M.Machine.stopped c.args.self.now _ c.args.piece.now front _ _ c.within_limit-within.ensures (record {
       took = took_whole g.M.Machine.led_by g.M.Machine.ended g.M.Machine.rejects g.M.Machine.stopped c.args.self.now _ front c.in-Some.first.line.now c.in-Some.first.taken nothing c.in-Some.ensures.some c.in-Ok.ensures.led refl refl refl;
       stopped = tt;
       fault = refl;
       limit = refl;
     })
+
+pub invariant_of-self : goal.invariant_of-self
+invariant_of-self g c = let r = c.args.self.now in record { within = r.within; small = r.small; few = r.few }
+
+pub invariant_of-self-in-Err : goal.invariant_of-self-in-Err
+invariant_of-self-in-Err g c = let r = c.args.self.now in record { within = r.within; small = r.small; few = r.few }
+
+pub returns-then-is_empty-clause-some : goal.returns-then-is_empty-clause-some
+returns-then-is_empty-clause-some g c = tt
+
+pub returns-then-has_ended-clause-some : goal.returns-then-has_ended-clause-some
+returns-then-has_ended-clause-some g c = tt
+
+pub go_on-requires-clause-some : goal.go_on-requires-clause-some
+go_on-requires-clause-some g c = some_when _ _ c.is_empty.ensures c.if-is_empty.false
+
+pub go_on-requires-clause-room : goal.go_on-requires-clause-room
+go_on-requires-clause-room g c = within_fits _ _ c.args.piece.now _ c.within_limit-within.ensures c.args.self.now.within
+
+pub go_on-requires-clause-going : goal.go_on-requires-clause-going
+go_on-requires-clause-going g c = λ d. false≢true (c.if-has_ended.ensures.1 d)
+
+pub returns-then-not-is_empty-clause-some : goal.returns-then-not-is_empty-clause-some
+returns-then-not-is_empty-clause-some g c = c.go_on.ensures.some
+
+pub go_on-requires-in_default-clause-some : goal.go_on-requires-in_default-clause-some
+go_on-requires-in_default-clause-some g c = some_when _ _ c.is_empty.ensures c.if-is_empty.false
+
+pub go_on-requires-in_default-clause-room : goal.go_on-requires-in_default-clause-room
+go_on-requires-in_default-clause-room g c = within_fits _ _ c.args.piece.now _ c.within_limit-within.ensures c.args.self.now.within
+
+pub go_on-requires-in_default-clause-going : goal.go_on-requires-in_default-clause-going
+go_on-requires-in_default-clause-going g c = λ d. false≢true (c.if-has_ended.ensures.1 d)
+
+pub returns-in_default-clause-some : goal.returns-in_default-clause-some
+returns-in_default-clause-some g c = c.go_on-in_default.ensures.some
+
+pub accept-requires : goal.accept-requires
+accept-requires g c = λ d. false≢true (c.if-has_ended.ensures.1 d)
+
+pub overflow_add-self : goal.overflow_add-self
+overflow_add-self g c = let r = c.args.self.now in omega (arith, r.few, r.within, r.small)
+
+pub overflow_add-self-in-Ok : goal.overflow_add-self-in-Ok
+overflow_add-self-in-Ok g c =
+    let r = c.args.self.now in
+    let fits = within_fits r.limit r.taken c.args.piece.now _ c.within_limit-within.ensures r.within in
+    let bound = takes_bound c.within_limit-within.result.now c.in-Some.first.taken true c.in-Some.ensures.some.taken in
+    omega (arith, fits, bound, r.small)
+
+pub invariant_of-self-in-Ok : goal.invariant_of-self-in-Ok
+invariant_of-self-in-Ok g c =
+    let r = c.args.self.now in
+    let fits = within_fits r.limit r.taken c.args.piece.now _ c.within_limit-within.ensures r.within in
+    let bound = takes_bound c.within_limit-within.result.now c.in-Some.first.taken true c.in-Some.ensures.some.taken in
+    let some = takes_some c.within_limit-within.result.now c.in-Some.first.taken true c.in-Some.ensures.some.taken (some_when _ _ c.is_empty.ensures c.if-is_empty.false) in
+    record {
+      within = omega (arith, fits, bound);
+      small = r.small;
+      few = omega (arith, r.few, some);
+    }
+
+pub returns-in-Ok-clause-some : goal.returns-in-Ok-clause-some
+returns-in-Ok-clause-some g c = takes_some c.within_limit-within.result.now c.in-Some.first.taken true c.in-Some.ensures.some.taken (some_when _ _ c.is_empty.ensures c.if-is_empty.false)
+
+pub returns-in-Err-clause-some : goal.returns-in-Err-clause-some
+returns-in-Err-clause-some g c = tt
