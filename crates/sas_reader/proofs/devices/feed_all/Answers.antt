@@ -1,8 +1,9 @@
-use Rattle.std.proofs.Common.{refl, ◌≡◌, ◌≢◌, ◌≤◌, ◌+◌, ◌++◌, ℕ, List, length, ap, subst, ◌∙◌, sym, arith, inl, inr, take, Result, Ok, Err, None, Some, Option}
+use Rattle.std.proofs.Common.{refl, ◌≡◌, ◌≢◌, ◌≤◌, ◌<◌, Bool, true, false, [], ◌+◌, ◌++◌, ℕ, List, length, ap, subst, ◌∙◌, sym, arith, inl, inr, take, Result, Ok, Err, None, Some, Option}
 use Rattle.std.specs.Prelude.{IsTrue}
 use Rattle.std.specs.Io.KnownBytes.{Consumes, IsAtEnd}
-use Rattle.std.proofs.KnownBytes.{Consumes-trans, Consumes-kept}
-use Rattle.std.proofs.lemmas.List.{append-nil}
+use Rattle.std.proofs.KnownBytes.{Consumes-nil, Consumes-trans, Consumes-kept}
+use Rattle.std.proofs.lemmas.List.{append-nil, length-take-le}
+use Rattle.std.proofs.lemmas.Bool.{false≢true}
 use Rattle.sas_lines.specs.Device.{Device}
 use Rattle.sas_reader.specs.declared.fault.Fault.{Fault}
 use Rattle.sas_reader.specs.declared.fault.Kind.{Kind}
@@ -65,6 +66,19 @@ module _ {M D : Type 0} (led_by : List (List ℕ) → M → Type 0) (ended : M �
 apart : kinds.Read ≡ kinds.Memory → ⊥
 apart e = absurd cc
 
+answer_ok : (o : Option Fault) (u : Unit {0}) → Ok u ≡ answer o → o ≡ None
+answer_ok None u e = refl
+answer_ok (Some f) u e = absurd cc
+
+-- no read failed
+not_failed : (b : Bool) → (IsTrue b → false ≡ true) → b ≡ false
+not_failed false h = refl
+not_failed true h = absurd (false≢true (h refl))
+
+-- the buffer has as much room as before
+some_still : (old new : List ℕ) → 0 < length old → length new ≡ length old → 0 < length new
+some_still old new some same = subst (λ (n : ℕ). 0 < n) (sym same) some
+
 answer_err : (o : Option Fault) (f : Fault) → answer o ≡ Err f → o ≡ Some f
 answer_err None f e = absurd cc
 answer_err (Some h) f e = cc
@@ -87,7 +101,7 @@ returns-then-taken-eq0 g c =
     let v = c.loop-n.invariant in
     let b = v.read.0 in
     let whole : Consumes _ _ b = subst (Consumes _ _) (ap (λ (n : ℕ). b ++ take n c.take.new.buffer) c.if-taken-eq0.true ∙ append-nil b) (Consumes-trans _ _ _ b _ v.read.1 c.in-Ok.ensures.bytes.0) in
-    ended_so g.M.Machine.led_by g.M.Machine.ended g.M.Machine.rejects g.M.Machine.stopped g.R.Read.remaining c.args.reader.limit _ _ b c.loop-n.reader c.finish_telling.result c.finish_telling.ensures v.read.2 v.read.3 v.fault v.limit whole (c.in-Ok.ensures.bytes.1 c.if-taken-eq0.true (let room = v.room in omega (arith, c.take.auto.buffer))) (λ t. let e = c.in-Ok.ensures.note.1 t in cc)
+    ended_so g.M.Machine.led_by g.M.Machine.ended g.M.Machine.rejects g.M.Machine.stopped g.R.Read.remaining c.args.reader.limit _ _ b c.loop-n.reader c.finish_telling.result c.finish_telling.ensures v.read.2 v.read.3 v.fault v.limit whole (c.in-Ok.ensures.bytes.1 c.if-taken-eq0.true (some_still c.loop-n.buffer _ v.room c.take.auto.buffer)) (λ t. false≢true (c.in-Ok.ensures.note.1 t))
 
 pub returns-in-Err-feed : goal.returns-in-Err-feed
 returns-in-Err-feed g c =
@@ -104,4 +118,42 @@ returns-in-Err-feed g c =
     (λ ne. (b ++ piece, Consumes-trans _ _ _ b piece v.read.1 c.in-Ok.ensures.bytes.0, told_faulty (subst (λ (l : ℕ). FaultTold g.M.Machine.led_by g.M.Machine.ended g.M.Machine.rejects g.M.Machine.stopped l (b ++ piece) f next.machine next.found) (takes.limit ∙ v.limit) (told_of g.M.Machine.led_by g.M.Machine.ended g.M.Machine.rejects g.M.Machine.stopped next f (b ++ piece) (answer_err next.fault f (sym takes.answer)) s ne)) not_read))
     (λ is. (b, piece, Consumes-trans _ _ _ b piece v.read.1 c.in-Ok.ensures.bytes.0, subst (λ (l : ℕ). LineIsDue g.M.Machine.led_by g.M.Machine.ended l b piece) v.limit (takes.memory v.fault is b v.read.2)))
     (λ is. absurd (not_read is))
-    (λ t. let x = c.in-Ok.ensures.note.1 t in absurd cc)
+    (λ t. absurd {0} (false≢true (c.in-Ok.ensures.note.1 t)))
+
+pub loop-n-init : goal.loop-n-init
+loop-n-init g c = record {
+  note = c.requires.note;
+  room = c.requires.room;
+  fault = c.requires.fault;
+  limit = refl;
+  read = ([], Consumes-nil _, c.requires.stands, c.requires.telling);
+}
+
+pub slice_bounds-feed-end : goal.slice_bounds-feed-end
+slice_bounds-feed-end g c = c.in-Ok.ensures.bound
+
+pub slice_bounds-feed-end-in-loop-n : goal.slice_bounds-feed-end-in-loop-n
+slice_bounds-feed-end-in-loop-n g c = sym (length-take-le c.in-Ok.n c.take.new.buffer c.in-Ok.ensures.bound)
+
+pub loop-n-smaller : goal.loop-n-smaller
+loop-n-smaller g c =
+    let takes = c.in_default.ensures.takes in
+    let next = c.feed.new.self in
+    omega (arith, takes.count, takes.limit, next.within, length-take-le c.in-Ok.n c.take.new.buffer c.in-Ok.ensures.bound, c.if-taken-eq0.false)
+
+pub loop-n-preserved : goal.loop-n-preserved
+loop-n-preserved g c =
+    let v = c.loop-n.invariant in
+    let b = v.read.0 in
+    let next = c.feed.new.self in
+    let takes = c.in_default.ensures.takes in
+    record {
+      note = not_failed _ c.in-Ok.ensures.note.1;
+      room = some_still c.loop-n.buffer _ v.room c.take.auto.buffer;
+      fault = answer_ok next.fault _ takes.answer;
+      limit = takes.limit ∙ v.limit;
+      read = (b ++ take c.in-Ok.n c.take.new.buffer, Consumes-trans _ _ _ b _ v.read.1 c.in-Ok.ensures.bytes.0, takes.stands b v.read.2, c.in_default.ensures.telling b v.read.3);
+    }
+
+pub overflow_add-line : goal.overflow_add-line
+overflow_add-line g c = let r = c.loop-n.reader in omega (arith, r.few, r.within, r.small)

@@ -7,20 +7,20 @@ use Rattle.sas_reader.proofs.reader.Reader.go_ahead.Goals as goal
 
 pub returns-then-not-is_empty : goal.returns-then-not-is_empty
 returns-then-not-is_empty g c = record {
-    took = took_none g.M.Machine.led_by g.M.Machine.ended g.M.Machine.rejects g.M.Machine.stopped c.args.self.now c.args.piece.now;
-    stopped = tt;
-    fault = refl;
-    limit = refl;
-  }
+  took = took_none g.M.Machine.led_by g.M.Machine.ended g.M.Machine.rejects g.M.Machine.stopped c.args.self.now c.args.piece.now;
+  stopped = tt;
+  fault = refl;
+  limit = refl;
+}
 
 pub loop-at-init : goal.loop-at-init
 loop-at-init g c = record {
-    took = took_none g.M.Machine.led_by g.M.Machine.ended g.M.Machine.rejects g.M.Machine.stopped c.args.self.now c.within_limit-within.result.now;
-    room = within_fits _ _ c.args.piece.now _ c.within_limit-within.ensures c.args.self.now.within;
-    whole = sym c.pending.ensures ∙ nil_when _ _ c.is_empty.ensures c.if-not-is_empty.false;
-    fault = refl;
-    limit = refl;
-  }
+  took = took_none g.M.Machine.led_by g.M.Machine.ended g.M.Machine.rejects g.M.Machine.stopped c.args.self.now c.within_limit-within.result.now;
+  room = within_fits _ _ c.args.piece.now _ c.within_limit-within.ensures c.args.self.now.within;
+  whole = sym c.pending.ensures ∙ nil_when _ _ c.is_empty.ensures c.if-not-is_empty.false;
+  fault = refl;
+  limit = refl;
+}
 
 pub take_ahead-requires-clause-room : goal.take_ahead-requires-clause-room
 take_ahead-requires-clause-room g c =

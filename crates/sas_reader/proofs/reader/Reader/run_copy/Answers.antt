@@ -57,19 +57,19 @@ returns-in-Ok g c =
 
 pub returns-then-not-is_empty : goal.returns-then-not-is_empty
 returns-then-not-is_empty g c = record {
-    took = took_none g.M.Machine.led_by g.M.Machine.ended g.M.Machine.rejects g.M.Machine.stopped c.args.self.now c.args.piece.now;
-    stopped = tt;
-    fault = refl;
-    limit = refl;
-  }
+  took = took_none g.M.Machine.led_by g.M.Machine.ended g.M.Machine.rejects g.M.Machine.stopped c.args.self.now c.args.piece.now;
+  stopped = tt;
+  fault = refl;
+  limit = refl;
+}
 
 pub returns-in_default : goal.returns-in_default
 returns-in_default g c = record {
-    took = took_none g.M.Machine.led_by g.M.Machine.ended g.M.Machine.rejects g.M.Machine.stopped c.args.self.now c.args.piece.now;
-    stopped = tt;
-    fault = refl;
-    limit = refl;
-  }
+  took = took_none g.M.Machine.led_by g.M.Machine.ended g.M.Machine.rejects g.M.Machine.stopped c.args.self.now c.args.piece.now;
+  stopped = tt;
+  fault = refl;
+  limit = refl;
+}
 
 pub slice_bounds-run-end : goal.slice_bounds-run-end
 slice_bounds-run-end g c =
