@@ -2,3 +2,4 @@ mod EffectRows
 mod Rows
 mod FoundOperators
 mod FoundVariables
+mod Grown

@@ -1,0 +1,100 @@
+-- Columns that only grow, and columns as they were.
+use Rattle.std.proofs.Common.{◌≡◌, ℕ, ◌≤◌, List, [], ◌∷◌, ◌++◌, length, take, sym, ap, ◌∙◌, ◌+◌, refl, arith, length-append, Result, Ok, Err}
+use Rattle.std.specs.Prelude.{OnOk, OnErr, IsErr, slice_index}
+use Rattle.std.proofs.lemmas.Bool.{false≢true}
+use Rattle.std.proofs.lemmas.List.{append-nil}
+use Rattle.std.proofs.Math.Seq.{take-append_seam}
+use Rattle.sas_core.specs.declared.parts.Effect.{Effect}
+use Rattle.sas_core.specs.declared.parts.Fact.{Fact}
+use Rattle.sas_core.specs.declared.parts.Operator.{Operator}
+use Rattle.sas_core.specs.declared.parts.Variable.{Variable}
+use Rattle.sas_lists.specs.Lists.{AreEnds, list_at, lists_of}
+use Rattle.sas_lists.specs.Table.{table}
+use Rattle.sas_lists.proofs.Blocks.{ends_more}
+use Rattle.sas_flat.specs.Growing.{Kept}
+use Rattle.sas_flat.specs.declared.operators.Head.{Head}
+use Rattle.sas_flat.specs.declared.operators.Columns as in_operators
+use Rattle.sas_flat.specs.Operators as operators
+use Rattle.sas_flat.specs.declared.variables.Columns.{Columns}
+use Rattle.sas_flat.specs.Variables.{AreAligned, OneMore, variables_in, variables_of}
+
+-- ---- one list
+
+-- nothing came
+pub kept_all : {X : Type 0} (old new : List X) → new ≡ old → Kept old new
+kept_all old new e = record { more = []; is = e ∙ sym (append-nil old) }
+
+pub kept_more : {X : Type 0} (old new more : List X) → new ≡ old ++ more → Kept old new
+kept_more old new more e = record { more = more; is = e }
+
+-- the last step of a push, whether memory was there or not
+pub kept_by : {X T E : Type 0} (old new more : List X) (r : Result T E) → OnOk r (new ≡ old ++ more) → OnErr r (new ≡ old) → Kept old new
+kept_by old new more (Ok x) ok err = kept_more old new more ok
+kept_by old new more (Err e) ok err = kept_all old new err
+
+-- it is at least as long as it was
+pub kept_long : {X : Type 0} (n : ℕ) (old new : List X) → n ≡ length old → Kept old new → n ≤ length new
+kept_long n old new e k = omega (arith, e, ap length k.is, length-append old k.more)
+
+-- its first items are those that were there
+pub kept_front : {X : Type 0} (n : ℕ) (old mid new : List X) → n ≡ length old → Kept old mid → new ≡ take n mid → new ≡ old
+kept_front n old mid new e k is = is ∙ ap (λ i. take i mid) e ∙ ap (take (length old)) k.is ∙ take-append_seam old k.more
+
+-- ---- results
+
+-- an error says nothing of a value
+pub not_ok : {T E : Type 0} (P : Type 0) (r : Result T E) → IsErr r → OnOk r P
+not_ok P (Ok x) h = absurd (false≢true h)
+not_ok P (Err e) h = tt
+
+pub on_ok : {T E P Q : Type 0} (r : Result T E) → (P → Q) → OnOk r P → OnOk r Q
+on_ok (Ok x) f p = f p
+on_ok (Err e) f p = tt
+
+-- ---- variables
+
+-- with one variable more they are aligned
+pub more_aligned : (old new : Columns) (v : Variable) → AreAligned old → OneMore old new v → AreAligned new
+more_aligned old new v a more =
+    let ends = ap length more.ends ∙ length-append old.ends _ in
+    record {
+      names = ap length more.names ∙ length-append old.names _ ∙ ap (λ n. n + 1) a.names ∙ sym ends;
+      layers = ap length more.layers ∙ length-append old.layers.items _ ∙ ap (λ n. n + 1) a.layers ∙ sym ends;
+      values = rw (more.ends, more.values) (ends_more old.values v.values old.ends _ a.values refl);
+    }
+
+-- where each column is as it was, so are the variables
+module _ (old new : Columns) (names : new.names ≡ old.names) (layers : new.layers.items ≡ old.layers.items) (values : new.values ≡ old.values) (ends : new.ends ≡ old.ends) where
+  pub same_aligned : AreAligned old → AreAligned new
+  same_aligned a = record { names = rw (names, ends) a.names; layers = rw (layers, ends) a.layers; values = rw (values, ends) a.values }
+
+  pub same_variables : variables_in new ≡ variables_in old
+  same_variables =
+      ap (λ l. variables_of l new.layers.items (lists_of new.values new.ends)) names
+      ∙ ap (λ l. variables_of old.names l (lists_of new.values new.ends)) layers
+      ∙ ap (λ l. variables_of old.names old.layers.items (lists_of l new.ends)) values
+      ∙ ap (λ l. variables_of old.names old.layers.items (lists_of old.values l)) ends
+
+-- ---- operators
+
+abbrev pub operators_of : List ℕ → List Fact → List Effect → List Head → List Operator
+operators_of names prevail effects heads = table (length heads) (λ index. operators.operator
+    (list_at names (operators.name_ends heads) index)
+    (list_at prevail (operators.prevail_ends heads) index)
+    (list_at effects (operators.effect_ends heads) index)
+    (slice_index (operators.costs heads) index))
+
+pub same_effects : (old : in_operators.Columns) (effects : List Effect) → effects ≡ old.effects → operators_of old.names.items old.prevail.items effects old.heads.items ≡ operators.operators_in old
+same_effects old effects e = ap (λ l. operators_of old.names.items old.prevail.items l old.heads.items) e
+
+-- where each column is as it was, so are the operators
+module _ (old new : in_operators.Columns) (names : new.names.items ≡ old.names.items) (prevail : new.prevail.items ≡ old.prevail.items) (effects : new.effects ≡ old.effects) (heads : new.heads.items ≡ old.heads.items) where
+  pub still_aligned : operators.AreAligned old → operators.AreAligned new
+  still_aligned a = record { names = rw (names, heads) a.names; prevail = rw (prevail, heads) a.prevail; effects = rw (effects, heads) a.effects }
+
+  pub same_operators : operators.operators_in new ≡ operators.operators_in old
+  same_operators =
+      ap (λ l. operators_of l new.prevail.items new.effects new.heads.items) names
+      ∙ ap (λ l. operators_of old.names.items l new.effects new.heads.items) prevail
+      ∙ ap (λ l. operators_of old.names.items old.prevail.items l new.heads.items) effects
+      ∙ ap (λ l. operators_of old.names.items old.prevail.items old.effects l) heads
