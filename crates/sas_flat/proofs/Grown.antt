@@ -1,5 +1,5 @@
 -- Columns that only grow, and columns as they were.
-use Rattle.std.proofs.Common.{◌≡◌, ℕ, ◌≤◌, List, [], ◌∷◌, ◌++◌, length, take, sym, ap, ◌∙◌, ◌+◌, refl, arith, length-append, Result, Ok, Err}
+use Rattle.std.proofs.Common.{◌≡◌, ℕ, ◌≤◌, List, [], ◌++◌, length, take, sym, ap, ◌∙◌, ◌+◌, refl, arith, length-append, Result, Ok, Err}
 use Rattle.std.specs.Prelude.{OnOk, OnErr, IsErr, slice_index}
 use Rattle.std.proofs.lemmas.Bool.{false≢true}
 use Rattle.std.proofs.lemmas.List.{append-nil}
@@ -8,7 +8,7 @@ use Rattle.sas_core.specs.declared.parts.Effect.{Effect}
 use Rattle.sas_core.specs.declared.parts.Fact.{Fact}
 use Rattle.sas_core.specs.declared.parts.Operator.{Operator}
 use Rattle.sas_core.specs.declared.parts.Variable.{Variable}
-use Rattle.sas_lists.specs.Lists.{AreEnds, list_at, lists_of}
+use Rattle.sas_lists.specs.Lists.{list_at, lists_of}
 use Rattle.sas_lists.specs.Table.{table}
 use Rattle.sas_lists.proofs.Blocks.{ends_more}
 use Rattle.sas_flat.specs.Growing.{Kept}

@@ -1,4 +1,4 @@
-use Rattle.std.proofs.Common.{◌≡◌, ◌+◌, ◌++◌, ◌∷◌, [], length, refl, sym, ap, ◌∙◌, arith, length-append}
+use Rattle.std.proofs.Common.{◌≡◌, ◌+◌, ◌++◌, ◌∷◌, [], length, refl, ap, ◌∙◌, arith, length-append}
 use Rattle.sas_flat.proofs.Grown.{kept_all, kept_more, kept_by, not_ok, on_ok}
 use Rattle.sas_flat.proofs.variables.Columns.push.Goals as goal
 
@@ -48,7 +48,7 @@ pub returns-in_err-append-clause-ok : goal.returns-in_err-append-clause-ok
 returns-in_err-append-clause-ok c = not_ok _ c.from_residual-in_err-append.result c.from_residual-in_err-append.ensures.0
 
 pub push-requires-3 : goal.push-requires-3
-push-requires-3 c = 
+push-requires-3 c =
     let long = ap length c.in_ok-append.ensures.ok ∙ length-append c.args.self.now.values c.args.values.now in
     omega (arith, c.requires.closed, c.len.ensures, long)
 
@@ -65,7 +65,7 @@ pub returns-clause-ends : goal.returns-clause-ends
 returns-clause-ends c = kept_by c.args.self.now.ends c.push-3.new.self (c.len.result ∷ []) c.push-3.result c.push-3.ensures.ok c.push-3.ensures.err
 
 pub returns-clause-ok : goal.returns-clause-ok
-returns-clause-ok c = 
+returns-clause-ok c =
     let many : c.len.result ≡ length c.args.self.now.values + length c.args.values.now = c.len.ensures ∙ ap length c.in_ok-append.ensures.ok ∙ length-append c.args.self.now.values c.args.values.now in
     on_ok c.push-3.result
     (λ e. record { names = c.in_ok-push.ensures.ok; layers = c.in_ok-push-2.ensures.items; values = c.in_ok-append.ensures.ok; ends = e ∙ ap (λ n. c.args.self.now.ends ++ n ∷ []) many })
