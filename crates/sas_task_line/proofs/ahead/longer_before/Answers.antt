@@ -32,3 +32,45 @@ loop-value-preserved c =
           ∙ digits_go_on c.loop-value.value c.loop-value.left.now c.loop-value.invariant.0 c.loop-value-test.true
           ten.0 ten.1 unit.0 unit.1 c.in-len2-up.len_at_least,
     )
+
+pub overflow_mul-result : goal.overflow_mul-result
+overflow_mul-result c = omega (arith, c.loop-value-test.true)
+
+pub overflow_sub-result : goal.overflow_sub-result
+overflow_sub-result c = c.if-is_ascii_digit.ensures.cases.0
+
+pub overflow_add-result : goal.overflow_add-result
+overflow_add-result c =
+    let unit = c.if-is_ascii_digit.ensures.cases in
+    omega (arith, c.loop-value-test.true, unit.0, unit.1)
+
+pub overflow_mul-value : goal.overflow_mul-value
+overflow_mul-value c = omega (arith, c.loop-value-test.true)
+
+pub overflow_sub-value : goal.overflow_sub-value
+overflow_sub-value c = c.if-is_ascii_digit-2.ensures.cases.0
+
+pub overflow_mul-value-in-len2-up-2 : goal.overflow_mul-value-in-len2-up-2
+overflow_mul-value-in-len2-up-2 c =
+    let ten = c.if-is_ascii_digit-2.ensures.cases in
+    omega (arith, ten.0, ten.1)
+
+pub overflow_add-value : goal.overflow_add-value
+overflow_add-value c =
+    let ten = c.if-is_ascii_digit-2.ensures.cases in
+    omega (arith, c.loop-value-test.true, ten.0, ten.1)
+
+pub overflow_sub-value-in-len2-up-2 : goal.overflow_sub-value-in-len2-up-2
+overflow_sub-value-in-len2-up-2 c = c.if-is_ascii_digit-3.ensures.cases.0
+
+pub overflow_add-value-in-len2-up-2 : goal.overflow_add-value-in-len2-up-2
+overflow_add-value-in-len2-up-2 c =
+    let ten = c.if-is_ascii_digit-2.ensures.cases in
+    let unit = c.if-is_ascii_digit-3.ensures.cases in
+    omega (arith, c.loop-value-test.true, ten.0, ten.1, unit.0, unit.1)
+
+pub returns-in_default : goal.returns-in_default
+returns-in_default c = tt
+
+pub returns : goal.returns
+returns c = tt
