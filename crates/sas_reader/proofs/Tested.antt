@@ -1,11 +1,12 @@
 -- What the tests of a reader, and its calls that fail, say.
-use Rattle.std.proofs.Common.{◌≡◌, ℕ, ◌<◌, ◌∙◌, Bool, true, false, List, [], length, eqb, sym, arith, Result, Ok, Err, IfOk, IsErr, IsErrAnd}
+use Rattle.std.proofs.Common.{◌≡◌, ℕ, ◌<◌, ◌∙◌, Bool, true, false, List, [], length, eqb, sym, ap, subst, arith, Result, Ok, Err, IfOk, IsErr, IsErrAnd}
 use Rattle.std.proofs.lemmas.Bool.{eqb-true, eqb-false, false≢true}
-use Rattle.std.proofs.lemmas.List.{nil_from_length}
+use Rattle.std.proofs.lemmas.List.{nil_from_length, append-nil}
+use Rattle.sas_lines.specs.Progress.{Progress}
 use Rattle.sas_reader.specs.declared.fault.Kind.{Kind}
 use Rattle.sas_reader.specs.declared.fault.Kind.TheVariants as kinds
 use Rattle.sas_reader.specs.declared.reader.Reader.{Reader}
-use Rattle.sas_reader.specs.Reader.{Advances}
+use Rattle.sas_reader.specs.Reader.{Reached, Accepted, TookFront, Advances}
 use Rattle.sas_reader.proofs.Advancing.{stopped_memory}
 
 -- a list that was found empty, or not
@@ -20,6 +21,16 @@ pub err_only : {A E : Type 0} (P : A → Type 0) (r : Result A E) → IsErr r �
 err_only P (Ok x) h = absurd (false≢true h)
 err_only P (Err e) h = tt
 
+-- an error that is handed on is this one
+pub err_is : {A E : Type 0} (r : Result A E) (e : E) → IsErr r → IsErrAnd r (λ x. x ≡ e) → r ≡ Err e
+err_is (Ok x) e h is = absurd (false≢true h)
+err_is (Err x) e h is = ap (λ y. Err y) is
+
+-- and so it is want of memory, if that was
+pub memory_is : {A : Type 0} (r : Result A Kind) (e : Kind) → e ≡ kinds.Memory → IsErrAnd r (λ x. x ≡ e) → IsErrAnd r (λ x. x ≡ kinds.Memory)
+memory_is (Ok x) e m is = is
+memory_is (Err x) e m is = is ∙ m
+
 module _ {M : Type 0} (led_by : List (List ℕ) → M → Type 0) (ended : M → Type 0) (rejects : M → List ℕ → Kind → Type 0) (halted : M → List ℕ → Kind → M → Type 0) where
   -- memory was refused where a line is due
   pub advances_refused : (old new : Reader M) (piece : List ℕ) (r : Result ℕ Kind) → IsErr r → IsErrAnd r (λ k. k ≡ kinds.Memory) → 0 < length piece → (ended old.machine → ⊥) → old.taken < old.limit
@@ -30,4 +41,17 @@ module _ {M : Type 0} (led_by : List (List ℕ) → M → Type 0) (ended : M →
     stopped = stopped_memory led_by ended rejects halted old new piece e some going room k;
     fault = fault;
     limit = limit;
+  }
+
+  -- nothing was taken, and all that counts is as it was
+  pub took_nothing : (old new : Reader M) (piece : List ℕ) → new.machine ≡ old.machine → new.pending ≡ old.pending → new.lines ≡ old.lines → new.taken ≡ old.taken → TookFront led_by ended rejects halted old new piece 0
+  took_nothing old new piece machine pending lines taken = record {
+    within = omega arith;
+    count = omega (arith, taken);
+    accepted = λ bytes h. subst (Accepted led_by ended new) (sym (append-nil bytes)) (record {
+      reached = subst (λ (m : M). Reached led_by ended m bytes) (sym machine) h.reached;
+      pending = ap (λ (p : Progress). p.pending) pending ∙ h.pending;
+      lines = lines ∙ h.lines;
+      taken = taken ∙ h.taken;
+    });
   }
