@@ -1,4 +1,5 @@
 pub mod Tables
 pub mod Blocks
 pub mod ByKey
+mod Kept
 mod Placing
