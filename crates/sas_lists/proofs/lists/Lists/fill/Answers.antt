@@ -1,4 +1,4 @@
-use Rattle.std.proofs.Common.{◌-◌, [], ◌++◌, length, replicate, refl, ap, subst, ◌∙◌, arith}
+use Rattle.std.proofs.Common.{◌-◌, [], ◌++◌, length, replicate, refl, ap, ◌∙◌, arith}
 use Rattle.sas_lists.proofs.Blocks.{empty_more}
 use Rattle.sas_lists.proofs.Kept.{not_ok, on_any_error, none_lacks, same_ends, same_lists, ends_filled}
 use Rattle.sas_lists.proofs.lists.Lists.fill.Goals as goal
