@@ -98,5 +98,12 @@ loop-before-smaller g c =
     let before = c.loop-before.family in
     let now = c.look_at_loose.new.family in
     let after = c.tell_watching.new.family in
-    omega (arith, fallen_grow p before now c.look_at_loose.ensures.falls, fallen_grow p now after c.tell_watching.ensures.falls,
-    c.look_at_loose.ensures.ready.room.few, c.len.ensures, c.len-before.ensures, c.if-len-before.false)
+    omega (
+      arith,
+      fallen_grow p before now c.look_at_loose.ensures.falls,
+      fallen_grow p now after c.tell_watching.ensures.falls,
+      c.look_at_loose.ensures.ready.room.few,
+      c.len.ensures,
+      c.len-before.ensures,
+      c.if-len-before.false,
+    )

@@ -116,7 +116,7 @@ pub returns-clause-alone : goal.returns-clause-alone
 returns-clause-alone g c =
     let p = c.args.indexed.now in
     let Alone : List Bool → Bool → Type 0 = λ kept alone. IsTrue alone
-        → PlainKeepByBasis p c.args.family.now.basis kept c.args.operator (length (operator_at p c.args.operator).effects) in
+    → PlainKeepByBasis p c.args.family.now.basis kept c.args.operator (length (operator_at p c.args.operator).effects) in
     elim c.if-not-note_known.branch [
       | then-not-note_known w ↦ subst (λ (family : Family). Alone family.kept c.if-not-note_known.alone) (sym w.family-is)
           (subst (Alone w.look_at_each_plain-alone.new.family.kept) (sym w.alone-is) w.look_at_each_plain-alone.ensures.alone)
