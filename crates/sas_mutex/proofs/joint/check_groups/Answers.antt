@@ -1,15 +1,9 @@
 -- The family begins with all groups that may be exclusive, and there is room for all that may fall.
-use Rattle.std.proofs.Common.{◌≡◌, ◌≢◌, ◌<◌, ℕ, ◌∙◌, List, length, sym, ap, subst, arith}
-use Rattle.std.specs.Prelude.{◌↔◌, IsTrue}
+use Rattle.std.proofs.Common.{◌≢◌, sym, subst}
 use Rattle.sas_groups.specs.declared.verdict.Verdict.{Verdict}
 use Rattle.sas_groups.specs.declared.verdict.Verdict.TheVariants.{Exclusive}
-use Rattle.sas_group_index.specs.Kept.{family_of}
-use Rattle.std.proofs.lemmas.Bool.{true≢false}
-use Rattle.std.proofs.lemmas.List.Elements.{All-nil}
 use Rattle.std.specs.List.{All}
-use Rattle.sas_mutex.specs.Joint.{verdict_at, AreJointVerdicts, AreInvariants}
-use Rattle.sas_mutex.proofs.Counting.{count_within}
-use Rattle.sas_mutex.proofs.Telling.{candidates_from}
+use Rattle.sas_mutex.specs.Joint.{AreJointVerdicts, AreInvariants}
 use Rattle.sas_mutex.proofs.JointLists.{listed_invariants, decided_at_first}
 use Rattle.sas_mutex.proofs.joint.check_groups.Goals as goal
 use Rattle.sas_mutex.proofs.joint.check_groups.Goals.{Then-not-some_exclusive}

@@ -1,5 +1,5 @@
 -- An effect that never fires keeps all groups.
-use Rattle.std.proofs.Common.{List, [], Bool, true, length, sym, ap, subst, ◌∙◌, arith}
+use Rattle.std.proofs.Common.{List, [], Bool, length, sym, ap, subst, ◌∙◌, arith}
 use Rattle.std.proofs.lemmas.Bool.{true≢false}
 use Rattle.std.specs.Bool.{IsTrue}
 use Rattle.std.specs.List.{All}
