@@ -1,5 +1,5 @@
 -- What is noted changes at the fact's variable and groups at most.
-use Rattle.std.proofs.Common.{ℕ, ◌≡◌, List, Option, None, Some, Bool, length, refl, sym, ap, subst, ◌∙◌, inl, inr, rules}
+use Rattle.std.proofs.Common.{ℕ, ◌≡◌, List, Option, None, Some, length, refl, sym, ap, subst, ◌∙◌, inl, inr, rules}
 use Rattle.std.specs.List.{Contains}
 use Rattle.std.proofs.lemmas.Bool.{true≢false, cases_eq, eqb-false}
 use Rattle.std.proofs.lemmas.List.{length-set, get_or-set_other}

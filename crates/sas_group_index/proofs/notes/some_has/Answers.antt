@@ -1,5 +1,5 @@
 -- A group of the one fact, if it is kept, has the other fact or not.
-use Rattle.std.proofs.Common.{ℕ, ◌≡◌, ◌<◌, List, Bool, true, length, get_or, sym, ap, subst, ◌∙◌, below_more, arith, IsTrue}
+use Rattle.std.proofs.Common.{ℕ, List, length, get_or, sym, ap, subst, ◌∙◌, below_more, arith, IsTrue}
 use Rattle.std.specs.List.{Contains}
 use Rattle.std.proofs.lemmas.Bool.{true≢false}
 use Rattle.std.proofs.lemmas.List.{get_or_default}
