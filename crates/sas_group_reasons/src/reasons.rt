@@ -1,11 +1,11 @@
 // The reasons of all groups.
-ghost use Rattle.std.specs.Prelude.{◌≡◌, ◌<◌, ◌↔◌, ℕ, length, All, IfOk, IsTrue, IsFalse};
+ghost use Rattle.std.specs.Prelude.{◌≡◌, ◌<◌, ◌↔◌, ℕ, Bool, List, length, All, IfOk, IsTrue, IsFalse};
 ghost use Rattle.sas_groups.specs.declared.verdict.Verdict.{Verdict};
 ghost use Rattle.sas_groups.specs.declared.verdict.Verdict.TheVariants.{Exclusive, Broken};
 ghost use Rattle.sas_group_index.specs.Kept.{family_of};
 ghost use Rattle.sas_mutex.specs.Joint.{verdict_at, AreJointVerdicts};
 ghost use Rattle.sas_group_reasons.specs.Reasons.{AreReasons};
-ghost use Rattle.sas_group_reasons.specs.Telling.{IsBroken, AreMarked};
+ghost use Rattle.sas_group_reasons.specs.Telling.{AreReasonsSoFar, IsBroken, AreMarked};
 
 use crate::before_operators::first_reasons;
 use crate::broken::{Greatest, tell_failures};
@@ -35,20 +35,36 @@ pub fn group_reasons<T: Grounded>(
         return Ok(reasons.into_vec());
     }
     let index = Index::new(alloc, layered)?;
-    let marked = breaking_operators(alloc, layered.operators(), verdicts)?;
-    let kept = exclusive_groups(alloc, verdicts)?;
-    let marks = Marks::new(alloc, layered, &index)?;
-    let mut greatest = Greatest { kept, marks };
     let indexed = IndexedTask {
         task: layered,
         index: &index,
     };
-    let breaking = marked.as_slice();
-    tell_failures(&indexed, verdicts, breaking, &mut greatest, &mut reasons);
-    drop(marked);
+    let told = tell_breaking(alloc, &indexed, verdicts, &mut reasons);
     drop(index);
-    drop(greatest);
+    told?;
     Ok(reasons.into_vec())
+}
+
+/// Tells the reason of each group that an operator breaks, over the index of the task.
+fn tell_breaking<T: Grounded>(
+    alloc: Global,
+    indexed: &IndexedTask<'_, '_, T>,
+    verdicts: &[Verdict],
+    reasons: &mut Items<Option<Reason>>,
+) -> Result<(), AllocError>
+    requires joint { AreJointVerdicts indexed.now verdicts.now }
+    requires so_far { (kept : List Bool)
+        → AreReasonsSoFar indexed.now kept 0 0 verdicts.now reasons.old }
+    ensures { IfOk result (λ _. AreReasons indexed.now verdicts.now reasons.new) }
+{
+    let marked = breaking_operators(alloc, indexed.task.operators(), verdicts)?;
+    let kept = exclusive_groups(alloc, verdicts)?;
+    let marks = Marks::new(alloc, indexed.task, indexed.index)?;
+    let mut greatest = Greatest { kept, marks };
+    tell_failures(indexed, verdicts, marked.as_slice(), &mut greatest, reasons);
+    drop(marked);
+    drop(greatest);
+    Ok(())
 }
 
 /// Returns whether one of the verdicts is that an operator breaks the group.

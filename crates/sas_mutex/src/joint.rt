@@ -45,25 +45,33 @@ pub fn check_groups<T: Grounded>(
         return Ok(verdicts.into_vec());
     }
     let index = Index::new(alloc, layered)?;
-    let mut family = candidates(alloc, verdicts.as_slice())?;
-    let mut marks = Marks::new(alloc, layered, &index)?;
-    let mut watches = Watches::new(alloc, layered.groups(), layered.operators())?;
     let indexed = IndexedTask {
         task: layered,
         index: &index,
     };
-    judge(
-        &indexed,
-        &mut verdicts,
-        &mut watches,
-        &mut family,
-        &mut marks,
-    );
+    let judged = judge_indexed(alloc, &indexed, &mut verdicts);
     drop(index);
+    judged?;
+    Ok(verdicts.into_vec())
+}
+
+/// Goes through the operators, over the index of the task.
+fn judge_indexed<T: Grounded>(
+    alloc: Global,
+    indexed: &IndexedTask<'_, '_, T>,
+    verdicts: &mut Items<Verdict>,
+) -> Result<(), AllocError>
+    requires { AreFirstVerdicts indexed.now verdicts.old }
+    ensures { IfOk result (λ _. AreJointVerdicts indexed.now verdicts.new) }
+{
+    let mut family = candidates(alloc, verdicts.as_slice())?;
+    let mut marks = Marks::new(alloc, indexed.task, indexed.index)?;
+    let mut watches = Watches::new(alloc, indexed.task.groups(), indexed.task.operators())?;
+    judge(indexed, verdicts, &mut watches, &mut family, &mut marks);
     drop(watches);
     drop(marks);
     drop(family);
-    Ok(verdicts.into_vec())
+    Ok(())
 }
 
 /// Goes through the operators. Without an allocator it can ask for no memory.
@@ -113,16 +121,25 @@ fn candidates(alloc: Global, verdicts: &[Verdict]) -> Result<Family, AllocError>
     ensures of_none { IfOk result (λ family. IsOfNone (length verdicts.now) family.basis) }
     ensures free { IfOk result (λ family. family.supports ≡ []) }
 {
-    let mut kept = Items::from_vec(Vec::with_capacity(alloc, verdicts.len())?);
-    for verdict in verdicts {
-        kept.push(is_exclusive(*verdict))?;
-    }
     Ok(Family {
-        kept,
+        kept: exclusive_of(alloc, verdicts)?,
         fallen: Vec::with_capacity(alloc, verdicts.len())?,
         basis: Items::from_vec(vec![in alloc; false; verdicts.len()]?),
         supports: Items::from_vec(Vec::with_capacity(alloc, MOST_GROUPS)?),
     })
+}
+
+/// Returns, for each of the verdicts, whether nothing speaks against the group.
+fn exclusive_of(alloc: Global, verdicts: &[Verdict]) -> Result<Items<bool>, AllocError>
+    ensures one_each { IfOk result (λ kept. length kept ≡ length verdicts.now) }
+    ensures exclusive { IfOk result (λ kept. (place : ℕ) → place < length verdicts.now
+        → IsTrue (family_of kept place) ↔ (verdict_at verdicts.now place ≡ Exclusive)) }
+{
+    let mut kept = Items::from_vec(Vec::with_capacity(alloc, verdicts.len())?);
+    for verdict in verdicts {
+        kept.push(is_exclusive(*verdict))?;
+    }
+    Ok(kept)
 }
 
 /// Returns whether one of the verdicts is that nothing speaks against the group.

@@ -150,6 +150,7 @@ pub fn check_found<E: Settle<T> + Drop, T: Grounded, P: Stepwise>(
 
 /// Checks whether the plan is valid, where it is found what the names of its steps mean. Adds the plan's operators, for
 /// which there is room. Without an allocator it can ask for no memory.
+#[inline(always)]
 pub fn judge<E: Settle<T> + Drop, T: Grounded, P: Stepwise>(
     layered: &Layered<T>,
     walker: &mut Walker<E>,

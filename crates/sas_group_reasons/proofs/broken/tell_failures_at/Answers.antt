@@ -1,19 +1,23 @@
 -- Told of is each group that has the fact which the effect sets: by the notes, or since the effect never fires, or no reason is asked for.
 use Rattle.std.proofs.Common.{ℕ, ◌+◌, ◌<◌, Bool, List, [], Option, length, get_or, ap, subst, sym, ◌∙◌, arith}
-use Rattle.std.specs.List.{Contains}
+use Rattle.std.specs.List.{All, Contains}
 use Rattle.std.specs.Prelude.{◌↔◌}
 use Rattle.std.proofs.lemmas.List.Elements.{Contains-get_or, All-contains}
 use Rattle.sas_core.specs.declared.parts.Fact.{Fact}
 use Rattle.sas_core.specs.Grounded.{operator_at, effect_at}
+use Rattle.sas_core.specs.Variables.{FactExists}
 use Rattle.sas_groups.specs.Clashes.{sets, Clash}
 use Rattle.sas_groups.specs.Lists.{known}
 use Rattle.sas_group_index.specs.Index.{HasFact, groups_of}
 use Rattle.sas_mutex.specs.Effects.{IsKept}
-use Rattle.sas_mutex.specs.Marks.{IsNoted, IsNotedFrom}
+use Rattle.sas_mutex.specs.Marks.{IsClean, IsNoted, IsNotedFrom}
+use Rattle.sas_mutex.specs.ByNotes.{known_at}
 use Rattle.sas_mutex.specs.Firing.{EffectPlace, operator_of, effect_of}
 use Rattle.sas_mutex.specs.Joint.{verdict_at}
 use Rattle.sas_mutex.proofs.SetFacts.{groups_setting}
+use Rattle.sas_mutex.proofs.TaskFacts.{conditions_exist}
 use Rattle.sas_mutex.proofs.Telling.{clash_never_fires}
+use Rattle.sas_group_reasons.specs.declared.broken.Greatest.{Greatest}
 use Rattle.sas_group_reasons.specs.declared.reason.Reason.{Reason}
 use Rattle.sas_group_reasons.specs.Reasons.{reason_at}
 use Rattle.sas_group_reasons.specs.Telling.{IsReasonSoFar, IsAsked}
@@ -112,3 +116,69 @@ returns-clause-so_far g c =
           (λ _. clash_never_fires p kept place has.exists c.requires.one_each f.operator f.effect clash)
           (c.requires.so_far.are place has.exists)) c.requires.so_far))
     ]
+
+pub effect_change-change-requires-clause-operator : goal.effect_change-change-requires-clause-operator
+effect_change-change-requires-clause-operator g c = c.firing.invariant.2
+
+pub effect_change-change-requires-clause-effect : goal.effect_change-change-requires-clause-effect
+effect_change-change-requires-clause-effect g c = c.firing.invariant.3
+
+pub returns-then-not-some_asked-clause-clean : goal.returns-then-not-some_asked-clause-clean
+returns-then-not-some_asked-clause-clean g c = c.requires.clean
+
+pub note_known-requires-clause-one_each : goal.note_known-requires-clause-one_each
+note_known-requires-clause-one_each g c =
+    ap length c.as_slice-kept.ensures ∙ (c.requires.one_each ∙ ap (λ (f : EffectPlace). length f.task.groups) (sym c.firing.view_is))
+
+pub note_known-requires-clause-first : goal.note_known-requires-clause-first
+note_known-requires-clause-first g c =
+    let p = c.firing.inside.task.now in
+    subst (All (FactExists p.variables)) (sym c.effect_conditions.ensures)
+    (conditions_exist p c.firing.invariant.0 c.firing.inside.operator c.firing.invariant.2 c.firing.inside.effect c.firing.invariant.3)
+
+pub note_known-requires-clause-second : goal.note_known-requires-clause-second
+note_known-requires-clause-second g c = λ k d lt. absurd (omega arith)
+
+pub note_known-requires-clause-clean : goal.note_known-requires-clause-clean
+note_known-requires-clause-clean g c = subst (λ (f : EffectPlace). IsClean f.task c.args.greatest.now.marks) (sym c.firing.view_is) c.requires.clean
+
+pub tell_groups-requires-clause-verdicts : goal.tell_groups-requires-clause-verdicts
+tell_groups-requires-clause-verdicts g c = c.requires.verdicts
+
+pub tell_groups-requires-clause-greatest : goal.tell_groups-requires-clause-greatest
+tell_groups-requires-clause-greatest g c = c.requires.greatest
+
+pub tell_groups-requires-clause-so_far : goal.tell_groups-requires-clause-so_far
+tell_groups-requires-clause-so_far g c = c.requires.so_far
+
+pub forget_known-requires-clause-first : goal.forget_known-requires-clause-first
+forget_known-requires-clause-first g c =
+    let p = c.firing.inside.task.now in
+    subst (All (FactExists p.variables)) (sym c.effect_conditions.ensures)
+    (conditions_exist p c.firing.invariant.0 c.firing.inside.operator c.firing.invariant.2 c.firing.inside.effect c.firing.invariant.3)
+
+pub forget_known-requires-clause-second : goal.forget_known-requires-clause-second
+forget_known-requires-clause-second g c = λ k d lt. absurd (omega arith)
+
+pub forget_known-requires-clause-from : goal.forget_known-requires-clause-from
+forget_known-requires-clause-from g c =
+    let p = c.firing.inside.task.now in
+    let o = operator_at p c.firing.inside.operator in
+    let From : Greatest → Type 0 = λ greatest. IsNotedFrom p (known o c.effect_conditions.result.now []) greatest.marks in
+    elim c.if-not-note_known.branch [
+      | then-not-note_known w ↦ subst From (sym w.greatest-is)
+          (subst (λ (conditions : List Fact). IsNotedFrom p (known o conditions []) w.tell_groups.new.greatest.marks) (sym c.effect_conditions.ensures)
+          (subst (λ (f : EffectPlace). IsNotedFrom f.task (known_at f.task f.operator f.effect) w.tell_groups.new.greatest.marks) (sym c.firing.view_is)
+          w.tell_groups.ensures.notes.noted.from))
+      | else-not-note_known w ↦ subst From (sym w.greatest-is) c.note_known.ensures.from
+    ]
+
+pub returns-clause-kept : goal.returns-clause-kept
+returns-clause-kept g c =
+    elim c.if-not-note_known.branch [
+      | then-not-note_known w ↦ ap (λ (greatest : Greatest). greatest.kept) w.greatest-is ∙ w.tell_groups.ensures.kept
+      | else-not-note_known w ↦ ap (λ (greatest : Greatest). greatest.kept) w.greatest-is
+    ]
+
+pub returns-clause-clean : goal.returns-clause-clean
+returns-clause-clean g c = subst (λ (f : EffectPlace). IsClean f.task c.forget_known.new.marks) c.firing.view_is c.forget_known.ensures

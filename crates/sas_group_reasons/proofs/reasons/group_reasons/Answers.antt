@@ -1,10 +1,9 @@
--- The groups that are exclusive by the verdicts are the greatest family; where no operator breaks a group, the first reasons are all.
+-- Where no operator breaks a group, the first reasons are all.
 use Rattle.std.proofs.Common.{◌<◌, [], List, sym, subst}
 use Rattle.std.specs.Prelude.{Option}
 use Rattle.sas_groups.specs.declared.verdict.Verdict.TheVariants.{Exclusive}
 use Rattle.sas_group_reasons.specs.declared.reason.Reason.{Reason}
 use Rattle.sas_group_reasons.specs.Reasons.{AreReasons}
-use Rattle.sas_group_reasons.proofs.GreatestOfVerdicts.{exclusive_is_greatest}
 use Rattle.sas_group_reasons.proofs.ReasonsSoFar.{none_broken}
 use Rattle.sas_group_reasons.proofs.reasons.group_reasons.Goals as goal
 
@@ -16,9 +15,5 @@ returns-then-not-some_broken g c =
     (λ place lt. c.some_broken.ensures c.if-not-some_broken.true place Exclusive (subst (λ n. place < n) (sym c.requires.one_each) lt))
     (c.in_ok-reasons.ensures []))
 
-pub tell_failures-requires-clause-greatest : goal.tell_failures-requires-clause-greatest
-tell_failures-requires-clause-greatest g c = exclusive_is_greatest c.args.layered.now c.args.verdicts.now c.in_ok-kept.kept c.requires
-    (λ place lt. c.in_ok-kept.ensures.exclusive place (subst (λ n. place < n) (sym c.requires.one_each) lt))
-
-pub tell_failures-requires-clause-so_far : goal.tell_failures-requires-clause-so_far
-tell_failures-requires-clause-so_far g c = c.in_ok-reasons.ensures c.in_ok-kept.kept
+pub tell_breaking-told-requires-clause-so_far : goal.tell_breaking-told-requires-clause-so_far
+tell_breaking-told-requires-clause-so_far g c = c.in_ok-reasons.ensures

@@ -1,8 +1,10 @@
 -- Where no group fell by the loose operators, all operators are at rest.
-use Rattle.std.proofs.Common.{◌≡◌, ℕ, List, length, sym, subst, arith}
-use Rattle.sas_mutex.specs.Watching.{AreTold, AreLooseAtRest}
-use Rattle.sas_mutex.proofs.FallingGroups.{falls_then, greatest_in_the_end, none_newly, as_before}
-use Rattle.sas_mutex.proofs.Watched.{rest_in_the_end}
+use Rattle.std.proofs.Common.{◌≡◌, ℕ, ◌<◌, List, length, get_or, sym, ap, subst, ◌∙◌, arith}
+use Rattle.std.proofs.lemmas.List.{get_or_append_left}
+use Rattle.sas_mutex.specs.Falling.{newly}
+use Rattle.sas_mutex.specs.Watching.{IsTold, AreTold, AreLooseAtRest}
+use Rattle.sas_mutex.proofs.FallingGroups.{none_fell, fallen_grow, falls_then, greatest_in_the_end, none_newly, as_before}
+use Rattle.sas_mutex.proofs.Watched.{none_watched, rest_in_the_end}
 use Rattle.sas_mutex.proofs.greatest.find_greatest.Goals as goal
 
 pub returns-then-len-before-clause-greatest : goal.returns-then-len-before-clause-greatest
@@ -35,3 +37,73 @@ loop-before-preserved g c =
       ready = turn.ready;
       clean = turn.clean;
     }
+
+pub loop-before-init : goal.loop-before-init
+loop-before-init g c =
+    let p = c.args.indexed.now in
+    let family = c.args.family.now in
+    record {
+      falls = none_fell p family;
+      watched = none_watched p family c.args.watches.now c.requires.unwatched c.requires.none;
+      told = λ place lt. absurd (omega (arith, lt, ap length c.requires.none));
+      ready = c.requires.ready;
+      clean = c.requires.clean;
+    }
+
+pub look_at_loose-requires-clause-watched : goal.look_at_loose-requires-clause-watched
+look_at_loose-requires-clause-watched g c = c.loop-before.invariant.watched
+
+pub look_at_loose-requires-clause-told : goal.look_at_loose-requires-clause-told
+look_at_loose-requires-clause-told g c = c.loop-before.invariant.told
+
+pub look_at_loose-requires-clause-ready : goal.look_at_loose-requires-clause-ready
+look_at_loose-requires-clause-ready g c = c.loop-before.invariant.ready
+
+pub look_at_loose-requires-clause-clean : goal.look_at_loose-requires-clause-clean
+look_at_loose-requires-clause-clean g c = c.loop-before.invariant.clean
+
+pub returns-then-len-before-clause-one_each : goal.returns-then-len-before-clause-one_each
+returns-then-len-before-clause-one_each g c = c.look_at_loose.ensures.ready.room.one_each
+
+pub returns-then-len-before-clause-clean : goal.returns-then-len-before-clause-clean
+returns-then-len-before-clause-clean g c = c.look_at_loose.ensures.clean
+
+pub tell_watching-requires-clause-watched : goal.tell_watching-requires-clause-watched
+tell_watching-requires-clause-watched g c = c.look_at_loose.ensures.watched
+
+pub tell_watching-requires-clause-from : goal.tell_watching-requires-clause-from
+tell_watching-requires-clause-from g c =
+    omega (arith, c.len-before.ensures, fallen_grow c.args.indexed.now c.loop-before.family c.look_at_loose.new.family c.look_at_loose.ensures.falls)
+
+pub tell_watching-requires-clause-told : goal.tell_watching-requires-clause-told
+tell_watching-requires-clause-told g c =
+    let before = c.loop-before.family in
+    let now = c.look_at_loose.new.family in
+    let w = c.look_at_loose.new.watches in
+    λ place lt.
+    (let early : place < length before.fallen.items = omega (arith, lt, c.len-before.ensures) in
+    subst (λ n. IsTold w n)
+    (sym (ap (λ (xs : List ℕ). get_or xs place 0) c.look_at_loose.ensures.falls.behind ∙ get_or_append_left before.fallen.items (newly before now) 0 place early))
+    (c.look_at_loose.ensures.told place early))
+
+pub tell_watching-requires-clause-ready : goal.tell_watching-requires-clause-ready
+tell_watching-requires-clause-ready g c = c.look_at_loose.ensures.ready
+
+pub tell_watching-requires-clause-clean : goal.tell_watching-requires-clause-clean
+tell_watching-requires-clause-clean g c = c.look_at_loose.ensures.clean
+
+pub loop-before-smaller : goal.loop-before-smaller
+loop-before-smaller g c =
+    let p = c.args.indexed.now in
+    let before = c.loop-before.family in
+    let now = c.look_at_loose.new.family in
+    let after = c.tell_watching.new.family in
+    omega (
+      arith,
+      fallen_grow p before now c.look_at_loose.ensures.falls,
+      fallen_grow p now after c.tell_watching.ensures.falls,
+      c.look_at_loose.ensures.ready.room.few,
+      c.len.ensures,
+      c.len-before.ensures,
+      c.if-len-before.false,
+    )

@@ -1,5 +1,5 @@
 -- One more effect is at rest: one without conditions was before, and stays so while others fall.
-use Rattle.std.proofs.Common.{◌≡◌, Bool, List, length, subst, below_more, arith}
+use Rattle.std.proofs.Common.{◌≡◌, ℕ, ◌<◌, Bool, List, length, sym, subst, below_more, arith}
 use Rattle.sas_core.specs.declared.parts.Parts.{Parts}
 use Rattle.sas_core.specs.Grounded.{operator_at}
 use Rattle.sas_mutex.specs.Basis.{EffectKeepsByBasis}
@@ -9,6 +9,7 @@ use Rattle.sas_mutex.specs.Marks.{IsClean}
 use Rattle.std.proofs.lemmas.Bool.{and_parts}
 use Rattle.sas_mutex.proofs.FallingGroups.{falls_then, effect_since, effect_now, effect_alone_still}
 use Rattle.sas_mutex.proofs.looking.look_at.Goals as goal
+use Rattle.sas_mutex.proofs.looking.look_at.Given.{Over}
 use Rattle.sas_mutex.proofs.looking.look_at.Goals.{then-not-is_plain, else-not-is_plain}
 
 pub loop-effect-preserved : goal.loop-effect-preserved
@@ -52,3 +53,69 @@ loop-effect-preserved g c =
         alone = λ t. below_more _ _ (inv.alone t) (inv.plain_alone t effect (omega (arith, count)) (subst (λ (q : Parts). IsPlain q operator effect) is (c.is_plain.ensures.yes w.if-not-is_plain.false)));
       }
     ]
+
+pub look_at_plain-alone-requires-clause-operator : goal.look_at_plain-alone-requires-clause-operator
+look_at_plain-alone-requires-clause-operator g c = c.requires.operator
+
+pub look_at_plain-alone-requires-clause-room : goal.look_at_plain-alone-requires-clause-room
+look_at_plain-alone-requires-clause-room g c = c.requires.room
+
+pub look_at_plain-alone-requires-clause-clean : goal.look_at_plain-alone-requires-clause-clean
+look_at_plain-alone-requires-clause-clean g c = c.requires.clean
+
+pub effects-effect-end-requires : goal.effects-effect-end-requires
+effects-effect-end-requires g c = subst (λ (p : Parts). c.args.operator < length p.operators) (sym c.indexed.view_is) c.requires.operator
+
+pub loop-effect-init : goal.loop-effect-init
+loop-effect-init g c =
+    let plain = c.look_at_plain-alone.ensures in
+    record {
+      falls = plain.falls;
+      room = plain.room;
+      clean = plain.clean;
+      plain = plain.rest;
+      rest = λ k lt. absurd (omega arith);
+      plain_alone = plain.alone;
+      alone = λ t k lt. absurd (omega arith);
+    }
+
+pub is_plain-requires-clause-operator : goal.is_plain-requires-clause-operator
+is_plain-requires-clause-operator g c = subst (λ (p : Parts). c.args.operator < length p.operators) (sym c.indexed.view_is) c.requires.operator
+
+pub is_plain-requires-clause-effect : goal.is_plain-requires-clause-effect
+is_plain-requires-clause-effect g c = subst (λ n. c.loop-effect.effect < n) c.effects-effect-end.ensures c.loop-effect-test.true
+
+pub invariant_of-firing : goal.invariant_of-firing
+invariant_of-firing g c = (
+  c.indexed.invariant.0,
+  c.indexed.invariant.1,
+  subst (λ (p : Parts). c.args.operator < length p.operators) (sym c.indexed.view_is) c.requires.operator,
+  subst (λ n. c.loop-effect.effect < n) c.effects-effect-end.ensures c.loop-effect-test.true,
+)
+
+pub look_at_setting-alone-requires-clause-room : goal.look_at_setting-alone-requires-clause-room
+look_at_setting-alone-requires-clause-room g c = subst (λ (p : Parts). HasRoom p c.loop-effect.family) (sym c.indexed.view_is) c.loop-effect.invariant.room
+
+pub look_at_setting-alone-requires-clause-clean : goal.look_at_setting-alone-requires-clause-clean
+look_at_setting-alone-requires-clause-clean g c = subst (λ (p : Parts). IsClean p c.loop-effect.marks) (sym c.indexed.view_is) c.loop-effect.invariant.clean
+
+pub returns-clause-falls : goal.returns-clause-falls
+returns-clause-falls g c = c.loop-effect.invariant.falls
+
+-- the effects so far are all
+all : (g : Over) (c : goal.After-loop-effect g) (effect : ℕ) → effect < length (operator_at c.args.indexed.now c.args.operator).effects → effect < c.loop-effect.effect
+all g c effect lt =
+    let count = subst (λ (q : Parts). c.effects-effect-end.result ≡ length (operator_at q c.args.operator).effects) c.indexed.view_is c.effects-effect-end.ensures in
+    omega (arith, lt, count, c.loop-effect-test.false)
+
+pub returns-clause-rest : goal.returns-clause-rest
+returns-clause-rest g c = λ effect lt. c.loop-effect.invariant.rest effect (all g c effect lt)
+
+pub returns-clause-alone : goal.returns-clause-alone
+returns-clause-alone g c = λ t effect lt. c.loop-effect.invariant.alone t effect (all g c effect lt)
+
+pub returns-clause-room : goal.returns-clause-room
+returns-clause-room g c = c.loop-effect.invariant.room
+
+pub returns-clause-clean : goal.returns-clause-clean
+returns-clause-clean g c = c.loop-effect.invariant.clean

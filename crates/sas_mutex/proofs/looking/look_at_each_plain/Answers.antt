@@ -1,5 +1,5 @@
 -- One more effect is at rest, if it has no conditions; then what is known where it fires is what is noted.
-use Rattle.std.proofs.Common.{◌≡◌, Bool, List, [], length, subst, below_more}
+use Rattle.std.proofs.Common.{◌≡◌, ℕ, ◌<◌, Bool, List, [], length, sym, subst, below_more, arith}
 use Rattle.sas_core.specs.declared.parts.Parts.{Parts}
 use Rattle.std.proofs.lemmas.Bool.{and_parts}
 use Rattle.sas_core.specs.declared.parts.Fact.{Fact}
@@ -9,8 +9,9 @@ use Rattle.sas_mutex.specs.Basis.{EffectKeepsByBasis}
 use Rattle.sas_mutex.specs.Effects.{IsPlain}
 use Rattle.sas_mutex.specs.Falling.{HasRoom, Falls, newly, IsEffectAtRest}
 use Rattle.sas_mutex.specs.ByNotes.{AreNoted, IsNotedFor}
-use Rattle.sas_mutex.proofs.FallingGroups.{falls_then, effect_since, effect_now, effect_alone_still}
+use Rattle.sas_mutex.proofs.FallingGroups.{none_fell, falls_then, effect_since, effect_now, effect_alone_still}
 use Rattle.sas_mutex.proofs.looking.look_at_each_plain.Goals as goal
+use Rattle.sas_mutex.proofs.looking.look_at_each_plain.Given.{Over}
 use Rattle.sas_mutex.proofs.looking.look_at_each_plain.Goals.{then-is_plain, else-is_plain}
 
 pub loop-effect-preserved : goal.loop-effect-preserved
@@ -53,3 +54,63 @@ loop-effect-preserved g c =
         alone = λ t. below_more _ _ (inv.alone t) (λ without. absurd (subst (λ (q : Parts). IsPlain q operator effect → ⊥) is (c.is_plain.ensures.no w.if-is_plain.false) without));
       }
     ]
+
+pub loop-effect-init : goal.loop-effect-init
+loop-effect-init g c = record {
+  falls = none_fell c.args.indexed.now c.args.family.now;
+  room = c.requires.room;
+  noted = c.requires.noted;
+  rest = λ effect lt. absurd (omega arith);
+  alone = λ t effect lt. absurd (omega arith);
+}
+
+pub effects-effects-requires : goal.effects-effects-requires
+effects-effects-requires g c = subst (λ (p : Parts). c.args.operator < length p.operators) (sym c.indexed.view_is) c.requires.operator
+
+pub is_plain-requires-clause-operator : goal.is_plain-requires-clause-operator
+is_plain-requires-clause-operator g c = subst (λ (p : Parts). c.args.operator < length p.operators) (sym c.indexed.view_is) c.requires.operator
+
+pub is_plain-requires-clause-effect : goal.is_plain-requires-clause-effect
+is_plain-requires-clause-effect g c = subst (λ n. c.loop-effect.effect < n) c.effects-effects.ensures c.loop-effect-test.true
+
+pub invariant_of-firing : goal.invariant_of-firing
+invariant_of-firing g c = (
+  c.indexed.invariant.0,
+  c.indexed.invariant.1,
+  subst (λ (p : Parts). c.args.operator < length p.operators) (sym c.indexed.view_is) c.requires.operator,
+  subst (λ n. c.loop-effect.effect < n) c.effects-effects.ensures c.loop-effect-test.true,
+)
+
+pub look_at_groups-alone-requires-clause-room : goal.look_at_groups-alone-requires-clause-room
+look_at_groups-alone-requires-clause-room g c = subst (λ (p : Parts). HasRoom p c.loop-effect.family) (sym c.indexed.view_is) c.loop-effect.invariant.room
+
+pub look_at_groups-alone-requires-clause-notes : goal.look_at_groups-alone-requires-clause-notes
+look_at_groups-alone-requires-clause-notes g c =
+    let p = c.indexed.inside.task.now in
+    let family = c.loop-effect.family in
+    record {
+      one_each = subst (λ (q : Parts). length family.kept ≡ length q.groups) (sym c.indexed.view_is) c.loop-effect.invariant.room.one_each;
+      noted = subst (λ (conditions : List Fact). AreNoted p family.kept (known (operator_at p c.args.operator) conditions []) c.loop-effect.marks) (sym (c.is_plain.ensures.yes c.if-is_plain.true))
+          (subst (λ (q : Parts). AreNoted q family.kept (known (operator_at q c.args.operator) [] []) c.loop-effect.marks) (sym c.indexed.view_is) c.loop-effect.invariant.noted);
+    }
+
+pub returns-clause-falls : goal.returns-clause-falls
+returns-clause-falls g c = c.loop-effect.invariant.falls
+
+-- the effects so far are all
+all : (g : Over) (c : goal.After-loop-effect g) (effect : ℕ) → effect < length (operator_at c.args.indexed.now c.args.operator).effects → effect < c.loop-effect.effect
+all g c effect lt =
+    let count = subst (λ (q : Parts). c.effects-effects.result ≡ length (operator_at q c.args.operator).effects) c.indexed.view_is c.effects-effects.ensures in
+    omega (arith, lt, count, c.loop-effect-test.false)
+
+pub returns-clause-rest : goal.returns-clause-rest
+returns-clause-rest g c = λ effect lt. c.loop-effect.invariant.rest effect (all g c effect lt)
+
+pub returns-clause-alone : goal.returns-clause-alone
+returns-clause-alone g c = λ t effect lt. c.loop-effect.invariant.alone t effect (all g c effect lt)
+
+pub returns-clause-room : goal.returns-clause-room
+returns-clause-room g c = c.loop-effect.invariant.room
+
+pub returns-clause-noted : goal.returns-clause-noted
+returns-clause-noted g c = c.loop-effect.invariant.noted

@@ -1,9 +1,10 @@
 -- A group that the effect doesn't keep falls. One that it keeps by the basis, it keeps.
 use Rattle.std.specs.List.{All, Contains}
-use Rattle.std.proofs.Common.{◌≡◌, ◌<◌, ℕ, Bool, true, List, length, sym, ap, subst, ◌∙◌, arith, rules}
-use Rattle.std.proofs.lemmas.Bool.{true≢false}
-use Rattle.std.proofs.lemmas.List.{length-set, length_push}
+use Rattle.std.proofs.Common.{◌≡◌, ◌<◌, ℕ, Bool, true, false, List, length, sym, ap, subst, ◌∙◌, arith, rules}
+use Rattle.std.proofs.lemmas.Bool.{true≢false, both_ways}
+use Rattle.std.proofs.lemmas.List.{length-set, length_push, get_or-set_same}
 use Rattle.sas_core.specs.Grounded.{operator_at, effect_at, group_at}
+use Rattle.sas_groups.specs.Families.{IsIn}
 use Rattle.sas_mutex.specs.declared.family.Family.{Family}
 use Rattle.sas_group_index.specs.Kept.{family_of}
 use Rattle.sas_mutex.specs.Effects.{IsKept, EffectKeeps}
@@ -11,7 +12,7 @@ use Rattle.sas_mutex.specs.Firing.{EffectPlace, operator_of}
 use Rattle.sas_mutex.proofs.Counting.{count_fell}
 use Rattle.sas_mutex.proofs.FallingGroups.{none_fell, one_fell, never_jointly}
 use Rattle.sas_mutex.specs.Falling.{count, Falls, HasRoom, RestsAt, newly}
-use Rattle.sas_mutex.specs.ByNotes.{IsNotedFor, IsNotedAt}
+use Rattle.sas_mutex.specs.ByNotes.{IsNotedFor, IsNotedAt, KeepsGroup}
 use Rattle.sas_mutex.proofs.ToldByNotes.{noted_fewer}
 use Rattle.sas_mutex.proofs.looking.look_at_group.Goals as goal
 use Rattle.sas_mutex.proofs.looking.look_at_group.Given.{Over}
@@ -96,3 +97,97 @@ returns-clause-notes g c =
           (subst (λ (family : Family). IsNotedFor p family.kept c.args.firing.now.operator c.args.firing.now.effect marks) c.keeps_by_basis.ensures.same
           (subst (λ (kept : List Bool). IsNotedFor p kept c.args.firing.now.operator c.args.firing.now.effect marks) c.as_slice-2.ensures c.keeps_by_notes.ensures.notes.noted));
     }
+
+pub bounds-as_slice-group : goal.bounds-as_slice-group
+bounds-as_slice-group g c = omega (arith, c.requires.group, c.requires.room.one_each, ap length c.as_slice.ensures)
+
+-- ---- a group that fell before
+
+out : (g : Over) (c : goal.Then-not-as_slice-group g) → IsIn c.args.firing.now.task (family_of c.args.family.now.kept) c.args.group → ⊥
+out g c w = both_ways (family_of c.args.family.now.kept c.args.group)
+    (subst (λ (kept : List Bool). family_of kept c.args.group ≡ false) c.as_slice.ensures c.if-not-as_slice-group.true) w.chosen
+
+pub returns-then-not-as_slice-group-clause-falls : goal.returns-then-not-as_slice-group-clause-falls
+returns-then-not-as_slice-group-clause-falls g c = none_fell c.args.firing.now.task c.args.family.now
+
+pub returns-then-not-as_slice-group-clause-rest : goal.returns-then-not-as_slice-group-clause-rest
+returns-then-not-as_slice-group-clause-rest g c = record { keeps = λ none w. absurd (out g c w) }
+
+pub returns-then-not-as_slice-group-clause-alone : goal.returns-then-not-as_slice-group-clause-alone
+returns-then-not-as_slice-group-clause-alone g c t w = absurd (out g c w)
+
+pub returns-then-not-as_slice-group-clause-room : goal.returns-then-not-as_slice-group-clause-room
+returns-then-not-as_slice-group-clause-room g c = c.requires.room
+
+pub returns-then-not-as_slice-group-clause-notes : goal.returns-then-not-as_slice-group-clause-notes
+returns-then-not-as_slice-group-clause-notes g c = c.requires.notes
+
+-- ---- one that is in the family
+
+pub keeps_by_basis-requires-clause-group : goal.keeps_by_basis-requires-clause-group
+keeps_by_basis-requires-clause-group g c = c.requires.group
+
+pub keeps_by_basis-requires-clause-room : goal.keeps_by_basis-requires-clause-room
+keeps_by_basis-requires-clause-room g c = c.requires.room
+
+pub keeps_by_basis-requires-clause-notes : goal.keeps_by_basis-requires-clause-notes
+keeps_by_basis-requires-clause-notes g c = c.requires.notes
+
+-- the family after the test by the basis
+here : (g : Over) (c : goal.After-keeps_by_notes-arg-1 g) → IsIn c.args.firing.now.task (family_of c.keeps_by_basis.new.family.kept) c.args.group
+here g c = record {
+  exists = c.requires.group;
+  chosen = subst (λ (family : Family). family_of family.kept c.args.group ≡ true) (sym c.keeps_by_basis.ensures.same)
+      (subst (λ (kept : List Bool). family_of kept c.args.group ≡ true) c.as_slice.ensures c.if-not-as_slice-group.false);
+}
+
+pub keeps_by_notes-requires-clause-notes : goal.keeps_by_notes-requires-clause-notes
+keeps_by_notes-requires-clause-notes g c =
+    subst (λ (kept : List Bool). IsNotedAt c.args.firing.now kept c.keeps_by_basis.new.marks) (sym c.as_slice-2.ensures)
+    (subst (λ (family : Family). IsNotedAt c.args.firing.now family.kept c.keeps_by_basis.new.marks) (sym c.keeps_by_basis.ensures.same) c.keeps_by_basis.ensures.notes)
+
+pub keeps_by_notes-requires-clause-group : goal.keeps_by_notes-requires-clause-group
+keeps_by_notes-requires-clause-group g c =
+    subst (λ (kept : List Bool). IsIn c.args.firing.now.task (family_of kept) c.args.group) (sym c.as_slice-2.ensures) (here g c)
+
+pub returns-then-keeps_by_notes-clause-falls : goal.returns-then-keeps_by_notes-clause-falls
+returns-then-keeps_by_notes-clause-falls g c =
+    let p = c.args.firing.now.task in
+    subst (Falls p c.args.family.now) (sym c.keeps_by_basis.ensures.same) (none_fell p c.args.family.now)
+
+pub returns-then-keeps_by_notes-clause-rest : goal.returns-then-keeps_by_notes-clause-rest
+returns-then-keeps_by_notes-clause-rest g c =
+    let f = c.args.firing.now in
+    record { keeps = λ none w. subst (λ (kept : List Bool). KeepsGroup f kept c.args.group) c.as_slice-2.ensures (c.keeps_by_notes.ensures.yes c.if-keeps_by_notes.true) }
+
+pub returns-then-keeps_by_notes-clause-room : goal.returns-then-keeps_by_notes-clause-room
+returns-then-keeps_by_notes-clause-room g c = subst (HasRoom c.args.firing.now.task) (sym c.keeps_by_basis.ensures.same) c.requires.room
+
+pub returns-then-keeps_by_notes-clause-notes : goal.returns-then-keeps_by_notes-clause-notes
+returns-then-keeps_by_notes-clause-notes g c =
+    subst (λ (kept : List Bool). IsNotedAt c.args.firing.now kept c.keeps_by_notes.new.marks) c.as_slice-2.ensures c.keeps_by_notes.ensures.notes
+
+-- ---- and one that the effect doesn't keep
+
+pub take_away-requires-clause-kept : goal.take_away-requires-clause-kept
+take_away-requires-clause-kept g c =
+    subst (λ (family : Family). family_of family.kept c.args.group ≡ true) (sym c.keeps_by_basis.ensures.same)
+    (subst (λ (kept : List Bool). family_of kept c.args.group ≡ true) c.as_slice.ensures c.if-not-as_slice-group.false)
+
+pub take_away-requires-clause-room : goal.take_away-requires-clause-room
+take_away-requires-clause-room g c =
+    (subst (HasRoom c.args.firing.now.task) (sym c.keeps_by_basis.ensures.same) c.requires.room).room
+
+-- the group isn't in the family any more
+fallen : (g : Over) (c : After-take_away g) → IsIn c.args.firing.now.task (family_of c.take_away.new.self.kept) c.args.group → ⊥
+fallen g c w = both_ways (family_of c.take_away.new.self.kept c.args.group)
+    (ap (λ (kept : List Bool). family_of kept c.args.group) c.take_away.ensures.kept
+    ∙ get_or-set_same c.keeps_by_basis.new.family.kept c.args.group false false
+    (omega (arith, c.requires.group, c.requires.room.one_each, ap (λ (family : Family). length family.kept) c.keeps_by_basis.ensures.same)))
+    w.chosen
+
+pub returns-clause-rest : goal.returns-clause-rest
+returns-clause-rest g c = record { keeps = λ none w. absurd (fallen g c w) }
+
+pub returns-clause-alone : goal.returns-clause-alone
+returns-clause-alone g c t w = absurd (fallen g c w)

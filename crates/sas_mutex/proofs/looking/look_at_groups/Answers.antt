@@ -9,7 +9,7 @@ use Rattle.sas_groups.specs.Clashes.{sets}
 use Rattle.sas_mutex.specs.Falling.{newly, RestsAt}
 use Rattle.sas_mutex.specs.Basis.{KeptByBasis}
 use Rattle.sas_group_index.specs.Index.{HasFact}
-use Rattle.sas_mutex.proofs.FallingGroups.{falls_then, rests_later, rests_now}
+use Rattle.sas_mutex.proofs.FallingGroups.{none_fell, falls_then, rests_later, rests_now}
 use Rattle.sas_mutex.proofs.SetFacts.{groups_setting, at_item}
 use Rattle.sas_mutex.proofs.looking.look_at_groups.Goals as goal
 use Rattle.sas_mutex.proofs.looking.look_at_groups.Given.{Over}
@@ -65,3 +65,27 @@ returns-clause-rest g c =
     λ none place w has. (at_item (RestsAt p c.loop-group.family.kept (newly c.args.family.now c.loop-group.family) c.args.firing.now.operator c.args.firing.now.effect)
     c.groups_of-groups.result.now place (λ k lt. c.loop-group.invariant.rest k (omega arith))
     ((setting g at_end place).1 (record { exists = w.exists; among = has }))).keeps none w
+
+pub loop-group-init : goal.loop-group-init
+loop-group-init g c = record {
+  falls = none_fell c.args.firing.now.task c.args.family.now;
+  room = c.requires.room;
+  notes = c.requires.notes;
+  rest = λ k lt. absurd (omega arith);
+  alone = λ t k lt. absurd (omega arith);
+}
+
+pub look_at_group-alone-requires-clause-room : goal.look_at_group-alone-requires-clause-room
+look_at_group-alone-requires-clause-room g c = c.loop-group.invariant.room
+
+pub look_at_group-alone-requires-clause-notes : goal.look_at_group-alone-requires-clause-notes
+look_at_group-alone-requires-clause-notes g c = c.loop-group.invariant.notes
+
+pub returns-clause-falls : goal.returns-clause-falls
+returns-clause-falls g c = c.loop-group.invariant.falls
+
+pub returns-clause-room : goal.returns-clause-room
+returns-clause-room g c = c.loop-group.invariant.room
+
+pub returns-clause-notes : goal.returns-clause-notes
+returns-clause-notes g c = c.loop-group.invariant.notes

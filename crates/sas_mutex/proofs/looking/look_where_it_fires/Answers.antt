@@ -1,15 +1,24 @@
 -- An effect that never fires keeps all groups.
-use Rattle.std.proofs.Common.{List, [], Bool, sym, subst}
+use Rattle.std.proofs.Common.{List, [], Bool, length, sym, ap, subst, ◌∙◌, arith}
+use Rattle.std.proofs.lemmas.Bool.{true≢false}
+use Rattle.std.specs.Bool.{IsTrue}
+use Rattle.std.specs.List.{All}
 use Rattle.sas_core.specs.declared.parts.Fact.{Fact}
 use Rattle.sas_core.specs.Grounded.{operator_at, effect_at, group_at}
+use Rattle.sas_core.specs.Variables.{FactExists}
 use Rattle.sas_groups.specs.Clashes.{Clash}
 use Rattle.sas_groups.specs.Lists.{known}
 use Rattle.sas_mutex.specs.declared.family.Family.{Family}
 use Rattle.sas_mutex.specs.Effects.{IsKept}
-use Rattle.sas_mutex.specs.Marks.{IsNoted, IsNotedFrom}
-use Rattle.sas_mutex.specs.Falling.{Falls, IsEffectAtRest, newly}
+use Rattle.sas_mutex.specs.Firing.{EffectPlace}
+use Rattle.sas_mutex.specs.declared.marks.Marks.{Marks}
+use Rattle.sas_mutex.specs.Marks.{IsClean, IsNoted, IsNotedFrom}
+use Rattle.sas_mutex.specs.ByNotes.{known_at}
+use Rattle.sas_mutex.specs.Basis.{EffectKeepsByBasis}
+use Rattle.sas_mutex.specs.Falling.{HasRoom, Falls, IsEffectAtRest, newly}
 use Rattle.sas_mutex.proofs.FallingGroups.{none_fell}
 use Rattle.sas_mutex.proofs.ToldByNotes.{clash_keeps}
+use Rattle.sas_mutex.proofs.TaskFacts.{conditions_exist}
 use Rattle.sas_mutex.proofs.looking.look_where_it_fires.Goals as goal
 use Rattle.sas_mutex.proofs.looking.look_where_it_fires.Goals.{then-not-note_known, else-not-note_known}
 
@@ -57,3 +66,65 @@ returns-clause-rest g c =
           (subst (λ (conditions : List Fact). Clash (IsKept q c.as_slice.result.now) (known o conditions [])) c.effect_conditions.ensures
           (c.note_known.ensures.yes w.if-not-note_known.false)))))
     ]
+
+pub note_known-requires-clause-one_each : goal.note_known-requires-clause-one_each
+note_known-requires-clause-one_each g c =
+    ap length c.as_slice.ensures ∙ (c.requires.room.one_each ∙ ap (λ (f : EffectPlace). length f.task.groups) (sym c.firing.view_is))
+
+pub note_known-requires-clause-first : goal.note_known-requires-clause-first
+note_known-requires-clause-first g c =
+    let p = c.firing.inside.task.now in
+    subst (All (FactExists p.variables)) (sym c.effect_conditions.ensures)
+    (conditions_exist p c.firing.invariant.0 c.firing.inside.operator c.firing.invariant.2 c.firing.inside.effect c.firing.invariant.3)
+
+pub note_known-requires-clause-second : goal.note_known-requires-clause-second
+note_known-requires-clause-second g c = λ k d lt. absurd (omega arith)
+
+pub note_known-requires-clause-clean : goal.note_known-requires-clause-clean
+note_known-requires-clause-clean g c = subst (λ (f : EffectPlace). IsClean f.task c.args.marks.now) (sym c.firing.view_is) c.requires.clean
+
+pub look_at_groups-alone-requires-clause-room : goal.look_at_groups-alone-requires-clause-room
+look_at_groups-alone-requires-clause-room g c = c.requires.room
+
+pub forget_known-requires-clause-first : goal.forget_known-requires-clause-first
+forget_known-requires-clause-first g c =
+    let p = c.firing.inside.task.now in
+    subst (All (FactExists p.variables)) (sym c.effect_conditions.ensures)
+    (conditions_exist p c.firing.invariant.0 c.firing.inside.operator c.firing.invariant.2 c.firing.inside.effect c.firing.invariant.3)
+
+pub forget_known-requires-clause-second : goal.forget_known-requires-clause-second
+forget_known-requires-clause-second g c = λ k d lt. absurd (omega arith)
+
+pub forget_known-requires-clause-from : goal.forget_known-requires-clause-from
+forget_known-requires-clause-from g c =
+    let p = c.firing.inside.task.now in
+    let o = operator_at p c.firing.inside.operator in
+    let From : Marks → Type 0 = λ marks. IsNotedFrom p (known o c.effect_conditions.result.now []) marks in
+    elim c.if-not-note_known.branch [
+      | then-not-note_known w ↦ subst From (sym w.marks-is)
+          (subst (λ (conditions : List Fact). IsNotedFrom p (known o conditions []) w.look_at_groups-alone.new.marks) (sym c.effect_conditions.ensures)
+          (subst (λ (f : EffectPlace). IsNotedFrom f.task (known_at f.task f.operator f.effect) w.look_at_groups-alone.new.marks) (sym c.firing.view_is)
+          w.look_at_groups-alone.ensures.notes.noted.from))
+      | else-not-note_known w ↦ subst From (sym w.marks-is) c.note_known.ensures.from
+    ]
+
+pub returns-clause-alone : goal.returns-clause-alone
+returns-clause-alone g c =
+    let f = c.args.firing.now in
+    let Alone : List Bool → Bool → Type 0 = λ kept alone. IsTrue alone → EffectKeepsByBasis f.task c.args.family.now.basis kept f.operator f.effect in
+    elim c.if-not-note_known.branch [
+      | then-not-note_known w ↦ subst (λ (family : Family). Alone family.kept c.if-not-note_known.alone) (sym w.family-is)
+          (subst (Alone w.look_at_groups-alone.new.family.kept) (sym w.alone-is) w.look_at_groups-alone.ensures.alone)
+      | else-not-note_known w ↦ λ t. absurd (true≢false (sym t ∙ w.alone-is))
+    ]
+
+pub returns-clause-room : goal.returns-clause-room
+returns-clause-room g c =
+    let p = c.args.firing.now.task in
+    elim c.if-not-note_known.branch [
+      | then-not-note_known w ↦ subst (HasRoom p) (sym w.family-is) w.look_at_groups-alone.ensures.room
+      | else-not-note_known w ↦ subst (HasRoom p) (sym w.family-is) c.requires.room
+    ]
+
+pub returns-clause-clean : goal.returns-clause-clean
+returns-clause-clean g c = subst (λ (f : EffectPlace). IsClean f.task c.forget_known.new.marks) c.firing.view_is c.forget_known.ensures

@@ -1,12 +1,19 @@
 -- Effects that never fire keep all groups.
-use Rattle.std.proofs.Common.{List, [], Bool, length, sym, subst}
+use Rattle.std.proofs.Common.{◌<◌, List, [], Bool, length, sym, ap, subst, ◌∙◌, arith}
+use Rattle.std.proofs.lemmas.Bool.{true≢false}
+use Rattle.std.specs.Bool.{IsTrue}
 use Rattle.sas_core.specs.declared.parts.Fact.{Fact}
 use Rattle.sas_core.specs.declared.parts.Parts.{Parts}
 use Rattle.sas_core.specs.Grounded.{operator_at, effect_at, group_at}
 use Rattle.sas_groups.specs.Clashes.{Clash}
 use Rattle.sas_groups.specs.Lists.{known}
 use Rattle.sas_mutex.specs.Effects.{IsKept}
-use Rattle.sas_mutex.specs.Basis.{PlainSetNone}
+use Rattle.sas_mutex.specs.declared.family.Family.{Family}
+use Rattle.sas_mutex.specs.declared.marks.Marks.{Marks}
+use Rattle.sas_mutex.specs.Marks.{IsClean, IsNotedFrom}
+use Rattle.sas_mutex.specs.ByNotes.{AreNoted}
+use Rattle.sas_mutex.specs.Falling.{HasRoom}
+use Rattle.sas_mutex.specs.Basis.{PlainKeepByBasis, PlainSetNone}
 use Rattle.sas_mutex.proofs.FallingGroups.{none_fell}
 use Rattle.sas_mutex.proofs.ToldByNotes.{clash_keeps}
 use Rattle.sas_mutex.proofs.looking.look_where_plain_fire.Goals as goal
@@ -50,3 +57,78 @@ returns-then-not-plain_sets_one-clause-alone g c =
     let none = subst (λ (kept : List Bool). PlainSetNone p kept c.args.operator (length (operator_at p c.args.operator).effects)) c.as_slice.ensures
     (c.plain_sets_one.ensures c.if-not-plain_sets_one.true) in
     λ _ effect lt plain place in_family has. absurd (none effect lt plain place in_family has)
+
+pub returns-then-not-plain_sets_one-clause-room : goal.returns-then-not-plain_sets_one-clause-room
+returns-then-not-plain_sets_one-clause-room g c = c.requires.room
+
+pub returns-then-not-plain_sets_one-clause-clean : goal.returns-then-not-plain_sets_one-clause-clean
+returns-then-not-plain_sets_one-clause-clean g c = c.requires.clean
+
+pub note_known-requires-clause-one_each : goal.note_known-requires-clause-one_each
+note_known-requires-clause-one_each g c =
+    ap length c.as_slice-2.ensures ∙ (c.requires.room.one_each ∙ ap (λ (p : Parts). length p.groups) (sym c.indexed.view_is))
+
+pub note_known-requires-clause-operator : goal.note_known-requires-clause-operator
+note_known-requires-clause-operator g c = subst (λ (p : Parts). c.args.operator < length p.operators) (sym c.indexed.view_is) c.requires.operator
+
+pub note_known-requires-clause-first : goal.note_known-requires-clause-first
+note_known-requires-clause-first g c = λ k d lt. absurd (omega arith)
+
+pub note_known-requires-clause-second : goal.note_known-requires-clause-second
+note_known-requires-clause-second g c = λ k d lt. absurd (omega arith)
+
+pub note_known-requires-clause-clean : goal.note_known-requires-clause-clean
+note_known-requires-clause-clean g c = subst (λ (p : Parts). IsClean p c.args.marks.now) (sym c.indexed.view_is) c.requires.clean
+
+pub look_at_each_plain-alone-requires-clause-room : goal.look_at_each_plain-alone-requires-clause-room
+look_at_each_plain-alone-requires-clause-room g c = c.requires.room
+
+pub look_at_each_plain-alone-requires-clause-noted : goal.look_at_each_plain-alone-requires-clause-noted
+look_at_each_plain-alone-requires-clause-noted g c =
+    let marks = c.note_known.new.marks in
+    subst (λ (p : Parts). AreNoted p c.args.family.now.kept (known (operator_at p c.args.operator) [] []) marks) c.indexed.view_is
+    (subst (λ (kept : List Bool). AreNoted c.indexed.inside.task.now kept (known (operator_at c.indexed.inside.task.now c.args.operator) [] []) marks) c.as_slice-2.ensures
+    (record {
+      are = record { noted = c.note_known.ensures.noted c.if-not-note_known.true; apart = c.note_known.ensures.no c.if-not-note_known.true };
+      from = c.note_known.ensures.from;
+    }))
+
+pub forget_known-requires-clause-operator : goal.forget_known-requires-clause-operator
+forget_known-requires-clause-operator g c = subst (λ (p : Parts). c.args.operator < length p.operators) (sym c.indexed.view_is) c.requires.operator
+
+pub forget_known-requires-clause-first : goal.forget_known-requires-clause-first
+forget_known-requires-clause-first g c = λ k d lt. absurd (omega arith)
+
+pub forget_known-requires-clause-second : goal.forget_known-requires-clause-second
+forget_known-requires-clause-second g c = λ k d lt. absurd (omega arith)
+
+pub forget_known-requires-clause-from : goal.forget_known-requires-clause-from
+forget_known-requires-clause-from g c =
+    let From : Parts → Marks → Type 0 = λ p marks. IsNotedFrom p (known (operator_at p c.args.operator) [] []) marks in
+    let p = c.indexed.inside.task.now in
+    elim c.if-not-note_known.branch [
+      | then-not-note_known w ↦ subst (From p) (sym w.marks-is)
+          (subst (λ (q : Parts). From q w.look_at_each_plain-alone.new.marks) (sym c.indexed.view_is) w.look_at_each_plain-alone.ensures.noted.from)
+      | else-not-note_known w ↦ subst (From p) (sym w.marks-is) c.note_known.ensures.from
+    ]
+
+pub returns-clause-alone : goal.returns-clause-alone
+returns-clause-alone g c =
+    let p = c.args.indexed.now in
+    let Alone : List Bool → Bool → Type 0 = λ kept alone. IsTrue alone
+    → PlainKeepByBasis p c.args.family.now.basis kept c.args.operator (length (operator_at p c.args.operator).effects) in
+    elim c.if-not-note_known.branch [
+      | then-not-note_known w ↦ subst (λ (family : Family). Alone family.kept c.if-not-note_known.alone) (sym w.family-is)
+          (subst (Alone w.look_at_each_plain-alone.new.family.kept) (sym w.alone-is) w.look_at_each_plain-alone.ensures.alone)
+      | else-not-note_known w ↦ λ t. absurd (true≢false (sym t ∙ w.alone-is))
+    ]
+
+pub returns-clause-room : goal.returns-clause-room
+returns-clause-room g c =
+    elim c.if-not-note_known.branch [
+      | then-not-note_known w ↦ subst (HasRoom c.args.indexed.now) (sym w.family-is) w.look_at_each_plain-alone.ensures.room
+      | else-not-note_known w ↦ subst (HasRoom c.args.indexed.now) (sym w.family-is) c.requires.room
+    ]
+
+pub returns-clause-clean : goal.returns-clause-clean
+returns-clause-clean g c = subst (λ (p : Parts). IsClean p c.forget_known.new.marks) c.indexed.view_is c.forget_known.ensures

@@ -1,11 +1,12 @@
 -- One more fact came.
-use Rattle.std.proofs.Common.{List, get_or, length, take, sym, subst}
+use Rattle.std.proofs.Common.{◌<◌, List, get_or, length, take, sym, subst}
+use Rattle.std.proofs.lemmas.Bool.{true≢false}
 use Rattle.std.proofs.lemmas.List.{take_more, take_all}
 use Rattle.std.proofs.lemmas.List.Elements.{Contains-get_or}
 use Rattle.sas_core.specs.declared.parts.Fact.{Fact}
 use Rattle.sas_core.specs.declared.parts.Parts.{Parts}
 use Rattle.sas_group_index.specs.Index.{IsIndexOf}
-use Rattle.sas_group_index.proofs.Existing.{groups_below}
+use Rattle.sas_group_index.proofs.Existing.{variable_below, groups_below}
 use Rattle.sas_mutex.proofs.KnownFacts.{AreSoFar, none_so_far, one_so_far, refused_so_far, from_still, all_known}
 use Rattle.sas_mutex.proofs.marks.note_facts.Goals as goal
 
@@ -54,3 +55,17 @@ returns-clause-no g c =
     let p = c.args.indexed.now in
     let facts = c.args.facts.now in
     λ t. (all_known p c.args.kept.now facts c.requires.exist (take c.loop-fact.fact-index facts) c.loop-fact.notes (sym (take_all c.loop-fact.fact-index facts c.loop-fact-test.false)) c.loop-fact.invariant).apart
+
+pub note-requires-clause-value : goal.note-requires-clause-value
+note-requires-clause-value g c =
+    let fact = get_or c.args.facts.now c.loop-fact.fact-index (record { var = 0; value = 0 }) in
+    subst (λ n. fact.var < n) (sym c.loop-fact.invariant.from.wide.variables) (variable_below c.args.indexed.now fact (c.requires.exist c.loop-fact.fact-index _ c.loop-fact-test.true))
+
+pub returns-then-not-note-clause-no : goal.returns-then-not-note-clause-no
+returns-then-not-note-clause-no g c t = absurd (true≢false t)
+
+pub returns-clause-yes : goal.returns-clause-yes
+returns-clause-yes g c t = absurd (true≢false (sym t))
+
+pub returns-clause-from : goal.returns-clause-from
+returns-clause-from g c = c.loop-fact.invariant.from

@@ -90,6 +90,16 @@ bounds g c =
       c.loop-effect.invariant.on_effects.one_each,
     )
 
+pub bounds-as_slice-var : goal.bounds-as_slice-var
+bounds-as_slice-var g c =
+    omega (
+      arith,
+      change_within c.args.task.now c.task.ensures.well_ranged c.args.operator c.requires.operator c.loop-effect.effect (omega arith)
+          c.effect_change-var.result c.effect_change-var.ensures,
+      ap length c.as_slice.ensures,
+      c.loop-effect.invariant.on_effects.one_each,
+    )
+
 pub replace-requires-clause-exists : goal.replace-requires-clause-exists
 replace-requires-clause-exists g c =
     omega (

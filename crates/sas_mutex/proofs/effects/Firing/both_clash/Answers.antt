@@ -1,10 +1,15 @@
 -- One condition of the other effect clashes with what is known, or they clash among themselves.
-use Rattle.std.proofs.Common.{List, sym, subst, inl, inr}
-use Rattle.std.specs.List.{Contains}
+use Rattle.std.proofs.Common.{◌<◌, List, length, sym, subst, inl, inr}
+use Rattle.std.proofs.lemmas.Bool.{true≢false}
+use Rattle.std.specs.List.{All, Contains}
 use Rattle.sas_core.specs.declared.parts.Fact.{Fact}
 use Rattle.sas_core.specs.Grounded.{operator_at, effect_at}
+use Rattle.sas_core.specs.Variables.{FactExists}
 use Rattle.sas_groups.specs.Clashes.{Clash}
+use Rattle.sas_group_index.specs.Notes.{AreBlank}
+use Rattle.sas_mutex.specs.Firing.{EffectPlace, operator_of}
 use Rattle.sas_mutex.specs.Effects.{IsKept}
+use Rattle.sas_mutex.proofs.TaskFacts.{conditions_exist}
 use Rattle.sas_mutex.proofs.ToldByNotes.{one_clashes, themselves_clash, one_or_themselves}
 use Rattle.sas_mutex.proofs.effects.Firing.both_clash.Goals as goal
 
@@ -37,3 +42,53 @@ returns-clause-no g c =
       | inl w ↦ none c.if-some_clashes.false (w.0, subst (λ (facts : List Fact). Contains facts w.0) (sym same) w.1, w.2)
       | inr w ↦ c.facts_clash.ensures.no t (subst (λ (facts : List Fact). Clash Counts facts) (sym same) w)
     ])
+
+pub effect_conditions-second-requires-clause-operator : goal.effect_conditions-second-requires-clause-operator
+effect_conditions-second-requires-clause-operator g c = c.self.invariant.2
+
+pub effect_conditions-second-requires-clause-effect : goal.effect_conditions-second-requires-clause-effect
+effect_conditions-second-requires-clause-effect g c = subst (λ (f : EffectPlace). c.args.other < length (operator_of f).effects) (sym c.self.view_is) c.requires.other
+
+pub some_clashes-requires-clause-notes : goal.some_clashes-requires-clause-notes
+some_clashes-requires-clause-notes g c = c.requires.notes
+
+pub some_clashes-requires-clause-exist : goal.some_clashes-requires-clause-exist
+some_clashes-requires-clause-exist g c =
+    let p = c.self.inside.task.now in
+    let within = subst (λ (f : EffectPlace). c.args.other < length (operator_of f).effects) (sym c.self.view_is) c.requires.other in
+    subst (λ (f : EffectPlace). All (FactExists f.task.variables) c.effect_conditions-second.result.now) c.self.view_is
+    (subst (All (FactExists p.variables)) (sym c.effect_conditions-second.ensures)
+    (conditions_exist p c.self.invariant.0 c.self.inside.operator c.self.invariant.2 c.args.other within))
+
+pub returns-then-some_clashes-clause-notes : goal.returns-then-some_clashes-clause-notes
+returns-then-some_clashes-clause-notes g c = c.requires.notes
+
+pub returns-then-some_clashes-clause-no : goal.returns-then-some_clashes-clause-no
+returns-then-some_clashes-clause-no g c t = absurd (true≢false t)
+
+pub invariant_of-indexed : goal.invariant_of-indexed
+invariant_of-indexed g c = (c.self.invariant.0, c.self.invariant.1)
+
+pub facts_clash-requires-clause-exist : goal.facts_clash-requires-clause-exist
+facts_clash-requires-clause-exist g c =
+    let p = c.self.inside.task.now in
+    let within = subst (λ (f : EffectPlace). c.args.other < length (operator_of f).effects) (sym c.self.view_is) c.requires.other in
+    subst (All (FactExists p.variables)) (sym c.effect_conditions-second.ensures)
+    (conditions_exist p c.self.invariant.0 c.self.inside.operator c.self.invariant.2 c.args.other within)
+
+pub facts_clash-requires-clause-blank : goal.facts_clash-requires-clause-blank
+facts_clash-requires-clause-blank g c = subst (λ (f : EffectPlace). AreBlank f.task c.args.marks.now.others) (sym c.self.view_is) c.requires.notes.noted.from.others
+
+pub returns-clause-notes : goal.returns-clause-notes
+returns-clause-notes g c =
+    let notes = c.requires.notes in
+    record {
+      one_each = notes.one_each;
+      noted = record {
+        are = notes.noted.are;
+        from = record {
+          known = notes.noted.from.known;
+          others = subst (λ (f : EffectPlace). AreBlank f.task c.facts_clash.new.notes) c.self.view_is c.facts_clash.ensures.blank;
+        };
+      };
+    }

@@ -1,11 +1,12 @@
 -- A run that is settled is gone, or one fact more.
-use Rattle.std.proofs.Common.{sym, subst}
+use Rattle.std.proofs.Common.{◌<◌, get_or, sym, subst, arith}
 use Rattle.std.proofs.lemmas.Bool.{true≢false}
 use Rattle.sas_core.specs.Grounded.{operator_at, effect_at}
 use Rattle.sas_groups.specs.Checks.{IsGone}
 use Rattle.sas_groups.proofs.Turns.{each_more}
 use Rattle.sas_mutex.specs.Firing.{EffectPlace}
 use Rattle.sas_group_index.specs.Index.{IsIndexOf}
+use Rattle.sas_group_index.proofs.Existing.{variable_below}
 use Rattle.sas_mutex.specs.Effects.{IsKept}
 use Rattle.sas_mutex.proofs.GoneRuns.{settled_are_gone}
 use Rattle.sas_mutex.proofs.effects.Firing.run_is_gone.Goals as goal
@@ -26,3 +27,30 @@ loop-fact-preserved g c =
 
 pub returns-then-not-is_gone-clause-yes : goal.returns-then-not-is_gone-clause-yes
 returns-then-not-is_gone-clause-yes g c t = absurd (true≢false (sym t))
+
+pub is_settled-requires : goal.is_settled-requires
+is_settled-requires g c = record {
+  values = λ k d lt. subst (λ n. (get_or c.args.run.now k d).var < n) (sym c.requires.notes.noted.from.known.wide.variables)
+      (variable_below c.args.self.now.task (get_or c.args.run.now k d) (c.requires.exist k d lt));
+}
+
+pub returns-then-is_settled-clause-no : goal.returns-then-is_settled-clause-no
+returns-then-is_settled-clause-no g c t = absurd (true≢false t)
+
+pub loop-fact-init : goal.loop-fact-init
+loop-fact-init g c = λ k d lt. absurd (omega arith)
+
+pub is_gone-requires-clause-notes : goal.is_gone-requires-clause-notes
+is_gone-requires-clause-notes g c = c.requires.notes
+
+pub is_gone-requires-clause-fact : goal.is_gone-requires-clause-fact
+is_gone-requires-clause-fact g c = c.requires.exist c.loop-fact.fact-index (record { var = 0; value = 0 }) c.loop-fact-test.true
+
+pub returns-then-not-is_gone-clause-no : goal.returns-then-not-is_gone-clause-no
+returns-then-not-is_gone-clause-no g c = λ t all. c.is_gone.ensures.no c.if-not-is_gone.true (all c.loop-fact.fact-index _ c.loop-fact-test.true)
+
+pub returns-clause-yes : goal.returns-clause-yes
+returns-clause-yes g c = λ t k d lt. c.loop-fact.invariant k d (omega (arith, lt, c.loop-fact-test.false))
+
+pub returns-clause-no : goal.returns-clause-no
+returns-clause-no g c t = absurd (true≢false t)

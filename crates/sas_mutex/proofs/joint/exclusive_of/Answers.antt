@@ -1,0 +1,6 @@
+use Rattle.std.proofs.Common.{arith}
+use Rattle.std.proofs.lemmas.Grind.{common_steps}
+use Rattle.sas_mutex.proofs.joint.exclusive_of.Goals as goal
+
+pub loop-verdict-preserved : goal.loop-verdict-preserved
+loop-verdict-preserved c = grind (arith, common_steps)

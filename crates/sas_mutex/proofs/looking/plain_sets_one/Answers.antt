@@ -1,0 +1,51 @@
+-- One more effect sets no fact of a group of the family, or has conditions.
+use Rattle.std.proofs.Common.{◌≡◌, ◌<◌, length, sym, subst, below_more, arith}
+use Rattle.std.proofs.lemmas.Bool.{true≢false}
+use Rattle.sas_core.specs.declared.parts.Parts.{Parts}
+use Rattle.sas_core.specs.Grounded.{operator_at}
+use Rattle.sas_mutex.specs.Basis.{SetsNone}
+use Rattle.sas_mutex.specs.Effects.{IsPlain}
+use Rattle.sas_mutex.proofs.looking.plain_sets_one.Goals as goal
+use Rattle.sas_mutex.proofs.looking.plain_sets_one.Goals.{then-is_plain+else-sets_one_of, else-is_plain}
+
+pub effects-effects-requires : goal.effects-effects-requires
+effects-effects-requires g c = subst (λ (p : Parts). c.args.operator < length p.operators) (sym c.indexed.view_is) c.requires.operator
+
+pub loop-effect-init : goal.loop-effect-init
+loop-effect-init g c = record { none = λ effect lt. absurd (omega arith) }
+
+pub is_plain-requires-clause-operator : goal.is_plain-requires-clause-operator
+is_plain-requires-clause-operator g c = subst (λ (p : Parts). c.args.operator < length p.operators) (sym c.indexed.view_is) c.requires.operator
+
+pub is_plain-requires-clause-effect : goal.is_plain-requires-clause-effect
+is_plain-requires-clause-effect g c = subst (λ n. c.loop-effect.effect < n) c.effects-effects.ensures c.loop-effect-test.true
+
+pub invariant_of-firing : goal.invariant_of-firing
+invariant_of-firing g c = (
+  c.indexed.invariant.0,
+  c.indexed.invariant.1,
+  subst (λ (p : Parts). c.args.operator < length p.operators) (sym c.indexed.view_is) c.requires.operator,
+  subst (λ n. c.loop-effect.effect < n) c.effects-effects.ensures c.loop-effect-test.true,
+)
+
+pub sets_one_of-requires : goal.sets_one_of-requires
+sets_one_of-requires g c = subst (λ (p : Parts). length c.args.kept.now ≡ length p.groups) (sym c.indexed.view_is) c.requires.one_each
+
+pub returns-then-sets_one_of : goal.returns-then-sets_one_of
+returns-then-sets_one_of g c t = absurd (true≢false t)
+
+pub loop-effect-preserved : goal.loop-effect-preserved
+loop-effect-preserved g c =
+    let kept = c.args.kept.now in
+    let operator = c.args.operator in
+    let effect = c.loop-effect.effect in
+    let here : IsPlain c.args.indexed.now operator effect → SetsNone c.args.indexed.now kept operator effect = elim c.if-is_plain.branch [
+      | then-is_plain+else-sets_one_of w ↦ λ plain. subst (λ (q : Parts). SetsNone q kept operator effect) c.indexed.view_is (w.sets_one_of.ensures w.if-sets_one_of.false)
+      | else-is_plain w ↦ λ plain. absurd (subst (λ (q : Parts). IsPlain q operator effect → ⊥) c.indexed.view_is (c.is_plain.ensures.no w.if-is_plain.false) plain)
+    ] in
+    record { none = below_more _ _ c.loop-effect.invariant.none here }
+
+pub returns : goal.returns
+returns g c =
+    let count = subst (λ (q : Parts). c.effects-effects.result ≡ length (operator_at q c.args.operator).effects) c.indexed.view_is c.effects-effects.ensures in
+    λ t effect lt. c.loop-effect.invariant.none effect (omega (arith, lt, count, c.loop-effect-test.false))
