@@ -235,3 +235,12 @@ returns-clause-left g c =
     let same = c.in_default.ensures.same in
     let noted = subst (λ n. IsNoted c.args.work.now.agenda n c.requires.noted.0) (sym inv.same.layer) c.requires.noted.1 in
     less_in_the_end c.loop-rule.work.layer c.requires.noted.0 c.args.work.now.agenda c.take.new.self noted c.in_default.ensures.none (rw same inv.left)
+
+pub loop-rule-smaller-in-Continue-branch-2 : goal.loop-rule-smaller-in-Continue-branch-2
+loop-rule-smaller-in-Continue-branch-2 g c =
+    let a = c.in-Some.ensures.left in let d = c.in_ok-set_to.ensures.moves.left in let e = c.in_ok-make_ready.ensures.left in omega arith
+
+pub loop-rule-smaller : goal.loop-rule-smaller
+loop-rule-smaller g c =
+    let a = c.in-Some.ensures.left in let made = c.in_ok-make_ready-2.ensures in
+    let r = ap length made.ready in let l = length-append c.take.new.self.ready.items (c.in-Some.rule ∷ []) in let n = ap (λ h. length (heap_items h)) made.noted in let m = made.left in omega arith

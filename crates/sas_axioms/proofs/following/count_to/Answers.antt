@@ -1,0 +1,48 @@
+-- The counter is set, and the rule is noted.
+use Rattle.std.proofs.Common.{length, refl, ap, inl, ◌∙◌, arith}
+use Rattle.std.proofs.lemmas.List.{length-set}
+use Rattle.sas_axioms.proofs.following.count_to.Goals as goal
+
+pub bounds-as_slice-rule : goal.bounds-as_slice-rule
+bounds-as_slice-rule g c = omega (arith, c.requires.exists, c.requires.counters, ap length c.as_slice.ensures)
+
+pub set-requires : goal.set-requires
+set-requires g c = omega (arith, c.requires.exists, c.requires.counters)
+
+pub returns-in_err-note-clause-same : goal.returns-in_err-note-clause-same
+returns-in_err-note-clause-same g c = record {
+  layer = refl;
+  stack = refl;
+  one_each = ap length c.set.ensures ∙ length-set c.args.work.now.counters c.args.rule c.args.count;
+  sources = refl;
+}
+
+pub returns-in_ok-note-clause-same : goal.returns-in_ok-note-clause-same
+returns-in_ok-note-clause-same g c = record {
+  layer = refl;
+  stack = refl;
+  one_each = ap length c.set.ensures ∙ length-set c.args.work.now.counters c.args.rule c.args.count;
+  sources = refl;
+}
+
+pub returns-else-held-count-clause-same : goal.returns-else-held-count-clause-same
+returns-else-held-count-clause-same g c = record {
+  layer = refl;
+  stack = refl;
+  one_each = ap length c.set.ensures ∙ length-set c.args.work.now.counters c.args.rule c.args.count;
+  sources = refl;
+}
+
+pub returns-in_ok-note-clause-counts : goal.returns-in_ok-note-clause-counts
+returns-in_ok-note-clause-counts g c = record {
+  same = record {
+    layer = refl;
+    stack = refl;
+    one_each = ap length c.set.ensures ∙ length-set c.args.work.now.counters c.args.rule c.args.count;
+    sources = refl;
+  };
+  counters = c.set.ensures;
+  crossed = λ layer is. inl (c.in_ok-note.ensures.noted layer is);
+  notes = c.in_ok-note.ensures.notes;
+  left = c.in_ok-note.ensures.left;
+}
