@@ -10,7 +10,7 @@ use Rattle.sas_groups.specs.Families.{IsIn, IsGroupOf, IsGroupOfOr, IsKeptJointl
 use Rattle.sas_groups.specs.Verdicts.{IsJointVerdict}
 use Rattle.sas_groups.proofs.GreatestFamily.{keeps_more, all_keep_more, group_of_larger}
 use Rattle.sas_group_index.specs.Kept.{family_of}
-use Rattle.sas_mutex.specs.Joint.{verdict_at, AreJointVerdicts}
+use Rattle.sas_groups.specs.Joint.{verdict_at, AreJointVerdicts}
 use Rattle.sas_group_reasons.proofs.GroupReasons.{counts_too}
 
 module _ (p : Parts) (verdicts : List Verdict) (kept : List Bool) (joint : AreJointVerdicts p verdicts)

@@ -14,7 +14,7 @@ use Rattle.sas_groups.specs.Verdicts.{IsJointVerdict}
 use Rattle.sas_group_index.specs.Index.{HasFact}
 use Rattle.sas_group_index.specs.Kept.{family_of}
 use Rattle.sas_mutex.specs.Effects.{KeepsWithItself}
-use Rattle.sas_mutex.specs.Joint.{verdict_at, AreJointVerdicts}
+use Rattle.sas_groups.specs.Joint.{verdict_at, AreJointVerdicts}
 use Rattle.sas_mutex.proofs.Keeping.{keeps_from_effects}
 use Rattle.sas_group_reasons.specs.declared.reason.Failure.{Failure}
 use Rattle.sas_group_reasons.specs.declared.reason.Reason.{Reason}

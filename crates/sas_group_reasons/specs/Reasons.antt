@@ -8,7 +8,7 @@ use Rattle.sas_meaning.specs.States.{Holds}
 use Rattle.sas_groups.specs.declared.verdict.Verdict.{Verdict}
 use Rattle.sas_groups.specs.declared.verdict.Verdict.TheVariants.{Exclusive, Derived, Initial, Broken}
 use Rattle.sas_groups.specs.Families.{IsGreatest, IsGroupOfOr}
-use Rattle.sas_mutex.specs.Joint.{verdict_at}
+use Rattle.sas_groups.specs.Joint.{verdict_at}
 use Rattle.sas_group_reasons.specs.declared.reason.Reason.{Reason}
 use Rattle.sas_group_reasons.specs.declared.reason.Reason.TheVariants.{OnDerived, HoldsTwo, Breaks}
 use Rattle.sas_group_reasons.specs.Failures.{IsFirstFailure}

@@ -7,7 +7,7 @@ ghost use Rattle.sas_groups.specs.Groups.{IsExclusiveIn};
 ghost use Rattle.sas_groups.specs.Families.{IsOnBasic};
 ghost use Rattle.sas_groups.specs.Verdicts.{IsJointVerdict};
 ghost use Rattle.sas_groups.specs.declared.verdict.Verdict.TheVariants.{Derived, Initial};
-ghost use Rattle.sas_mutex.specs.Joint.{AreJointVerdicts};
+ghost use Rattle.sas_groups.specs.Joint.{AreJointVerdicts};
 ghost use Rattle.sas_group_reasons.specs.Reasons.{IsFirstSuch, AreFirstHolding, IsReason};
 ghost use Rattle.sas_group_reasons.specs.Telling.{HoldsBeside, IsReasonSoFar, AreReasonsSoFar};
 

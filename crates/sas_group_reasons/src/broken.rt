@@ -5,7 +5,7 @@ ghost use Rattle.sas_groups.specs.Families.{IsGreatest};
 ghost use Rattle.sas_group_index.specs.Index.{HasFact};
 ghost use Rattle.sas_group_index.specs.Kept.{family_of};
 ghost use Rattle.sas_mutex.specs.Firing.{effect_of};
-ghost use Rattle.sas_mutex.specs.Joint.{verdict_at, AreJointVerdicts};
+ghost use Rattle.sas_groups.specs.Joint.{verdict_at, AreJointVerdicts};
 ghost use Rattle.sas_mutex.specs.Marks.{IsClean};
 ghost use Rattle.sas_group_index.specs.Noting.{AreBelow};
 ghost use Rattle.sas_mutex.specs.ByNotes.{IsNotedAt};

@@ -3,7 +3,7 @@ ghost use Rattle.std.specs.Prelude.{◌≡◌, ◌<◌, ◌↔◌, ℕ, Bool, Li
 ghost use Rattle.sas_groups.specs.declared.verdict.Verdict.{Verdict};
 ghost use Rattle.sas_groups.specs.declared.verdict.Verdict.TheVariants.{Exclusive, Broken};
 ghost use Rattle.sas_group_index.specs.Kept.{family_of};
-ghost use Rattle.sas_mutex.specs.Joint.{verdict_at, AreJointVerdicts};
+ghost use Rattle.sas_groups.specs.Joint.{verdict_at, AreJointVerdicts};
 ghost use Rattle.sas_group_reasons.specs.Reasons.{AreReasons};
 ghost use Rattle.sas_group_reasons.specs.Telling.{AreReasonsSoFar, IsBroken, AreMarked};
 

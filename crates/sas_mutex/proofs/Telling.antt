@@ -23,7 +23,7 @@ use Rattle.sas_group_index.specs.Kept.{family_of}
 use Rattle.sas_mutex.specs.Effects.{IsKept, EffectKeeps, KeepsWithItself}
 use Rattle.sas_mutex.specs.Falling.{AreCandidates}
 use Rattle.sas_group_index.specs.Index.{HasFact}
-use Rattle.sas_mutex.specs.Joint.{verdict_at, AreJointVerdicts}
+use Rattle.sas_groups.specs.Joint.{verdict_at, AreJointVerdicts}
 use Rattle.sas_mutex.specs.Judging.{AreFirstVerdicts, IsUntold, KeptSoFar, IsVerdictSoFar, AreVerdictsSoFar}
 use Rattle.sas_group_index.specs.Notes.{IsGroupNote}
 use Rattle.sas_mutex.specs.ByNotes.{IsNotedFor, known_at}

@@ -10,7 +10,7 @@ use Rattle.sas_groups.specs.Verdicts.{IsJointVerdict}
 use Rattle.sas_groups.specs.Checks.{IsFirstVerdict}
 use Rattle.sas_group_index.specs.Kept.{family_of}
 use Rattle.sas_mutex.specs.Effects.{KeepsWithItself}
-use Rattle.sas_mutex.specs.Joint.{verdict_at}
+use Rattle.sas_groups.specs.Joint.{verdict_at}
 
 -- the verdict on each group before operators are checked
 pub record AreFirstVerdicts (p : Parts) (verdicts : List Verdict) : Type 0 where

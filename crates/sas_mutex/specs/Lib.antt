@@ -5,7 +5,6 @@ pub use Rattle.sas_groups.specs.Families
 pub use Rattle.sas_groups.specs.Verdicts
 pub use Rattle.sas_groups.specs.Laws
 pub use Rattle.sas_groups.specs.Lists
-pub use Rattle.sas_groups.specs.Joint
 pub mod Judging
 pub mod Marks
 pub mod Firing

@@ -12,7 +12,7 @@ ghost use Rattle.sas_group_index.specs.Index.{HasFact};
 ghost use Rattle.sas_mutex.specs.Marks.{IsClean};
 ghost use Rattle.sas_group_index.specs.Noting.{AreBelow};
 ghost use Rattle.sas_mutex.specs.ByNotes.{IsNotedAt};
-ghost use Rattle.sas_mutex.specs.Joint.{verdict_at, AreJointVerdicts, AreInvariants};
+ghost use Rattle.sas_groups.specs.Joint.{verdict_at, AreJointVerdicts, AreInvariants};
 ghost use Rattle.sas_mutex.specs.Judging.{AreFirstVerdicts, IsUntold, IsVerdictSoFar, AreVerdictsSoFar};
 ghost use Rattle.sas_mutex.specs.Basis.{IsOfNone};
 

@@ -2,7 +2,7 @@
 use Rattle.std.proofs.Common.{ℕ, ◌+◌, List, Option, None, Some, get_or, sym, ap, ◌∙◌, subst, arith}
 use Rattle.std.proofs.lemmas.List.{get_or-set_same}
 use Rattle.sas_mutex.specs.Firing.{EffectPlace}
-use Rattle.sas_mutex.specs.Joint.{verdict_at}
+use Rattle.sas_groups.specs.Joint.{verdict_at}
 use Rattle.sas_group_reasons.specs.declared.reason.Reason.{Reason}
 use Rattle.sas_group_reasons.specs.declared.reason.Reason.TheVariants.{Breaks}
 use Rattle.sas_group_reasons.specs.Reasons.{IsReason, reason_at}

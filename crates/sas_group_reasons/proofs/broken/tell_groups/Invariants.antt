@@ -1,6 +1,6 @@
 -- The groups so far are told of; the family is as it was.
 use Rattle.std.proofs.Common.{◌≡◌, ◌+◌, ℕ, ◌<◌, get_or}
-use Rattle.sas_mutex.specs.Joint.{verdict_at}
+use Rattle.sas_groups.specs.Joint.{verdict_at}
 use Rattle.sas_mutex.specs.ByNotes.{IsNotedAt}
 use Rattle.sas_group_reasons.specs.Reasons.{reason_at}
 use Rattle.sas_group_reasons.specs.Telling.{IsReasonSoFar, AreReasonsSoFar}

@@ -3,7 +3,7 @@ use Rattle.std.proofs.Common.{◌≡◌, ℕ, ◌<◌, length}
 use Rattle.std.specs.Prelude.{◌↔◌, IsTrue}
 use Rattle.sas_groups.specs.declared.verdict.Verdict.TheVariants.{Exclusive}
 use Rattle.sas_group_index.specs.Kept.{family_of}
-use Rattle.sas_mutex.specs.Joint.{verdict_at}
+use Rattle.sas_groups.specs.Joint.{verdict_at}
 use Rattle.sas_group_reasons.proofs.reasons.exclusive_groups.Given as goal
 
 abbrev pub invariant-loop-verdict : goal.invariant-loop-verdict

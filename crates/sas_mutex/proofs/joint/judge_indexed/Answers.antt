@@ -7,7 +7,7 @@ use Rattle.sas_group_index.specs.Kept.{family_of}
 use Rattle.std.proofs.lemmas.Bool.{true≢false}
 use Rattle.std.proofs.lemmas.List.Elements.{All-nil}
 use Rattle.std.specs.List.{All}
-use Rattle.sas_mutex.specs.Joint.{verdict_at}
+use Rattle.sas_groups.specs.Joint.{verdict_at}
 use Rattle.sas_mutex.proofs.Counting.{count_within}
 use Rattle.sas_mutex.proofs.Telling.{candidates_from}
 use Rattle.sas_mutex.proofs.joint.judge_indexed.Goals as goal

@@ -15,7 +15,7 @@ use Rattle.sas_mutex.specs.declared.marks.Marks.{Marks}
 use Rattle.sas_mutex.specs.Marks.{IsClean, IsNoted, IsNotedFrom}
 use Rattle.sas_mutex.specs.ByNotes.{known_at}
 use Rattle.sas_mutex.specs.Firing.{EffectPlace, operator_of, effect_of}
-use Rattle.sas_mutex.specs.Joint.{verdict_at}
+use Rattle.sas_groups.specs.Joint.{verdict_at}
 use Rattle.sas_mutex.specs.Judging.{IsUntold, IsVerdictSoFar}
 use Rattle.sas_mutex.proofs.SetFacts.{groups_setting}
 use Rattle.sas_mutex.proofs.TaskFacts.{conditions_exist}

@@ -7,7 +7,7 @@ use Rattle.sas_groups.specs.declared.verdict.Verdict.TheVariants.{Exclusive, Bro
 use Rattle.sas_groups.specs.Verdicts.{IsJointVerdict}
 use Rattle.sas_group_index.specs.Kept.{family_of}
 use Rattle.sas_mutex.specs.Firing.{EffectPlace, operator_of}
-use Rattle.sas_mutex.specs.Joint.{verdict_at}
+use Rattle.sas_groups.specs.Joint.{verdict_at}
 use Rattle.sas_mutex.specs.Judging.{IsUntold, IsVerdictSoFar, AreVerdictsSoFar}
 use Rattle.sas_mutex.proofs.Telling.{broken_here, one_told, so_far_by, one_effect_more, told_already}
 use Rattle.sas_mutex.proofs.joint.tell_group.Goals as goal
