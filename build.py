@@ -6,7 +6,7 @@
 CRATE is a program, as sas, or a static library, as sas_c. PROCESSORS is how many to use; all, if left out. A check takes one to four GB.
 
 Each crate is proved by `rt lib`, once those that it uses are proved: first the crate with the longest chain of others above it. Where
-fewer crates are ready than there are processors, that one gets several. `rt lib` keeps every other run out of the folders of all crates
+fewer crates are ready than there are processors, a large one gets several. `rt lib` keeps every other run out of the folders of all crates
 below, so it runs in a room: a folder of the crate's own with links to the files of these crates.
 """
 import concurrent.futures
@@ -19,9 +19,10 @@ import time
 TOP = os.path.dirname(os.path.abspath(__file__))
 CRATES = f"{TOP}/crates"
 ROOMS = f"{TOP}/out/rooms"
-# what is read of a crate that is built, and how many processors a check can use
+# what is read of a crate that is built
 PARTS = ("src", "specs", "proofs", "out/rlib")
-MOST = 4
+# a check gets one processor more for so many bytes of code: each has to load the crates below, which takes as long as a small crate
+BYTES_MORE = 40_000
 BEGAN = time.monotonic()
 
 
@@ -48,6 +49,11 @@ def with_those_below(name, used):
 def size_of(crate):
     """Returns how many bytes of code a crate has."""
     return sum(os.path.getsize(f"{at}/{it}") for at, _, names in os.walk(f"{CRATES}/{crate}/src") for it in names)
+
+
+def jobs_for(crate):
+    """Returns how many processors the check of a crate can use."""
+    return 1 + size_of(crate) // BYTES_MORE
 
 
 def longest_above(names, used):
@@ -116,7 +122,7 @@ class Build:
                 ready = [it for it in waiting if well and self.proved.issuperset(self.used[it])]
                 idle = processors - sum(jobs for _, jobs in running.values())
                 for at, crate in enumerate(ready[:idle]):
-                    jobs = min(MOST, max(1, idle - (len(ready) - at - 1)))
+                    jobs = min(jobs_for(crate), max(1, idle - (len(ready) - at - 1)))
                     idle -= jobs
                     waiting.remove(crate)
                     running[pool.submit(prove, crate, self.used, jobs)] = crate, jobs
@@ -127,7 +133,7 @@ class Build:
     def prove_last(self, processors):
         """Proves the last crate, and builds it; runs it once where it is a program. Returns whether that went well."""
         verb = "run" if os.path.isfile(f"{CRATES}/{self.crate}/src/main.rt") else "lib"
-        return self.report(self.crate, rt(verb, f"{CRATES}/{self.crate}", processors))
+        return self.report(self.crate, rt(verb, f"{CRATES}/{self.crate}", min(jobs_for(self.crate), processors)))
 
 
 def rt(verb, folder, jobs):
