@@ -176,6 +176,7 @@ pub fn judge<E: Settle<T> + Drop, T: Grounded, P: Stepwise>(
 }
 
 /// Makes the plan's steps in turn, where it is found what their names mean. Adds their operators, for which there is room.
+#[inline(always)]
 fn go_through<E: Settle<T> + Drop, T: Grounded, P: Stepwise>(
     layered: &Layered<T>,
     walker: &mut Walker<E>,
