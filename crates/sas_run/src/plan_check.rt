@@ -132,20 +132,11 @@ pub fn check_found<E: Settle<T> + Drop, T: Grounded, P: Stepwise>(
         → IsFaultOf layered.now (P.says plan.now) f) }
 {
     let mut walk = Walk::new(alloc, layered, walker, plan.steps())?;
-    match judge(layered, walker, plan, found, &mut walk) {
-        Ok(()) => {
-            let Walk { state, operators } = walk;
-            drop(state);
-            Ok(Valid {
-                operators,
-                cost: plan.cost(),
-            })
-        }
-        Err(fault) => {
-            drop(walk);
-            Err(fault)
-        }
-    }
+    judge(layered, walker, plan, found, &mut walk)?;
+    Ok(Valid {
+        operators: walk.operators,
+        cost: plan.cost(),
+    })
 }
 
 /// Checks whether the plan is valid, where it is found what the names of its steps mean. Adds the plan's operators, for
