@@ -169,7 +169,9 @@ fn explain_refused(alloc: Global, task: FlatTask, fault: LayerFault) -> Result<A
     Ok(Answer::Refused(explain_layers(alloc, task, fault)?))
 }
 
-/// Returns the answer about a plan of a layered task that was read, with the reasons where the plan isn't valid.
+/// Returns the answer about a plan of a layered task that was read, with the reasons where the plan isn't valid. Its frame is large, and
+/// isn't to stand below the reader of the task.
+#[inline(never)]
 fn explain_judged<P: Read>(
     alloc: Global,
     layered: Layered<FlatTask>,

@@ -141,7 +141,6 @@ pub fn check_found<E: Settle<T> + Drop, T: Grounded, P: Stepwise>(
 
 /// Checks whether the plan is valid, where it is found what the names of its steps mean. Adds the plan's operators, for
 /// which there is room. Without an allocator it can ask for no memory.
-#[inline(always)]
 pub fn judge<E: Settle<T> + Drop, T: Grounded, P: Stepwise>(
     layered: &Layered<T>,
     walker: &mut Walker<E>,
@@ -167,7 +166,6 @@ pub fn judge<E: Settle<T> + Drop, T: Grounded, P: Stepwise>(
 }
 
 /// Makes the plan's steps in turn, where it is found what their names mean. Adds their operators, for which there is room.
-#[inline(always)]
 fn go_through<E: Settle<T> + Drop, T: Grounded, P: Stepwise>(
     layered: &Layered<T>,
     walker: &mut Walker<E>,
