@@ -1,8 +1,6 @@
-mod NameHashing
-mod NameKeys
+mod TablePuts
 mod NamesFrom
 pub mod Searching
-mod Alike
 mod StepNumbers
 mod ChainsFrom
 mod FoundSteps

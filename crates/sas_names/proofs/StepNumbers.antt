@@ -1,68 +1,86 @@
--- The numbers of names, where one name more is numbered.
-use Rattle.std.proofs.Common.{◌≡◌, ℕ, ◌+◌, ◌<◌, ◌⊎◌, Bool, true, false, List, [], ◌∷◌, ◌++◌, length, nat_eq, get_or, None, Some, refl, sym, ap, subst, ◌∙◌, inl, inr, if◌then◌else◌, arith}
+-- The numbers of steps' names, where one name more is numbered.
+use Rattle.std.proofs.Common.{◌≡◌, ℕ, ◌<◌, ◌⊎◌, Bool, true, false, List, [], ◌∷◌, ◌++◌, length, nat_eq, get_or, Option, None, Some, refl, sym, ap, subst, ◌∙◌, inl, inr, if◌then◌else◌, arith}
 use Rattle.std.specs.Cmp.Lexicographic.{pointwise, bytes_decides}
 use Rattle.std.proofs.Math.ListN.{get_or-append, length-append}
 use Rattle.std.proofs.Math.Seq.{get_or-append_seam}
 use Rattle.std.proofs.lemmas.Bool.{cases_lt}
 use Rattle.std.proofs.lemmas.Option.{none-some, same_Some}
-use Rattle.indexmap.specs.IndexMap.{IndexMap, index_map_len}
-use Rattle.sas_names.specs.declared.name_key.NameKey.{NameKey}
-use Rattle.sas_names.specs.NameTable.{Puts}
-use Rattle.sas_names.specs.StepNames.{AreNumbers, HaveNumbers, Numbers, number_in}
+use Rattle.sas_names.specs.declared.name_table.NameTable.{NameTable}
+use Rattle.sas_names.specs.NameDigest.{digest_of}
+use Rattle.sas_names.specs.NameTable.{IsEmptyTable, NumbersExist, Puts, number_of, other_of, own_else}
+use Rattle.sas_names.specs.StepNames.{AreStepsOf, HaveNumbers, Numbers, step_names}
 
-module _ {S : Type 0} (m n : IndexMap NameKey ℕ S) (name : List ℕ)
-    (are : AreNumbers m) (new : number_in m name ≡ None) (puts : Puts name (index_map_len m) m n) (one : index_map_len n ≡ index_map_len m + 1) where
+-- no step has a number yet
+pub AreStepsOf-start : (steps : List (List ℕ)) (table : NameTable) → IsEmptyTable table → AreStepsOf steps table
+AreStepsOf-start steps table empty = record {
+  exist = λ digest k is. absurd (none-some k (sym (empty.first digest) ∙ is));
+  below = λ name k is. absurd (none-some k (sym (none name) ∙ is));
+  named = λ name k is. absurd (none-some k (sym (none name) ∙ is));
+}
+  where
+    none : (name : List ℕ) → number_of (step_names steps) table name ≡ None
+    none name = ap (λ had. own_else (step_names steps) name had (other_of table.others name)) (empty.first (digest_of name)) ∙ empty.others name
+
+-- a name that has a number keeps it
+pub Numbers-same : (steps : List (List ℕ)) (name : List ℕ) (number : ℕ) (table : NameTable) → AreStepsOf steps table
+    → number_of (step_names steps) table name ≡ Some number → Numbers steps name number table table
+Numbers-same steps name number table are is = record { is = is; kept = λ other k e. e; numbers = are }
+
+module _ (steps : List (List ℕ)) (m n : NameTable) (step : ℕ) (within : step < length steps)
+    (are : AreStepsOf steps m) (new : number_of (step_names steps) m (step_names steps step) ≡ None)
+    (puts : Puts (step_names steps) step m n) (exist : NumbersExist (length steps) n) where
+  abbrev name : List ℕ
+  name = step_names steps step
+
+  abbrev before : List ℕ → Option ℕ
+  before other = number_of (step_names steps) m other
+
+  abbrev after : List ℕ → Option ℕ
+  after other = number_of (step_names steps) n other
+
   -- which names have a number
-  of_new : (other : List ℕ) (k : ℕ) → number_in n other ≡ Some k → ((name ≡ other) × (index_map_len m ≡ k)) ⊎ (number_in m other ≡ Some k)
+  of_new : (other : List ℕ) (k : ℕ) → after other ≡ Some k → ((name ≡ other) × (step ≡ k)) ⊎ (before other ≡ Some k)
   of_new other k e = by (pointwise nat_eq name other) refl
     where
-      by : (b : Bool) → pointwise nat_eq name other ≡ b → ((name ≡ other) × (index_map_len m ≡ k)) ⊎ (number_in m other ≡ Some k)
+      by : (b : Bool) → pointwise nat_eq name other ≡ b → ((name ≡ other) × (step ≡ k)) ⊎ (before other ≡ Some k)
       by true is = inl (
         (bytes_decides name other).0 is,
-        same_Some (index_map_len m) k (subst (λ b. (if b then Some (index_map_len m) else number_in m other) ≡ Some k) is (sym (puts other) ∙ e)),
+        same_Some step k (subst (λ b. (if b then Some step else before other) ≡ Some k) is (sym (puts other) ∙ e)),
       )
-      by false is = inr (subst (λ b. (if b then Some (index_map_len m) else number_in m other) ≡ Some k) is (sym (puts other) ∙ e))
+      by false is = inr (subst (λ b. (if b then Some step else before other) ≡ Some k) is (sym (puts other) ∙ e))
 
-  kept : (other : List ℕ) (k : ℕ) → number_in m other ≡ Some k → number_in n other ≡ Some k
+  kept : (other : List ℕ) (k : ℕ) → before other ≡ Some k → after other ≡ Some k
   kept other k e = by (pointwise nat_eq name other) refl
     where
-      by : (b : Bool) → pointwise nat_eq name other ≡ b → number_in n other ≡ Some k
-      by true is = absurd (none-some k (sym (subst (λ l. number_in m l ≡ None) ((bytes_decides name other).0 is) new) ∙ e))
-      by false is = subst (λ b. number_in n other ≡ (if b then Some (index_map_len m) else number_in m other)) is (puts other) ∙ e
+      by : (b : Bool) → pointwise nat_eq name other ≡ b → after other ≡ Some k
+      by true is = absurd (none-some k (sym (subst (λ l. before l ≡ None) ((bytes_decides name other).0 is) new) ∙ e))
+      by false is = subst (λ b. after other ≡ (if b then Some step else before other)) is (puts other) ∙ e
 
-  below : (other : List ℕ) (k : ℕ) → number_in n other ≡ Some k → k < index_map_len n
-  below other k e = elim (of_new other k e) [
-    | inl is ↦ (let same = is.1 in omega arith)
-    | inr old ↦ (let less = are.below other k old in omega arith)
-  ]
-
-  apart : (a b : List ℕ) (k : ℕ) → number_in n a ≡ Some k → number_in n b ≡ Some k → a ≡ b
-  apart a b k x y = elim (of_new a k x) [
-    | inl is ↦ elim (of_new b k y) [
-      | inl same ↦ sym is.0 ∙ same.0
-      | inr old ↦ absurd (let e = is.1 in let less = are.below b k old in omega arith)
-    ]
-    | inr old ↦ elim (of_new b k y) [
-      | inl is ↦ absurd (let e = is.1 in let less = are.below a k old in omega arith)
-      | inr same ↦ are.apart a b k old same
-    ]
-  ]
-
-  -- a new name has the next number
-  pub numbers_new : Numbers name (index_map_len m) m n
-  numbers_new = record {
-    is = subst (λ b. number_in n name ≡ (if b then Some (index_map_len m) else number_in m name)) ((bytes_decides name name).1 refl) (puts name);
+  -- a new name has the number of its step
+  pub Numbers-new : Numbers steps name step m n
+  Numbers-new = record {
+    is = subst (λ b. after name ≡ (if b then Some step else before name)) ((bytes_decides name name).1 refl) (puts name);
     kept = kept;
-    numbers = record { below = below; apart = apart };
+    numbers = record {
+      exist = exist;
+      below = λ other k e. elim (of_new other k e) [
+        | inl is ↦ (let same = is.1 in omega (arith, within))
+        | inr old ↦ are.below other k old
+      ];
+      named = λ other k e. elim (of_new other k e) [
+        | inl is ↦ ap (step_names steps) (sym is.1) ∙ is.0
+        | inr old ↦ are.named other k old
+      ];
+    };
   }
 
 -- the next step has its number, too
-pub numbers_one_more : {S : Type 0} (steps : List (List ℕ)) (m n : IndexMap NameKey ℕ S) (of_steps : List ℕ) (number : ℕ) → HaveNumbers steps m of_steps
-    → Numbers (get_or steps (length of_steps) []) number m n → HaveNumbers steps n (of_steps ++ number ∷ [])
+pub numbers_one_more : (steps : List (List ℕ)) (m n : NameTable) (of_steps : List ℕ) (number : ℕ) → HaveNumbers steps m of_steps
+    → Numbers steps (get_or steps (length of_steps) []) number m n → HaveNumbers steps n (of_steps ++ number ∷ [])
 numbers_one_more steps m n of_steps number each next step lt = elim (cases_lt step (length of_steps)) [
   | inl before ↦ next.kept (get_or steps step []) (get_or of_steps step 0) (each step before) ∙ ap Some (sym (get_or-append of_steps (number ∷ []) 0 step before))
   | inr late ↦
       let same : length of_steps ≡ step = omega (arith, length-append of_steps (number ∷ [])) in
-      subst (λ i. number_in n (get_or steps i []) ≡ Some (get_or (of_steps ++ number ∷ []) i 0)) same
+      subst (λ i. number_of (step_names steps) n (get_or steps i []) ≡ Some (get_or (of_steps ++ number ∷ []) i 0)) same
       (next.is ∙ ap Some (sym (get_or-append_seam of_steps number [] 0)))
 ]

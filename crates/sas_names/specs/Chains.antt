@@ -1,13 +1,13 @@
 -- The operators of some names, each with the next one of its name.
 use Rattle.std.specs.Prelude.{◌≡◌, ℕ, ◌+◌, ◌<◌, ◌≤◌, List, length, Option, None, Some, slice_index, slice_index_or}
-use Rattle.indexmap.specs.IndexMap.{index_map_len}
 use Rattle.sas_core.specs.declared.parts.Parts.{Parts}
 use Rattle.sas_core.specs.Grounded.{operator_at}
 use Rattle.sas_names.specs.declared.chains.Chains.{Chains}
 use Rattle.sas_names.specs.declared.step_names.StepNames.{StepNames}
 use Rattle.sas_names.specs.Names.{IsNextNamed}
 use Rattle.sas_names.specs.Named.{IsNamed}
-use Rattle.sas_names.specs.StepNames.{number_in}
+use Rattle.sas_names.specs.NameTable.{number_of}
+use Rattle.sas_names.specs.StepNames.{step_names}
 
 -- the list has, for each operator of the first one's name, the next one of this name
 abbrev pub IsChain : Parts → ℕ → List (Option ℕ) → Type 0
@@ -20,12 +20,14 @@ HaveChains p firsts nexts = (step : ℕ) → step < length firsts
     → IsChain p (slice_index firsts step) nexts
 
 -- for each of the names the lowest operator, and for each operator of one of them the next one
-pub record AreChains (p : Parts) (names : StepNames) (chains : Chains) : Type 0 where
-  pub one_each : length chains.first.items ≡ index_map_len names.numbers
-  pub first : (name : List ℕ) (k : ℕ) → number_in names.numbers name ≡ Some k
+pub record AreChains (p : Parts) (steps : List (List ℕ)) (names : StepNames) (chains : Chains)
+    : Type 0 where
+  pub one_each : length chains.first.items ≡ length steps
+  pub first : (name : List ℕ) (k : ℕ)
+      → number_of (step_names steps) names.numbers name ≡ Some k
       → IsNextNamed p name 0 (slice_index_or chains.first.items k None)
   pub next : (operator k : ℕ) → operator < length p.operators
-      → number_in names.numbers (operator_at p operator).name ≡ Some k
+      → number_of (step_names steps) names.numbers (operator_at p operator).name ≡ Some k
       → IsNextNamed p (operator_at p operator).name (operator + 1)
       (slice_index_or chains.next.items operator None)
 

@@ -1,7 +1,6 @@
 -- The modules that public contracts cite.
 pub mod Named
 pub mod Names
-pub mod NameHash
 pub mod NameDigest
 pub mod NameTable
 pub mod StepNames

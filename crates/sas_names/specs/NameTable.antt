@@ -1,48 +1,78 @@
 -- What a table of names holds.
-use Rattle.std.specs.Prelude.{◌≡◌, ℕ, ◌+◌, ◌<◌, ◌≤◌, Bool, List, length, Option, None, Some, nat_eq, if◌then◌else◌, slice_index_or}
-use Rattle.std.specs.Cmp.Lexicographic.{pointwise}
-use Rattle.indexmap.specs.IndexMap.{IndexMap, get, get_by}
+use Rattle.std.specs.Prelude.{◌≡◌, ◌⊎◌, ℕ, ◌+◌, ◌<◌, ◌≤◌, List, length, Option, None, Some, nat_eq, if◌then◌else◌, slice_index_or}
+use Rattle.std.specs.BTreeMap as tree
+use Rattle.std.specs.BTreeMap.{BTreeMap}
+use Rattle.std.specs.Cmp.Lexicographic.{pointwise, slice_cmp}
+use Rattle.std.specs.Global.{Vec}
+use Rattle.std.specs.Ordering.{nat_cmp}
+use Rattle.indexmap.specs.IndexMap.{IndexMap, get}
 use Rattle.sas_core.specs.declared.parts.Parts.{Parts}
 use Rattle.sas_core.specs.Grounded.{operator_at}
-use Rattle.sas_names.specs.declared.name_key.NameKey.{NameKey}
 use Rattle.sas_names.specs.declared.names.Names.{Names}
+use Rattle.sas_names.specs.declared.name_table.NameTable.{NameTable}
 use Rattle.sas_names.specs.NameDigest.{digest_of}
 use Rattle.sas_names.specs.Names.{IsNextNamed}
 
--- the key of a map is this name
-abbrev pub is_called : List ℕ → NameKey → Bool
-is_called name key = pointwise nat_eq name key.bytes.now
+-- ---- a table of numbered names: `names` has the name with each number
 
--- there is an operator of this place, and its name has this digest
-pub record IsAlike (p : Parts) (digest operator : ℕ) : Type 0 where
-  pub exists : operator < length p.operators
-  pub alike : digest_of (operator_at p operator).name ≡ digest
+-- the number that the ordered map has for the name
+abbrev pub other_of : BTreeMap (Vec ℕ) ℕ → List ℕ → Option ℕ
+other_of others name = tree.get_by (λ key. slice_cmp nat_cmp name key.items) others
 
--- the lowest of these from this place on
-pub record IsLowestAlike (p : Parts) (digest from operator : ℕ) : Type 0 where
-  pub from_on : from ≤ operator
-  pub of_digest : IsAlike p digest operator
-  pub first : (lower : ℕ) → from ≤ lower → lower < operator → IsAlike p digest lower → ⊥
+-- the number that the map of digests has, if that is one of this name, else the other
+abbrev pub own_else : (ℕ → List ℕ) → List ℕ → Option ℕ → Option ℕ → Option ℕ
+own_else names name None other = other
+own_else names name (Some own) other = if pointwise nat_eq (names own) name then Some own else other
 
--- the result is this operator, or none if there is none
-abbrev pub IsNextAlike : Parts → ℕ → ℕ → Option ℕ → Type 0
-IsNextAlike p digest from (Some operator) = IsLowestAlike p digest from operator
-IsNextAlike p digest from None = (operator : ℕ) → from ≤ operator → IsAlike p digest operator → ⊥
+-- the number of the name, if it has one
+abbrev pub number_of : (ℕ → List ℕ) → NameTable → List ℕ → Option ℕ
+number_of names table name =
+    own_else names name (get nat_eq table.first (digest_of name)) (other_of table.others name)
 
--- the list has, for each operator from this place on, the next one whose name has the same digest
-abbrev pub AreAlikeFrom : Parts → ℕ → List (Option ℕ) → Type 0
-AreAlikeFrom p from alike = (operator : ℕ) → from ≤ operator → operator < length p.operators
-    → IsNextAlike p (digest_of (operator_at p operator).name) (operator + 1)
-    (slice_index_or alike operator None)
+-- no name has a number
+pub record IsEmptyTable (table : NameTable) : Type 0 where
+  pub first : (digest : ℕ) → get nat_eq table.first digest ≡ None
+  pub others : (name : List ℕ) → other_of table.others name ≡ None
 
--- The names of the operators from this place on. The map holds, for each digest, the lowest
--- operator whose name has it, or nothing if there is none. The tables hold, for each operator, the
--- next one whose name has the same digest, and the next one of the same name.
+-- the map of digests has only numbers below this count
+abbrev pub NumbersExist : ℕ → NameTable → Type 0
+NumbersExist count table =
+    (digest k : ℕ) → get nat_eq table.first digest ≡ Some k → k < count
+
+-- the name with this number has it now, and each other name what it had before
+abbrev pub Puts : (ℕ → List ℕ) → ℕ → NameTable → NameTable → Type 0
+Puts names number old new = (other : List ℕ) → number_of names new other
+    ≡ (if pointwise nat_eq (names number) other then Some number else number_of names old other)
+
+-- so does the map of digests have it for this digest
+abbrev pub PutsDigest : {S : Type 0} → ℕ → ℕ → IndexMap ℕ ℕ S → IndexMap ℕ ℕ S → Type 0
+PutsDigest digest number old new = (other : ℕ) → get nat_eq new other
+    ≡ (if nat_eq digest other then Some number else get nat_eq old other)
+
+-- and the ordered map for this name
+abbrev pub PutsOther : List ℕ → ℕ → BTreeMap (Vec ℕ) ℕ → BTreeMap (Vec ℕ) ℕ → Type 0
+PutsOther name number old new = (other : List ℕ) → other_of new other
+    ≡ (if pointwise nat_eq name other then Some number else other_of old other)
+
+-- one of the two maps has it
+abbrev pub PutsEither : List ℕ → ℕ → ℕ → NameTable → NameTable → Type 0
+PutsEither name digest number old new =
+    (PutsDigest digest number old.first new.first × (new.others ≡ old.others))
+    ⊎ (PutsOther name number old.others new.others × (new.first ≡ old.first))
+
+-- ---- the names of a task's operators
+
+-- the name of each operator
+abbrev pub operator_names : Parts → ℕ → List ℕ
+operator_names p operator = (operator_at p operator).name
+
+-- The names of the operators from this place on. The table has for each name the lowest of them that
+-- has it, or nothing; the list has, for each of them, the next one of its name.
 pub record AreNamesFrom (p : Parts) (from : ℕ) (names : Names) : Type 0 where
-  pub lowest : (digest : ℕ) → IsNextAlike p digest from (get nat_eq names.first digest)
-  pub alike_each : length names.alike.items ≡ length p.operators
-  pub alike : AreAlikeFrom p from names.alike.items
-  pub next_each : length names.next.items ≡ length p.operators
+  pub exist : NumbersExist (length p.operators) names.first
+  pub lowest : (name : List ℕ)
+      → IsNextNamed p name from (number_of (operator_names p) names.first name)
+  pub one_each : length names.next.items ≡ length p.operators
   pub next : (operator : ℕ) → from ≤ operator → operator < length p.operators
       → IsNextNamed p (operator_at p operator).name (operator + 1)
       (slice_index_or names.next.items operator None)
@@ -50,27 +80,3 @@ pub record AreNamesFrom (p : Parts) (from : ℕ) (names : Names) : Type 0 where
 -- the names of all operators
 abbrev pub AreNames : Parts → Names → Type 0
 AreNames p names = AreNamesFrom p 0 names
-
--- The names of the operators from this place on. `tells` gives for each name the lowest of them that
--- has it, or nothing; the table holds, for each of them, the next one of its name.
-pub record AreMappedFrom (p : Parts) (from : ℕ) (tells : List ℕ → Option ℕ)
-    (table : List (Option ℕ)) : Type 0 where
-  pub one_each : length table ≡ length p.operators
-  pub lowest : (name : List ℕ) → IsNextNamed p name from (tells name)
-  pub next : (operator : ℕ) → from ≤ operator → operator < length p.operators
-      → IsNextNamed p (operator_at p operator).name (operator + 1)
-      (slice_index_or table operator None)
-
--- what a map tells of each name
-abbrev pub told_by : {S : Type 0} → IndexMap NameKey ℕ S → List ℕ → Option ℕ
-told_by first name = get_by (is_called name) first
-
--- the new map holds this operator for the digest, and for each other one what the old one holds
-abbrev pub PutsDigest : {S : Type 0} → ℕ → ℕ → IndexMap ℕ ℕ S → IndexMap ℕ ℕ S → Type 0
-PutsDigest digest operator old new = (other : ℕ) → get nat_eq new other
-    ≡ (if nat_eq digest other then Some operator else get nat_eq old other)
-
--- and so for names
-abbrev pub Puts : {S : Type 0} → List ℕ → ℕ → IndexMap NameKey ℕ S → IndexMap NameKey ℕ S → Type 0
-Puts name operator old new = (other : List ℕ) → get_by (is_called other) new
-    ≡ (if pointwise nat_eq name other then Some operator else get_by (is_called other) old)

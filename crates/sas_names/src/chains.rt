@@ -1,13 +1,14 @@
 // The operators that the steps of a plan may mean.
 ghost use Rattle.std.specs.Prelude.{◌≡◌, ◌<◌, length, All, IfOk, None, slice_index_or};
 ghost use Rattle.sas_names.specs.Chains.{AreChains, AreFound};
-ghost use Rattle.sas_names.specs.StepNames.{AreNumbers};
+ghost use Rattle.sas_names.specs.StepNames.{AreStepsOf};
 
 use crate::step_names::StepNames;
-use sas_core::Grounded;
+use sas_core::{Grounded, Stepwise};
 use std::alloc::{AllocError, Global};
 
-/// For each of some names the lowest operator, and for each operator of one of these names the next one of the same name.
+/// For each name of a plan's steps the lowest operator, by the name's number, and for each operator of one of these names the next one
+/// of the same name.
 pub struct Chains {
     first: Vec<Option<u32>>,
     next: Vec<Option<u32>>,
@@ -24,21 +25,23 @@ impl Drop for Chains {
 impl Chains {
     /// Returns the operators of these names. It goes from the last operator to the first, so that the lowest operator of each
     /// name is noted last.
-    pub fn new<T: Grounded>(
+    pub fn new<T: Grounded, P: Stepwise>(
         alloc: Global,
         task: &T,
-        names: &StepNames<'_>,
+        plan: &P,
+        names: &StepNames,
     ) -> Result<Chains, AllocError>
-        requires { AreNumbers names.now.numbers }
-        ensures { IfOk result (λ chains. AreChains (T.says task.now) names.now chains) }
+        requires { AreStepsOf (P.says plan.now).steps names.now.numbers }
+        ensures { IfOk result (λ chains.
+            AreChains (T.says task.now) (P.says plan.now).steps names.now chains) }
     {
         let operators = task.operators();
-        let mut first = vec![in alloc; None; names.count()]?;
+        let mut first = vec![in alloc; None; plan.steps()]?;
         let mut next = vec![in alloc; None; operators as usize]?;
         let mut operator = operators;
         while operator > 0 {
             operator -= 1;
-            if let Some(number) = names.number(task.name(operator)) {
+            if let Some(number) = names.number(plan, task.name(operator)) {
                 next[operator as usize] = first[number];
                 first[number] = Some(operator);
             }

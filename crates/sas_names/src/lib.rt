@@ -4,8 +4,8 @@
 mod chains;
 mod digest;
 mod looking_up;
-mod name_key;
-mod name_map;
+mod name_list;
+mod name_table;
 mod names;
 mod step_names;
 mod step_operators;
@@ -13,4 +13,4 @@ mod step_operators;
 pub use chains::next_in;
 pub use looking_up::{FirstNamed, first_operators};
 pub use names::{NamedTask, Names};
-pub use step_operators::{Found, StepOperators, is_long};
+pub use step_operators::{Found, StepOperators};

@@ -1,20 +1,20 @@
 // The names of a plan's steps.
 ghost use Rattle.std.specs.Prelude.{◌≡◌, ◌<◌, [], length, slice_index_or, IfOk};
-ghost use Rattle.indexmap.specs.IndexMap.{index_map_len};
-ghost use Rattle.sas_names.specs.StepNames.{AreNumbers, HaveNumbers, AreStepNames, Numbers, number_in};
+ghost use Rattle.sas_names.specs.NameTable.{number_of};
+ghost use Rattle.sas_names.specs.StepNames.{AreStepsOf, HaveNumbers, AreStepNames, Numbers, step_names};
 
-use crate::name_key::NameKey;
-use indexmap::IndexMap;
+use crate::name_list::StepList;
+use crate::name_table::NameTable;
 use sas_core::Stepwise;
 use std::alloc::{AllocError, Global};
 
-/// The names of a plan's steps, numbered from 0 on, each name once.
-pub struct StepNames<'p> {
-    numbers: IndexMap<NameKey<'p>, usize>,
+/// The names of a plan's steps. The number of a name is that of the first step that has it, from 0 on.
+pub struct StepNames {
+    numbers: NameTable,
     of_steps: Vec<usize>,
 }
 
-impl<'p> Drop for StepNames<'p> {
+impl Drop for StepNames {
     fn drop(self) {
         let StepNames { numbers, of_steps } = self;
         drop(numbers);
@@ -22,12 +22,12 @@ impl<'p> Drop for StepNames<'p> {
     }
 }
 
-impl<'p> StepNames<'p> {
+impl StepNames {
     /// Returns the names of the plan's steps.
-    pub fn new<P: Stepwise>(alloc: Global, plan: &'p P) -> Result<StepNames<'p>, AllocError>
+    pub fn new<P: Stepwise>(alloc: Global, plan: &P) -> Result<StepNames, AllocError>
         ensures { IfOk result (λ names. AreStepNames (P.says plan.now).steps names) }
     {
-        let mut numbers = IndexMap::with_capacity(alloc, plan.steps())?;
+        let mut numbers = NameTable::new(alloc, plan.steps())?;
         match number_all(alloc, plan, &mut numbers) {
             Ok(of_steps) => Ok(StepNames { numbers, of_steps }),
             Err(error) => {
@@ -37,18 +37,12 @@ impl<'p> StepNames<'p> {
         }
     }
 
-    /// Returns how many names there are. It takes no memory.
-    pub fn count(&self) -> usize
-        ensures { result ≡ index_map_len self.now.numbers }
+    /// Returns the number of the name, if a step of the plan that these names are of has it. It takes no memory.
+    pub fn number<P: Stepwise>(&self, plan: &P, name: &[u8]) -> Option<usize>
+        requires { AreStepsOf (P.says plan.now).steps self.now.numbers }
+        ensures { result ≡ number_of (step_names (P.says plan.now).steps) self.now.numbers name.now }
     {
-        self.numbers.len()
-    }
-
-    /// Returns the number of the name, if a step has it. It takes no memory.
-    pub fn number(&self, name: &[u8]) -> Option<usize>
-        ensures { result ≡ number_in self.now.numbers name.now }
-    {
-        self.numbers.get(NameKey { bytes: name }).copied()
+        self.numbers.number(&StepList { plan }, name)
     }
 
     /// Returns for each step the number of its name. It takes no memory.
@@ -60,13 +54,13 @@ impl<'p> StepNames<'p> {
 }
 
 /// Numbers the names of the plan's steps, and returns for each step the number of its name.
-fn number_all<'p, P: Stepwise>(
+fn number_all<P: Stepwise>(
     alloc: Global,
-    plan: &'p P,
-    numbers: &mut IndexMap<NameKey<'p>, usize>,
+    plan: &P,
+    numbers: &mut NameTable,
 ) -> Result<Vec<usize>, AllocError>
-    requires { AreNumbers numbers.old }
-    ensures numbers { IfOk result (λ _. AreNumbers numbers.new) }
+    requires { AreStepsOf (P.says plan.now).steps numbers.old }
+    ensures numbers { IfOk result (λ _. AreStepsOf (P.says plan.now).steps numbers.new) }
     ensures one_each { IfOk result (λ of_steps. length of_steps.items
         ≡ length (P.says plan.now).steps) }
     ensures each { IfOk result (λ of_steps.
@@ -74,7 +68,7 @@ fn number_all<'p, P: Stepwise>(
 {
     let mut of_steps = Vec::with_capacity(alloc, plan.steps())?;
     for _step in 0..plan.steps() {
-        let number = next_number(plan, numbers, of_steps.as_slice())?;
+        let number = next_number(alloc, plan, numbers, of_steps.as_slice())?;
         of_steps.push(number).unwrap();
     }
     Ok(of_steps)
@@ -82,42 +76,43 @@ fn number_all<'p, P: Stepwise>(
 
 /// Returns the number of the next step's name. `of_steps` has those of the steps before it. A name that comes several times in a
 /// row is looked up once.
-fn next_number<'p, P: Stepwise>(
-    plan: &'p P,
-    numbers: &mut IndexMap<NameKey<'p>, usize>,
+fn next_number<P: Stepwise>(
+    alloc: Global,
+    plan: &P,
+    numbers: &mut NameTable,
     of_steps: &[usize],
 ) -> Result<usize, AllocError>
     requires step { length of_steps.now < length (P.says plan.now).steps }
-    requires numbers { AreNumbers numbers.old }
+    requires numbers { AreStepsOf (P.says plan.now).steps numbers.old }
     requires each { HaveNumbers (P.says plan.now).steps numbers.old of_steps.now }
-    ensures { IfOk result (λ number. Numbers
+    ensures { IfOk result (λ number. Numbers (P.says plan.now).steps
         (slice_index_or (P.says plan.now).steps (length of_steps.now) []) number
         numbers.old numbers.new) }
 {
     let step = of_steps.len();
-    let name = plan.step(step);
-    if step > 0 && plan.step(step - 1) == name {
+    if step > 0 && plan.step(step - 1) == plan.step(step) {
         Ok(of_steps[step - 1])
     } else {
-        number_of(numbers, name)
+        number_of(alloc, plan, numbers, step)
     }
 }
 
-/// Returns the number of the name, which is the next one for a name that is new.
-fn number_of<'p>(
-    numbers: &mut IndexMap<NameKey<'p>, usize>,
-    name: &'p [u8],
+/// Returns the number of this step's name, which is the step's own for a name that is new.
+fn number_of<P: Stepwise>(
+    alloc: Global,
+    plan: &P,
+    numbers: &mut NameTable,
+    step: usize,
 ) -> Result<usize, AllocError>
-    requires { AreNumbers numbers.old }
-    ensures { IfOk result (λ number. Numbers name.now number numbers.old numbers.new) }
+    requires step { step < length (P.says plan.now).steps }
+    requires numbers { AreStepsOf (P.says plan.now).steps numbers.old }
+    ensures { IfOk result (λ number. Numbers (P.says plan.now).steps
+        (slice_index_or (P.says plan.now).steps step []) number numbers.old numbers.new) }
 {
-    let key = NameKey { bytes: name };
-    if let Some(number) = numbers.get(key) {
-        return Ok(*number);
+    let names = StepList { plan };
+    if let Some(number) = numbers.number(&names, plan.step(step)) {
+        return Ok(number);
     }
-    let number = numbers.len();
-    match numbers.insert(key, number) {
-        Ok(_) => Ok(number),
-        Err(_) => Err(AllocError),
-    }
+    numbers.put(alloc, &names, step)?;
+    Ok(step)
 }

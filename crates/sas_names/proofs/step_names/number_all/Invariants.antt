@@ -1,13 +1,13 @@
 -- The names of the steps so far are numbered.
 use Rattle.std.proofs.Common.{◌≡◌, ◌≤◌, length}
 use Rattle.std.specs.Prelude.{vec_capacity}
-use Rattle.sas_names.specs.StepNames.{AreNumbers, HaveNumbers}
+use Rattle.sas_names.specs.StepNames.{AreStepsOf, HaveNumbers}
 use Rattle.sas_names.proofs.step_names.number_all.Given as goal
 
 abbrev pub invariant-loop-step : goal.invariant-loop-step
 invariant-loop-step g l = record {
   one_each : length l.of_steps.items ≡ l._step;
-  numbers : AreNumbers l.numbers;
+  numbers : AreStepsOf (g.P.Stepwise.says l.plan).steps l.numbers;
   each : HaveNumbers (g.P.Stepwise.says l.plan).steps l.numbers l.of_steps.items;
   room : length (g.P.Stepwise.says l.plan).steps ≤ vec_capacity l.of_steps;
 }
