@@ -1,6 +1,6 @@
 -- Where a fact, a head or an effect is due, each line of its shape whose numbers may all stand goes on with a task.
 use Rattle.std.proofs.Common.{◌≡◌, ℕ, zero, suc, Bool, true, List, [], ◌∷◌, ◌++◌, length, map, refl, sym, ap, subst, ◌∙◌, ◌⊎◌, inl, inr, Option, Some, None, IsTrue, codes, nat_lt, ◌==◌}
-use Rattle.std.specs.List.{flat_map, list_all, AllByRecursion}
+use Rattle.std.specs.List.{flat_map, list_all}
 use Rattle.sas_core.specs.declared.parts.Fact.{Fact}
 use Rattle.sas_core.specs.declared.parts.Variable.{Variable}
 use Rattle.sas_core.specs.declared.parts.Parts.{Parts}
@@ -8,7 +8,7 @@ use Rattle.sas_core.specs.Names.{is_name}
 use Rattle.sas_core.specs.Variables.{has_value, fact_exists}
 use Rattle.sas_core.specs.WellRanged.{WellRanged}
 use Rattle.sas_reader.specs.Format.{IsBegun}
-use Rattle.sas_reader.specs.System.{Takes, After, LeadsToEnd, Leads}
+use Rattle.sas_reader.specs.System.{After, LeadsToEnd, Leads}
 use Rattle.sas_task_format.specs.Process.{done, read, process_node, a_line, repeat, each, a_list}
 use Rattle.sas_task_format.specs.TaskFormat.{TaskLine, fact, effect, head, TaskSlot, word_slot, name_slot, number_slot, signed_slot, fact_slot, effect_slot, head_slot, task_slot, task_line_bytes, task_layout, task_format, TaskLineFits}
 use Rattle.sas_task_format.specs.TaskProcess.{TaskProcess, TaskPart, name_in, number_in, signed_in, fact_in, effect_in, head_in, any, positive, may_change, effect_may_stand, head_may_stand, a_word, a_name, a_number, a_signed, a_fact, an_effect, a_head, a_value, a_version, a_metric, a_variable, a_group, a_state, a_goal, an_operator, a_rule, task_start}

@@ -1,5 +1,5 @@
 -- Where a fact, a head or an effect is due, a line of its shape that may not stand has a wrong word, which the reason names.
-use Rattle.std.proofs.Common.{◌≡◌, ◌≢◌, ℕ, ◌+◌, ◌≤◌, List, [], ◌∷◌, ◌++◌, length, length-append, map, refl, sym, ap, subst, ◌∙◌, ◌⊎◌, inl, inr, arith, Option, Some, None}
+use Rattle.std.proofs.Common.{◌≡◌, ℕ, ◌≤◌, List, [], ◌∷◌, ◌++◌, length, length-append, map, refl, sym, ap, subst, ◌∙◌, inl, inr, arith, Option, Some, None}
 use Rattle.std.specs.Prelude.{IsSome}
 use Rattle.std.proofs.lemmas.Bool.Decides.{eqb_tells}
 use Rattle.sas_lines.specs.Lines.{lines, unfinished}
@@ -9,7 +9,7 @@ use Rattle.sas_reader.specs.declared.fault.Kind.{Kind}
 use Rattle.sas_reader.specs.declared.fault.Kind.TheVariants as kinds
 use Rattle.sas_reader.specs.Format.{Format, lines_of, IsBegun, KindAt, too_long, trailing, wrong, FaultOf}
 use Rattle.sas_reader.specs.Limit.{most_bytes}
-use Rattle.sas_reader.specs.About.{IsAbout, of_line, of_byte, of_end}
+use Rattle.sas_reader.specs.About.{of_line, of_byte, of_end}
 use Rattle.sas_task_format.specs.declared.marks.Due.{Due}
 use Rattle.sas_task_format.specs.declared.marks.Due.TheVariants as due
 use Rattle.sas_task_format.specs.declared.marks.Mark.{Mark}
