@@ -15,6 +15,7 @@ use Rattle.sas_task_format.specs.declared.marks.Mark.{Mark}
 use Rattle.sas_task_format.specs.TaskFormat.{TaskLine, task_slot, task_line_bytes, task_layout}
 use Rattle.sas_task_format.specs.Marks.{any_number, positive_number, version_dues, metric_dues, variable_dues, group_dues, state_dues, goal_dues, operator_dues, rule_dues, there, numbered, slot_of_due, task_marks, IsDue}
 use Rattle.sas_task_format.specs.TaskReasons.{end_mark}
+pub use Rattle.sas_task_format.specs.WrongWords.{SpeaksOfFacts}
 use Rattle.sas_task_format.specs.Tracker.{Tracker, tracker_start, by_count, step, track, mark, mark_at, mark_in}
 use Rattle.sas_reader.proofs.Paths.{cut_at}
 use Rattle.sas_task_format.proofs.Tracking.{track_marks, IsBehindVariables, Known, Along}
@@ -85,13 +86,6 @@ module _ (v : Parts) (good : WellRanged v) where
         lines = ap (map task_line_bytes) e ∙ map-append task_line_bytes items (i ∷ more) ∙ ap (λ (x : List (List ℕ)). x ++ map task_line_bytes (i ∷ more)) s;
         marked = ap (slice_get (task_marks v)) (sym long) ∙ due_behind items i more e;
       }
-
--- facts, effects and heads speak of variables and their values
-abbrev pub SpeaksOfFacts : Due → Type 0
-SpeaksOfFacts due.Fact = Unit {0}
-SpeaksOfFacts due.Head = Unit {0}
-SpeaksOfFacts due.Effect = Unit {0}
-SpeaksOfFacts _ = ⊥
 
 no_facts : (n : ℕ) (m k : Mark) → (SpeaksOfFacts m.due → ⊥) → (SpeaksOfFacts k.due → ⊥) → SpeaksOfFacts (by_count n m k).due → ⊥
 no_facts zero m k f g h = f h

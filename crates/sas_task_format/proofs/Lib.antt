@@ -15,3 +15,5 @@ pub mod DueAfter
 pub mod WrongWords
 pub mod MarkLaws
 pub mod SomeReason
+pub mod MayStand
+pub mod SomeWrongWord

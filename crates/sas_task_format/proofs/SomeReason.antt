@@ -10,14 +10,14 @@ use Rattle.sas_reader.specs.declared.fault.Kind.{Kind}
 use Rattle.sas_reader.specs.declared.fault.Kind.TheVariants as kinds
 use Rattle.sas_reader.specs.Format.{lines_of, EndOf}
 use Rattle.sas_reader.specs.Limit.{most_bytes}
-use Rattle.sas_reader.specs.About.{IsAbout, of_line, of_byte, of_end}
+use Rattle.sas_reader.specs.About.{of_line, of_byte, of_end}
 use Rattle.sas_task_format.specs.declared.marks.Mark.{Mark}
 use Rattle.sas_task_format.specs.declared.marks.WrongWord.{WrongWord}
 use Rattle.sas_task_format.specs.TaskFormat.{TaskLine, fact, effect, head, TaskSlot, word_slot, name_slot, number_slot, signed_slot, fact_slot, effect_slot, head_slot, task_slot, task_line_bytes, TaskLineFits, task_layout, NumbersKind, no_shape, no_value, TaskKind, task_format}
 use Rattle.sas_task_format.specs.Marks.{IsDue, slot_of_due}
 use Rattle.sas_task_format.specs.Tracker.{tracker_start, track, mark_in}
 use Rattle.sas_task_format.specs.WrongWords.{line_bounds, IsWrongBehind}
-use Rattle.sas_task_format.specs.TaskReasons.{end_mark, IsTaskReason}
+use Rattle.sas_task_format.specs.TaskReasons.{end_mark, IsTaskReason, SomeTaskReason}
 use Rattle.sas_reader.proofs.Paths.{cut_at}
 use Rattle.sas_task_format.proofs.TaskLines.{one_task_line}
 use Rattle.sas_task_format.proofs.DueBehind.{is_due}
@@ -36,7 +36,7 @@ due_reason kind begun found m d t v = (m, None, record { trailing = λ e. absurd
 
 module _ (begun : List (List ℕ)) (m : Mark) (d : IsDue begun m) where
   -- each task that begins with these lines bounds the next one in the same way
-  same_bounds : (v : Parts) → WellRanged v → (more : List (List ℕ)) → lines_of task_format v ≡ begun ++ more → (i : TaskLine) → task_slot i ≡ slot_of_due m.due → line_bounds d.task.variables i ≡ line_bounds v.variables i
+  pub same_bounds : (v : Parts) → WellRanged v → (more : List (List ℕ)) → lines_of task_format v ≡ begun ++ more → (i : TaskLine) → task_slot i ≡ slot_of_due m.due → line_bounds d.task.variables i ≡ line_bounds v.variables i
   same_bounds v good more e i s = bounds i s
     where
       same : HasBounds (slot_of_due m.due) → map (λ (x : Variable). length x.values) d.task.variables ≡ map (λ (x : Variable). length x.values) v.variables
@@ -64,6 +64,21 @@ module _ (begun : List (List ℕ)) (m : Mark) (d : IsDue begun m) where
           stands_not = b.wrong.stands_not;
         }
 
+    -- a number that may not stand is the wrong word
+    pub wrong_behind : Splits (line_bounds d.task.variables i) → (w : WrongWord) × IsWrongBehind begun found w
+    wrong_behind s = (
+      record { word = length s.before + 1; may_be_none = s.wrong.may_be_none; most = s.wrong.bound - 1 },
+      record {
+        task = d.task;
+        more = d.more;
+        good = d.good;
+        lines = d.lines;
+        mark = m;
+        due = d;
+        wrong = record { item = i; belongs = belongs; fits = fits; spells = spells; before = s.before; wrong = s.wrong; behind = s.behind; words = s.words; earlier = s.earlier; stands_not = s.stands_not; word = refl; may_be_none = refl; most = refl };
+      },
+    )
+
     value_reason : AllStand (line_bounds d.task.variables i) ⊎ Splits (line_bounds d.task.variables i) → HasReason kinds.Value begun found
     value_reason (inl all) = (
       m,
@@ -76,24 +91,13 @@ module _ (begun : List (List ℕ)) (m : Mark) (d : IsDue begun m) where
       },
     )
     value_reason (inr s) =
-        let w : WrongWord = record { word = length s.before + 1; may_be_none = s.wrong.may_be_none; most = s.wrong.bound - 1 } in (
+        let b = wrong_behind s in (
           m,
-          Some w,
+          Some b.0,
           record {
             trailing = λ e. absurd cc;
             due = λ n. d;
-            wrong_word = (
-              refl,
-              record {
-                task = d.task;
-                more = d.more;
-                good = d.good;
-                lines = d.lines;
-                mark = m;
-                due = d;
-                wrong = record { item = i; belongs = belongs; fits = fits; spells = spells; before = s.before; wrong = s.wrong; behind = s.behind; words = s.words; earlier = s.earlier; stands_not = s.stands_not; word = refl; may_be_none = refl; most = refl };
-              },
-            );
+            wrong_word = (refl, b.1);
             no_wrong_word = λ n. absurd cc;
           },
         )
@@ -135,7 +139,7 @@ module _ (bytes : List ℕ) (f : Fault) (h : EndOf task_format most_bytes bytes 
 
 -- ---- each fault
 
-pub some_task_reason : (bytes : List ℕ) (f : Fault) (begun : List (List ℕ)) (found : List ℕ) → IsAbout task_format most_bytes bytes f begun found → (m : Mark) × (w : Option WrongWord) × IsTaskReason f.kind begun found m w
+pub some_task_reason : SomeTaskReason
 some_task_reason bytes f begun found (of_line h a t s n k) = let m = some_due begun s n in line_reason f.kind begun found m.0 m.1 s m.2 k
 some_task_reason bytes f begun found (of_byte h a t v r k) = subst (λ (x : Kind). HasReason x begun found) (sym k) (trailing_reason begun found)
 some_task_reason bytes f begun found (of_end h a t) = subst (λ (x : List (List ℕ)). HasReason f.kind x found) (sym a) (subst (λ (x : List ℕ). HasReason f.kind (lines bytes) x) (sym t) (end_reason bytes f h))

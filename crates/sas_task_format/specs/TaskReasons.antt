@@ -1,13 +1,17 @@
 -- Why a line of a task file is refused: where it stands, what is due there, and which word of it is wrong.
-use Rattle.std.specs.Prelude.{◌≡◌, ◌≢◌, ℕ, List, Option, None, IfSome}
+use Rattle.std.specs.Prelude.{◌≡◌, ◌≢◌, ℕ, List, Option, None, IfSome, IsSome}
+use Rattle.sas_reader.specs.declared.fault.Fault.{Fault}
 use Rattle.sas_reader.specs.declared.fault.Kind.{Kind}
 use Rattle.sas_reader.specs.declared.fault.Kind.TheVariants as kinds
+use Rattle.sas_reader.specs.Limit.{most_bytes}
+use Rattle.sas_reader.specs.About.{IsAbout}
 use Rattle.sas_task_format.specs.declared.marks.Due.TheVariants as due
 use Rattle.sas_task_format.specs.declared.marks.Location.TheVariants as at
 use Rattle.sas_task_format.specs.declared.marks.Mark.{Mark}
 use Rattle.sas_task_format.specs.declared.marks.WrongWord.{WrongWord}
+use Rattle.sas_task_format.specs.TaskFormat.{task_format}
 use Rattle.sas_task_format.specs.Marks.{IsDue}
-use Rattle.sas_task_format.specs.WrongWords.{IsWrongBehind}
+use Rattle.sas_task_format.specs.WrongWords.{IsWrongBehind, SpeaksOfFacts}
 
 -- nothing is due behind the last line
 abbrev pub end_mark : Mark
@@ -23,8 +27,24 @@ pub record IsTaskReason (kind : Kind) (begun : List (List ℕ)) (found : List �
   pub no_wrong_word : word ≡ None → kind ≡ kinds.Value
       → (w : WrongWord) → IsWrongBehind begun found w → ⊥
 
--- ---- a law: there is one reason
+-- ---- laws
+
+-- there is one reason at most
 abbrev pub OneTaskReason : Type 0
 OneTaskReason = (kind : Kind) (begun : List (List ℕ)) (found : List ℕ) (m n : Mark)
     (w x : Option WrongWord) → IsTaskReason kind begun found m w → IsTaskReason kind begun found n x
     → (m ≡ n) × (w ≡ x)
+
+-- and each fault of some bytes has one
+abbrev pub SomeTaskReason : Type 0
+SomeTaskReason = (bytes : List ℕ) (f : Fault) (begun : List (List ℕ)) (found : List ℕ)
+    → IsAbout task_format most_bytes bytes f begun found
+    → (mark : Mark) × (word : Option WrongWord) × IsTaskReason f.kind begun found mark word
+
+-- It names a wrong word wherever a fact, a head or an effect is due and the line is refused for its
+-- value.
+abbrev pub WrongWordIsNamed : Type 0
+WrongWordIsNamed = (bytes : List ℕ) (f : Fault) (begun : List (List ℕ)) (found : List ℕ)
+    (mark : Mark) (word : Option WrongWord) → IsAbout task_format most_bytes bytes f begun found
+    → IsTaskReason f.kind begun found mark word
+    → f.kind ≡ kinds.Value → SpeaksOfFacts mark.due → IsSome word

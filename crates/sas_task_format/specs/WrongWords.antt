@@ -6,10 +6,12 @@ use Rattle.sas_core.specs.declared.parts.Variable.{Variable}
 use Rattle.sas_core.specs.declared.parts.Parts.{Parts}
 use Rattle.sas_core.specs.Variables.{range_of}
 use Rattle.sas_core.specs.WellRanged.{WellRanged}
-use Rattle.sas_reader.specs.Format.{lines_of}
+use Rattle.sas_reader.specs.Format.{lines_of, IsBegun}
+use Rattle.sas_task_format.specs.declared.marks.Due.{Due}
+use Rattle.sas_task_format.specs.declared.marks.Due.TheVariants as due
 use Rattle.sas_task_format.specs.declared.marks.Mark.{Mark}
 use Rattle.sas_task_format.specs.declared.marks.WrongWord.{WrongWord}
-use Rattle.sas_task_format.specs.TaskFormat.{TaskLine, fact, effect, head, TaskSlot, task_slot, task_line_bytes, TaskLineFits, task_format}
+use Rattle.sas_task_format.specs.TaskFormat.{TaskLine, fact, effect, head, TaskSlot, task_slot, task_line_bytes, TaskLineFits, HasShape, task_format}
 use Rattle.sas_task_format.specs.Marks.{IsDue, slot_of_due}
 
 -- A number on a line, none where `-1` stands. What may stand there is less than the bound, and maybe
@@ -87,7 +89,24 @@ pub record IsWrongBehind (begun : List (List ℕ)) (line : List ℕ) (w : WrongW
   pub due : IsDue begun mark
   pub wrong : IsWrongWord task.variables (slot_of_due mark.due) line w
 
--- ---- a law: behind the same lines a line is wrong in one word
+-- facts, heads and effects speak of variables and their values
+abbrev pub SpeaksOfFacts : Due → Type 0
+SpeaksOfFacts due.Fact = Unit {0}
+SpeaksOfFacts due.Head = Unit {0}
+SpeaksOfFacts due.Effect = Unit {0}
+SpeaksOfFacts _ = ⊥
+
+-- ---- laws
+
+-- behind the same lines a line is wrong in one word at most
 abbrev pub OneWrongWord : Type 0
 OneWrongWord = (begun : List (List ℕ)) (line : List ℕ) (w x : WrongWord)
     → IsWrongBehind begun line w → IsWrongBehind begun line x → w ≡ x
+
+-- Where a fact, a head or an effect is due, a line has a wrong word if it has the shape of what is
+-- due, and no task's lines begin with those that have come and this one.
+abbrev pub SomeWrongWord : Type 0
+SomeWrongWord = (begun : List (List ℕ)) (line : List ℕ) (mark : Mark) → IsDue begun mark
+    → SpeaksOfFacts mark.due → HasShape (slot_of_due mark.due) line
+    → (IsBegun task_format (begun ++ line ∷ []) → ⊥)
+    → (w : WrongWord) × IsWrongBehind begun line w

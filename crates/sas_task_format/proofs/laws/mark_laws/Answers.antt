@@ -1,4 +1,11 @@
+use Rattle.sas_reader.proofs.Telling.{telling_laws_of}
+use Rattle.sas_task_format.specs.Process.{process_node}
+use Rattle.sas_task_format.specs.TaskFormat.{TaskLineFits, task_format}
+use Rattle.sas_task_format.specs.TaskProcess.{task_start}
 use Rattle.sas_task_format.proofs.MarkLaws.{one_due, some_due, one_wrong_word, one_task_reason}
+use Rattle.sas_task_format.proofs.SomeReason.{some_task_reason}
+use Rattle.sas_task_format.proofs.SomeWrongWord.{some_wrong_word, wrong_word_is_named}
+use Rattle.sas_task_format.proofs.TaskGrammar.{task_grammar}
 use Rattle.sas_task_format.proofs.laws.mark_laws.Goals as goal
 
 pub returns-clause-one_due : goal.returns-clause-one_due
@@ -10,5 +17,17 @@ returns-clause-some_due c = some_due
 pub returns-clause-one_wrong_word : goal.returns-clause-one_wrong_word
 returns-clause-one_wrong_word c = one_wrong_word
 
+pub returns-clause-some_wrong_word : goal.returns-clause-some_wrong_word
+returns-clause-some_wrong_word c = some_wrong_word
+
+pub returns-clause-about : goal.returns-clause-about
+returns-clause-about c = telling_laws_of task_format TaskLineFits process_node task_start task_grammar
+
 pub returns-clause-one_reason : goal.returns-clause-one_reason
 returns-clause-one_reason c = one_task_reason
+
+pub returns-clause-some_reason : goal.returns-clause-some_reason
+returns-clause-some_reason c = some_task_reason
+
+pub returns-clause-word_is_named : goal.returns-clause-word_is_named
+returns-clause-word_is_named c = wrong_word_is_named
