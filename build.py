@@ -2,14 +2,21 @@
 """Proves what a crate needs, and builds it. Prints a line for each crate, and writes all that the prover prints to build.log.
 
     python3 build.py CRATE [PROCESSORS]
+    python3 build.py CRATE --check [FLAG ..]
 
 CRATE is a program, as sas, or a static library, as sas_c. PROCESSORS is how many to use; all, if left out. A check takes one to four GB.
 
-Each crate is proved by `rt lib`, once those that it uses are proved: first the crate with the longest chain of others above it. Where
-fewer crates are ready than there are processors, a large one gets several. `rt lib` keeps every other run out of the folders of all crates
-below, so it runs in a room: a folder of the crate's own with links to the files of these crates.
+Each crate is proved once those that it uses are proved: first the crate with the longest chain of others above it. Where fewer crates
+are ready than there are processors, they get several. What is written of a library, into out/libraries/, are its interface, its code and
+the statements of its proofs, as `rt ci` does it: with whole proofs, as `rt lib` writes them, the crates at the top load for minutes. A
+crate whose files and crates below are those of the last run isn't proved again.
+
+--check proves any crate over what the last run left of those below, and keeps its work in the crate's out/incremental, so that the next
+check is short. Flags are those of `rattle check`, such as `--only FUNCTION`, `--allow-holes` or `--jobs 1`.
 """
 import concurrent.futures
+import functools
+import hashlib
 import os
 import shutil
 import subprocess
@@ -18,150 +25,148 @@ import time
 
 TOP = os.path.dirname(os.path.abspath(__file__))
 CRATES = f"{TOP}/crates"
-ROOMS = f"{TOP}/out/rooms"
-# what is read of a crate that is built
-PARTS = ("src", "specs", "proofs", "out/rlib")
-# a check gets one processor more for so many bytes of code: each has to load the crates below, which takes as long as a small crate
-BYTES_MORE = 40_000
+LIBRARIES = f"{TOP}/out/libraries"
+KIT = os.path.dirname(os.path.dirname(os.path.realpath(shutil.which("rt") or sys.exit("there is no `rt`, of the toolchain, on the PATH"))))
+# the most processors that a check can use
+MOST = 4
 BEGAN = time.monotonic()
 
 
-def entries():
-    """Returns the lines of crates.txt by the names of their crates."""
+def uses():
+    """Returns what each crate of crates.txt uses: crates of the repository and libraries of the toolchain."""
     with open(f"{TOP}/crates.txt", encoding="utf-8") as file:
-        return {line.split(":")[0].split()[0]: line for line in file if line.strip() and not line.startswith("#")}
+        lines = [line.split(":") for line in file if line.strip() and not line.startswith("#")]
+    return {front.split()[0]: behind.split() for front, behind in lines}
 
 
-def libraries():
-    """Returns the crates of the repository that each crate of it uses."""
-    lines = entries()
-    return {name: [it for it in line.split(":")[1].split() if it in lines] for name, line in lines.items()}
+USED = uses()
 
 
-def with_those_below(name, used):
-    """Returns a crate and those that it stands on."""
-    found = [name]
-    for crate in found:
-        found += [it for it in used[crate] if it not in found]
-    return found
+def below(crate):
+    """Returns the crates of the repository that a crate uses."""
+    return [it for it in USED[crate] if it in USED]
 
 
-def size_of(crate):
-    """Returns how many bytes of code a crate has."""
-    return sum(os.path.getsize(f"{at}/{it}") for at, _, names in os.walk(f"{CRATES}/{crate}/src") for it in names)
+def files_of(crate):
+    """Returns the files that a crate is made of, in order."""
+    parts = (f"{CRATES}/{crate}/{it}" for it in ("src", "specs", "proofs"))
+    return sorted(f"{at}/{name}" for part in parts for at, _, names in os.walk(part) for name in names)
 
 
-def jobs_for(crate):
-    """Returns how many processors the check of a crate can use."""
-    return 1 + size_of(crate) // BYTES_MORE
+@functools.cache
+def sum_of(crate):
+    """Returns a sum of all that a crate is made of, the toolchain and the crates below among them."""
+    made = hashlib.sha256(repr([KIT, USED[crate], *map(sum_of, below(crate))]).encode())
+    for path in [f"{KIT}/KIT-ID", *files_of(crate)]:
+        with open(path, "rb") as file:
+            made.update(path.encode() + hashlib.sha256(file.read()).digest())
+    return made.hexdigest()
 
 
-def longest_above(names, used):
-    """Returns for each crate how many bytes of code the longest chain from it upwards has."""
-    found = {}
-
-    def of(crate):
-        if crate not in found:
-            found[crate] = size_of(crate) + max((of(it) for it in names if crate in used[it]), default=0)
-        return found[crate]
-
-    return {it: of(it) for it in names}
+def is_proved(crate):
+    """Returns whether a library was built of its files as they are."""
+    path = f"{LIBRARIES}/{crate}.sum"
+    if not os.path.isfile(path):
+        return False
+    with open(path, encoding="utf-8") as file:
+        return file.read() == sum_of(crate)
 
 
-class Room:
-    """A folder in which one crate is proved: its kept work, and links to its files and to the crates below."""
+def run(crate, verb, folders, *more):
+    """Has the prover check or build a crate over the libraries in these folders, and returns how it ended, with what it printed."""
+    root = "main" if os.path.isfile(f"{CRATES}/{crate}/src/main.rt") else "lib"
+    words = [f"{KIT}/bin/rattle", verb, "--crate-name", crate, f"src/{root}.rt", "--links", f"{crate}="]
+    words += ["--antt-project", f"{KIT}/rattle/logic/antt-project.json", "--logic-built", f"{KIT}/logic_built"]
+    folders = [*folders, f"{KIT}/rlibs"]
+    for it in dict.fromkeys(["std", *USED[crate]]):
+        words += ["--extern", f"{it}=" + next(f"{at}/{it}.rlib" for at in folders if os.path.isdir(f"{at}/{it}.rlib"))]
+    return ran([*words, *(word for at in folders for word in ("-L", f"dependency={at}")), *more], crate)
 
-    def __init__(self, crate, used):
-        self.top, self.home = f"{ROOMS}/{crate}", f"{CRATES}/{crate}"
-        self.own = f"{self.top}/crates/{crate}"
-        for other in with_those_below(crate, used):
-            for part in PARTS:
-                if os.path.isdir(f"{CRATES}/{other}/{part}"):
-                    shutil.copytree(f"{CRATES}/{other}/{part}", f"{self.top}/crates/{other}/{part}", copy_function=os.link)
-        with open(f"{self.top}/crates.txt", "w", encoding="utf-8") as file:
-            file.writelines(entries()[it] for it in with_those_below(crate, used))
-        self.move("incremental", self.home, self.own)
 
-    @staticmethod
-    def move(part, one, other):
-        """Moves a part of out/ from one folder of the crate to the other."""
-        shutil.rmtree(f"{other}/out/{part}", ignore_errors=True)
-        if os.path.isdir(f"{one}/out/{part}"):
-            os.makedirs(f"{other}/out", exist_ok=True)
-            os.rename(f"{one}/out/{part}", f"{other}/out/{part}")
+def ran(command, crate):
+    """Runs a command in a crate's folder, and returns how it ended, with what it printed."""
+    os.makedirs(f"{CRATES}/{crate}/out", exist_ok=True)
+    streams = {"stdout": subprocess.PIPE, "stderr": subprocess.STDOUT, "encoding": "utf-8", "errors": "replace"}
+    return subprocess.run(command, check=False, cwd=f"{CRATES}/{crate}", stdin=subprocess.DEVNULL, **streams)
 
-    def close(self):
-        """Takes what was made back to the crate's folder."""
-        for part in ("incremental", "rlib"):
-            self.move(part, self.own, self.home)
-        shutil.rmtree(self.top)
+
+def prove(crate, jobs):
+    """Proves a library for the crates above it."""
+    return run(crate, "build", [LIBRARIES], "--jobs", str(jobs), "--statements", "-o", f"{LIBRARIES}/{crate}.rlib")
+
+
+def build(crate, folders, jobs):
+    """Proves a program or a static library over the libraries in these folders, and builds it. Returns how that ended."""
+    is_program = os.path.isfile(f"{CRATES}/{crate}/src/main.rt")
+    made = [f"out/{crate}.o"] if is_program else [f"out/lib{crate}.a", "--crate-type", "staticlib"]
+    toolchain = ["--toolchain", f"{KIT}/toolchain"]
+    ended = run(crate, "build", folders, "--jobs", str(jobs), *toolchain, "--backend", "llvm", "-o", *made)
+    if ended.returncode or not is_program:
+        return ended
+    words = [f"{KIT}/bin/rattle-link", "--target", "x86_64-unknown-linux-gnu", *toolchain, "-o", f"out/{crate}"]
+    linked = ran([*words, *made, f"{KIT}/c/libos_c.a", f"{KIT}/c/liblibc_c.a"], crate)
+    linked.stdout = ended.stdout + linked.stdout
+    return linked
 
 
 class Build:
     """The crates to prove, those that are proved, and the log."""
 
-    def __init__(self, crate, used, log):
-        self.crate, self.used, self.log = crate, used, log
-        self.names, self.proved = with_those_below(crate, used), set()
+    def __init__(self, last, log):
+        self.last, self.log, self.names = last, log, [last]
+        for crate in self.names:
+            self.names += [it for it in below(crate) if it not in self.names]
+        self.proved = {it for it in self.names if it != last and is_proved(it)}
+
+    @functools.cache
+    def longest_above(self, crate):
+        """Returns how many bytes the longest chain from a crate upwards has."""
+        above = (self.longest_above(it) for it in self.names if crate in USED[it])
+        return sum(map(os.path.getsize, files_of(crate))) + max(above, default=0)
 
     def report(self, crate, ended):
         """Logs what the prover printed of a crate, prints whether it is proved, and returns that."""
         self.log.write(f"== {crate}\n{ended.stdout}")
-        self.proved |= {crate} if ended.returncode == 0 else set()
-        said = "proved" if ended.returncode == 0 else "not proved"
+        well = ended.returncode == 0
+        self.proved |= {crate} if well else set()
+        if well and crate != self.last:
+            with open(f"{LIBRARIES}/{crate}.sum", "w", encoding="utf-8") as file:
+                file.write(sum_of(crate))
         after = f"{time.monotonic() - BEGAN:.0f} s after the start"
-        print(f"{crate} ({len(self.proved)} of {len(self.names)}): {said}, {after}", flush=True)
-        return ended.returncode == 0
+        print(f"{crate} ({len(self.proved)} of {len(self.names)}): {'proved' if well else 'not proved'}, {after}", flush=True)
+        return well
 
     def prove_below(self, processors):
         """Proves the crates below the last one. Returns whether all are proved."""
-        above = longest_above(self.names, self.used)
-        waiting, running, well = sorted(self.names[1:], key=lambda it: -above[it]), {}, True
+        waiting = sorted((it for it in self.names[1:] if it not in self.proved), key=self.longest_above, reverse=True)
+        running, well = {}, True
         with concurrent.futures.ThreadPoolExecutor(processors) as pool:
             while running or (waiting and well):
-                ready = [it for it in waiting if well and self.proved.issuperset(self.used[it])]
+                ready = [it for it in waiting if well and self.proved.issuperset(below(it))]
                 idle = processors - sum(jobs for _, jobs in running.values())
                 for at, crate in enumerate(ready[:idle]):
-                    jobs = min(jobs_for(crate), max(1, idle - (len(ready) - at - 1)))
+                    jobs = min(MOST, max(1, idle - (len(ready) - at - 1)))
                     idle -= jobs
                     waiting.remove(crate)
-                    running[pool.submit(prove, crate, self.used, jobs)] = crate, jobs
+                    running[pool.submit(prove, crate, jobs)] = crate, jobs
                 for it in concurrent.futures.wait(running, return_when=concurrent.futures.FIRST_COMPLETED).done:
                     well &= self.report(running.pop(it)[0], it.result())
         return well
 
-    def prove_last(self, processors):
-        """Proves the last crate, and builds it; runs it once where it is a program. Returns whether that went well."""
-        verb = "run" if os.path.isfile(f"{CRATES}/{self.crate}/src/main.rt") else "lib"
-        return self.report(self.crate, rt(verb, f"{CRATES}/{self.crate}", min(jobs_for(self.crate), processors)))
-
-
-def rt(verb, folder, jobs):
-    """Runs a command of the toolchain in a crate's folder, with the crate's input, if it has one, and returns how it ended."""
-    given = f"{folder}/stdin" if os.path.exists(f"{folder}/stdin") else os.devnull
-    streams = {"stdout": subprocess.PIPE, "stderr": subprocess.STDOUT, "encoding": "utf-8", "errors": "replace"}
-    with open(given, "rb") as stdin:
-        return subprocess.run(["rt", verb, "--jobs", str(jobs)], check=False, cwd=folder, stdin=stdin, **streams)
-
-
-def prove(crate, used, jobs):
-    """Proves a crate, in a room of its own."""
-    room = Room(crate, used)
-    try:
-        return rt("lib", room.own, jobs)
-    finally:
-        room.close()
-
 
 def main():
+    if sys.argv[2:3] == ["--check"]:
+        ended = run(sys.argv[1], "check", [LIBRARIES], "--incremental", "out/incremental", *sys.argv[3:])
+        print(ended.stdout, end="")
+        sys.exit(ended.returncode)
     crate, processors = sys.argv[1], int(sys.argv[2]) if sys.argv[2:] else os.cpu_count()
-    shutil.rmtree(ROOMS, ignore_errors=True)
+    os.makedirs(LIBRARIES, exist_ok=True)
     with open(f"{TOP}/build.log", "w", encoding="utf-8") as log:
-        build = Build(crate, libraries(), log)
-        well = build.prove_below(processors) and build.prove_last(processors)
-    shutil.rmtree(ROOMS, ignore_errors=True)
+        made = Build(crate, log)
+        well = made.prove_below(processors) and made.report(crate, build(crate, [LIBRARIES], min(MOST, processors)))
     if not well:
         sys.exit("not built; build.log says why")
 
 
-main()
+if __name__ == "__main__":
+    main()

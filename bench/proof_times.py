@@ -4,8 +4,8 @@
     python3 bench/proof_times.py [--least SECONDS] [CRATE ..]
 
 It reads when the last check of a crate wrote each module that it keeps in crates/CRATE/out/incremental, and proves nothing. The times are
-right where that check began with nothing, had one processor and ran alone: in a new clone, `rt lib --jobs 1` in the crate's folder once
-`make` has proved the crates below. What a row names last is the kind of module that took most of the time:
+right where that check began with nothing, had one processor and ran alone: after `make`, `python3 build.py CRATE --check --jobs 1`.
+What a row names last is the kind of module that took most of the time:
 
 - `Lts`: the code, with all drops. A derived `Drop` isn't a call, so each exit of a function drops each part of each value in place.
 - `Proof`: the search for goals that no file in proofs/ answers.

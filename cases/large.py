@@ -23,8 +23,8 @@ STEPS = 200_001
 # the most bytes that are read, and the length of the names of operators that fill them
 LIMIT, NAME = 4_294_967_296, 65_536
 PIECE = 65_536
-# operators whose names end in the factor of the map's hasher
-ALIKE, FACTOR = 200_000, (0x9E3779B97F4A7C15).to_bytes(8, "little").decode("latin-1")
+# names that end in the factor of the hasher
+ALIKE, FACTOR = 100_000, (0x9E3779B97F4A7C15).to_bytes(8, "little").decode("latin-1")
 # the stack that README promises to serve; with 48 kB some runs fail, as the place of the stack varies
 STACK = 65_536
 MINIMAL = "cases/tasks/minimal.sas"
@@ -311,13 +311,28 @@ def long_name_cases():
     yield over_input(name, "steps", plan_text(names, 2), plan_text(names, 2))
 
 
+def alike_names():
+    """Names that have different fronts of eight bytes, and then the factor of the hasher, which forgets all in front of that: so
+    all have one digest."""
+    return [f"{place:07} {FACTOR}" for place in range(ALIKE)]
+
+
+def alike_task():
+    """A task with two operators of each of these names: first come those that are never applicable."""
+    blocked = [(name, [(0, 1)], [], 1) for name in alike_names()]
+    return task_with([2], operators=[*blocked, *((name, [], [], 1) for name in alike_names())])
+
+
 def alike_name_cases():
-    """Operators whose names have different fronts of eight bytes, and then the factor of the hasher. Given a name at once, it
-    forgets all in front of that, so that all names share a hash. They could show a map of names by such a hash: each name is
-    compared there with all others, which takes minutes."""
-    names = [f"{place:07} {FACTOR}" for place in range(ALIKE)]
-    task = task_with([2], operators=[(name, [], [], 1) for name in names])
-    yield over_plan("names that end alike", text_of(task), names, ALIKE, f"plan valid: {ALIKE} steps, cost {ALIKE}\n")
+    """Plans by such names: of as many steps as there are names, of few, and with a name that no operator has. They could show a
+    table of names in which each name of a digest is compared with all others, which takes minutes, and the operator of another
+    name of the digest."""
+    names, text = alike_names(), text_of(alike_task())
+    for name, steps in (("names of one digest", names), ("few names of one digest", names[:: ALIKE // 1000])):
+        cost = len(steps)
+        yield over_plan(name, text, steps, cost, f"plan valid: {cost} steps, cost {cost}\n")
+    unknown = [names[-1], f"{ALIKE:07} {FACTOR}"]
+    yield over_plan("no name of the digest", text, unknown, 2, "plan invalid: step 2: no operator of that name\n", 1)
 
 
 def piece_cases():

@@ -8,7 +8,7 @@ A trace here is a task, the names of a plan's steps, which cost 1 each, and what
 is compared with what the meaning of traces gives, and so is what is printed of plans.
 """
 from axioms import text_of, value_name
-from large import MINIMAL, PIECE, STACK, WIDTHS, case, plan_text, task_with, wide_plans, wide_task
+from large import ALIKE, MINIMAL, PIECE, STACK, WIDTHS, alike_names, alike_task, case, plan_text, task_with, wide_plans, wide_task
 from lengthy import turning
 from many import lines_of, summary
 from traces import traced
@@ -229,6 +229,15 @@ def thousands_of_plans():
     yield over_plans("one open file", priced_task(20), plans, lines_about(plans), open=ONE)
 
 
+def alike_plans():
+    """Plans by names of one digest, of a task that is read once. They could show a table of names in which each such name is
+    compared with all others."""
+    names = alike_names()
+    plans = [("long", plan_text(names, ALIKE), f"plan valid: {ALIKE} steps, cost {ALIKE}", ALIKE)]
+    plans += [("short", plan_text(names[-1:], 1), "plan valid: 1 steps, cost 1", 1)]
+    yield over_plans("names of one digest", alike_task(), plans, lines_about(plans), 0)
+
+
 def limited_plans():
     """Plans whose lines are longer than what is written at a time, into files that may have fewer bytes, and to devices that
     fail; and plans with a small stack. They could show lines that are lost, or come twice, where the text goes out in pieces,
@@ -276,6 +285,7 @@ def plenty_cases():
     yield from long_files()
     yield named_trace()
     yield from limited_traces()
+    yield from alike_plans()
     yield from limited_plans()
     yield from late_faults()
     yield from wide_traces()

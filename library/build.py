@@ -6,12 +6,11 @@ sas.py and sas.rs.
 
 The archive of the proved crate sas_c is its heart. Where there is none yet, or a file of a crate is younger, build.py proves the crate
 and what it stands on, and builds it. With --over-gate the archive is built over the libraries that `rt ci` has just proved and left in
-each out/rlib/, since `rt lib` would prove them once more. What the heart asks of memory is added, sas_memory.c. The C compiler is $CC or
+each out/rlib/, so that nothing is proved twice. What the heart asks of memory is added, sas_memory.c. The C compiler is $CC or
 cc, and `ar` is $AR or ar.
 """
 import glob
 import os
-import re
 import shlex
 import shutil
 import subprocess
@@ -19,6 +18,9 @@ import sys
 
 HERE = os.path.dirname(os.path.abspath(__file__))
 TOP = os.path.dirname(HERE)
+sys.path.insert(0, TOP)
+import build as proving  # the file at the top, not this one
+
 OUT = f"{HERE}/out"
 NAME = "sas_c"
 CRATE = f"{TOP}/crates/{NAME}"
@@ -49,19 +51,10 @@ def is_there():
 
 
 def build_over_gate():
-    """Builds the archive over the libraries that `rt ci` left, by the compiler of its toolchain. It proves the crate alone."""
-    kit = os.path.dirname(os.path.dirname(os.path.realpath(shutil.which("rt"))))
-    with open(f"{TOP}/crates.txt", encoding="utf-8") as file:
-        used = re.search(rf"(?m)^{NAME} staticlib:(.*)$", file.read())[1].split()
-    words = ["--crate-name", NAME, "src/lib.rt", "--crate-type", "staticlib", "--links", f"{NAME}=", "--jobs", str(os.cpu_count())]
-    words += ["--antt-project", f"{kit}/rattle/logic/antt-project.json", "--logic-built", f"{kit}/logic_built"]
-    words += ["--extern", f"std={kit}/rlibs/std.rlib", "-L", f"dependency={kit}/rlibs"]
-    for rlib in sorted(glob.glob(f"{TOP}/crates/*/out/rlib/*.rlib")):
-        crate = os.path.basename(rlib).removesuffix(".rlib")
-        words += ["--extern", f"{crate}={rlib}"] if crate in used else []
-        words += ["-L", f"dependency={os.path.dirname(rlib)}"]
-    os.makedirs(os.path.dirname(HEART), exist_ok=True)
-    run(f"{kit}/bin/rattle", "build", *words, "--toolchain", f"{kit}/toolchain", "--backend", "llvm", "-o", HEART, cwd=CRATE)
+    """Builds the archive over the libraries that `rt ci` left. It proves the crate alone."""
+    ended = proving.build(NAME, glob.glob(f"{TOP}/crates/*/out/rlib"), os.cpu_count())
+    if ended.returncode:
+        sys.exit(f"not built: {ended.stdout}")
 
 
 def main():

@@ -6,7 +6,7 @@ manual page, completions, documents and examples. Prints its place and its SHA-2
 
 FOLDER is where it is put, the top of the repository where none is named. The files stand in a release where they stand in the
 repository. The program is linked from the object of the crate `sas`, which `make` left, and the two archives of the toolchain; where
-there is none yet, or a file of a crate is younger, `rt run` proves the crate and what it stands on. library/build.py does so of the
+there is none yet, or a file of a crate is younger, build.py proves the crate and what it stands on. library/build.py does so of the
 library. The C compiler is $CC or cc.
 
 The same files at the same commit, with the same compilers, give the same bytes: each file has the time of the commit, or that of
@@ -78,8 +78,7 @@ def is_built():
 def linked(folder):
     """Returns the program, linked statically."""
     if not is_built():
-        with open(f"{CRATE}/stdin", "rb") as given:
-            run("rt", "run", "--jobs", str(os.cpu_count()), cwd=CRATE, stdin=given, stdout=subprocess.DEVNULL)
+        run(sys.executable, f"{TOP}/build.py", "sas", stdout=subprocess.DEVNULL)
     kit = os.path.dirname(printed("rt", "doc") or sys.exit("not packed: there is no rt on the PATH"))
     archives = [f"{kit}/c/libos_c.a", f"{kit}/c/liblibc_c.a"]
     compiler = shlex.split(os.environ.get("CC") or "cc")
