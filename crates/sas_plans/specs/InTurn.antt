@@ -24,7 +24,8 @@ module _ {S I : Type 0} (gives : S → ℕ → Option I → S → Type 0) where
       × (input : I)
       × gives before count (Some input) new
 
-  -- those before the plan with this number were opened, and it couldn't be; or it was, too
+  -- those before the plan with this number were opened, and so was that one, but where the fault is
+  -- that it couldn't be
   abbrev pub OpensTo : ℕ → InputFault → S → S → Type 0
   OpensTo number NotOpened old new = (before : S)
       × OpensFirst number old before
@@ -32,11 +33,11 @@ module _ {S I : Type 0} (gives : S → ℕ → Option I → S → Type 0) where
   OpensTo number Read old new = OpensFirst (suc number) old new
   OpensTo number TooLong old new = OpensFirst (suc number) old new
 
-  -- all of so many plans were opened, or none where the task isn't layered
+  -- all of so many plans were opened, or none, where the task isn't layered
   abbrev pub OpensAll : Option (List ℕ) → ℕ → S → S → Type 0
   OpensAll task count old new = OpensFirst count old new ⊎ (IsUnlayered task × (new ≡ old))
 
-  -- which of so many plans were opened in a run that ended with this result
+  -- which of so many plans a run has opened that ends with this result
   abbrev pub OpensInTurn : {A : Type 0} → Option (List ℕ) → ℕ → S → S → Result A JudgeFault → Type 0
   OpensInTurn task count old new (Ok answer) = OpensAll task count old new
   OpensInTurn task count old new (Err (Tool (tool.Write written))) = OpensAll task count old new
