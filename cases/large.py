@@ -370,6 +370,18 @@ def longest_cases():
     whole, rest = divmod(LIMIT + 1 - len(front), len(operator))
     inputs = {"streamed": [(front, 1), (operator, whole)], "input": operator[:rest], "memory": 100_000_000}
     yield case("a byte more than may be read", ["show", "-"], "", 3, error="sas: input too long\n", **inputs)
+    yield from longest_plan_cases()
+
+
+def longest_plan_cases():
+    """Plans of which the second has a byte more than may be read, all of them steps: a plan keeps its steps in memory, so that it takes
+    that much. It could show a plan that is too long and has a line, or is reported by another name."""
+    step = b"(" + b"a" * (NAME - 3) + b")\n"
+    whole, rest = divmod(LIMIT + 1, len(step))
+    inputs = {"streamed": [(step, whole)], "input": step[:rest], "memory": 5_000_000_000}
+    files = {"t.sas": as_bytes({"file": MINIMAL}), "p.txt": plan_text([], 0)}
+    words = ["plans", "t.sas", "p.txt", "-", "none"]
+    yield case("a byte of a plan more than may be read", words, "", 3, error="sas: input too long: -\n", files=files, **inputs)
 
 
 def long_plan_cases():

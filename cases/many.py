@@ -196,6 +196,15 @@ def unopened_cases():
             yield asked(f"{changed['name']}, no plans", ["t.sas", "none", ".", "none"], files, [said])
 
 
+def piped_cases():
+    """Yields the plans of many.json from named pipes, each of which can be opened once, in its turn. They could show a plan that is
+    opened twice, or before its turn."""
+    for name, task, plans, lines in written_plans():
+        files, pipes = {"t.sas": task}, dict(plans)
+        if len(pipes) == len(plans) and not any(os.path.dirname(label) for label in pipes):
+            yield asked(f"{name}, from named pipes", ["t.sas", *pipes], files, lines, pipes=pipes)
+
+
 def plan_file(chance, names, cost):
     """Returns the file of a plan, with either kind of cost and either end of lines."""
     text = plan_text(names, cost)
@@ -305,5 +314,6 @@ def plans_cases():
     yield from written_cases()
     yield from refused_cases()
     yield from unopened_cases()
+    yield from piped_cases()
     yield from long_cases()
     yield from random_cases()

@@ -45,6 +45,8 @@ program.json: words and devices, by these names.
 
     words        the words behind the program's name, each character a byte; FOLDER in one represents an empty folder
     files        files by their names, each character a byte: the program runs in a folder that has these alone
+    pipes        named pipes beside the files, by their names. They are written one after another, each once: the program has to open
+                 them in this order, and none a second time
     input        standard input, empty where it is left out
     streamed     pairs [TEXT, TIMES] that come before it, and aren't held in memory as a whole; left out: nothing
     input_ends   false: standard input stays open until the program has ended
@@ -358,6 +360,33 @@ def differences(case, answer):
         yield f"standard error {said[:200]!r}, not {error!r}"
 
 
+def feed(pipes):
+    """Writes named pipes, one after another. It waits at each until the other end is open."""
+    for path, held in pipes:
+        try:
+            with open(path, "wb", buffering=0) as pipe:
+                pipe.write(held)
+        except BrokenPipeError:
+            pass
+
+
+def answer_beside_pipes(program, case, folder, place):
+    """Does the same beside the named pipes of the case, where it has some. Those that the program didn't open are opened in the
+    end, or what writes them would wait for that."""
+    pipes = [(os.path.join(os.fsencode(place), as_bytes(name)), as_bytes(text)) for name, text in case.get("pipes", {}).items()]
+    for path, _ in pipes:
+        os.mkfifo(path)
+    writer = threading.Thread(target=feed, args=(pipes,))
+    writer.start()
+    try:
+        return answer_of(program, case, folder, place)
+    finally:
+        ends = [os.open(path, os.O_RDONLY | os.O_NONBLOCK) for path, _ in pipes]
+        writer.join()
+        for end in ends:
+            os.close(end)
+
+
 def answer_among(program, case, folder):
     """Does the same in a folder that has the files of the case alone, where it has some."""
     if "files" not in case:
@@ -366,7 +395,7 @@ def answer_among(program, case, folder):
         for name, text in case["files"].items():
             with open(os.path.join(os.fsencode(place), as_bytes(name)), "wb") as file:
                 file.write(as_bytes(text))
-        return answer_of(program, case, folder, place)
+        return answer_beside_pipes(program, case, folder, place)
 
 
 def faults(program, case, folder):

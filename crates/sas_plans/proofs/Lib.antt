@@ -2,6 +2,7 @@ mod SideBySide
 mod BestPlans
 mod Tallying
 mod PlanVerdicts
+mod Turns
 mod SaidPlans
 mod TaskAnswers
 mod Opened
@@ -10,6 +11,7 @@ mod LastBytes
 mod PlanLines
 mod PlansHeadlines
 mod JudgeEndings
+mod InMemory
 mod TraceLengths
 mod TraceEnds
 mod TraceLaws

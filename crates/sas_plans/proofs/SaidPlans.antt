@@ -1,6 +1,6 @@
 -- What is said of one plan after another.
 use Rattle.std.proofs.Common.{◌≡◌, ◌≢◌, ℕ, ◌+◌, ◌<◌, ◌≤◌, ◌⊎◌, List, [], ◌∷◌, ◌++◌, length, get_or, codes, decimal, append_assoc, append-nil, refl, sym, ap, subst, ◌∙◌, arith, inl, inr, Option, Some, None, Ok, Err}
-use Rattle.std.specs.Prelude.{zip, flat_map, count_by, if◌then◌else◌, IsErrOf}
+use Rattle.std.specs.Prelude.{zip, flat_map, count_by, if◌then◌else◌}
 use Rattle.std.specs.List.{list_all}
 use Rattle.std.proofs.Math.ListN.{get_or-append}
 use Rattle.std.proofs.Math.Seq.{get_or-append_seam}
@@ -15,15 +15,19 @@ use Rattle.sas_output.specs.declared.ending.ToolFault.{ToolFault}
 use Rattle.sas_output.specs.declared.ending.ToolFault.TheVariants as tool_fault
 use Rattle.sas_output.specs.Ending.{IsDecided, IsWrite}
 use Rattle.sas_answers.specs.Answers.{VerdictAnswer}
+use Rattle.sas_plan_file.specs.PlanFormat.{plan_format}
 use Rattle.sas_outputs.specs.Output.{VerdictOut}
+use Rattle.sas_outputs.proofs.Outputs.{no_file_output, plan_worded}
+use Rattle.sas_plans.specs.declared.inputs.InputFault.TheVariants.{NotOpened, Read, TooLong}
 use Rattle.sas_plans.specs.declared.inputs.JudgeFault.{JudgeFault}
-use Rattle.sas_plans.specs.declared.inputs.JudgeFault.TheVariants.{Tool}
+use Rattle.sas_plans.specs.declared.inputs.JudgeFault.TheVariants.{Tool, Plan}
+use Rattle.sas_plans.specs.InTurn.{IsRightlyLong}
 use Rattle.sas_plans.specs.declared.tally.Best.{Best}
 use Rattle.sas_plans.specs.declared.tally.Tally.{Tally}
 use Rattle.sas_plans.specs.declared.verdicts.Verdict.{Verdict}
 use Rattle.sas_plans.specs.Inputs.{tool_fault as fault_of}
 use Rattle.sas_plans.specs.Judged.{Judged, IsJudged, IsBest, IsSummary, PlansAnswer, PlansOut, count_words, is_valid, labelled}
-use Rattle.sas_plans.specs.Judging.{AreSaid, AreTold, HasBest, IsFront, IsOneUnsaid, IsPlace, IsSaid, IsUnsaid, Judges, JudgesPlans, Tallies, summary_of, unjudged}
+use Rattle.sas_plans.specs.Judging.{AreSaid, AreTold, HasBest, IsFront, IsOneUnsaid, IsPlace, IsOfPlan, IsSaid, IsUnsaid, Judges, JudgesPlans, Tallies, summary_of, unjudged}
 use Rattle.sas_plans.proofs.SideBySide.{all_zip, choose, contains_pair}
 use Rattle.sas_plans.proofs.Tallying.{status_yes, status_no}
 
@@ -47,16 +51,17 @@ pub said_same : (p q : Parts) (a b : Option (List ℕ)) (l m : List ℕ) (j : Ju
 said_same p q a b l m j e f g h =
     subst (λ (x : Parts). IsSaid x b m j) e (subst (λ (x : Option (List ℕ)). IsSaid p x m j) f (subst (λ (x : List ℕ). IsSaid p a x j) g h))
 
-pub unsaid_same : (p q : Parts) (a b : Option (List ℕ)) (why : JudgeFault) → p ≡ q → a ≡ b → IsUnsaid p a why → IsUnsaid q b why
-unsaid_same p q a b why e f h = subst (λ (x : Parts). IsUnsaid x b why) e (subst (λ (x : Option (List ℕ)). IsUnsaid p x why) f h)
+pub unsaid_same : (p q : Parts) (number : ℕ) (a b : Option (List ℕ)) (why : JudgeFault) → p ≡ q → a ≡ b → IsUnsaid p number a why → IsUnsaid q number b why
+unsaid_same p q number a b why e f h = subst (λ (x : Parts). IsUnsaid x number b why) e (subst (λ (x : Option (List ℕ)). IsUnsaid p number x why) f h)
 
 -- why nothing is said of it
-pub unsaid : (p : Parts) (known : Option (List ℕ)) (why : JudgeFault) → Judges p known (Err (fault_of why)) → (IsErrOf {T = Verdict} (Err why) (Tool tool_fault.Read) → ⊥) → IsUnsaid p known why
-unsaid p known why h task = record {
+pub unsaid : (p : Parts) (number : ℕ) (known : Option (List ℕ)) (why : JudgeFault) → Judges p known (Err (fault_of why)) → why ≢ Tool tool_fault.Read → IsOfPlan number why → IsUnsaid p number known why
+unsaid p number known why h task its = record {
   output = h.output;
   taken = λ long. let t = h.taken (rw long tt) in (t.0, t.1, t.2 long);
-  reads = λ e. task (ap Err e);
+  reads = task;
   writes = h.writes;
+  its = its;
 }
 
 -- ---- which faults the inputs decide
@@ -163,6 +168,7 @@ module _ (p : Parts) (known : ℕ → Option (List ℕ)) (labels : List (List �
           (chosen.many, λ k bytes less is. (chosen.each k less).0 bytes is),
           answer_for all said text tally status chosen.items whole tallies is chosen.many (λ k less. (chosen.each k less).1),
         );
+    long = tt;
     reads = λ e. absurd cc;
     writes = tt;
   }
@@ -176,6 +182,14 @@ module _ (p : Parts) (known : ℕ → Option (List ℕ)) (labels : List (List �
     told_no e = rw is (let (all, said, words, tallies) = h in told text tally No all said words tallies (status_no all tally (length labels) tallies said.many e))
 
   -- ---- or a plan of which nothing is said
+
+  -- the one that is reported to be too long is
+  rightly_long : (why : JudgeFault) (number : ℕ) → IsUnsaid p number (known number) why → IsRightlyLong known why
+  rightly_long (Plan other NotOpened) number h = tt
+  rightly_long (Plan other Read) number h = tt
+  rightly_long (Plan other TooLong) number h = λ c is.
+      no_file_output plan_format (codes "plan") (VerdictAnswer p) c (λ s line k. plan_worded line k) (h.output c (ap known (sym h.its) ∙ is) refl)
+  rightly_long (Tool what) number h = tt
 
   module _ (why : JudgeFault) (h : IsOneUnsaid p known (length labels) why) where
     long_plan : (cs : List (List ℕ)) → length cs ≡ length labels → VerdictOut VerdictAnswer p (get_or cs h.0 []) None → PlansOut p (zip labels cs) None
@@ -193,6 +207,7 @@ module _ (p : Parts) (known : ℕ → Option (List ℕ)) (labels : List (List �
           let long = decided_long (fault_of why) decided h.2.writes in
           let chosen = choose (λ k c. IsFront (known k) c × (h.0 ≡ k → VerdictOut VerdictAnswer p c None)) (length labels) (λ k less. front_at long k (same_or_not h.0 k)) in
           (chosen.items, (chosen.many, λ k bytes less is. (chosen.each k less).0 bytes is), λ e. long_plan chosen.items chosen.many ((chosen.each h.0 h.1).1 refl));
+      long = rightly_long why h.0 h.2;
       reads = λ e. h.2.reads (let same : why ≡ Tool tool_fault.Read = cc in same);
       writes = h.2.writes;
     }

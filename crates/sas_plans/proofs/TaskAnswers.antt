@@ -25,10 +25,11 @@ use Rattle.sas_outputs.specs.Output.{IsAnswerOrRefusal, refusal}
 use Rattle.sas_outputs.proofs.Outputs.{refused_kind, too_long_else, reading_of_refusal, file_refused, file_too_long}
 use Rattle.sas_outputs.proofs.PlanOutputs.{NoAnswer, RefusedOut, told_fault}
 use Rattle.sas_plans.specs.declared.inputs.JudgeFault.{JudgeFault}
-use Rattle.sas_plans.specs.declared.inputs.JudgeFault.TheVariants.{Tool}
+use Rattle.sas_plans.specs.declared.inputs.JudgeFault.TheVariants.{Tool, Plan}
 use Rattle.sas_plans.specs.Inputs.{WereRead, tool_result, tool_fault as fault_of}
+use Rattle.sas_plans.specs.InTurn.{IsRightlyLong}
 use Rattle.sas_plans.specs.Judged.{JudgedLayers, JudgeOut, PlansOut}
-use Rattle.sas_plans.specs.Judging.{AnswersPlans, JudgesPlans, Tells, answer_told}
+use Rattle.sas_plans.specs.Judging.{AnswersPlans, IsOfTask, JudgesPlans, Tells, answer_told}
 use Rattle.sas_plans.proofs.SideBySide.{choose}
 use Rattle.sas_plans.proofs.SaidPlans.{decided_long}
 
@@ -86,9 +87,14 @@ module _ {D : Type 0} (left : D → Option (List ℕ)) (known : ℕ → Option (
     write_fails (Ok told) h = tt
     write_fails (Err e) h = h
 
+    long_of_task : (r : Result Told JudgeFault) → IfErr r IsOfTask → IfErr (answer_told r) (IsRightlyLong known)
+    long_of_task (Ok told) h = tt
+    long_of_task (Err (Plan number what)) h = absurd h
+    long_of_task (Err (Tool why)) h = tt
+
     pub answers_refused : (r : Result Told JudgeFault) → IfOk r (λ told. refusal (codes "task") f ≡ Some (output_told told)) → IfErr r (λ e. fault_of e ≡ tool_fault.TooLong → f.kind ≡ kinds.TooLong)
-        → IsErrOf r (Tool tool_fault.Read) ↔ (f.kind ≡ kinds.Read) → IfErr r (λ e. IsWrite (fault_of e) → ⊥) → AnswersPlans left known labels old new (answer_told r)
-    answers_refused r ok long read writes = record {
+        → IsErrOf r (Tool tool_fault.Read) ↔ (f.kind ≡ kinds.Read) → IfErr r (λ e. IsWrite (fault_of e) → ⊥) → IfErr r IsOfTask → AnswersPlans left known labels old new (answer_told r)
+    answers_refused r ok long read writes of_task = record {
       output = λ b cs known_b have. tells_by (RefusedOut b) (JudgeOut labels b cs) (refused_judging labels b cs) (answer_told r) (refused_told b r ok long (known_fault left task_format (ValueOf task_format) old new f b h known_b));
       taken = λ decided.
           let (memory, unread_not) = decided_kind r decided ok long writes in
@@ -101,6 +107,7 @@ module _ {D : Type 0} (left : D → Option (List ℕ)) (known : ℕ → Option (
             tells_by (RefusedOut got.0) (JudgeOut labels got.0 cs.0) (refused_judging labels got.0 cs.0) (answer_told r)
                 (refused_told got.0 r ok long (λ m n. reading_of_refusal task_format got.0 (IsAtEnd (left new.device)) f got.2 n)),
           );
+      long = long_of_task r of_task;
       reads = (λ e. h.note.0 (read.0 ((read_fails r).0 e)), λ t. (read_fails r).1 (read.1 (h.note.1 t)));
       writes = write_fails r writes;
     }
@@ -115,6 +122,7 @@ module _ {D : Type 0} (left : D → Option (List ℕ)) (known : ℕ → Option (
           let t = judges.taken decided in
           let got = h.read in
           (got.0, t.0, got.1.0, t.1, tells_by (PlansOut p (zip labels t.0)) (JudgeOut labels got.0 t.0) (layered_judging labels p layered got.0 t.0 got.2) r t.2);
+      long = judges.long;
       reads = (λ e. absurd (judges.reads e), λ t. absurd (h.note.1 t));
       writes = judges.writes;
     }
@@ -129,6 +137,7 @@ module _ {D : Type 0} (left : D → Option (List ℕ)) (known : ℕ → Option (
               let got = h.read in
               let cs = unread known (length labels) in
               (got.0, cs.0, got.1.0, cs.1, unlayered_judging labels p fault got.0 cs.0 (output_told told) got.2 is_first is);
+          long = tt;
           reads = (λ e. absurd cc, λ t. absurd (h.note.1 t));
           writes = tt;
         }
@@ -138,6 +147,7 @@ module _ {D : Type 0} (left : D → Option (List ℕ)) (known : ℕ → Option (
     answers_starved = record {
       output = λ b cs known_b have long. absurd cc;
       taken = λ decided. absurd decided;
+      long = tt;
       reads = (λ e. absurd cc, λ t. absurd (h.note.1 t));
       writes = λ w. w;
     }

@@ -1,6 +1,6 @@
 -- What the private steps of a run over many plans promise.
-use Rattle.std.specs.Prelude.{◌≡◌, ◌≢◌, ◌↔◌, ℕ, ◌<◌, List, [], ◌++◌, length, count_by, zip, All}
-use Rattle.std.specs.Prelude.{slice_index_or, codes, decimal, flat_map, IsTrue}
+use Rattle.std.specs.Prelude.{◌≡◌, ◌≢◌, ◌↔◌, ℕ, ◌<◌, ◌≤◌, List, [], ◌++◌, length, count_by, zip}
+use Rattle.std.specs.Prelude.{slice_index_or, codes, decimal, flat_map, All, IsTrue, ⊤}
 use Rattle.std.specs.Prelude.{Option, Some, None, Result, Ok, Err, IfErr, IsErrOf}
 use Rattle.std.specs.Io.KnownBytes.{Consumes}
 use Rattle.sas_core.specs.declared.parts.Parts.{Parts}
@@ -15,12 +15,14 @@ use Rattle.sas_output.specs.Ending.{Output, output_told, IsDecided, IsWrite}
 use Rattle.sas_answers.specs.Answers.{VerdictAnswer}
 use Rattle.sas_reader.specs.declared.fault.Fault.{Fault}
 use Rattle.sas_outputs.specs.Output.{VerdictOut, refusal}
+use Rattle.sas_plans.specs.declared.inputs.InputFault.TheVariants.{NotOpened, Read, TooLong}
 use Rattle.sas_plans.specs.declared.inputs.JudgeFault.{JudgeFault}
 use Rattle.sas_plans.specs.declared.inputs.JudgeFault.TheVariants as judge_fault
 use Rattle.sas_plans.specs.declared.tally.Best.{Best}
 use Rattle.sas_plans.specs.declared.tally.Tally.{Tally}
 use Rattle.sas_plans.specs.declared.verdicts.Verdict.{Verdict}
 use Rattle.sas_plans.specs.Inputs.{HaveBytes, WereRead, tool_fault, tool_result}
+use Rattle.sas_plans.specs.InTurn.{IsRightlyLong, OpensFirst, OpensTo}
 use Rattle.sas_plans.specs.Judged.{Judged, HasCost, IsJudged, IsBest, is_valid, labelled, JudgeOut, PlansOut}
 
 -- ---- one plan
@@ -76,8 +78,15 @@ pub record IsSaid (p : Parts) (known : Option (List ℕ)) (label : List ℕ) (ju
   pub output : (c : List ℕ) → known ≡ Some c → IsJudged p (label, c) judged
   pub taken : (c : List ℕ) × IsFront known c × IsJudged p (label, c) judged
 
--- why nothing is said of a plan: where it is too long, that is right for its bytes
-pub record IsUnsaid (p : Parts) (known : Option (List ℕ)) (why : JudgeFault) : Type 0 where
+-- a fault of a plan is one of the plan with this number
+abbrev pub IsOfPlan : ℕ → JudgeFault → Type 0
+IsOfPlan number (judge_fault.Plan other what) = other ≡ number
+IsOfPlan number (judge_fault.Tool why) = ⊤
+
+-- why nothing is said of the plan with this number: where it is too long, that is right for its
+-- bytes
+pub record IsUnsaid (p : Parts) (number : ℕ) (known : Option (List ℕ)) (why : JudgeFault)
+    : Type 0 where
   pub output : (c : List ℕ) → known ≡ Some c → tool_fault why ≡ fault.TooLong
       → VerdictOut VerdictAnswer p c None
   pub taken : tool_fault why ≡ fault.TooLong → (c : List ℕ)
@@ -85,6 +94,43 @@ pub record IsUnsaid (p : Parts) (known : Option (List ℕ)) (why : JudgeFault) :
       × VerdictOut VerdictAnswer p c None
   pub reads : why ≢ judge_fault.Tool fault.Read
   pub writes : IsWrite (tool_fault why) → ⊥
+  pub its : IsOfPlan number why
+
+-- ---- how plans are opened
+
+-- the fault of a plan that was opened, the one with this number; or another fault, at which no plan
+-- is to be reported
+abbrev pub IsBehindOpening : ℕ → JudgeFault → Type 0
+IsBehindOpening number (judge_fault.Plan other what) = (other ≡ number) × (what ≢ NotOpened)
+IsBehindOpening number (judge_fault.Tool why) = (why ≢ fault.Read) × (why ≢ fault.TooLong)
+
+-- a fault of the task, or of memory
+abbrev pub IsOfTask : JudgeFault → Type 0
+IsOfTask (judge_fault.Plan number what) = ⊥
+IsOfTask (judge_fault.Tool why) = IsWrite why → ⊥
+
+module _ {S I : Type 0} (gives : S → ℕ → Option I → S → Type 0) where
+  -- the plan with this number was opened
+  abbrev pub IsOpened : ℕ → S → S → Type 0
+  IsOpened number old new = (input : I) × gives old number (Some input) new
+
+  -- the run ended at this plan for this fault: it couldn't be opened, or it was
+  abbrev pub EndsAt : ℕ → S → S → JudgeFault → Type 0
+  EndsAt number old new (judge_fault.Plan other NotOpened) =
+      (other ≡ number) × gives old number None new
+  EndsAt number old new (judge_fault.Plan other Read) = (other ≡ number) × IsOpened number old new
+  EndsAt number old new (judge_fault.Plan other TooLong) =
+      (other ≡ number) × IsOpened number old new
+  EndsAt number old new (judge_fault.Tool why) = (why ≡ fault.Memory) × IsOpened number old new
+
+  -- which of so many plans of a layered task were opened in a run that ended at this fault
+  abbrev pub OpensUntil : ℕ → S → S → JudgeFault → Type 0
+  OpensUntil count old new (judge_fault.Plan number what) =
+      (number < count) × OpensTo gives number what old new
+  OpensUntil count old new (judge_fault.Tool why) = (why ≡ fault.Memory)
+      × (number : ℕ)
+      × (number ≤ count)
+      × OpensFirst gives number old new
 
 -- ---- some first plans
 
@@ -126,7 +172,9 @@ AreTold p known labels count text tally = (all : List Judged)
 
 -- why nothing is said of one of so many first plans
 abbrev pub IsOneUnsaid : Parts → (ℕ → Option (List ℕ)) → ℕ → JudgeFault → Type 0
-IsOneUnsaid p known count why = (number : ℕ) × (number < count) × IsUnsaid p (known number) why
+IsOneUnsaid p known count why = (number : ℕ)
+    × (number < count)
+    × IsUnsaid p number (known number) why
 
 -- ---- the last line
 
@@ -173,6 +221,7 @@ pub record JudgesPlans (p : Parts) (known : ℕ → Option (List ℕ)) (labels :
   pub taken : IsDecided (tool_result result) → (cs : List (List ℕ))
       × WereRead known (length labels) cs
       × Tells (PlansOut p (zip labels cs)) result
+  pub long : IfErr result (IsRightlyLong known)
   pub reads : IsErrOf result (judge_fault.Tool fault.Read) → ⊥
   pub writes : IfErr result (λ e. IsWrite (tool_fault e) → ⊥)
 
@@ -189,5 +238,6 @@ module _ {D : Type 0} (left : D → Option (List ℕ)) where
         × Consumes (left old.device) (left new.device) b
         × WereRead known (length labels) cs
         × Tells (JudgeOut labels b cs) result
+    pub long : IfErr result (IsRightlyLong known)
     pub reads : IsErrOf result (judge_fault.Tool fault.Read) ↔ IsTrue new.failed
     pub writes : IfErr result (λ e. IsWrite (tool_fault e) → ⊥)

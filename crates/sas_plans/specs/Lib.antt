@@ -5,6 +5,8 @@ pub use Rattle.sas_trace.specs.Trace
 pub use Rattle.sas_trace.specs.Traced
 pub mod Judged
 pub mod Inputs
+pub mod InTurn
+pub mod Slices
 pub mod PlansHeadline
 pub mod TraceOut
 pub mod Laws

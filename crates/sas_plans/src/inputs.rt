@@ -15,6 +15,9 @@ pub trait PlanInputs {
     /// The bytes of the plan with a number, where they are known.
     ghost bytes: { Self → ℕ → Option (List ℕ) };
 
+    /// Holds of the plans before a call of `open`, the number that is given, what is returned, and the plans behind the call.
+    ghost open_gives: { Self → ℕ → Option Self.Input → Self → Type 0 };
+
     /// Returns how many plans there are.
     fn count(&self) -> usize
         ensures { result ≡ length (labels self.now) };
@@ -30,7 +33,8 @@ pub trait PlanInputs {
         ensures labels { labels self.new ≡ labels self.old }
         ensures later { (k : ℕ) → number < k → bytes self.new k ≡ bytes self.old k }
         ensures opened { IfSome result (λ input. (known : List ℕ)
-            → bytes self.old number ≡ Some known → Self.Input.remaining input ≡ Some known) };
+            → bytes self.old number ≡ Some known → Self.Input.remaining input ≡ Some known) }
+        ensures gives { open_gives self.old number result self.new };
 }
 
 /// Why a plan wasn't read.

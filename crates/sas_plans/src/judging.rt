@@ -5,9 +5,11 @@ ghost use Rattle.std.specs.Io.KnownBytes.{Appends, Consumes};
 ghost use Rattle.sas_output.specs.Ending.{Ends, IsDecided, IsWrite, output_told};
 ghost use Rattle.sas_outputs.specs.Output.{IsLayeredText, refusal};
 ghost use Rattle.sas_plans.specs.Inputs.{HaveBytes, IsLabel, WereRead, tool_fault, tool_result};
+ghost use Rattle.sas_plans.specs.InTurn.{IsRightlyLong, OpensFirst, OpensInTurn};
 ghost use Rattle.sas_plans.specs.Judged.{JudgeOut};
 ghost use Rattle.sas_plans.specs.PlansHeadline.{PlansHeadline};
 ghost use Rattle.sas_plans.specs.Judging.{AnswersPlans, JudgesPlans, answer_told};
+ghost use Rattle.sas_plans.specs.Judging.{IsOfTask, OpensUntil};
 
 use crate::held::hold;
 use crate::inputs::{JudgeFault, PlanInputs};
@@ -30,8 +32,9 @@ use std::io::{Read, Write};
 /// written before all verdicts are known, so at any fault but `Write` nothing was written, and at `Write` the first bytes of
 /// the answer. Not to be called with a device that has failed.
 ///
-/// The theorem, `output`, holds where the bytes of the task and of all plans are known, and `taken` in any case, of those
-/// that were read.
+/// The theorem, `output`, holds where the bytes of the task and of all plans are known, as those of `judge_slices`, and `taken` in
+/// any case, of those that were read. `opens` says which plans are opened: all, in order and each once, or those up to the one
+/// whose fault is reported. `NotOpened` is reported of the plan that `open` returned `None` for, another fault of one that it opened.
 pub fn judge<T: Read, S: PlanInputs, W: Write>(
     alloc: Global,
     task: &mut Watched<T>,
@@ -61,6 +64,11 @@ pub fn judge<T: Read, S: PlanInputs, W: Write>(
         → W.contents out.old.device ≡ Some before
         → PlansHeadline (S.labels plans.old) b cs
         (Appends (W.contents out.old.device) (W.contents out.new.device)) status) }
+    // The plans are opened in order, each once, and none behind the one at whose fault the run ends.
+    ensures opens { OpensInTurn S.open_gives (T.remaining task.old.device)
+        (length (S.labels plans.old)) plans.old plans.new result }
+    // A plan that is reported to be too long is, where its bytes are known.
+    ensures long { IfErr result (IsRightlyLong (S.bytes plans.old)) }
     // The plans stay as they were where the task isn't a text of a layered one.
     ensures plans_wait { (b : List ℕ) → T.remaining task.old.device ≡ Some b
         → (IsLayeredText b → ⊥) → plans.new ≡ plans.old }
@@ -98,6 +106,8 @@ fn answer_about<T: Read, S: PlanInputs>(
     requires { task.old.failed ≡ false }
     ensures answers { AnswersPlans T.remaining (S.bytes plans.old) (S.labels plans.old)
         task.old task.new (answer_told result) }
+    ensures opens { OpensInTurn S.open_gives (T.remaining task.old.device)
+        (length (S.labels plans.old)) plans.old plans.new result }
     ensures waits { (b : List ℕ) → T.remaining task.old.device ≡ Some b
         → (IsLayeredText b → ⊥) → plans.new ≡ plans.old }
     ensures labels { S.labels plans.new ≡ S.labels plans.old }
@@ -121,6 +131,7 @@ fn refuse_task(alloc: Global, fault: Fault) -> Result<Told, JudgeFault>
     ensures long { IfErr result (λ e. tool_fault e ≡ ToolFault.TooLong → fault.kind ≡ Kind.TooLong) }
     ensures read { IsErrOf result (JudgeFault.Tool ToolFault.Read) ↔ (fault.kind ≡ Kind.Read) }
     ensures writes { IfErr result (λ e. IsWrite (tool_fault e) → ⊥) }
+    ensures task { IfErr result IsOfTask }
 {
     match refuse_file(alloc, "task", fault) {
         Ok(told) => Ok(told),
@@ -135,6 +146,10 @@ fn judge_plans<S: PlanInputs>(
     plans: &mut S,
 ) -> Result<Told, JudgeFault>
     ensures judges { JudgesPlans layered (S.bytes plans.old) (S.labels plans.old) (answer_told result) }
+    ensures opened { IfOk result
+        (λ _. OpensFirst S.open_gives (length (S.labels plans.old)) plans.old plans.new) }
+    ensures fault { IfErr result
+        (OpensUntil S.open_gives (length (S.labels plans.old)) plans.old plans.new) }
     ensures labels { S.labels plans.new ≡ S.labels plans.old }
 {
     let mut held = hold(alloc, layered)?;

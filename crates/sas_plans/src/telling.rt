@@ -1,7 +1,9 @@
 // What is said of one plan after another, and of all of them.
 ghost use Rattle.std.specs.Prelude.{◌≡◌, ◌<◌, ◌++◌, ℕ, [], length, codes, decimal, IfOk, IfErr, OnOk, slice_index_or};
 ghost use Rattle.sas_plans.specs.Judged.{Judged, labelled};
+ghost use Rattle.sas_plans.specs.InTurn.{OpensFirst};
 ghost use Rattle.sas_plans.specs.Judging.{AreTold, IsOneUnsaid, IsPlace, IsSaid, IsUnsaid};
+ghost use Rattle.sas_plans.specs.Judging.{EndsAt, IsOpened, OpensUntil};
 ghost use Rattle.sas_plans.specs.Judging.{JudgesPlans, answer_of, summary_of};
 
 use crate::inputs::{JudgeFault, PlanInputs};
@@ -24,6 +26,10 @@ pub fn tell_plans<S: PlanInputs>(
     requires { text.old.items ≡ [] }
     ensures tells { JudgesPlans held.old (S.bytes plans.old) (S.labels plans.old)
         (answer_of text.new.items result) }
+    ensures opened { IfOk result
+        (λ _. OpensFirst S.open_gives (length (S.labels plans.old)) plans.old plans.new) }
+    ensures fault { IfErr result
+        (OpensUntil S.open_gives (length (S.labels plans.old)) plans.old plans.new) }
     ensures labels { S.labels plans.new ≡ S.labels plans.old }
 {
     let tally = match tell_each(alloc, held, plans, text) {
@@ -49,6 +55,10 @@ fn tell_each<S: PlanInputs>(
     ensures ok { IfOk result (AreTold held.old (S.bytes plans.old) (S.labels plans.old)
         (length (S.labels plans.old)) text.new.items) }
     ensures err { IfErr result (IsOneUnsaid held.old (S.bytes plans.old) (length (S.labels plans.old))) }
+    ensures opened { IfOk result
+        (λ _. OpensFirst S.open_gives (length (S.labels plans.old)) plans.old plans.new) }
+    ensures fault { IfErr result
+        (OpensUntil S.open_gives (length (S.labels plans.old)) plans.old plans.new) }
     ensures labels { S.labels plans.new ≡ S.labels plans.old }
 {
     let mut tally = Tally::new();
@@ -75,7 +85,9 @@ fn tell_plan<S: PlanInputs>(
         (slice_index_or (S.labels plans.old) number []) judged
         × (text.new.items ≡ text.old.items ++ labelled judged)
         × (judged.cost ≡ cost)) }
-    ensures err { IfErr result (IsUnsaid held.old (S.bytes plans.old number)) }
+    ensures err { IfErr result (IsUnsaid held.old number (S.bytes plans.old number)) }
+    ensures opened { IfOk result (λ _. IsOpened S.open_gives number plans.old plans.new) }
+    ensures fault { IfErr result (EndsAt S.open_gives number plans.old plans.new) }
     ensures same { held.new ≡ held.old }
     ensures labels { S.labels plans.new ≡ S.labels plans.old }
     ensures later { (k : ℕ) → number < k → S.bytes plans.new k ≡ S.bytes plans.old k }

@@ -1,7 +1,9 @@
 // The verdict on one of many plans.
-ghost use Rattle.std.specs.Prelude.{◌≡◌, ◌≢◌, ◌<◌, ℕ, length, false, IfOk, IfErr, IsErrOf};
+ghost use Rattle.std.specs.Prelude.{◌≡◌, ◌↔◌, ◌<◌, ℕ, length, false};
+ghost use Rattle.std.specs.Prelude.{IfOk, IfErr, IsErrOf, IsTrue};
 ghost use Rattle.sas_output.specs.Ending.{IsWrite};
 ghost use Rattle.sas_plans.specs.Inputs.{tool_fault, tool_result};
+ghost use Rattle.sas_plans.specs.Judging.{EndsAt, IsBehindOpening, IsOpened};
 ghost use Rattle.sas_plans.specs.Judging.{IsRefused, Judges, TellsPlan};
 
 use crate::inputs::{InputFault, JudgeFault, PlanInputs};
@@ -34,7 +36,8 @@ pub fn judge_plan<S: PlanInputs>(
 ) -> Result<Verdict, JudgeFault>
     requires { number < length (S.labels plans.old) }
     ensures judges { Judges held.old (S.bytes plans.old number) (tool_result result) }
-    ensures task { IsErrOf result (JudgeFault.Tool ToolFault.Read) → ⊥ }
+    ensures opened { IfOk result (λ _. IsOpened S.open_gives number plans.old plans.new) }
+    ensures fault { IfErr result (EndsAt S.open_gives number plans.old plans.new) }
     ensures same { held.new ≡ held.old }
     ensures labels { S.labels plans.new ≡ S.labels plans.old }
     ensures later { (k : ℕ) → number < k → S.bytes plans.new k ≡ S.bytes plans.old k }
@@ -51,10 +54,10 @@ pub fn judge_plan<S: PlanInputs>(
     }
 }
 
-/// Returns the fault of a run that ends at the plan with this number.
+/// Returns the fault of a run that ends at the plan with this number, which was opened.
 fn fault_of_plan(number: usize, fault: ToolFault) -> JudgeFault
     ensures fault { tool_fault result ≡ fault }
-    ensures task { result ≢ JudgeFault.Tool ToolFault.Read }
+    ensures plan { IsBehindOpening number result }
 {
     match fault {
         ToolFault::Read => JudgeFault::Plan {
@@ -85,7 +88,8 @@ fn judge_input<P: Read + Drop>(
     verdict
 }
 
-/// Reads a plan from a device, and returns the verdict on it. A plan file that is refused has a verdict, too.
+/// Reads a plan from a device, and returns the verdict on it. A plan file that is refused has a verdict, too. It returns `Read`
+/// exactly if the device has failed.
 fn judge_device<P: Read>(
     alloc: Global,
     held: &mut Held<Worklist, FlatTask>,
@@ -93,6 +97,7 @@ fn judge_device<P: Read>(
 ) -> Result<Verdict, ToolFault>
     requires { plan.old.failed ≡ false }
     ensures judges { Judges held.old (P.remaining plan.old.device) result }
+    ensures reads { IsErrOf result ToolFault.Read ↔ IsTrue plan.new.failed }
     ensures same { held.new ≡ held.old }
 {
     match read_flat_plan(alloc, plan) {
@@ -104,7 +109,8 @@ fn judge_device<P: Read>(
 /// Returns the verdict that refuses a plan file for its fault, or why the run ends at it.
 fn refuse_plan(alloc: Global, fault: Fault) -> Result<Verdict, ToolFault>
     ensures ok { IfOk result (IsRefused fault) }
-    ensures long { IsErrOf result ToolFault.TooLong → fault.kind ≡ Kind.TooLong }
+    ensures long { IsErrOf result ToolFault.TooLong ↔ (fault.kind ≡ Kind.TooLong) }
+    ensures read { IsErrOf result ToolFault.Read ↔ (fault.kind ≡ Kind.Read) }
     ensures writes { IfErr result (λ e. IsWrite e → ⊥) }
 {
     match refuse_file(alloc, "plan", fault) {

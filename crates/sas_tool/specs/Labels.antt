@@ -1,7 +1,16 @@
 -- The labels of plans: the words that name their files.
-use Rattle.std.specs.Prelude.{ℕ, List, map, String}
+use Rattle.std.specs.Prelude.{◌≡◌, ◌≢◌, ℕ, List, map, codes, Option, Some, None, String}
 use Rattle.std.specs.String.{string_bytes}
+use Rattle.sas_lines.specs.declared.inputs.Opened.{Opened}
+use Rattle.sas_lines.specs.declared.inputs.Opened.TheVariants.{File, Standard, Nothing}
 
 -- the bytes of the words
 abbrev pub labels_of : {Z : Type 0} → List (String Z) → List (List ℕ)
 labels_of words = map string_bytes words
+
+-- the word `-` names standard input, and any other one a file, if it can be opened
+abbrev pub OpensAs : {F I : Type 0} → List ℕ → Option (Opened F I) → Type 0
+OpensAs word None = word ≢ codes "-"
+OpensAs word (Some (File file)) = word ≢ codes "-"
+OpensAs word (Some (Standard input)) = word ≡ codes "-"
+OpensAs word (Some Nothing) = ⊥

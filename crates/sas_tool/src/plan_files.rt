@@ -19,8 +19,8 @@ pub struct PlanFiles<'p, R> {
 }
 
 impl<'p, R: Files + Input> PlanInputs for PlanFiles<'p, R> {
-    ghost use Rattle.std.specs.Prelude.{None};
-    ghost use Rattle.sas_tool.specs.Labels.{labels_of};
+    ghost use Rattle.std.specs.Prelude.{◌≡◌, [], None, slice_index_or};
+    ghost use Rattle.sas_tool.specs.Labels.{OpensAs, labels_of};
 
     type Input = Opened<R::File, R::Reader>;
 
@@ -28,6 +28,10 @@ impl<'p, R: Files + Input> PlanInputs for PlanFiles<'p, R> {
 
     // What a file holds isn't known before it is read.
     ghost bytes = { λ plans number. None };
+
+    // The words stay as they were. Which files can be opened isn't known before, but that standard input can.
+    ghost open_gives = { λ before number given after. (after ≡ before)
+        × OpensAs (slice_index_or (labels_of before.labels.now) number []) given };
 
     fn count(&self) -> usize {
         self.labels.len()

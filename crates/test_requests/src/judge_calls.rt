@@ -1,10 +1,10 @@
 // Calls of `sas_plans`: `judge`, over plans and a task as `plan_list` describes them, and over devices that return all of a file,
-// or fail.
+// or fail; and `judge_slices`, over the same bytes in memory.
 use crate::answers::{ROOM, is_cut_off, say_answer, say_exactly};
 use crate::plan_list::{Given, GivenPlan, Notes, PlanList, are_labels, given_in};
 use sas_lines::Watched;
 use sas_lines::trial::{Breaks, Narrow};
-use sas_plans::{InputFault, JudgeFault, judge};
+use sas_plans::{InputFault, JudgeFault, PlanBytes, judge, judge_slices};
 use sas_requests::{Status, ToolFault};
 use std::alloc::{AllocError, Global};
 use std::io::{Read, Write};
@@ -34,6 +34,7 @@ fn call_over<R: AllocGlobal + Print>(
 ) -> Result<bool, AllocError> {
     match asked.call {
         "judge" => judge_whole(rt, asked.number, given)?,
+        "judge-slices" => judge_in_memory(rt, given)?,
         "judge-told" => judge_told(rt, given)?,
         "judge-longest" => judge_longest(rt, given)?,
         "judge-narrow" => say_right(rt, wrong_room(rt.alloc(), given)?),
@@ -95,6 +96,26 @@ fn judge_whole<R: AllocGlobal + Print>(
     let plans = given.plans.as_slice();
     let (result, written) = judge_over(rt.alloc(), given.task, plans, &notes, out);
     say_answer(rt, &over_files(result), written.kept());
+    Ok(())
+}
+
+/// Calls `judge_slices` over the same bytes. It could show that it always wants memory, and inputs that are exchanged.
+fn judge_in_memory<R: AllocGlobal + Print>(rt: &R, given: &Given<'_>) -> Result<(), AllocError> {
+    let mut plans = Vec::new(rt.alloc());
+    for plan in given.plans.as_slice() {
+        plans.push(PlanBytes {
+            label: plan.label,
+            bytes: plan.told,
+        })?;
+    }
+    if !sas_plans::are_labels(plans.as_slice()) {
+        say(rt, "WRONG: a label");
+        return Ok(());
+    }
+    match judge_slices(rt.alloc(), given.task, plans.as_slice()) {
+        Ok(told) => say_answer(rt, &Ok(told.status), told.text.as_slice()),
+        Err(fault) => say_answer(rt, &over_files(Err(fault)), &[]),
+    }
     Ok(())
 }
 

@@ -128,7 +128,7 @@ pub struct PlanList<'a> {
 }
 
 impl<'a> PlanInputs for PlanList<'a> {
-    ghost use Rattle.std.specs.Prelude.{None};
+    ghost use Rattle.std.specs.Prelude.{◌≡◌, None};
     ghost use Rattle.test_requests.specs.Labels.{labels_of};
 
     type Input = PlanDevice<'a>;
@@ -137,6 +137,9 @@ impl<'a> PlanInputs for PlanList<'a> {
 
     // What a device is told isn't what it returns.
     ghost bytes = { λ list number. None };
+
+    // The list stays as it was. Which plans are opened is in its notes.
+    ghost open_gives = { λ before number given after. after ≡ before };
 
     fn count(&self) -> usize {
         self.plans.len()

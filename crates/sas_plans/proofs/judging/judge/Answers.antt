@@ -5,6 +5,7 @@ use Rattle.sas_plans.specs.Inputs.{tool_fault, tool_result}
 use Rattle.sas_plans.specs.Judged.{JudgeOut}
 use Rattle.sas_plans.proofs.JudgeEndings.{ends_at, status_if_ok}
 use Rattle.sas_plans.proofs.PlansHeadlines.{plans_headline_of}
+use Rattle.sas_plans.proofs.Turns.{in_turn_written, long_written}
 use Rattle.sas_plans.proofs.judging.judge.Goals as goal
 
 pub returns-in-Ok-clause-output : goal.returns-in-Ok-clause-output
@@ -29,3 +30,10 @@ pub returns-in-Err-clause-taken : goal.returns-in-Err-clause-taken
 returns-in-Err-clause-taken g c = λ decided.
     let (b, cs, consumed, read, is) = c.in-Err.ensures.answers.taken decided in
     (b, cs, consumed, read, ends_at (JudgeOut (g.S.PlanInputs.labels c.args.plans.now) b cs) (Appends (g.W.Write.contents c.args.out.now.device) (g.W.Write.contents c.args.out.now.device)) (tool_fault c.in-Err.fault) is c.in-Err.ensures.answers.writes)
+
+pub returns-in-Ok-clause-opens : goal.returns-in-Ok-clause-opens
+returns-in-Ok-clause-opens g c =
+    in_turn_written g.S.PlanInputs.open_gives _ _ _ _ c.write_answer.result c.write_answer.ensures.write c.in-Ok.ensures.opens
+
+pub returns-in-Ok-clause-long : goal.returns-in-Ok-clause-long
+returns-in-Ok-clause-long g c = long_written _ c.write_answer.result c.write_answer.ensures.write

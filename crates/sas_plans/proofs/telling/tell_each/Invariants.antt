@@ -1,4 +1,5 @@
 use Rattle.std.proofs.Common.{◌≡◌, ℕ, ◌≤◌, length}
+use Rattle.sas_plans.specs.InTurn.{OpensFirst}
 use Rattle.sas_plans.specs.Judging.{AreTold}
 use Rattle.sas_plans.proofs.telling.tell_each.Given as goal
 
@@ -8,5 +9,6 @@ invariant-loop-number g l = record {
   labels : g.S.PlanInputs.labels l.plans ≡ g.S.PlanInputs.labels l.fn.plans;
   end : l.number-end ≡ length (g.S.PlanInputs.labels l.fn.plans);
   later : (k : ℕ) → l.number ≤ k → g.S.PlanInputs.bytes l.plans k ≡ g.S.PlanInputs.bytes l.fn.plans k;
+  opened : OpensFirst g.S.PlanInputs.open_gives l.number l.fn.plans l.plans;
   told : AreTold l.fn.held (g.S.PlanInputs.bytes l.fn.plans) (g.S.PlanInputs.labels l.fn.plans) l.number l.text.items l.tally;
 }

@@ -1,0 +1,12 @@
+use Rattle.std.proofs.Common.{rules}
+use Rattle.std.proofs.lemmas.List.Elements.{All-map}
+use Rattle.sas_plans.specs.Inputs.{IsLabel}
+use Rattle.sas_plans.specs.declared.slices.PlanBytes.{PlanBytes}
+use Rattle.sas_plans.proofs.InMemory.{all_labels}
+use Rattle.sas_plans.proofs.slices.are_labels.Goals as goal
+
+pub returns : goal.returns
+returns c = (
+  λ holds. All-map IsLabel (λ (plan : PlanBytes). plan.label.now) c.args.plans.now (search rules),
+  λ labels. (let each = all_labels IsLabel c.args.plans.now labels in search rules),
+)
