@@ -1,7 +1,15 @@
 -- The labels of plans: the words that name their files.
-use Rattle.std.specs.Prelude.{ℕ, List, map, String}
+use Rattle.std.specs.Prelude.{ℕ, ◌+◌, Bool, if◌then◌else◌, List, map, count_by, codes, bytes_eq, String}
 use Rattle.std.specs.String.{string_bytes}
 
 -- the bytes of the words
 abbrev pub labels_of : {Z : Type 0} → List (String Z) → List (List ℕ)
 labels_of words = map string_bytes words
+
+-- whether a label names standard input: whether it is `-`
+abbrev pub names_input : {Z : Type 0} → String Z → Bool
+names_input label = bytes_eq (string_bytes label) (codes "-")
+
+-- how often standard input is named: by the task, if it is, and by labels of plans
+abbrev pub times_named : {Z : Type 0} → Bool → List (String Z) → ℕ
+times_named by_task labels = (if by_task then 1 else 0) + count_by names_input labels
