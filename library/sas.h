@@ -22,11 +22,12 @@
 extern "C" {
 #endif
 
-/* What a call returns. At 3, 4 and 5 what is in the room and in `*size` means nothing. */
+/* What a call returns. Behind an answer the room is as it was, and from 2 on all of it is. At 3, 4 and 5 what is in
+   `*size` means nothing. */
 enum sas_number {
     SAS_YES = 0,            /* Yes, or printed. The answer is the first `*size` bytes of the room. */
     SAS_NO = 1,             /* No, or a file is refused. The answer is the first `*size` bytes of the room. */
-    SAS_ROOM_TOO_SHORT = 2, /* The answer has `*size` bytes, more than the room. What is in the room means nothing. */
+    SAS_ROOM_TOO_SHORT = 2, /* The answer has `*size` bytes, more than the room. */
     SAS_OUT_OF_MEMORY = 3,  /* Memory was refused. */
     SAS_INPUT_TOO_LONG = 4, /* An input goes past 4,294,967,296 bytes. */
     SAS_NO_TASK = 5         /* The `sas_task` holds no task. */

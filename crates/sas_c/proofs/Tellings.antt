@@ -1,5 +1,6 @@
 -- What is told follows from how a run ended.
-use Rattle.std.proofs.Common.{◌≡◌, ℕ, ◌<◌, List, [], ◌++◌, length, take, codes, arith, refl, sym, ap, subst, ◌∙◌, Option, Some, None, Result, Ok, Err}
+use Rattle.std.proofs.Common.{◌≡◌, ℕ, ◌<◌, List, [], ◌++◌, length, take, drop, codes, arith, refl, sym, ap, subst, ◌∙◌, Option, Some, None, Result, Ok, Err}
+use Rattle.std.specs.Prelude.{IfSome}
 use Rattle.std.specs.Io.KnownBytes.{Appends}
 use Rattle.sas_core.specs.declared.parts.Parts.{Parts}
 use Rattle.sas_meaning.specs.declared.layered.LayerFault.{LayerFault}
@@ -14,20 +15,25 @@ use Rattle.sas_output.specs.declared.ending.ToolFault.{ToolFault}
 use Rattle.sas_output.specs.declared.ending.ToolFault.TheVariants.{Memory, Read, TooLong, Write}
 use Rattle.sas_output.specs.declared.told.Told.{Told}
 use Rattle.sas_output.specs.Ending.{Output, Ends, output_told}
-use Rattle.sas_answers.specs.Answers.{layers_verdict}
+use Rattle.sas_answers.specs.Answers.{layers_verdict, VerdictAnswer}
 use Rattle.sas_core.specs.PlanParts.{PlanParts}
 use Rattle.sas_outputs.specs.declared.Request.{Request}
-use Rattle.sas_outputs.specs.declared.Request.TheVariants.{Plan}
-use Rattle.sas_outputs.specs.Headline.{Headline}
-use Rattle.sas_outputs.specs.Output.{CheckOut, PlanOutBy}
-use Rattle.sas_outputs.proofs.Headlines.{TellsValid, headline_of}
-use Rattle.sas_outputs.proofs.PlanOutputs.{Refuses}
-use Rattle.sas_requests.proofs.ReasonedOutputs.{headline_why}
+use Rattle.sas_outputs.specs.declared.Request.TheVariants.{Plan, Mutex}
+use Rattle.sas_outputs.specs.Headline.{Headline, Invariants}
+use Rattle.sas_outputs.specs.Output.{CheckOut, FileOut, PlanOut, PlanOutBy, VerdictOut, plain_refusal}
+use Rattle.sas_outputs.proofs.Headlines.{TellsValid, tells_valid, headline_of}
+use Rattle.sas_outputs.proofs.PlanOutputs.{Refuses, plain_refuses, judged_out}
+use Rattle.sas_requests.proofs.InvariantGroups.{TellsGroups, invariants_of}
+use Rattle.sas_requests.proofs.ReasonedOutputs.{headline_why, invariants_why}
 use Rattle.sas_requests.specs.Why.{OutWhy}
 use Rattle.sas_plans.specs.declared.held.Opening.{Opening}
 use Rattle.sas_plans.specs.declared.held.Opening.TheVariants.{Ready, Refused}
 use Rattle.sas_plans.specs.Opened.{Opens}
-use Rattle.sas_c.specs.Telling.{Tells, TellsHeadline, number_of_fault, number_of_status}
+use Rattle.sas_plans.specs.TraceOut.{TraceOut}
+use Rattle.sas_held.specs.declared.prepared.Prepared.{Prepared}
+use Rattle.sas_c.specs.Holding.{Holds}
+use Rattle.sas_c.specs.Telling.{Tells, TellsHeadline, EndsInLine, TellsLastLine, TellsInvariants, number_of_fault, number_of_status}
+use Rattle.sas_c.proofs.TracedPlans.{traced_headline}
 
 same_number : (s t : Status) → number_of_status s ≡ number_of_status t → s ≡ t
 same_number Yes Yes e = refl
@@ -41,107 +47,149 @@ low_number No = omega arith
 
 -- ---- a text
 
-module _ (text : List ℕ) (status : Status) (room : List ℕ) (size : ℕ) (long : size ≡ length text) where
+module _ (text : List ℕ) (status : Status) (before room : List ℕ) (size : ℕ) (long : size ≡ length text) where
   abbrev TellsText : ℕ → Type 0
-  TellsText number = Tells (λ (o : Option Output). o ≡ Some (record { text = text; status = status })) room size number
+  TellsText number = Tells (λ (o : Option Output). o ≡ Some (record { text = text; status = status })) before room size number
 
   -- that was copied is told
-  pub tells_copied : (number : ℕ) → number ≡ number_of_status status → take (length text) room ≡ text → TellsText number
-  tells_copied number is copied =
+  pub tells_copied : (number : ℕ) → number ≡ number_of_status status → take (length text) room ≡ text → drop (length text) room ≡ drop (length text) before → length room ≡ length before → TellsText number
+  tells_copied number is copied behind as_long =
       let low = low_number status in record {
         told = λ s e. (record { text = text; status = status }, refl, same_number status s (sym is ∙ e), long, subst (λ (n : ℕ). take n room ≡ text) (sym long) copied);
         longer = λ e. absurd (omega arith);
         none = λ e. absurd (omega arith);
         known = omega arith;
+        behind = λ e. subst (λ (n : ℕ). drop n room ≡ drop n before) (sym long) behind;
+        same = λ e. absurd (omega arith);
+        as_long = as_long;
       }
 
   -- and so is one that was too long for that
-  pub tells_longer : length room < length text → TellsText 2
-  tells_longer longer = record {
-    told = λ s e. let low = low_number s in absurd (omega arith);
-    longer = λ e. (record { text = text; status = status }, refl, long, omega arith);
-    none = λ e. absurd (omega arith);
-    known = omega arith;
-  }
+  pub tells_longer : length before < length text → room ≡ before → TellsText 2
+  tells_longer longer same =
+      let as_long : length room ≡ length before = ap (λ (xs : List ℕ). length xs) same in record {
+        told = λ s e. let low = low_number s in absurd (omega arith);
+        longer = λ e. (record { text = text; status = status }, refl, long, omega arith);
+        none = λ e. absurd (omega arith);
+        known = omega arith;
+        behind = λ e. absurd (omega arith);
+        same = λ e. same;
+        as_long = as_long;
+      }
 
--- ---- an end without one
+-- ---- an end without one, which leaves the room as it was
 
 module _ (Out : Option Output → Type 0) (room : List ℕ) (size : ℕ) where
-  tells_too_long : Out None → Tells Out room size 4
+  tells_too_long : Out None → Tells Out room room size 4
   tells_too_long none = record {
     told = λ s e. let low = low_number s in absurd (omega arith);
     longer = λ e. absurd (omega arith);
     none = λ e. none;
     known = omega arith;
+    behind = λ e. refl;
+    same = λ e. refl;
+    as_long = refl;
   }
 
-  tells_nothing : Tells Out room size 3
+  tells_nothing : Tells Out room room size 3
   tells_nothing = record {
     told = λ s e. let low = low_number s in absurd (omega arith);
     longer = λ e. absurd (omega arith);
     none = λ e. absurd (omega arith);
     known = omega arith;
+    behind = λ e. refl;
+    same = λ e. refl;
+    as_long = refl;
   }
 
-  by_fault : (why : ToolFault) → (why ≡ TooLong → Out None) → Tells Out room size (number_of_fault why)
+  by_fault : (why : ToolFault) → (why ≡ TooLong → Out None) → Tells Out room room size (number_of_fault why)
   by_fault TooLong long = tells_too_long (long refl)
   by_fault Memory long = tells_nothing
   by_fault Read long = tells_nothing
   by_fault (Write written) long = tells_nothing
 
-  pub tells_fault : (why : ToolFault) (number : ℕ) → number ≡ number_of_fault why → (why ≡ TooLong → Out None) → Tells Out room size number
-  tells_fault why number is long = subst (λ (n : ℕ). Tells Out room size n) (sym is) (by_fault why long)
+  pub tells_fault : (why : ToolFault) (number : ℕ) → number ≡ number_of_fault why → (why ≡ TooLong → Out None) → Tells Out room room size number
+  tells_fault why number is long = subst (λ (n : ℕ). Tells Out room room size n) (sym is) (by_fault why long)
 
-  pub ends_fault : (Sent : List ℕ → Type 0) (why : ToolFault) (number : ℕ) → number ≡ number_of_fault why → Ends Out Sent (Err why) → Tells Out room size number
+  pub ends_fault : (Sent : List ℕ → Type 0) (why : ToolFault) (number : ℕ) → number ≡ number_of_fault why → Ends Out Sent (Err why) → Tells Out room room size number
   ends_fault Sent why number is ends = tells_fault why number is (λ long. subst (λ (w : ToolFault). Ends Out Sent (Err w)) long ends)
 
 -- ---- what is told of one output is told of another that follows from it
 
-module _ (A B : Option Output → Type 0) (to : (o : Option Output) → A o → B o) (room : List ℕ) (size number : ℕ) where
-  pub tells_by : Tells A room size number → Tells B room size number
+module _ (A B : Option Output → Type 0) (to : (o : Option Output) → A o → B o) (before room : List ℕ) (size number : ℕ) where
+  pub tells_by : Tells A before room size number → Tells B before room size number
   tells_by t = record {
     told = λ status is. let x = t.told status is in (x.0, to (Some x.0) x.1, x.2, x.3, x.4);
     longer = λ is. let x = t.longer is in (x.0, to (Some x.0) x.1, x.2, x.3);
     none = λ is. to None (t.none is);
     known = t.known;
+    behind = t.behind;
+    same = t.same;
+    as_long = t.as_long;
   }
 
 -- what is told of a text is told of the same text
-pub tells_same : (text other : List ℕ) (status : Status) (room : List ℕ) (size number : ℕ) → text ≡ other
-    → Tells (λ o. o ≡ Some (record { text = text; status = status })) room size number → Tells (λ o. o ≡ Some (record { text = other; status = status })) room size number
-tells_same text other status room size number same t = subst (λ (xs : List ℕ). Tells (λ (o : Option Output). o ≡ Some (record { text = xs; status = status })) room size number) same t
+pub tells_same : (text other : List ℕ) (status : Status) (before room : List ℕ) (size number : ℕ) → text ≡ other
+    → Tells (λ o. o ≡ Some (record { text = text; status = status })) before room size number → Tells (λ o. o ≡ Some (record { text = other; status = status })) before room size number
+tells_same text other status before room size number same t = subst (λ (xs : List ℕ). Tells (λ (o : Option Output). o ≡ Some (record { text = xs; status = status })) before room size number) same t
 
 -- what is known to be the output is told
-pub tells_output : (Out : Option Output → Type 0) (o : Output) → Out (Some o) → (room : List ℕ) (size number : ℕ) → Tells (λ x. x ≡ Some o) room size number → Tells Out room size number
-tells_output Out o is room size number t = tells_by (λ x. x ≡ Some o) Out (λ x e. subst Out (sym e) is) room size number t
+pub tells_output : (Out : Option Output → Type 0) (o : Output) → Out (Some o) → (before room : List ℕ) (size number : ℕ) → Tells (λ x. x ≡ Some o) before room size number → Tells Out before room size number
+tells_output Out o is before room size number t = tells_by (λ x. x ≡ Some o) Out (λ x e. subst Out (sym e) is) before room size number t
 
 -- what a writer into empty memory was given is told
-pub tells_ended : (Out : Option Output → Type 0) (was items text : List ℕ) (status : Status) (room : List ℕ) (size number : ℕ) → was ≡ [] → text ≡ items
-    → Ends Out (Appends (Some was) (Some items)) (Ok status) → Tells (λ o. o ≡ Some (record { text = text; status = status })) room size number → Tells Out room size number
-tells_ended Out was items text status room size number empty same ends t =
+pub tells_ended : (Out : Option Output → Type 0) (was items text : List ℕ) (status : Status) (before room : List ℕ) (size number : ℕ) → was ≡ [] → text ≡ items
+    → Ends Out (Appends (Some was) (Some items)) (Ok status) → Tells (λ o. o ≡ Some (record { text = text; status = status })) before room size number → Tells Out before room size number
+tells_ended Out was items text status before room size number empty same ends t =
     let all : text ≡ (ends.0).text = same ∙ ends.3 ∙ ap (λ (xs : List ℕ). xs ++ (ends.0).text) empty in
     let out : Some (record { text = text; status = status }) ≡ Some ends.0 = λ i. Some (record { text = all i; status = ends.2 i }) in
-    tells_by (λ o. o ≡ Some (record { text = text; status = status })) Out (λ o e. subst Out (sym (e ∙ out)) ends.1) room size number t
+    tells_by (λ o. o ≡ Some (record { text = text; status = status })) Out (λ o e. subst Out (sym (e ∙ out)) ends.1) before room size number t
 
 -- what is told of what was asked is told of the same request and bytes
-pub asked_told : (F : Request → List ℕ → List ℕ → Option Output → Type 0) (asked request : Request) (task b plan c room : List ℕ) (size number : ℕ)
-    → asked ≡ request → task ≡ b → plan ≡ c → Tells (F asked task plan) room size number → Tells (F request b c) room size number
-asked_told F asked request task b plan c room size number is same_task same_plan t =
-    subst (λ (r : Request). Tells (F r b c) room size number) is
-    (subst (λ (xs : List ℕ). Tells (F asked xs c) room size number) same_task (subst (λ (xs : List ℕ). Tells (F asked task xs) room size number) same_plan t))
+pub asked_told : (F : Request → List ℕ → List ℕ → Option Output → Type 0) (asked request : Request) (task b plan c before room : List ℕ) (size number : ℕ)
+    → asked ≡ request → task ≡ b → plan ≡ c → Tells (F asked task plan) before room size number → Tells (F request b c) before room size number
+asked_told F asked request task b plan c before room size number is same_task same_plan t =
+    subst (λ (r : Request). Tells (F r b c) before room size number) is
+    (subst (λ (xs : List ℕ). Tells (F asked xs c) before room size number) same_task (subst (λ (xs : List ℕ). Tells (F asked task xs) before room size number) same_plan t))
 
 -- ---- whether a plan solves a task
 
-pub headline_told : (Verdict : Parts → PlanParts → Output → Type 0) (refused : Parts → LayerFault → Option Output) → TellsValid Verdict → Refuses refused → (b c room : List ℕ) (size number : ℕ) → Tells (PlanOutBy Verdict refused b c) room size number → TellsHeadline b c room size number
-headline_told Verdict refused tells refuses b c room size number t = λ status is.
+pub headline_told : (Verdict : Parts → PlanParts → Output → Type 0) (refused : Parts → LayerFault → Option Output) → TellsValid Verdict → Refuses refused → (b c before room : List ℕ) (size number : ℕ) → Tells (PlanOutBy Verdict refused b c) before room size number → TellsHeadline b c room size number
+headline_told Verdict refused tells refuses b c before room size number t = λ status is.
     let x = t.told status is in
     subst (λ (text : List ℕ). Headline b c (λ line. text ≡ line) status) (sym x.4) (headline_of Verdict refused tells refuses b c x.0 x.1 (Some []) (Some (x.0).text) [] status refl (sym x.2) refl)
 
 -- the same with reasons
-pub headline_why_told : (b c room : List ℕ) (size number : ℕ) → Tells (OutWhy Plan b c) room size number → TellsHeadline b c room size number
-headline_why_told b c room size number t = λ status is.
+pub headline_why_told : (b c before room : List ℕ) (size number : ℕ) → Tells (OutWhy Plan b c) before room size number → TellsHeadline b c room size number
+headline_why_told b c before room size number t = λ status is.
     let x = t.told status is in
     subst (λ (text : List ℕ). Headline b c (λ line. text ≡ line) status) (sym x.4) (headline_why b c x.0 x.1 (Some []) (Some (x.0).text) [] status refl (sym x.2) refl)
+
+-- the same behind a trace
+pub last_line_told : (b c before room : List ℕ) (size number : ℕ) → Tells (TraceOut b c) before room size number → TellsLastLine b c room size number
+last_line_told b c before room size number t = λ status is.
+    let x = t.told status is in
+    subst (λ (text : List ℕ). Headline b c (EndsInLine text) status) (sym x.4) (subst (λ (s : Status). Headline b c (EndsInLine (x.0).text) s) x.2 (traced_headline b c x.0 x.1))
+
+-- the same of a task that is held
+pub held_told : (b c before room : List ℕ) (size number : ℕ) (held : Option Prepared) → Holds b held → IfSome held (λ prepared. Tells (VerdictOut VerdictAnswer prepared.held c) before room size number) → TellsHeadline b c room size number
+held_told b c before room size number None holds t = absurd holds
+held_told b c before room size number (Some prepared) (reads, layered) t =
+    headline_told VerdictAnswer plain_refusal tells_valid plain_refuses b c before room size number
+    (tells_by (VerdictOut VerdictAnswer prepared.held c) (PlanOut b c) (judged_out VerdictAnswer plain_refusal prepared.held layered b c reads) before room size number t)
+
+-- ---- which mutex groups are exclusive
+
+pub invariants_told : (IsAnswer : Parts → Output → Type 0) → TellsGroups IsAnswer → (b before room : List ℕ) (size number : ℕ) → Tells (FileOut task_format (codes "task") IsAnswer b) before room size number → TellsInvariants b room size number
+invariants_told IsAnswer tells b before room size number t = λ status is.
+    let x = t.told status is in
+    subst (λ (text : List ℕ). Invariants b (λ out. text ≡ out)) (sym x.4) (invariants_of IsAnswer tells b x.0 x.1 (Some []) (Some (x.0).text) [] refl refl)
+
+-- the same with reasons
+pub invariants_why_told : (b c before room : List ℕ) (size number : ℕ) → Tells (OutWhy Mutex b c) before room size number → TellsInvariants b room size number
+invariants_why_told b c before room size number t = λ status is.
+    let x = t.told status is in
+    subst (λ (text : List ℕ). Invariants b (λ out. text ≡ out)) (sym x.4) (invariants_why b c x.0 x.1 (Some []) (Some (x.0).text) [] refl refl)
 
 -- ---- a task that was opened
 
@@ -153,8 +201,8 @@ fault_number Read number is zero = omega arith
 fault_number (Write written) number is zero = omega arith
 
 -- what isn't yes is never told as yes
-pub never_yes : (o : Output) (room : List ℕ) (size number : ℕ) → o.status ≡ No → Tells (λ x. x ≡ Some o) room size number → number ≡ 0 → ⊥
-never_yes o room size number refused t zero =
+pub never_yes : (o : Output) (before room : List ℕ) (size number : ℕ) → o.status ≡ No → Tells (λ x. x ≡ Some o) before room size number → number ≡ 0 → ⊥
+never_yes o before room size number refused t zero =
     let x = t.told Yes zero in
     let same : x.0 ≡ o = cc in
     let wrong : number_of_status No ≡ number_of_status Yes = ap number_of_status (sym refused ∙ ap (λ (y : Output). y.status) (sym same) ∙ x.2) in

@@ -1,11 +1,12 @@
 -- What a call of the library says: a number, and an answer in the caller's memory.
-use Rattle.std.specs.Prelude.{◌≡◌, ℕ, ◌<◌, List, length, take, Option, Some, None}
+use Rattle.std.specs.Prelude.{◌≡◌, ℕ, ◌<◌, ◌≤◌, List, ◌++◌, length, take, drop, Option, Some, None}
+use Rattle.sas_lines.specs.Lines.{text}
 use Rattle.sas_output.specs.declared.ending.Status.{Status}
 use Rattle.sas_output.specs.declared.ending.Status.TheVariants.{Yes, No}
 use Rattle.sas_output.specs.declared.ending.ToolFault.{ToolFault}
 use Rattle.sas_output.specs.declared.ending.ToolFault.TheVariants.{Memory, Read, TooLong, Write}
 use Rattle.sas_output.specs.Ending.{Output}
-use Rattle.sas_outputs.specs.Headline.{Headline}
+use Rattle.sas_outputs.specs.Headline.{Headline, Invariants}
 
 -- the number of an answer that is told
 abbrev pub number_of_status : Status → ℕ
@@ -19,9 +20,11 @@ number_of_fault Memory = 3
 number_of_fault Read = 3
 number_of_fault (Write written) = 3
 
--- What a call tells by its number, by `size`, and by what `room`, the caller's memory for the
--- answer, holds then. `Out` is asked which output is the right one, or whether there is none.
-pub record Tells (Out : Option Output → Type 0) (room : List ℕ) (size number : ℕ) : Type 0 where
+-- What a call tells by its number, by `size`, and by the caller's memory for the answer, in which
+-- `before` stood and now stands `room`. `Out` is asked which output is the right one, or whether
+-- there is none.
+pub record Tells (Out : Option Output → Type 0) (before room : List ℕ) (size number : ℕ)
+    : Type 0 where
   -- 0 and 1: the output's text stands at the front of the room, and the number is its status
   pub told : (status : Status) → number ≡ number_of_status status → (output : Output)
       × Out (Some output)
@@ -36,9 +39,28 @@ pub record Tells (Out : Option Output → Type 0) (room : List ℕ) (size number
   -- 4: there is none, as an input is too long; and 3, that memory was refused, says nothing
   pub none : number ≡ 4 → Out None
   pub known : number < 5
+  -- behind a text the room is as it was, where there is none all of it is, and always as long
+  pub behind : number < 2 → drop size room ≡ drop size before
+  pub same : 2 ≤ number → room ≡ before
+  pub as_long : length room ≡ length before
 
 -- Where an answer is told about the bytes b of the task and c of the plan, `plan valid` stands in
 -- the room exactly if the plan solves the task at the cost that is told, and exactly then it is yes.
 abbrev pub TellsHeadline : List ℕ → List ℕ → List ℕ → ℕ → ℕ → Type 0
 TellsHeadline b c room size number = (status : Status) → number ≡ number_of_status status
     → Headline b c (λ line. take size room ≡ line) status
+
+-- the bytes are some lines, each ended by LF, and behind them this one
+abbrev pub EndsInLine : List ℕ → List ℕ → Type 0
+EndsInLine bytes line = (front : List (List ℕ)) × (bytes ≡ text front ++ line)
+
+-- Where the answer is told behind a trace, so it is with the last line in the room.
+abbrev pub TellsLastLine : List ℕ → List ℕ → List ℕ → ℕ → ℕ → Type 0
+TellsLastLine b c room size number = (status : Status) → number ≡ number_of_status status
+    → Headline b c (EndsInLine (take size room)) status
+
+-- Where an answer is told about the mutex groups of the task b, `group K exclusive` is a line of it
+-- only if group K is an invariant of the task.
+abbrev pub TellsInvariants : List ℕ → List ℕ → ℕ → ℕ → Type 0
+TellsInvariants b room size number = (status : Status) → number ≡ number_of_status status
+    → Invariants b (λ out. take size room ≡ out)

@@ -38,7 +38,7 @@ impl<'b> Asked<'b> {
 /// Tells the answer to the request.
 pub fn answer(alloc: Global, asked: Asked<'_>, room: &mut [u8], size: &mut usize) -> u32
     ensures { Tells (Out asked.entry.request asked.entry.task.now asked.entry.plan.now)
-        room.new size.new result }
+        room.old room.new size.new result }
 {
     let mut task = Watched::new(asked.task);
     let mut plan = Watched::new(asked.plan);
@@ -52,7 +52,7 @@ pub fn answer(alloc: Global, asked: Asked<'_>, room: &mut [u8], size: &mut usize
 /// Tells the answer to the request, with the reasons for a no.
 pub fn answer_why(alloc: Global, asked: Asked<'_>, room: &mut [u8], size: &mut usize) -> u32
     ensures { Tells (OutWhy asked.entry.request asked.entry.task.now asked.entry.plan.now)
-        room.new size.new result }
+        room.old room.new size.new result }
 {
     let mut task = Watched::new(asked.task);
     let mut plan = Watched::new(asked.plan);
@@ -71,7 +71,7 @@ pub fn answer_trace(
     room: &mut [u8],
     size: &mut usize,
 ) -> u32
-    ensures { Tells (TraceOut task.now plan.now) room.new size.new result }
+    ensures { Tells (TraceOut task.now plan.now) room.old room.new size.new result }
 {
     let mut task = Watched::new(task);
     let mut plan = Watched::new(plan);

@@ -1,10 +1,10 @@
 // The calls of the library about a task, a plan, or both. Each takes an input as a pointer that isn't null and a length, and writes the
-// answer to the front of `room`, and its length in bytes to `size`.
+// answer to the front of `room`, and its length in bytes to `size`. Behind the answer the room stays as it was.
 ghost use Rattle.std.specs.Prelude.{[]};
 ghost use Rattle.sas_outputs.specs.Output.{ShowOut, PrintOut, StepsOut, CheckOut, MutexOut, PlanOut};
 ghost use Rattle.sas_requests.specs.Why.{OutWhy};
 ghost use Rattle.sas_plans.specs.TraceOut.{TraceOut};
-ghost use Rattle.sas_c.specs.Telling.{Tells, TellsHeadline};
+ghost use Rattle.sas_c.specs.Telling.{Tells, TellsHeadline, TellsInvariants, TellsLastLine};
 
 use crate::answering::{Asked, answer, answer_trace, answer_why};
 use sas_requests::Request;
@@ -19,7 +19,7 @@ pub extern "C" fn sas_plan(
     room: &mut [u8],
     size: &mut usize,
 ) -> u32
-    ensures tells { Tells (PlanOut task.now plan.now) room.new size.new result }
+    ensures tells { Tells (PlanOut task.now plan.now) room.old room.new size.new result }
     ensures headline { TellsHeadline task.now plan.now room.new size.new result }
 {
     answer(alloc, Asked::new(Request::Plan, task, plan), room, size)
@@ -28,7 +28,7 @@ pub extern "C" fn sas_plan(
 /// Answers whether the task is layered.
 #[unsafe(no_mangle)]
 pub extern "C" fn sas_check(alloc: Global, task: &[u8], room: &mut [u8], size: &mut usize) -> u32
-    ensures { Tells (CheckOut task.now) room.new size.new result }
+    ensures tells { Tells (CheckOut task.now) room.old room.new size.new result }
 {
     answer(alloc, Asked::new(Request::Check, task, b""), room, size)
 }
@@ -36,7 +36,8 @@ pub extern "C" fn sas_check(alloc: Global, task: &[u8], room: &mut [u8], size: &
 /// Answers which mutex groups of the task are exclusive.
 #[unsafe(no_mangle)]
 pub extern "C" fn sas_mutex(alloc: Global, task: &[u8], room: &mut [u8], size: &mut usize) -> u32
-    ensures { Tells (MutexOut task.now) room.new size.new result }
+    ensures tells { Tells (MutexOut task.now) room.old room.new size.new result }
+    ensures invariants { TellsInvariants task.now room.new size.new result }
 {
     answer(alloc, Asked::new(Request::Mutex, task, b""), room, size)
 }
@@ -44,7 +45,7 @@ pub extern "C" fn sas_mutex(alloc: Global, task: &[u8], room: &mut [u8], size: &
 /// Answers with the summary of the task.
 #[unsafe(no_mangle)]
 pub extern "C" fn sas_show(alloc: Global, task: &[u8], room: &mut [u8], size: &mut usize) -> u32
-    ensures { Tells (ShowOut task.now) room.new size.new result }
+    ensures tells { Tells (ShowOut task.now) room.old room.new size.new result }
 {
     answer(alloc, Asked::new(Request::Show, task, b""), room, size)
 }
@@ -52,7 +53,7 @@ pub extern "C" fn sas_show(alloc: Global, task: &[u8], room: &mut [u8], size: &m
 /// Answers with the task, printed again.
 #[unsafe(no_mangle)]
 pub extern "C" fn sas_print(alloc: Global, task: &[u8], room: &mut [u8], size: &mut usize) -> u32
-    ensures { Tells (PrintOut task.now) room.new size.new result }
+    ensures tells { Tells (PrintOut task.now) room.old room.new size.new result }
 {
     answer(alloc, Asked::new(Request::Print, task, b""), room, size)
 }
@@ -60,7 +61,7 @@ pub extern "C" fn sas_print(alloc: Global, task: &[u8], room: &mut [u8], size: &
 /// Answers with the steps of the plan and its cost, printed again.
 #[unsafe(no_mangle)]
 pub extern "C" fn sas_steps(alloc: Global, plan: &[u8], room: &mut [u8], size: &mut usize) -> u32
-    ensures { Tells (StepsOut plan.now) room.new size.new result }
+    ensures tells { Tells (StepsOut plan.now) room.old room.new size.new result }
 {
     answer(alloc, Asked::new(Request::Steps, b"", plan), room, size)
 }
@@ -74,7 +75,8 @@ pub extern "C" fn sas_plan_why(
     room: &mut [u8],
     size: &mut usize,
 ) -> u32
-    ensures tells { Tells (OutWhy Request.Plan task.now plan.now) room.new size.new result }
+    ensures tells { Tells (OutWhy Request.Plan task.now plan.now)
+        room.old room.new size.new result }
     ensures headline { TellsHeadline task.now plan.now room.new size.new result }
 {
     answer_why(alloc, Asked::new(Request::Plan, task, plan), room, size)
@@ -88,7 +90,7 @@ pub extern "C" fn sas_check_why(
     room: &mut [u8],
     size: &mut usize,
 ) -> u32
-    ensures { Tells (OutWhy Request.Check task.now []) room.new size.new result }
+    ensures tells { Tells (OutWhy Request.Check task.now []) room.old room.new size.new result }
 {
     answer_why(alloc, Asked::new(Request::Check, task, b""), room, size)
 }
@@ -101,7 +103,8 @@ pub extern "C" fn sas_mutex_why(
     room: &mut [u8],
     size: &mut usize,
 ) -> u32
-    ensures { Tells (OutWhy Request.Mutex task.now []) room.new size.new result }
+    ensures tells { Tells (OutWhy Request.Mutex task.now []) room.old room.new size.new result }
+    ensures invariants { TellsInvariants task.now room.new size.new result }
 {
     answer_why(alloc, Asked::new(Request::Mutex, task, b""), room, size)
 }
@@ -115,7 +118,8 @@ pub extern "C" fn sas_trace(
     room: &mut [u8],
     size: &mut usize,
 ) -> u32
-    ensures { Tells (TraceOut task.now plan.now) room.new size.new result }
+    ensures tells { Tells (TraceOut task.now plan.now) room.old room.new size.new result }
+    ensures headline { TellsLastLine task.now plan.now room.new size.new result }
 {
     answer_trace(alloc, task, plan, room, size)
 }

@@ -1,8 +1,8 @@
 // A task that is read once, for many plans.
-ghost use Rattle.std.specs.Prelude.{◌≡◌, Some, None, IfSome, IsFalse, IsNone, IsTrue};
+ghost use Rattle.std.specs.Prelude.{◌≡◌, List, ℕ, Some, None, IfSome, IsNone};
 ghost use Rattle.sas_answers.specs.Answers.{VerdictAnswer, layers_verdict};
 ghost use Rattle.sas_outputs.specs.Output.{CheckOut, VerdictOut};
-ghost use Rattle.sas_c.specs.Telling.{Tells};
+ghost use Rattle.sas_c.specs.Telling.{Tells, TellsHeadline};
 ghost use Rattle.sas_c.specs.Holding.{Holds};
 
 use crate::numbers::{NO_TASK, OUT_OF_MEMORY, YES, number_without};
@@ -25,7 +25,7 @@ pub extern "C" fn sas_task_read(
     room: &mut [u8],
     size: &mut usize,
 ) -> u32
-    ensures tells { Tells (CheckOut bytes.now) room.new size.new result }
+    ensures tells { Tells (CheckOut bytes.now) room.old room.new size.new result }
     ensures held { result ≡ 0 → Holds bytes.now task.new.pointer.task }
     ensures none { (result ≡ 0 → ⊥) → task.new.pointer.task ≡ None }
 {
@@ -38,7 +38,7 @@ pub extern "C" fn sas_task_read(
     }
 }
 
-/// Answers whether the plan solves the task that is held. It stays held.
+/// Answers whether the plan solves the task that is held, as `sas_plan` does. It stays held.
 #[unsafe(no_mangle)]
 pub extern "C" fn sas_task_plan(
     alloc: Global,
@@ -48,9 +48,12 @@ pub extern "C" fn sas_task_plan(
     size: &mut usize,
 ) -> u32
     ensures tells { IfSome task.old.pointer.task (λ prepared.
-        Tells (VerdictOut VerdictAnswer prepared.held plan.now) room.new size.new result) }
+        Tells (VerdictOut VerdictAnswer prepared.held plan.now)
+        room.old room.new size.new result) }
+    ensures headline { (b : List ℕ) → Holds b task.old.pointer.task
+        → TellsHeadline b plan.now room.new size.new result }
     ensures same { task.new.pointer.task ≡ task.old.pointer.task }
-    ensures none { IsNone task.old.pointer.task → result ≡ 5 }
+    ensures none { IsNone task.old.pointer.task → (result ≡ 5) × (room.new ≡ room.old) }
 {
     match task.take(alloc) {
         Some(mut prepared) => {
@@ -65,12 +68,12 @@ pub extern "C" fn sas_task_plan(
 /// Lets the task go that is held, if there is one.
 #[unsafe(no_mangle)]
 pub extern "C" fn sas_task_free(alloc: Global, task: &mut SasTask)
-    ensures { task.new.pointer.task ≡ None }
+    ensures none { task.new.pointer.task ≡ None }
 {
     drop(task.take(alloc));
 }
 
-/// Tells that the task is layered, and holds it.
+/// Holds the task, and tells that it is layered. All memory is asked for before anything is told.
 fn hold(
     alloc: Global,
     task: &mut SasTask,
@@ -79,35 +82,32 @@ fn hold(
     size: &mut usize,
 ) -> u32
     requires { task.old.pointer.task ≡ None }
-    ensures tells { Tells (λ output. output ≡ layers_verdict None) room.new size.new result }
+    ensures tells { Tells (λ output. output ≡ layers_verdict None)
+        room.old room.new size.new result }
     ensures held { result ≡ 0 → task.new.pointer.task ≡ Some (record { held = held }) }
     ensures none { (result ≡ 0 → ⊥) → task.new.pointer.task ≡ None }
 {
-    let number = tell(b"task layered\n", Status::Yes, room, size);
-    if number != YES {
-        drop(held);
-        return number;
-    }
-    if keep(alloc, task, held) {
-        YES
-    } else {
-        OUT_OF_MEMORY
+    match Prepared::boxed(alloc, held) {
+        Some(prepared) => tell_held(task, prepared, room, size),
+        None => OUT_OF_MEMORY,
     }
 }
 
-/// Holds the task, and returns whether there was memory for that.
-fn keep(alloc: Global, task: &mut SasTask, held: Held<Worklist, FlatTask>) -> bool
+/// Tells that the task is layered, and holds it if there is room to tell that.
+fn tell_held(task: &mut SasTask, prepared: Box<Prepared>, room: &mut [u8], size: &mut usize) -> u32
     requires { task.old.pointer.task ≡ None }
-    ensures yes { IsTrue result → task.new.pointer.task ≡ Some (record { held = held }) }
-    ensures no { IsFalse result → task.new.pointer.task ≡ None }
+    ensures tells { Tells (λ output. output ≡ layers_verdict None)
+        room.old room.new size.new result }
+    ensures held { result ≡ 0 → task.new.pointer.task ≡ Some prepared.value }
+    ensures none { (result ≡ 0 → ⊥) → task.new.pointer.task ≡ None }
 {
-    match Prepared::boxed(alloc, held) {
-        Some(prepared) => {
-            task.put(prepared);
-            true
-        }
-        None => false,
+    let number = tell(b"task layered\n", Status::Yes, room, size);
+    if number == YES {
+        task.put(prepared);
+    } else {
+        drop(prepared);
     }
+    number
 }
 
 /// Tells whether the plan solves the task.
@@ -118,7 +118,8 @@ fn judge(
     room: &mut [u8],
     size: &mut usize,
 ) -> u32
-    ensures tells { Tells (VerdictOut VerdictAnswer prepared.old.held plan.now) room.new size.new result }
+    ensures tells { Tells (VerdictOut VerdictAnswer prepared.old.held plan.now)
+        room.old room.new size.new result }
     ensures same { prepared.new ≡ prepared.old }
 {
     match judge_bytes(alloc, &mut prepared.held, plan) {

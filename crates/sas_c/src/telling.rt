@@ -1,5 +1,5 @@
 // How an answer goes into the caller's memory.
-ghost use Rattle.std.specs.Prelude.{◌≡◌, ◌<◌, length, take, IsTrue, IsFalse, Some};
+ghost use Rattle.std.specs.Prelude.{◌≡◌, ◌<◌, length, take, drop, IsTrue, IsFalse, Some};
 ghost use Rattle.sas_output.specs.Ending.{output_told};
 ghost use Rattle.sas_c.specs.Telling.{Tells};
 
@@ -9,7 +9,7 @@ use sas_output::{Status, Told};
 /// Tells an answer with this text and this status. Returns the status as a number, or that the text is longer than the room.
 pub fn tell(text: &[u8], status: Status, room: &mut [u8], size: &mut usize) -> u32
     ensures { Tells (λ output. output ≡ Some (record { text = text.now; status = status }))
-        room.new size.new result }
+        room.old room.new size.new result }
 {
     if copy(text, room, size) {
         number_of(status)
@@ -20,19 +20,23 @@ pub fn tell(text: &[u8], status: Status, room: &mut [u8], size: &mut usize) -> u
 
 /// Tells an answer that is at hand, and lets it go.
 pub fn tell_told(told: Told, room: &mut [u8], size: &mut usize) -> u32
-    ensures { Tells (λ output. output ≡ Some (output_told told)) room.new size.new result }
+    ensures { Tells (λ output. output ≡ Some (output_told told))
+        room.old room.new size.new result }
 {
     let number = tell(told.text.as_slice(), told.status, room, size);
     drop(told);
     number
 }
 
-/// Copies the text to the front of the room, if it fits. Its length is told either way.
+/// Copies the text to the front of the room, if it fits. Its length is told either way. Nothing else in the room changes.
 fn copy(text: &[u8], room: &mut [u8], size: &mut usize) -> bool
     ensures size { size.new ≡ length text.now }
     ensures same { length room.new ≡ length room.old }
     ensures copied { IsTrue result → take (length text.now) room.new ≡ text.now }
+    ensures behind { IsTrue result
+        → drop (length text.now) room.new ≡ drop (length text.now) room.old }
     ensures longer { IsFalse result → length room.old < length text.now }
+    ensures spared { IsFalse result → room.new ≡ room.old }
 {
     *size = text.len();
     if text.len() > room.len() {

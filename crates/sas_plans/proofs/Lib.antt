@@ -8,7 +8,7 @@ mod TaskAnswers
 mod Opened
 mod JudgeLaws
 mod LastBytes
-mod PlanLines
+pub mod PlanLines
 mod PlansHeadlines
 mod JudgeEndings
 mod InMemory

@@ -34,7 +34,7 @@ pub record IsLine (bytes : List ℕ) : Type 0 where
 
 -- ---- the verdict on a plan
 
-valid_plain : (steps cost : ℕ) → IsPlain (codes "plan valid: " ++ decimal steps ++ codes " steps, cost " ++ decimal cost)
+pub valid_plain : (steps cost : ℕ) → IsPlain (codes "plan valid: " ++ decimal steps ++ codes " steps, cost " ++ decimal cost)
 valid_plain steps cost =
     plain-append (codes "plan valid: " ++ decimal steps ++ codes " steps, cost ") (decimal cost)
     (plain-append (codes "plan valid: " ++ decimal steps) (codes " steps, cost ")

@@ -1,5 +1,6 @@
 // Plans that are opened one after another.
-ghost use Rattle.std.specs.Prelude.{◌≡◌, ◌<◌, ℕ, List, [], length, Option, Some, IfSome, slice_index_or};
+ghost use Rattle.std.specs.Prelude.{◌≡◌, ◌<◌, ◌↔◌, ℕ, List, [], length, Option, Some, IfSome, IsTrue, slice_index_or};
+ghost use Rattle.sas_plans.specs.Inputs.{IsLabel};
 
 use sas_output::ToolFault;
 use std::alloc::AllocError;
@@ -66,4 +67,11 @@ impl From<AllocError> for JudgeFault {
     fn from(_error: AllocError) -> JudgeFault {
         JudgeFault::Tool(ToolFault::Memory)
     }
+}
+
+/// Returns whether the label has no line end.
+pub fn is_label(label: &[u8]) -> bool
+    ensures { IsTrue result ↔ IsLabel label.now }
+{
+    label.iter().all(|byte| *byte != b'\n' && *byte != b'\r')
 }

@@ -12,7 +12,7 @@ mod tracing;
 mod verdicts;
 
 pub use held::{Opening, judge_bytes, open_task};
-pub use inputs::{InputFault, JudgeFault, PlanInputs};
+pub use inputs::{InputFault, JudgeFault, PlanInputs, is_label};
 pub use judging::judge;
 pub use laws::{judge_laws, trace_output_laws};
 pub use slices::{PlanBytes, PlanSlices, are_labels, judge_slices};

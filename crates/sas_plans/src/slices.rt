@@ -1,12 +1,12 @@
 // Plans whose bytes are all in memory.
-ghost use Rattle.std.specs.Prelude.{◌≡◌, ◌↔◌, ◌≢◌, All, Some, None, IfOk, IfErr, IsTrue};
+ghost use Rattle.std.specs.Prelude.{◌≡◌, ◌↔◌, All, Some, None, IfOk, IfErr, IsTrue};
 ghost use Rattle.sas_output.specs.Ending.{output_told};
 ghost use Rattle.sas_plans.specs.Inputs.{IsLabel, tool_fault};
 ghost use Rattle.sas_plans.specs.Judged.{JudgeOut};
 ghost use Rattle.sas_plans.specs.PlansHeadline.{PlansHeadline};
 ghost use Rattle.sas_plans.specs.Slices.{bytes_of, labels_of};
 
-use crate::inputs::{JudgeFault, PlanInputs};
+use crate::inputs::{JudgeFault, PlanInputs, is_label};
 use crate::judging::judge;
 use sas_lines::Watched;
 use sas_output::{Told, ToolFault};
@@ -81,11 +81,4 @@ pub fn are_labels(plans: &[PlanBytes<'_>]) -> bool
     ensures { IsTrue result ↔ All IsLabel (labels_of plans.now) }
 {
     plans.iter().all(|plan| is_label(plan.label))
-}
-
-/// Returns whether the label has no line end.
-fn is_label(label: &[u8]) -> bool
-    ensures { IsTrue result ↔ IsLabel label.now }
-{
-    label.iter().all(|byte| *byte != b'\n' && *byte != b'\r')
 }

@@ -1,6 +1,6 @@
 mod FileAnswers
 mod PlanAnswers
-mod InvariantGroups
+pub mod InvariantGroups
 mod SummaryLengths
 mod LineLengths
 mod ToldLengths

@@ -1,5 +1,6 @@
 -- The labels of plans: the words that name their files.
-use Rattle.std.specs.Prelude.{◌≡◌, ◌≢◌, ℕ, List, map, codes, Option, Some, None, String}
+use Rattle.std.specs.Prelude.{◌≡◌, ◌≢◌, ℕ, ◌+◌, Bool, if◌then◌else◌, List, map, count_by, codes}
+use Rattle.std.specs.Prelude.{bytes_eq, Option, Some, None, String}
 use Rattle.std.specs.String.{string_bytes}
 use Rattle.sas_lines.specs.declared.inputs.Opened.{Opened}
 use Rattle.sas_lines.specs.declared.inputs.Opened.TheVariants.{File, Standard, Nothing}
@@ -14,3 +15,11 @@ OpensAs word None = word ≢ codes "-"
 OpensAs word (Some (File file)) = word ≢ codes "-"
 OpensAs word (Some (Standard input)) = word ≡ codes "-"
 OpensAs word (Some Nothing) = ⊥
+
+-- whether a label names standard input: whether it is `-`
+abbrev pub names_input : {Z : Type 0} → String Z → Bool
+names_input label = bytes_eq (string_bytes label) (codes "-")
+
+-- how often standard input is named: by the task, if it is, and by labels of plans
+abbrev pub times_named : {Z : Type 0} → Bool → List (String Z) → ℕ
+times_named by_task labels = (if by_task then 1 else 0) + count_by names_input labels

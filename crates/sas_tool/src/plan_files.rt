@@ -1,10 +1,11 @@
 // The plan files that the words name, opened one after another.
-ghost use Rattle.std.specs.Prelude.{◌↔◌, All, IsTrue};
+ghost use Rattle.std.specs.Prelude.{◌↔◌, ◌≤◌, All, IsTrue};
 ghost use Rattle.sas_plans.specs.Inputs.{IsLabel};
+ghost use Rattle.sas_tool.specs.Labels.{times_named};
 ghost use Rattle.std.specs.String.{string_bytes};
 
 use sas_lines::Opened;
-use sas_plans::PlanInputs;
+use sas_plans::{PlanInputs, is_label};
 use std::fs;
 use std::rt::Files;
 
@@ -65,15 +66,10 @@ pub fn are_labels(labels: &[String]) -> bool
     true
 }
 
-/// Returns whether the label has no line end.
-fn is_label(label: &[u8]) -> bool
-    ensures { IsTrue result ↔ IsLabel label.now }
+/// Returns whether standard input is named twice: by the task and a label, or by two labels.
+pub fn name_input_twice(labels: &[String], by_task: bool) -> bool
+    ensures { IsTrue result ↔ (2 ≤ times_named by_task labels.now) }
 {
-    label.iter().all(|byte| *byte != b'\n' && *byte != b'\r')
-}
-
-/// Returns whether standard input is among the labels, and the task's or another one's, too.
-pub fn name_input_twice(labels: &[String], by_task: bool) -> bool {
     let mut named = by_task;
     for label in labels {
         if label.as_str() == STANDARD_INPUT {

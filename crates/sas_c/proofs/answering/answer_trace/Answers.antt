@@ -8,7 +8,7 @@ use Rattle.sas_c.proofs.answering.answer_trace.Goals as goal
 pub returns-in-Ok : goal.returns-in-Ok
 returns-in-Ok c =
     let known = λ (s : Bor (List ℕ)). Some s.now in
-    tells_ended (TraceOut c.args.task.now c.args.plan.now) c.new-text.result.device.items c.trace.new.out.device.items c.as_slice.result.now c.in-Ok.status _ _ _
+    tells_ended (TraceOut c.args.task.now c.args.plan.now) c.new-text.result.device.items c.trace.new.out.device.items c.as_slice.result.now c.in-Ok.status _ _ _ _
     (ap (λ (v : Vec ℕ). v.items) c.new-text.ensures.device ∙ c.new.ensures.items)
     (c.as_slice.ensures.value ∙ ap (λ (v : Vec ℕ). v.items) c.into_device.ensures)
     (c.in-Ok.ensures.output c.args.task.now c.args.plan.now (ap known c.new-task.ensures.device) (ap known c.new-plan.ensures.device))

@@ -8,7 +8,7 @@ use Rattle.sas_c.proofs.answering.answer_why.Goals as goal
 pub returns-in-Ok : goal.returns-in-Ok
 returns-in-Ok c =
     let known = λ (s : Bor (List ℕ)). Some s.now in
-    tells_ended (OutWhy c.args.asked.request c.args.asked.task.now c.args.asked.plan.now) c.new-text.result.device.items c.explain.new.out.device.items c.as_slice.result.now c.in-Ok.status _ _ _
+    tells_ended (OutWhy c.args.asked.request c.args.asked.task.now c.args.asked.plan.now) c.new-text.result.device.items c.explain.new.out.device.items c.as_slice.result.now c.in-Ok.status _ _ _ _
     (ap (λ (v : Vec ℕ). v.items) c.new-text.ensures.device ∙ c.new.ensures.items)
     (c.as_slice.ensures.value ∙ ap (λ (v : Vec ℕ). v.items) c.into_device.ensures)
     (c.in-Ok.ensures.output c.args.asked.task.now c.args.asked.plan.now (λ _. ap known c.new-task.ensures.device, λ _. ap known c.new-plan.ensures.device))

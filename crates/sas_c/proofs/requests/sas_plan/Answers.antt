@@ -7,4 +7,4 @@ use Rattle.sas_c.proofs.Tellings.{asked_told, headline_told}
 use Rattle.sas_c.proofs.requests.sas_plan.Goals as goal
 
 pub returns-clause-headline : goal.returns-clause-headline
-returns-clause-headline c = headline_told VerdictAnswer plain_refusal tells_valid plain_refuses c.args.task.now c.args.plan.now _ _ _ (asked_told Out _ Plan _ _ _ _ _ _ _ c.new.ensures.request c.new.ensures.task c.new.ensures.plan c.answer.ensures)
+returns-clause-headline c = headline_told VerdictAnswer plain_refusal tells_valid plain_refuses c.args.task.now c.args.plan.now _ _ _ _ (asked_told Out _ Plan _ _ _ _ _ _ _ _ c.new.ensures.request c.new.ensures.task c.new.ensures.plan c.answer.ensures)

@@ -1,0 +1,102 @@
+-- Behind a trace stands, as its last line, whether the plan solves the task.
+use Rattle.std.proofs.Common.{◌≡◌, ℕ, List, [], ◌∷◌, ◌++◌, length, codes, decimal, refl, sym, ap, subst, ◌∙◌, inl, inr, Option, Some, None, Result, Ok, Err}
+use Rattle.std.proofs.lemmas.List.{same_from_push}
+use Rattle.sas_core.specs.declared.parts.Parts.{Parts}
+use Rattle.sas_core.specs.FirstFault.{first_fault}
+use Rattle.sas_core.specs.PlanParts.{PlanParts}
+use Rattle.sas_meaning.specs.declared.layered.LayerFault.{LayerFault}
+use Rattle.sas_meaning.specs.LayerChecks.{layer_checks}
+use Rattle.sas_lines.specs.Lines.{lines, text}
+use Rattle.sas_lines.proofs.Splitting.{lines-append, lines-one, unfinished-text}
+use Rattle.sas_reader.specs.declared.fault.Fault.{Fault}
+use Rattle.sas_reader.proofs.Plain.{plain}
+use Rattle.sas_output.specs.Ending.{Output}
+use Rattle.sas_answers.specs.Answers.{VerdictAnswer}
+use Rattle.sas_answers.specs.PlanWords.{valid_line}
+use Rattle.sas_outputs.specs.Headline.{Headline}
+use Rattle.sas_outputs.specs.Output.{IsAnswerOrRefusal, LayersOut, JudgedOut, PlanOut, plain_refusal}
+use Rattle.sas_outputs.proofs.Headlines.{tells_valid, headline_of}
+use Rattle.sas_outputs.proofs.PlanOutputs.{plain_refuses}
+use Rattle.sas_trace.specs.Trace.{run_lines}
+use Rattle.sas_trace.specs.Traced.{EndsWith, TraceVerdict}
+use Rattle.sas_plans.specs.TraceOut.{TraceOut}
+use Rattle.sas_plans.proofs.PlanLines.{IsLine, valid_plain, verdict_line, file_refusal, layers_refused}
+use Rattle.sas_c.specs.Telling.{EndsInLine}
+
+-- ---- the last line of a text
+
+-- behind some lines a line is the last one
+lines_behind : (front : List (List ℕ)) (bytes : List ℕ) (l : IsLine bytes) → lines (text front ++ bytes) ≡ lines (text front) ++ l.line ∷ []
+lines_behind front bytes l =
+    let line = plain l.line l.plain in
+    let one : lines bytes ≡ l.line ∷ [] = ap lines l.is ∙ lines-one l.line line.no_end ∙ ap (λ (x : List ℕ). x ∷ []) line.no_return in
+    lines-append (text front) bytes
+    ∙ ap (λ (x : List ℕ). lines (text front) ++ lines (x ++ bytes)) (unfinished-text front)
+    ∙ ap (λ (x : List (List ℕ)). lines (text front) ++ x) one
+
+-- and a text has one last line
+same_last : (front other : List (List ℕ)) (a b : List ℕ) → IsLine a → IsLine b → text front ++ a ≡ text other ++ b → a ≡ b
+same_last front other a b is_a is_b e =
+    let both = sym (lines_behind front a is_a) ∙ ap lines e ∙ lines_behind other b is_b in
+    let same = same_from_push (lines (text front)) (lines (text other)) is_a.line is_b.line both in
+    is_a.is ∙ ap (λ (x : List ℕ). x ++ 10 ∷ []) same.1 ∙ sym is_b.is
+
+-- ---- the output of `plan` is a line
+
+valid_is_line : (steps cost : ℕ) → IsLine (valid_line steps cost)
+valid_is_line steps cost = record { line = codes "plan valid: " ++ decimal steps ++ codes " steps, cost " ++ decimal cost; plain = valid_plain steps cost; is = refl }
+
+layers_line : (p : Parts) (first : Option LayerFault) (c : List ℕ) (o : Output) → LayersOut VerdictAnswer plain_refusal p first c (Some o) → IsLine o.text
+layers_line p (Some fault) c o is = let r = layers_refused fault o (sym is) in record { line = r.line; plain = r.plain; is = r.is }
+layers_line p None c o out = verdict_line p c o out
+
+judged_line : (r : Result Parts Fault) (c : List ℕ) (o : Output) → JudgedOut VerdictAnswer plain_refusal r c (Some o) → IsLine o.text
+judged_line (Err fault) c o is = let r = file_refusal fault o (sym is) in record { line = r.line; plain = r.plain; is = r.is }
+judged_line (Ok p) c o out = layers_line p (first_fault (layer_checks p)) c o out
+
+-- ---- behind a trace stands the output of `plan`
+
+-- the output is some lines, and behind them this one, with its status
+record EndsAs (traced plain : Output) : Type 0 where
+  front : List (List ℕ)
+  whole : traced.text ≡ text front ++ plain.text
+  status : traced.status ≡ plain.status
+
+itself : (o : Output) → EndsAs o o
+itself o = record { front = []; whole = refl; status = refl }
+
+module _ (p : Parts) where
+  verdict_of : (plan : PlanParts) (o : Output) (t : TraceVerdict p plan o) → EndsWith p plan t.run t.verdict → VerdictAnswer p plan t.verdict
+  verdict_of plan o t (inl (valid, steps, is)) = inl ((t.run.operators, valid), is)
+  verdict_of plan o t (inr (fault, is_fault, steps, is)) = inr (fault, is_fault, is)
+
+  plan_ends : (r : Result PlanParts Fault) (o : Output) → IsAnswerOrRefusal (codes "plan") (TraceVerdict p) r (Some o)
+      → (plain : Output) × IsAnswerOrRefusal (codes "plan") (VerdictAnswer p) r (Some plain) × EndsAs o plain
+  plan_ends (Ok plan) o (answer, traced, is) =
+      let same : answer ≡ o = cc in
+      let t = subst (λ (x : Output). TraceVerdict p plan x) same traced in
+      (t.verdict, (t.verdict, verdict_of plan o t t.ends, refl), record { front = run_lines p t.run; whole = t.whole; status = t.status })
+  plan_ends (Err fault) o is = (o, is, itself o)
+
+  layers_end : (first : Option LayerFault) (c : List ℕ) (o : Output) → LayersOut TraceVerdict plain_refusal p first c (Some o) → (plain : Output) × LayersOut VerdictAnswer plain_refusal p first c (Some plain) × EndsAs o plain
+  layers_end (Some fault) c o is = (o, is, itself o)
+  layers_end None c o (read, reads, out) = let (plain, its, as_plain) = plan_ends read o out in (plain, (read, reads, its), as_plain)
+
+judged_ends : (r : Result Parts Fault) (c : List ℕ) (o : Output) → JudgedOut TraceVerdict plain_refusal r c (Some o) → (plain : Output) × JudgedOut VerdictAnswer plain_refusal r c (Some plain) × EndsAs o plain
+judged_ends (Err fault) c o is = (o, is, itself o)
+judged_ends (Ok p) c o out = layers_end p (first_fault (layer_checks p)) c o out
+
+-- ---- whether the plan solves the task
+
+pub traced_headline : (b c : List ℕ) (traced : Output) → TraceOut b c (Some traced) → Headline b c (EndsInLine traced.text) traced.status
+traced_headline b c traced (read, reads, out) =
+    let (plain, its, ends) = judged_ends read c traced out in
+    let told = headline_of VerdictAnswer plain_refusal tells_valid plain_refuses b c plain (read, reads, its) (Some []) (Some plain.text) [] traced.status refl ends.status refl in
+    let is_line = judged_line read c plain its in
+    record {
+      line = λ steps cost. (
+        λ last. (told.line steps cost).0 (same_last ends.front last.0 plain.text (valid_line steps cost) is_line (valid_is_line steps cost) (sym ends.whole ∙ last.1)),
+        λ solves. (ends.front, ends.whole ∙ ap (λ (x : List ℕ). text ends.front ++ x) ((told.line steps cost).1 solves)),
+      );
+      yes = told.yes;
+    }
