@@ -1,9 +1,9 @@
 // Plans of a task, as a test gives them to `judge`: a list, which notes what is opened of it.
-ghost use Rattle.std.specs.Prelude.{◌↔◌, All, IsTrue};
+ghost use Rattle.std.specs.Prelude.{All, IsTrue};
 ghost use Rattle.sas_plans.specs.Inputs.{IsLabel};
 ghost use Rattle.test_requests.specs.Labels.{labels_of};
 
-use sas_plans::PlanInputs;
+use sas_plans::{PlanInputs, is_label};
 use std::alloc::{AllocError, Global};
 use std::cell::Cell;
 use std::io;
@@ -50,13 +50,6 @@ pub fn are_labels(plans: &[GivenPlan<'_>]) -> bool
     ensures { IsTrue result → All IsLabel (labels_of plans.now) }
 {
     plans.iter().all(|plan| is_label(plan.label))
-}
-
-/// Returns whether the label has no line end.
-fn is_label(label: &[u8]) -> bool
-    ensures { IsTrue result ↔ IsLabel label.now }
-{
-    label.iter().all(|byte| *byte != b'\n' && *byte != b'\r')
 }
 
 /// What a list and its devices note: how many plans were opened, or couldn't be; whether one was opened before its turn, or read
