@@ -10,6 +10,5 @@ mod LastBytes
 mod PlanLines
 mod PlansHeadlines
 mod JudgeEndings
-mod TraceLengths
 mod TraceEnds
 mod TraceLaws
