@@ -14,7 +14,7 @@ use Rattle.sas_output.specs.declared.ending.Status.TheVariants.{Yes, No}
 use Rattle.sas_output.specs.declared.ending.ToolFault.{ToolFault}
 use Rattle.sas_output.specs.declared.ending.ToolFault.TheVariants.{Memory, Read, TooLong, Write}
 use Rattle.sas_output.specs.declared.told.Told.{Told}
-use Rattle.sas_output.specs.Ending.{Output, Ends, output_told}
+use Rattle.sas_output.specs.Ending.{Output, Ends, EndsCounting, output_told}
 use Rattle.sas_answers.specs.Answers.{layers_verdict, VerdictAnswer}
 use Rattle.sas_core.specs.PlanParts.{PlanParts}
 use Rattle.sas_outputs.specs.declared.Request.{Request}
@@ -111,8 +111,8 @@ module _ (Out : Option Output → Type 0) (room : List ℕ) (size : ℕ) where
   pub tells_fault : (why : ToolFault) (number : ℕ) → number ≡ number_of_fault why → (why ≡ TooLong → Out None) → Tells Out room room size number
   tells_fault why number is long = subst (λ (n : ℕ). Tells Out room room size n) (sym is) (by_fault why long)
 
-  pub ends_fault : (Sent : List ℕ → Type 0) (why : ToolFault) (number : ℕ) → number ≡ number_of_fault why → Ends Out Sent (Err why) → Tells Out room room size number
-  ends_fault Sent why number is ends = tells_fault why number is (λ long. subst (λ (w : ToolFault). Ends Out Sent (Err w)) long ends)
+  pub ends_fault : (Sent : List ℕ → Type 0) (why : ToolFault) (number : ℕ) → number ≡ number_of_fault why → EndsCounting Out Sent (Err why) → Tells Out room room size number
+  ends_fault Sent why number is ends = tells_fault why number is (λ long. subst (λ (w : ToolFault). EndsCounting Out Sent (Err w)) long ends)
 
 -- ---- what is told of one output is told of another that follows from it
 

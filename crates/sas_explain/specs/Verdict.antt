@@ -1,5 +1,5 @@
 -- The answers about plans with the reasons for a no.
-use Rattle.std.specs.Prelude.{◌≡◌, ◌⊎◌, ℕ, ◌<◌, ◌^◌, List, ◌++◌, length, Some}
+use Rattle.std.specs.Prelude.{◌≡◌, ◌⊎◌, ℕ, List, ◌++◌, Some}
 use Rattle.sas_core.specs.declared.parts.Parts.{Parts}
 use Rattle.sas_core.specs.PlanParts.{PlanParts}
 use Rattle.sas_lines.specs.Lines.{text}
@@ -34,10 +34,3 @@ WhyVerdict p plan output =
 abbrev pub output_of_plan : PlanAnswer → Output
 output_of_plan (Valid told) = output_told told
 output_of_plan (Explained bytes) = record { text = bytes; status = No }
-
--- whatever the plan's fault is, its verdict and its reasons are short enough that their bytes can be
--- counted
-abbrev pub ReasonsFit : Parts → PlanParts → Type 0
-ReasonsFit p plan = (fault : PlanFault) (verdict : Output) (reasons : List (List ℕ))
-    → invalid_answer plan.cost fault ≡ Some verdict → IsWhy p plan fault reasons
-    → length (verdict.text ++ text reasons) < 2 ^ 64

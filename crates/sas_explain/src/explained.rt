@@ -1,9 +1,9 @@
 // The answer about a plan that isn't valid, with its reasons. It is put together as it is written: names that are repeated may make it
 // far longer than the task.
-ghost use Rattle.std.specs.Prelude.{◌≡◌, ◌<◌, ◌^◌, ◌⊎◌, ◌↔◌, ◌++◌, [], length, false, Some};
+ghost use Rattle.std.specs.Prelude.{◌≡◌, ◌⊎◌, ◌↔◌, ◌++◌, [], false, Some};
 ghost use Rattle.std.specs.Prelude.{IfErr, IsErr, IsErrAnd, IsTrue, OnOk};
 ghost use Rattle.std.specs.Io.KnownBytes.{Appends};
-ghost use Rattle.sas_output.specs.Ending.{Ends, IsWrite};
+ghost use Rattle.sas_output.specs.Ending.{EndsCounting, IsWrite};
 ghost use Rattle.sas_output.specs.Pieces.{PutsOrBreaks};
 ghost use Rattle.sas_explain.specs.ReasonsText.{reasons_text};
 
@@ -17,8 +17,7 @@ use std::alloc::Global;
 use std::io::Write;
 use std::marker::Model;
 
-/// The answer about a plan that isn't valid, with its reasons. Its status is `No`. In a contract its value is its text. A `usize` can
-/// hold the text's length, so the bytes of it that are written can be counted.
+/// The answer about a plan that isn't valid, with its reasons. Its status is `No`. In a contract its value is its text.
 pub struct Explained {
     verdict: Vec<u8>,
     reasons: Vec<Line>,
@@ -42,15 +41,12 @@ impl Drop for Explained {
 }
 
 impl Model for Explained {
-    ghost use Rattle.std.specs.Prelude.{ℕ, List, ◌<◌, ◌^◌, ◌++◌, length};
+    ghost use Rattle.std.specs.Prelude.{ℕ, List, ◌++◌};
     ghost use Rattle.sas_explain.specs.ReasonsText.{reasons_text};
 
     ghost Value = { List ℕ };
 
     ghost view = { λ e. e.verdict.items ++ reasons_text e.task e.plan e.reasons.items };
-
-    ghost invariant = { λ e.
-        length (e.verdict.items ++ reasons_text e.task e.plan e.reasons.items) < 2 ^ 64 };
 }
 
 impl Explained {
@@ -61,7 +57,6 @@ impl Explained {
         task: Layered<FlatTask>,
         plan: FlatPlan,
     ) -> Explained
-        requires { length (verdict.items ++ reasons_text task plan reasons.items) < 2 ^ 64 }
         ensures { result ≡ verdict.items ++ reasons_text task plan reasons.items }
     {
         Explained {
@@ -76,7 +71,7 @@ impl Explained {
     /// after a failure.
     pub fn write<W: Write>(&self, alloc: Global, out: &mut Watched<W>) -> Result<Status, ToolFault>
         requires { out.old.failed ≡ false }
-        ensures ends { Ends
+        ensures ends { EndsCounting
             (λ output. output ≡ Some (record { text = self.now; status = Status.No }))
             (Appends (W.contents out.old.device) (W.contents out.new.device)) result }
         ensures nothing { IfErr result (λ e. IsWrite e

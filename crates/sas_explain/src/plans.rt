@@ -2,7 +2,7 @@
 ghost use Rattle.std.specs.Prelude.{◌≡◌, Some, IfOk};
 ghost use Rattle.sas_run.specs.Courses.{SetsOut};
 ghost use Rattle.sas_run.specs.Verdicts.{IsFaultOf};
-ghost use Rattle.sas_explain.specs.Verdict.{WhyVerdict, ReasonsFit, output_of_plan};
+ghost use Rattle.sas_explain.specs.Verdict.{WhyVerdict, output_of_plan};
 ghost use Rattle.sas_explain.specs.Judgement.{IsJudgement, IsAccepted};
 ghost use Rattle.sas_why.specs.Retracing.{IsRetraced};
 
@@ -45,7 +45,6 @@ pub fn explain_plan(
     task: Layered<FlatTask>,
     plan: FlatPlan,
 ) -> Result<PlanAnswer, AllocError>
-    requires { ReasonsFit task plan }
     ensures { IfOk result (λ a. WhyVerdict task plan (output_of_plan a)) }
 {
     match judge(alloc, &task, &plan) {

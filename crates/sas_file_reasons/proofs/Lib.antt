@@ -1,2 +1,1 @@
 pub mod ReasonLines
-pub mod ReasonLengths

@@ -1,7 +1,6 @@
 -- What holds of the lines of reasons.
-use Rattle.std.specs.Prelude.{◌≡◌, ℕ, ◌≤◌, Bool, List, ◌∷◌, length, Option}
+use Rattle.std.specs.Prelude.{◌≡◌, ℕ, Bool, List, ◌∷◌, Option}
 use Rattle.std.specs.List.{AllByRecursion}
-use Rattle.sas_lines.specs.Lines.{text}
 use Rattle.sas_reader.specs.System.{IsPlain}
 use Rattle.sas_reader.specs.declared.fault.Kind.{Kind}
 use Rattle.sas_task_format.specs.declared.marks.Mark.{Mark}
@@ -26,13 +25,3 @@ TaskLinesTell = (mark : Mark) (word : Option WrongWord) (kind : Kind) (bytes : L
 abbrev pub PlanLinesTell : Type 0
 PlanLinesTell = (kind : Kind) (bytes : List ℕ) (more : Bool)
     → TellReasons (plan_reason_lines kind bytes more)
-
--- of at most 64 bytes that were found the reasons have at most 1000 bytes
-abbrev pub TaskReasonsAreShort : Type 0
-TaskReasonsAreShort = (mark : Mark) (word : Option WrongWord) (kind : Kind) (bytes : List ℕ)
-    (more : Bool) → length bytes ≤ 64
-    → length (text (task_reason_lines mark word kind bytes more)) ≤ 1000
-
-abbrev pub PlanReasonsAreShort : Type 0
-PlanReasonsAreShort = (kind : Kind) (bytes : List ℕ) (more : Bool) → length bytes ≤ 64
-    → length (text (plan_reason_lines kind bytes more)) ≤ 1000

@@ -1,7 +1,11 @@
 -- What went out of a text that was put in pieces.
-use Rattle.std.proofs.Common.{◌≡◌, ℕ, ◌+◌, ◌^◌, ◌<◌, List, [], ◌++◌, length, take, append-nil, length-append, take_at, arith, refl, sym, ap, subst, ◌∙◌, Option}
+use Rattle.std.proofs.Common.{◌≡◌, ℕ, ◌+◌, ◌^◌, ◌<◌, List, [], ◌++◌, length, take, append-nil, length-append, take_at, arith, refl, sym, ap, subst, ◌∙◌, Option, Some, Result, Ok, Err}
 use Rattle.std.specs.Io.KnownBytes.{Appends}
 use Rattle.sas_lines.specs.declared.devices.Short.{Short}
+use Rattle.sas_output.specs.declared.ending.Status.{Status}
+use Rattle.sas_output.specs.declared.ending.ToolFault.{ToolFault}
+use Rattle.sas_output.specs.declared.ending.ToolFault.TheVariants.{Memory, Read, TooLong, Write}
+use Rattle.sas_output.specs.Ending.{Output, StopsAt, Ends, EndsCounting}
 use Rattle.sas_output.specs.Pieces.{Piece, Puts, Breaks}
 
 -- what was put where nothing is held in the end went out
@@ -10,12 +14,43 @@ all_sent a b p q bytes whole starts empty is puts =
     let sent : bytes ≡ puts.gone = sym (ap (λ (r : Piece). r.held ++ bytes) starts) ∙ puts.whole ∙ ap (λ (l : List ℕ). puts.gone ++ l) empty ∙ append-nil puts.gone in
     subst (Appends a b) (sym sent ∙ is) puts.sent
 
--- and where a write failed the first bytes went out, as many as are told
-pub first_sent : (a b : Option (List ℕ)) (p : Piece) (bytes whole : List ℕ) (short : Short) → p ≡ record { held = []; written = 0 } → bytes ≡ whole → length whole < 2 ^ 64 → Breaks a b p bytes short → (short.written < length whole) × Appends a b (take short.written whole)
-first_sent a b p bytes whole short starts is fits broken =
+-- and where a write failed the first bytes went out, as many as are counted
+pub first_counted : (a b : Option (List ℕ)) (p : Piece) (bytes whole : List ℕ) (short : Short) → p ≡ record { held = []; written = 0 } → bytes ≡ whole → Breaks a b p bytes short
+    → (number : ℕ) × (number < 2 ^ 64 → short.written ≡ number) × (number < length whole) × Appends a b (take number whole)
+first_counted a b p bytes whole short starts is broken =
     let parts : whole ≡ broken.gone ++ broken.rest = sym is ∙ sym (ap (λ (r : Piece). r.held ++ bytes) starts) ∙ broken.whole in
     let lengths : length whole ≡ length broken.gone + length broken.rest = ap length parts ∙ length-append broken.gone broken.rest in
     let zero_before : p.written ≡ 0 = ap (λ (r : Piece). r.written) starts in
-    let told : short.written ≡ length broken.gone = broken.counted (omega (arith, zero_before, lengths, fits)) ∙ ap (λ (n : ℕ). n + length broken.gone) zero_before ∙ omega arith in
-    let first : take short.written whole ≡ broken.gone = ap (λ (n : ℕ). take n whole) told ∙ ap (take (length broken.gone)) parts ∙ take_at broken.gone broken.rest (length broken.gone) refl in
-    (omega (arith, told, lengths, broken.some), subst (Appends a b) (sym first) broken.sent)
+    let first : take (length broken.gone) whole ≡ broken.gone = ap (take (length broken.gone)) parts ∙ take_at broken.gone broken.rest (length broken.gone) refl in (
+      length broken.gone,
+      λ fits. broken.counted (omega (arith, zero_before, fits)) ∙ ap (λ (n : ℕ). n + length broken.gone) zero_before ∙ omega arith,
+      omega (arith, lengths, broken.some),
+      subst (Appends a b) (sym first) broken.sent,
+    )
+
+-- exactly so many if the text is shorter than 2 ^ 64
+pub first_sent : (a b : Option (List ℕ)) (p : Piece) (bytes whole : List ℕ) (short : Short) → p ≡ record { held = []; written = 0 } → bytes ≡ whole → length whole < 2 ^ 64 → Breaks a b p bytes short → (short.written < length whole) × Appends a b (take short.written whole)
+first_sent a b p bytes whole short starts is fits broken =
+    let (number, counts, less, sent) = first_counted a b p bytes whole short starts is broken in
+    let told : number ≡ short.written = sym (counts (omega (arith, less, fits))) in
+    (omega (arith, told, less), subst (λ (n : ℕ). Appends a b (take n whole)) told sent)
+
+-- ---- how a run ends
+
+module _ (Out : Option Output → Type 0) (Sent : List ℕ → Type 0) where
+  -- what ends with an exact number ends with one that is exact where it can be
+  pub counting_ends : (r : Result Status ToolFault) → Ends Out Sent r → EndsCounting Out Sent r
+  counting_ends (Ok status) ends = ends
+  counting_ends (Err (Write written)) stops = (written, λ _. refl, stops)
+  counting_ends (Err TooLong) is = is
+  counting_ends (Err Memory) is = tt
+  counting_ends (Err Read) is = tt
+
+  -- and the other way round where the output is short
+  pub exact_ends : ((o : Output) → Out (Some o) → length o.text < 2 ^ 64) → (r : Result Status ToolFault) → EndsCounting Out Sent r → Ends Out Sent r
+  exact_ends short (Ok status) ends = ends
+  exact_ends short (Err (Write written)) (number, counts, (output, is, less, sent)) =
+      subst (StopsAt Out Sent) (sym (counts (omega (arith, less, short output is)))) (output, is, less, sent)
+  exact_ends short (Err TooLong) is = is
+  exact_ends short (Err Memory) is = tt
+  exact_ends short (Err Read) is = tt

@@ -1,5 +1,5 @@
 -- How a run ends.
-use Rattle.std.specs.Prelude.{◌≡◌, ℕ, ◌<◌, List, length, take, Option, Some, None, Result, Ok, Err, ⊤}
+use Rattle.std.specs.Prelude.{◌≡◌, ℕ, ◌<◌, ◌^◌, List, length, take, Option, Some, None, Result, Ok, Err, ⊤}
 use Rattle.sas_output.specs.declared.ending.Status.{Status}
 use Rattle.sas_output.specs.declared.ending.ToolFault.{ToolFault}
 use Rattle.sas_output.specs.declared.ending.ToolFault.TheVariants.{Memory, Read, TooLong, Write}
@@ -29,18 +29,39 @@ IsDecided (Err TooLong) = ⊤
 IsDecided (Err Memory) = ⊥
 IsDecided (Err Read) = ⊥
 
--- What a result reports. `Out` holds of the output, or of none if there is none. `Sent` holds of
--- the bytes that were written. Where the result is a status, the whole text of the output was
--- written, and the status is its status. Where a write failed, the first bytes of the text were
--- written. Where an input is too long, there is no output. Refused memory and a failed read report
--- nothing about the output.
-abbrev pub Ends : (Option Output → Type 0) → (List ℕ → Type 0) → Result Status ToolFault → Type 0
-Ends Out Sent (Ok status) =
-    (output : Output) × Out (Some output) × (status ≡ output.status) × Sent output.text
-Ends Out Sent (Err (Write written)) = (output : Output)
+-- A write failed: the first `written` bytes of the output's text were written, and not all. `Out`
+-- holds of the output, and `Sent` of the bytes that were written.
+abbrev pub StopsAt : (Option Output → Type 0) → (List ℕ → Type 0) → ℕ → Type 0
+StopsAt Out Sent written = (output : Output)
     × Out (Some output)
     × (written < length output.text)
     × Sent (take written output.text)
-Ends Out Sent (Err TooLong) = Out None
-Ends Out Sent (Err Memory) = ⊤
-Ends Out Sent (Err Read) = ⊤
+
+-- The same of a text of any length: `written` is the number of these bytes where that is less than
+-- 2 ^ 64.
+abbrev pub StopsCounting : (Option Output → Type 0) → (List ℕ → Type 0) → ℕ → Type 0
+StopsCounting Out Sent written =
+    (number : ℕ) × (number < 2 ^ 64 → written ≡ number) × StopsAt Out Sent number
+
+-- What a result reports. `Out` holds of the output, or of none if there is none. `Sent` holds of
+-- the bytes that were written. Where the result is a status, the whole text of the output was
+-- written, and the status is its status. Where a write failed, `Stops` says what was written. Where
+-- an input is too long, there is no output. Refused memory and a failed read report nothing about
+-- the output.
+abbrev pub EndsBy : ((Option Output → Type 0) → (List ℕ → Type 0) → ℕ → Type 0)
+    → (Option Output → Type 0) → (List ℕ → Type 0) → Result Status ToolFault → Type 0
+EndsBy Stops Out Sent (Ok status) =
+    (output : Output) × Out (Some output) × (status ≡ output.status) × Sent output.text
+EndsBy Stops Out Sent (Err (Write written)) = Stops Out Sent written
+EndsBy Stops Out Sent (Err TooLong) = Out None
+EndsBy Stops Out Sent (Err Memory) = ⊤
+EndsBy Stops Out Sent (Err Read) = ⊤
+
+-- This, where the number of bytes that were written is exact.
+abbrev pub Ends : (Option Output → Type 0) → (List ℕ → Type 0) → Result Status ToolFault → Type 0
+Ends = EndsBy StopsAt
+
+-- And where it is exact if it is less than 2 ^ 64.
+abbrev pub EndsCounting : (Option Output → Type 0) → (List ℕ → Type 0) → Result Status ToolFault
+    → Type 0
+EndsCounting = EndsBy StopsCounting

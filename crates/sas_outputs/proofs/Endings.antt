@@ -5,8 +5,8 @@ use Rattle.std.proofs.lemmas.Option.{none-some}
 use Rattle.sas_output.specs.declared.ending.Status.{Status}
 use Rattle.sas_output.specs.declared.ending.ToolFault.{ToolFault}
 use Rattle.sas_output.specs.declared.ending.ToolFault.TheVariants as tool_fault
-use Rattle.sas_output.specs.Ending.{Ends, IsWrite}
-use Rattle.sas_output.specs.Ending.{Output}
+use Rattle.sas_output.specs.Ending.{Output, Ends, EndsCounting, IsWrite}
+use Rattle.sas_output.proofs.Sent.{counting_ends}
 
 module _ (o : Output) (Sent : List ℕ → Type 0) where
   -- what ends with this output ends with an output that is right
@@ -17,15 +17,26 @@ module _ (o : Output) (Sent : List ℕ → Type 0) where
   ends_as Out (Err tool_fault.Memory) right is = tt
   ends_as Out (Err tool_fault.Read) right is = tt
 
+  -- and so it does where the number of bytes is exact if it can be
+  pub ends_counting_as : (Out : Option Output → Type 0) (r : Result Status ToolFault) → Out (Some o) → EndsCounting (λ output. output ≡ Some o) Sent r → EndsCounting Out Sent r
+  ends_counting_as Out (Ok status) right (output, is, same, sent) = (output, subst Out (sym is) right, same, sent)
+  ends_counting_as Out (Err (tool_fault.Write written)) right (number, counts, (output, is, less, sent)) = (number, counts, (output, subst Out (sym is) right, less, sent))
+  ends_counting_as Out (Err tool_fault.TooLong) right is = absurd (none-some o is)
+  ends_counting_as Out (Err tool_fault.Memory) right is = tt
+  ends_counting_as Out (Err tool_fault.Read) right is = tt
+
   -- and where it ends well, all of the output went out
-  pub ends_well : (P : Status → Type 0) (r : Result Status ToolFault) → Ends (λ output. output ≡ Some o) Sent r → ((status : Status) → status ≡ o.status → Sent o.text → P status) → IfOk r P
-  ends_well P (Ok status) (output, is, same_status, sent) so =
+  pub ends_counting_well : (P : Status → Type 0) (r : Result Status ToolFault) → EndsCounting (λ output. output ≡ Some o) Sent r → ((status : Status) → status ≡ o.status → Sent o.text → P status) → IfOk r P
+  ends_counting_well P (Ok status) (output, is, same_status, sent) so =
       let same : output ≡ o = cc in
       so status (same_status ∙ ap (λ (x : Output). x.status) same) (subst (λ (x : Output). Sent x.text) same sent)
-  ends_well P (Err why) ends so = tt
+  ends_counting_well P (Err why) ends so = tt
+
+  pub ends_well : (P : Status → Type 0) (r : Result Status ToolFault) → Ends (λ output. output ≡ Some o) Sent r → ((status : Status) → status ≡ o.status → Sent o.text → P status) → IfOk r P
+  ends_well P r ends = ends_counting_well P r (counting_ends (λ output. output ≡ Some o) Sent r ends)
 
 -- what ends before an answer is known says of the output only that there is none
-pub ends_err : (Out : Option Output → Type 0) (Sent : List ℕ → Type 0) (why : ToolFault) → (IsWrite why → ⊥) → (why ≡ tool_fault.TooLong → Out None) → Ends Out Sent (Err why)
+pub ends_err : (Out : Option Output → Type 0) (Sent : List ℕ → Type 0) (why : ToolFault) → (IsWrite why → ⊥) → (why ≡ tool_fault.TooLong → Out None) → EndsCounting Out Sent (Err why)
 ends_err Out Sent (tool_fault.Write written) other long = absurd (other tt)
 ends_err Out Sent tool_fault.TooLong other long = long refl
 ends_err Out Sent tool_fault.Memory other long = tt

@@ -4,7 +4,4 @@ pub mod WordedLines
 pub mod Headlines
 pub mod Endings
 pub mod Lengths
-pub mod Sizes
-pub mod JoinedLengths
-pub mod VerdictLengths
 pub mod PlainLines

@@ -1,5 +1,5 @@
 -- What the program prints: one output for each request and its inputs.
-use Rattle.std.specs.Prelude.{◌≡◌, ◌⊎◌, ℕ, ◌<◌, Bool, true, false, IsTrue, List, ◌++◌, length}
+use Rattle.std.specs.Prelude.{◌≡◌, ◌⊎◌, ℕ, ◌<◌, ◌^◌, Bool, true, false, IsTrue, List, ◌++◌, length}
 use Rattle.std.specs.Prelude.{codes, decimal, Option, Some, None, option_map, Result, Ok, Err}
 use Rattle.sas_core.specs.declared.parts.Parts.{Parts}
 use Rattle.sas_core.specs.FirstFault.{first_fault}
@@ -181,3 +181,8 @@ SomeOutput = (request : Request) (b c : List ℕ) → ((o : Option Output) → O
 -- there is none only where an input passes the limit
 abbrev pub NoneIsLong : Type 0
 NoneIsLong = (request : Request) (b c : List ℕ) → Out request b c None → IsLong request b c
+
+-- each output is shorter than 2 ^ 64 bytes
+abbrev pub ShortOutput : Type 0
+ShortOutput = (request : Request) (b c : List ℕ) (o : Output) → Out request b c (Some o)
+    → length o.text < 2 ^ 64

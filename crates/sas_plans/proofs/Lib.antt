@@ -12,6 +12,5 @@ pub mod PlanLines
 mod PlansHeadlines
 mod JudgeEndings
 mod InMemory
-mod TraceLengths
 mod TraceEnds
 mod TraceLaws

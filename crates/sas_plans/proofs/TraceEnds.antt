@@ -19,7 +19,8 @@ use Rattle.sas_task_format.specs.TaskFormat.{task_format}
 use Rattle.sas_output.specs.declared.ending.Status.{Status}
 use Rattle.sas_output.specs.declared.ending.ToolFault.{ToolFault}
 use Rattle.sas_output.specs.declared.ending.ToolFault.TheVariants as tool_fault
-use Rattle.sas_output.specs.Ending.{Output, Ends, IsDecided, IsWrite}
+use Rattle.sas_output.specs.Ending.{Output, Ends, EndsCounting, IsDecided, IsWrite}
+use Rattle.sas_output.proofs.Sent.{counting_ends}
 use Rattle.sas_answers.specs.Answers.{layers_refusal}
 use Rattle.sas_outputs.specs.Output.{IsLayeredText, refusal, FileOut, VerdictOut, plain_refusal}
 use Rattle.sas_outputs.proofs.Outputs.{refused_kind, reading_of_refusal, takes_nothing}
@@ -38,9 +39,9 @@ memory_alone r other Q apart quiet starved is =
 
 module _ (Sent : List ℕ → Type 0) where
   -- what ends with one output ends with another that follows from it, where the inputs decided
-  pub ends_by : (A B : Option Output → Type 0) (r : Result Status ToolFault) → (IsDecided r → (o : Option Output) → A o → B o) → Ends A Sent r → Ends B Sent r
+  pub ends_by : (A B : Option Output → Type 0) (r : Result Status ToolFault) → (IsDecided r → (o : Option Output) → A o → B o) → EndsCounting A Sent r → EndsCounting B Sent r
   ends_by A B (Ok status) to (output, is, same, sent) = (output, to tt (Some output) is, same, sent)
-  ends_by A B (Err (tool_fault.Write written)) to (output, is, less, sent) = (output, to tt (Some output) is, less, sent)
+  ends_by A B (Err (tool_fault.Write written)) to (number, counts, (output, is, less, sent)) = (number, counts, (output, to tt (Some output) is, less, sent))
   ends_by A B (Err tool_fault.TooLong) to is = to tt None is
   ends_by A B (Err tool_fault.Memory) to is = tt
   ends_by A B (Err tool_fault.Read) to is = tt
@@ -75,13 +76,13 @@ module _ (Sent : List ℕ → Type 0) where
         let kind = decided_kind name f r told long in
         record {
           output = λ b known. ends_by (λ o. o ≡ refusal name f) (FileOut F name IsAnswer b) r
-              (λ decided o is. (Err f, known_fault left F Gives old new f b read known (kind decided).0 (kind decided).1, is)) told;
+              (λ decided o is. (Err f, known_fault left F Gives old new f b read known (kind decided).0 (kind decided).1, is)) (counting_ends (λ o. o ≡ refusal name f) Sent r told);
           taken = λ decided.
               let (b, consumed, why) = read.fault (kind decided).0 in (
                 b,
                 consumed,
                 ends_by (λ o. o ≡ refusal name f) (FileOut F name IsAnswer b) r
-                    (λ _ o is. (Err f, reading_of_refusal F b _ f why (kind decided).1, is)) told,
+                    (λ _ o is. (Err f, reading_of_refusal F b _ f why (kind decided).1, is)) (counting_ends (λ o. o ≡ refusal name f) Sent r told),
               );
           reads = (λ e. read.note.0 (reads.0 e), λ t. reads.1 (read.note.1 t));
         }
@@ -91,11 +92,11 @@ module _ (Sent : List ℕ → Type 0) where
   -- how the output about a task and a plan went out, of which the plan is read only where the task is known to be layered
   pub record EndsFiles {T P : Type 0} (left_task : T → Option (List ℕ)) (left_plan : P → Option (List ℕ))
       (old_task new_task : Device T) (old_plan new_plan : Device P) (result : Result Status ToolFault) : Type 0 where
-    pub output : (b c : List ℕ) → left_task old_task.device ≡ Some b → left_plan old_plan.device ≡ Some c → Ends (TraceOut b c) Sent result
+    pub output : (b c : List ℕ) → left_task old_task.device ≡ Some b → left_plan old_plan.device ≡ Some c → EndsCounting (TraceOut b c) Sent result
     pub taken : IsDecided result → (b c : List ℕ)
         × Consumes (left_task old_task.device) (left_task new_task.device) b
         × Consumes (left_plan old_plan.device) (left_plan new_plan.device) c
-        × Ends (TraceOut b c) Sent result
+        × EndsCounting (TraceOut b c) Sent result
     pub waits : (b : List ℕ) → left_task old_task.device ≡ Some b → (IsLayeredText b → ⊥) → new_plan ≡ old_plan
     pub reads : IsErrOf result tool_fault.Read ↔ IsTrue (new_task.failed || new_plan.failed)
 
@@ -138,9 +139,9 @@ module _ (Sent : List ℕ → Type 0) where
 
       -- what was told of the layers is the output
       module _ (fault : LayerFault) (first : fault ≢ layer_fault.Memory → first_fault (layer_checks p) ≡ Some fault) where
-        layers_out : (b c : List ℕ) → ValueOf task_format b p → (r : Result Status ToolFault) → Ends (λ o. o ≡ layers_refusal fault) Sent r → (IsErrOf r tool_fault.TooLong → ⊥) → Ends (TraceOut b c) Sent r
+        layers_out : (b c : List ℕ) → ValueOf task_format b p → (r : Result Status ToolFault) → Ends (λ o. o ≡ layers_refusal fault) Sent r → (IsErrOf r tool_fault.TooLong → ⊥) → EndsCounting (TraceOut b c) Sent r
         layers_out b c value (Ok status) (output, is, same, sent) long = (output, unlayered_out TraceVerdict plain_refusal p fault b c output value (first (told_fault fault output (sym is))) (sym is), same, sent)
-        layers_out b c value (Err (tool_fault.Write written)) (output, is, less, sent) long = (output, unlayered_out TraceVerdict plain_refusal p fault b c output value (first (told_fault fault output (sym is))) (sym is), less, sent)
+        layers_out b c value (Err (tool_fault.Write written)) (output, is, less, sent) long = (written, λ _. refl, (output, unlayered_out TraceVerdict plain_refusal p fault b c output value (first (told_fault fault output (sym is))) (sym is), less, sent))
         layers_out b c value (Err tool_fault.TooLong) is long = absurd (long refl)
         layers_out b c value (Err tool_fault.Memory) is long = tt
         layers_out b c value (Err tool_fault.Read) is long = tt

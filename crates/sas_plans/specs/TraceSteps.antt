@@ -5,7 +5,7 @@ use Rattle.sas_lines.specs.Device.{Device}
 use Rattle.sas_output.specs.declared.ending.Status.{Status}
 use Rattle.sas_output.specs.declared.ending.ToolFault.{ToolFault}
 use Rattle.sas_output.specs.declared.ending.ToolFault.TheVariants as fault
-use Rattle.sas_output.specs.Ending.{Output, Ends, IsDecided}
+use Rattle.sas_output.specs.Ending.{Output, EndsCounting, IsDecided}
 
 -- How the output about one file went out. `left` maps a device to the bytes that it has left, where
 -- these are known. `FileOutput` is the output about the bytes of a file. `Sent` holds of the bytes
@@ -15,9 +15,9 @@ module _ {D : Type 0} (left : D → Option (List ℕ))
   pub record EndsFile (old new : Device D) (result : Result Status ToolFault) : Type 0 where
     -- of a file whose bytes are known, its output went out
     pub output : (bytes : List ℕ) → left old.device ≡ Some bytes
-        → Ends (FileOutput bytes) Sent result
+        → EndsCounting (FileOutput bytes) Sent result
     -- and of any file, the output for the bytes that were read of it
     pub taken : IsDecided result → (bytes : List ℕ)
         × Consumes (left old.device) (left new.device) bytes
-        × Ends (FileOutput bytes) Sent result
+        × EndsCounting (FileOutput bytes) Sent result
     pub reads : IsErrOf result fault.Read ↔ IsTrue new.failed

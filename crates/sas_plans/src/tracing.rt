@@ -2,9 +2,7 @@
 ghost use Rattle.std.specs.Prelude.{◌≡◌, ◌⊎◌, ◌↔◌, ◌||◌, ℕ, List, false, Some};
 ghost use Rattle.std.specs.Prelude.{IfErr, IsErrAnd, IsErrOf, IsTrue};
 ghost use Rattle.std.specs.Io.KnownBytes.{Appends, Consumes};
-ghost use Rattle.sas_output.specs.Ending.{Ends, IsDecided, IsWrite};
-ghost use Rattle.sas_reader.specs.Devices.{ValueOf};
-ghost use Rattle.sas_task_format.specs.TaskFormat.{task_format};
+ghost use Rattle.sas_output.specs.Ending.{Ends, EndsCounting, IsDecided, IsWrite};
 ghost use Rattle.sas_answers.specs.Answers.{layers_refusal};
 ghost use Rattle.sas_outputs.specs.Output.{IsLayeredText, VerdictOut, refusal};
 ghost use Rattle.sas_trace.specs.Traced.{TraceVerdict};
@@ -27,8 +25,8 @@ use std::io::{Read, Write};
 /// Traces the plan: answers as `plan` does, and where the plan is judged, tells in front what its steps do, up to the first that
 /// doesn't go through: each variable's initial value, then for each step its operator, what that costs, and each variable whose value
 /// it changed. Nothing is written before the verdict is known; then the steps are gone through once more, and all memory was asked for
-/// before. At `Write` the first bytes of the answer were written, at any other fault nothing. Not to be called with a device that has
-/// failed.
+/// before. At `Write` the first bytes of the answer were written, and `written` is their number where that is less than 2^64; at any
+/// other fault nothing was. Not to be called with a device that has failed.
 ///
 /// The theorem, `output`, holds for every reader whose bytes are known, as that of `run`.
 pub fn trace<T: Read, P: Read, W: Write>(
@@ -43,13 +41,13 @@ pub fn trace<T: Read, P: Read, W: Write>(
     // Of inputs whose bytes are known, the output went out, or its first bytes, or there is none.
     ensures output { (b c : List ℕ)
         → T.remaining task.old.device ≡ Some b → P.remaining plan.old.device ≡ Some c
-        → Ends (TraceOut b c)
+        → EndsCounting (TraceOut b c)
         (Appends (W.contents out.old.device) (W.contents out.new.device)) result }
     // And of any inputs, the output for the bytes that were read of them.
     ensures taken { IsDecided result → (b c : List ℕ)
         × Consumes (T.remaining task.old.device) (T.remaining task.new.device) b
         × Consumes (P.remaining plan.old.device) (P.remaining plan.new.device) c
-        × Ends (TraceOut b c)
+        × EndsCounting (TraceOut b c)
         (Appends (W.contents out.old.device) (W.contents out.new.device)) result }
     // Before the answer is known nothing is written.
     ensures nothing { IfErr result (λ e. IsWrite e ⊎ (out.new ≡ out.old)) }
@@ -85,7 +83,6 @@ fn trace_layered<P: Read, W: Write>(
 ) -> Result<Status, ToolFault>
     requires plan { plan.old.failed ≡ false }
     requires out { out.old.failed ≡ false }
-    requires task { (b : List ℕ) × ValueOf task_format b layered.now }
     ensures ends { EndsFile P.remaining (VerdictOut TraceVerdict layered.now)
         (Appends (W.contents out.old.device) (W.contents out.new.device)) plan.old plan.new result }
     ensures nothing { IfErr result (λ e. IsWrite e ⊎ (out.new ≡ out.old)) }

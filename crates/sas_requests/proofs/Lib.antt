@@ -2,18 +2,12 @@ mod FileAnswers
 mod PlanAnswers
 pub mod InvariantGroups
 mod SummaryLengths
-mod LineLengths
-mod ToldLengths
-mod CauseLengths
-mod WhyLengths
-mod WhyFits
+mod ShortOutputs
 mod WhyAnswers
 mod WhyLaws
 mod PlainNames
 mod ReasonLines
 mod LayerLines
-mod LayerLengths
-mod GroupLengths
 mod ToldLines
 mod GroupLines
 mod SameAnswers

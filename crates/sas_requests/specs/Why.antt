@@ -42,6 +42,10 @@ pub record OutWhy (request : Request) (b c : List ℕ) (output : Option Output) 
   pub are_reasons : RefusalReasons request b c reasons
   pub whole : output ≡ option_map (with_reasons reasons) of_read
 
+-- the answer has no reasons: it is the one without
+abbrev pub HasNoReasons : Request → List ℕ → List ℕ → Type 0
+HasNoReasons request b c = (o : Option Output) → OutWhy request b c o → Out request b c o
+
 -- ---- the same answer
 
 -- whether a line tells a reason: whether it begins with two spaces

@@ -3,7 +3,7 @@ ghost use Rattle.std.specs.Prelude.{◌≡◌, ◌↔◌, ◌⊎◌, ◌||◌, �
 ghost use Rattle.std.specs.Prelude.{IfOk, IfErr, IsErrAnd, IsErrOf, IsFalse, IsTrue};
 ghost use Rattle.std.specs.Io.KnownBytes.{Appends, Consumes};
 ghost use Rattle.sas_requests.specs.Answering.{Answers, AnswersFile, output_of};
-ghost use Rattle.sas_output.specs.Ending.{Ends, IsDecided, IsWrite};
+ghost use Rattle.sas_output.specs.Ending.{EndsCounting, IsDecided, IsWrite};
 ghost use Rattle.sas_outputs.specs.Output.{Out, ShowOut, PrintOut, StepsOut, CheckOut, MutexOut, AreInputs};
 ghost use Rattle.sas_outputs.specs.Output.{IsLayeredText, reads_plan, reads_task, refusal};
 
@@ -79,7 +79,7 @@ pub fn write_answer<W: Write>(
     out: &mut Watched<W>,
 ) -> Result<Status, ToolFault>
     requires { out.old.failed ≡ false }
-    ensures ends { Ends (λ output. output ≡ Some (output_of answer.now))
+    ensures ends { EndsCounting (λ output. output ≡ Some (output_of answer.now))
         (Appends (W.contents out.old.device) (W.contents out.new.device)) result }
     ensures nothing { IfErr result (λ e. IsWrite e
         ⊎ ((e ≡ ToolFault.Memory) × (out.new ≡ out.old))) }

@@ -1,13 +1,14 @@
 // Laws of the outputs.
-ghost use Rattle.sas_outputs.specs.Output.{OneOutput, SomeOutput, NoneIsLong};
+ghost use Rattle.sas_outputs.specs.Output.{OneOutput, SomeOutput, NoneIsLong, ShortOutput};
 ghost use Rattle.sas_requests.specs.Why.{SameAnswer, OneWhyOutput, SomeWhyOutput, NoneWhyIsLong};
 
 /// What holds of outputs: a request has one output over the same inputs, and it can't have nothing; it has none only
-/// where an input passes the limit.
+/// where an input passes the limit. Each output is shorter than 2^64 bytes.
 pub fn run_laws()
     ensures one { OneOutput }
     ensures some { SomeOutput }
     ensures long { NoneIsLong }
+    ensures short { ShortOutput }
 {}
 
 /// What holds of outputs with reasons: each is the same answer as the output without them. The status is the same; where it is

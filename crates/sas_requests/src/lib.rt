@@ -12,8 +12,8 @@ ghost use Rattle.std.specs.Prelude.{IfErr, IfOk, IsErrAnd, IsErrOf, IsFalse, IsT
 ghost use Rattle.std.specs.Io.KnownBytes.{Appends, Consumes};
 ghost use Rattle.sas_outputs.specs.Output.{Out, AreInputs, IsLayeredText, reads_plan, reads_task};
 ghost use Rattle.sas_outputs.specs.Headline.{Headline, Invariants};
-ghost use Rattle.sas_requests.specs.Why.{OutWhy};
-ghost use Rattle.sas_output.specs.Ending.{Ends, IsDecided, IsWrite};
+ghost use Rattle.sas_requests.specs.Why.{OutWhy, HasNoReasons};
+ghost use Rattle.sas_output.specs.Ending.{Ends, EndsCounting, IsDecided, IsWrite};
 
 use answers::{answer_to, write_answer};
 pub use laws::{explain_laws, run_laws};
@@ -84,8 +84,9 @@ pub fn run<T: Read, P: Read, W: Write>(
 /// Answers the request about the inputs as `run` does, and tells the reasons for a no: behind the line that says why a plan
 /// isn't valid, why a task isn't layered, or why a file is refused, and behind that of each mutex group that isn't exclusive, stand
 /// lines that begin with two spaces. The status is that of `run`, where it is `Yes` so is the text, and where it is `No` the text of
-/// `run` is left when these lines are taken away (`explain_laws`). All memory is asked for before the first byte is written. Not to
-/// be called with a device that has failed.
+/// `run` is left when these lines are taken away (`explain_laws`). All memory is asked for before the first byte is written. At
+/// `Write` the first bytes of the answer were written; `written` is their number where that is less than 2^64, and so of each
+/// answer without reasons. Not to be called with a device that has failed.
 pub fn explain<T: Read, P: Read, W: Write>(
     alloc: Global,
     request: Request,
@@ -99,13 +100,19 @@ pub fn explain<T: Read, P: Read, W: Write>(
     // Of inputs whose bytes are known, the output went out, or its first bytes, or there is none.
     ensures output { (b c : List ℕ)
         → AreInputs request (T.remaining task.old.device) (P.remaining plan.old.device) b c
-        → Ends (OutWhy request b c)
+        → EndsCounting (OutWhy request b c)
         (Appends (W.contents out.old.device) (W.contents out.new.device)) result }
     // And of any inputs, the output for the bytes that were read of them.
     ensures taken { IsDecided result → (b c : List ℕ)
         × Consumes (T.remaining task.old.device) (T.remaining task.new.device) b
         × Consumes (P.remaining plan.old.device) (P.remaining plan.new.device) c
-        × Ends (OutWhy request b c)
+        × EndsCounting (OutWhy request b c)
+        (Appends (W.contents out.old.device) (W.contents out.new.device)) result }
+    // An answer without reasons goes out as that of `run` does.
+    ensures plain { (b c : List ℕ)
+        → AreInputs request (T.remaining task.old.device) (P.remaining plan.old.device) b c
+        → HasNoReasons request b c
+        → Ends (Out request b c)
         (Appends (W.contents out.old.device) (W.contents out.new.device)) result }
     // Before the answer is known nothing is written.
     ensures nothing { IfErr result (λ e. IsWrite e ⊎ (out.new ≡ out.old)) }

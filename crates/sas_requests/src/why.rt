@@ -5,9 +5,8 @@ ghost use Rattle.std.specs.Io.KnownBytes.{Consumes};
 ghost use Rattle.sas_explain.specs.Verdict.{WhyVerdict};
 ghost use Rattle.sas_output.specs.Ending.{IsDecided, IsWrite};
 ghost use Rattle.sas_plan_file.specs.PlanFormat.{plan_format};
-ghost use Rattle.sas_reader.specs.Devices.{ValueOf};
 ghost use Rattle.sas_task_format.specs.TaskFormat.{task_format};
-ghost use Rattle.sas_task_reasons.specs.WhyLayers.{LayerReasonsFit, WhyCheckAnswer, WhyMutexAnswer};
+ghost use Rattle.sas_task_reasons.specs.WhyLayers.{WhyCheckAnswer, WhyMutexAnswer};
 ghost use Rattle.sas_task_reasons.specs.WhyLayers.{output_of_task, why_refusal};
 ghost use Rattle.sas_requests.specs.Answering.{Answers, AnswersFile, AnswersFiles, output_of};
 ghost use Rattle.sas_requests.specs.Explaining.{PlanOutWhy, TaskOutWhy};
@@ -162,7 +161,6 @@ fn plan_explanation<T: Read, P: Read>(
 
 /// Returns the refusal of a task for a fault of its layers, with the reasons, in a run that can end otherwise.
 fn explain_refused(alloc: Global, task: FlatTask, fault: LayerFault) -> Result<Answer, ToolFault>
-    requires { LayerReasonsFit task }
     ensures ok { IfOk result (λ a. why_refusal task fault ≡ Some (output_of a)) }
     ensures err { IfErr result (λ e. e ≡ ToolFault.Memory) }
 {
@@ -177,8 +175,7 @@ fn explain_judged<P: Read>(
     layered: Layered<FlatTask>,
     plan: &mut Watched<P>,
 ) -> Result<Answer, ToolFault>
-    requires plan { plan.old.failed ≡ false }
-    requires task { (b : List ℕ) × ValueOf task_format b layered }
+    requires { plan.old.failed ≡ false }
     ensures { AnswersFile P.remaining (PlanOutWhy (WhyVerdict layered)) plan.old plan.new result }
 {
     match read_flat_plan_telling(alloc, plan) {

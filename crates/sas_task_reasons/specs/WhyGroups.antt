@@ -1,5 +1,5 @@
 -- Why mutex groups aren't shown to be exclusive: the lines behind `group K ..`.
-use Rattle.std.specs.Prelude.{◌≡◌, ℕ, ◌+◌, ◌<◌, ◌^◌, List, [], ◌∷◌, ◌++◌, length, codes, Option, slice_index_or}
+use Rattle.std.specs.Prelude.{◌≡◌, ℕ, ◌+◌, List, [], ◌∷◌, ◌++◌, codes, Option, slice_index_or}
 use Rattle.std.specs.Option.{option_map_or}
 use Rattle.sas_core.specs.declared.parts.Fact.{Fact}
 use Rattle.sas_core.specs.declared.parts.Parts.{Parts}
@@ -88,7 +88,3 @@ WhyGroupsAnswer p output = (verdicts : List Verdict)
     × AreJointVerdicts p verdicts
     × AreReasons p verdicts reasons
     × (output ≡ groups_output p verdicts reasons)
-
--- such an answer is short enough that its bytes can be counted
-abbrev pub GroupReasonsFit : Parts → Type 0
-GroupReasonsFit p = (output : Output) → WhyGroupsAnswer p output → length output.text < 2 ^ 64

@@ -1,5 +1,5 @@
 -- The answers about a task, with the reasons why it isn't layered, or a group of it isn't exclusive.
-use Rattle.std.specs.Prelude.{◌≡◌, ℕ, ◌<◌, ◌^◌, List, ◌++◌, length, Option, Some, None, option_map}
+use Rattle.std.specs.Prelude.{◌≡◌, ℕ, List, ◌++◌, Option, Some, None, option_map}
 use Rattle.sas_core.specs.declared.parts.Parts.{Parts}
 use Rattle.sas_core.specs.FirstFault.{first_fault}
 use Rattle.sas_lines.specs.Lines.{text}
@@ -46,9 +46,3 @@ abbrev pub output_of_task : TaskAnswer → Output
 output_of_task (Text told) = output_told told
 output_of_task (Explained bytes) = record { text = bytes; status = No }
 output_of_task (Groups output) = output
-
--- whatever the fault of its layers is, the refusal and its reasons are short enough that their bytes
--- can be counted
-abbrev pub LayerReasonsFit : Parts → Type 0
-LayerReasonsFit p = (fault : LayerFault) (output : Output) → why_refusal p fault ≡ Some output
-    → length output.text < 2 ^ 64

@@ -1,9 +1,9 @@
 // The answer about a task that is refused, with its reasons. Their names are put in as it is written: they may make it far longer
 // than the numbers that it holds.
-ghost use Rattle.std.specs.Prelude.{◌≡◌, ◌<◌, ◌^◌, ◌⊎◌, ◌↔◌, ◌++◌, [], length, false, Some};
+ghost use Rattle.std.specs.Prelude.{◌≡◌, ◌⊎◌, ◌↔◌, ◌++◌, [], false, Some};
 ghost use Rattle.std.specs.Prelude.{IfErr, IsErr, IsErrAnd, IsTrue, OnOk};
 ghost use Rattle.std.specs.Io.KnownBytes.{Appends};
-ghost use Rattle.sas_output.specs.Ending.{Ends, IsWrite};
+ghost use Rattle.sas_output.specs.Ending.{EndsCounting, IsWrite};
 ghost use Rattle.sas_output.specs.Pieces.{PutsOrBreaks};
 ghost use Rattle.sas_task_reasons.specs.ReasonsText.{reasons_text};
 
@@ -16,8 +16,7 @@ use std::alloc::Global;
 use std::io::Write;
 use std::marker::Model;
 
-/// The answer about a task that is refused, with its reasons. Its status is `No`. In a contract its value is its text. A `usize`
-/// can hold the text's length, so the bytes of it that are written can be counted.
+/// The answer about a task that is refused, with its reasons. Its status is `No`. In a contract its value is its text.
 pub struct ExplainedTask {
     refusal: Vec<u8>,
     reasons: Vec<Line>,
@@ -38,21 +37,17 @@ impl Drop for ExplainedTask {
 }
 
 impl Model for ExplainedTask {
-    ghost use Rattle.std.specs.Prelude.{ℕ, List, ◌<◌, ◌^◌, ◌++◌, length};
+    ghost use Rattle.std.specs.Prelude.{ℕ, List, ◌++◌};
     ghost use Rattle.sas_task_reasons.specs.ReasonsText.{reasons_text};
 
     ghost Value = { List ℕ };
 
     ghost view = { λ e. e.refusal.items ++ reasons_text e.task e.reasons.items };
-
-    ghost invariant = { λ e.
-        length (e.refusal.items ++ reasons_text e.task e.reasons.items) < 2 ^ 64 };
 }
 
 impl ExplainedTask {
     /// Returns the answer with this refusal, a line with its end, and these reasons.
     pub(crate) fn new(refusal: Vec<u8>, reasons: Vec<Line>, task: FlatTask) -> ExplainedTask
-        requires { length (refusal.items ++ reasons_text task reasons.items) < 2 ^ 64 }
         ensures { result ≡ refusal.items ++ reasons_text task reasons.items }
     {
         ExplainedTask {
@@ -66,7 +61,7 @@ impl ExplainedTask {
     /// after a failure.
     pub fn write<W: Write>(&self, alloc: Global, out: &mut Watched<W>) -> Result<Status, ToolFault>
         requires { out.old.failed ≡ false }
-        ensures ends { Ends
+        ensures ends { EndsCounting
             (λ output. output ≡ Some (record { text = self.now; status = Status.No }))
             (Appends (W.contents out.old.device) (W.contents out.new.device)) result }
         ensures nothing { IfErr result (λ e. IsWrite e

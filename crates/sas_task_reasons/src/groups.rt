@@ -1,12 +1,12 @@
 // The answer about the mutex groups of a layered task, with the reasons why groups aren't exclusive. Their names are put in as it is
 // written: they may make it far longer than the numbers that it holds.
-ghost use Rattle.std.specs.Prelude.{◌≡◌, ◌<◌, ◌^◌, ◌⊎◌, ◌↔◌, [], ◌∷◌, ◌++◌, length, false, Some};
+ghost use Rattle.std.specs.Prelude.{◌≡◌, ◌⊎◌, ◌↔◌, [], ◌∷◌, ◌++◌, false, Some};
 ghost use Rattle.std.specs.Prelude.{IfErr, IsErr, IsErrAnd, IsTrue, OnOk, codes, map};
 ghost use Rattle.std.specs.Io.KnownBytes.{Appends};
 ghost use Rattle.sas_lines.specs.Lines.{text};
 ghost use Rattle.sas_answers.specs.GroupWords.{group_line};
 ghost use Rattle.sas_group_reasons.specs.Reasons.{reason_at};
-ghost use Rattle.sas_output.specs.Ending.{Ends, IsWrite};
+ghost use Rattle.sas_output.specs.Ending.{EndsCounting, IsWrite};
 ghost use Rattle.sas_output.specs.Pieces.{PutsOrBreaks};
 ghost use Rattle.sas_output.specs.Words.{line, word_bytes};
 ghost use Rattle.sas_task_reasons.specs.Line.{line_bytes};
@@ -27,8 +27,7 @@ use std::io::Write;
 use std::marker::Model;
 
 /// The answer about the mutex groups of a layered task: the verdict on each, with the reason behind it where the group isn't
-/// exclusive. In a contract its value is its text and its status. A `usize` can hold the text's length, so the bytes of it that are
-/// written can be counted.
+/// exclusive. In a contract its value is its text and its status.
 pub struct ExplainedGroups {
     verdicts: Vec<Verdict>,
     reasons: Vec<Option<Reason>>,
@@ -49,16 +48,12 @@ impl Drop for ExplainedGroups {
 }
 
 impl Model for ExplainedGroups {
-    ghost use Rattle.std.specs.Prelude.{◌<◌, ◌^◌, length};
     ghost use Rattle.sas_output.specs.Ending.{Output};
-    ghost use Rattle.sas_lines.specs.Lines.{text};
-    ghost use Rattle.sas_task_reasons.specs.WhyGroups.{why_lines, groups_output};
+    ghost use Rattle.sas_task_reasons.specs.WhyGroups.{groups_output};
 
     ghost Value = { Output };
 
     ghost view = { λ g. groups_output g.task g.verdicts.items g.reasons.items };
-
-    ghost invariant = { λ g. length (text (why_lines g.task g.verdicts.items g.reasons.items)) < 2 ^ 64 };
 }
 
 impl ExplainedGroups {
@@ -68,7 +63,6 @@ impl ExplainedGroups {
         reasons: Vec<Option<Reason>>,
         task: FlatTask,
     ) -> ExplainedGroups
-        requires { length (text (why_lines task verdicts.items reasons.items)) < 2 ^ 64 }
         ensures { result ≡ groups_output task verdicts.items reasons.items }
     {
         ExplainedGroups {
@@ -82,7 +76,7 @@ impl ExplainedGroups {
     /// written. Not to be called after a failure.
     pub fn write<W: Write>(&self, alloc: Global, out: &mut Watched<W>) -> Result<Status, ToolFault>
         requires { out.old.failed ≡ false }
-        ensures ends { Ends (λ output. output ≡ Some self.now)
+        ensures ends { EndsCounting (λ output. output ≡ Some self.now)
             (Appends (W.contents out.old.device) (W.contents out.new.device)) result }
         ensures nothing { IfErr result (λ e. IsWrite e
             ⊎ ((e ≡ ToolFault.Memory) × (out.new ≡ out.old))) }

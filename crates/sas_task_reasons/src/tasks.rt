@@ -6,9 +6,9 @@ ghost use Rattle.sas_groups.specs.Joint.{AreJointVerdicts};
 ghost use Rattle.sas_group_reasons.specs.Reasons.{AreReasons};
 ghost use Rattle.sas_task_reasons.specs.LayerReasons as spec;
 ghost use Rattle.sas_task_reasons.specs.Line.{line_bytes};
-ghost use Rattle.sas_task_reasons.specs.WhyLayers.{LayerReasonsFit, why_refusal, output_of_task};
+ghost use Rattle.sas_task_reasons.specs.WhyLayers.{why_refusal, output_of_task};
 ghost use Rattle.sas_task_reasons.specs.WhyLayers.{WhyCheckAnswer, WhyMutexAnswer};
-ghost use Rattle.sas_task_reasons.specs.WhyGroups.{GroupReasonsFit, WhyGroupsAnswer};
+ghost use Rattle.sas_task_reasons.specs.WhyGroups.{WhyGroupsAnswer};
 
 use crate::explained::ExplainedTask;
 use crate::groups::ExplainedGroups;
@@ -35,7 +35,6 @@ pub enum TaskAnswer {
 
 /// Returns the answer about the layers of a task, with the reasons where it isn't layered.
 pub fn explain_check(alloc: Global, task: FlatTask) -> Result<TaskAnswer, AllocError>
-    requires { LayerReasonsFit task }
     ensures { IfOk result (λ a. WhyCheckAnswer task (output_of_task a)) }
 {
     match Layered::new(alloc, task) {
@@ -60,8 +59,6 @@ fn layered_answer(alloc: Global) -> Result<TaskAnswer, AllocError>
 /// Returns the answer about the mutex groups of a task, with the reasons why groups aren't exclusive, or where the task isn't
 /// layered with the reasons for that.
 pub fn explain_groups(alloc: Global, task: FlatTask) -> Result<TaskAnswer, AllocError>
-    requires layers { LayerReasonsFit task }
-    requires groups { GroupReasonsFit task }
     ensures { IfOk result (λ a. WhyMutexAnswer task (output_of_task a)) }
 {
     match Layered::new(alloc, task) {
@@ -78,7 +75,6 @@ pub fn explain_groups(alloc: Global, task: FlatTask) -> Result<TaskAnswer, Alloc
 
 /// Returns the answer about the mutex groups of a layered task, with the reasons why groups aren't exclusive.
 fn explain_layered(alloc: Global, layered: Layered<FlatTask>) -> Result<ExplainedGroups, AllocError>
-    requires { GroupReasonsFit layered }
     ensures { IfOk result (λ g. WhyGroupsAnswer layered g) }
 {
     match verdicts_and_reasons(alloc, &layered) {
@@ -109,7 +105,6 @@ pub fn explain_layers(
     task: FlatTask,
     fault: LayerFault,
 ) -> Result<ExplainedTask, AllocError>
-    requires { LayerReasonsFit task }
     ensures { IfOk result (λ e.
         why_refusal task fault ≡ Some (record { text = e; status = Status.No })) }
 {

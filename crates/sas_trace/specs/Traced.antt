@@ -1,5 +1,5 @@
 -- The answers about plans with their traces.
-use Rattle.std.specs.Prelude.{◌≡◌, ◌⊎◌, ◌<◌, ◌^◌, ◌++◌, length, Option, Some, None}
+use Rattle.std.specs.Prelude.{◌≡◌, ◌⊎◌, ◌++◌, Option, Some, None}
 use Rattle.sas_core.specs.declared.parts.Parts.{Parts}
 use Rattle.sas_core.specs.PlanParts.{PlanParts}
 use Rattle.sas_lines.specs.Lines.{text}
@@ -34,7 +34,3 @@ pub record TraceVerdict (p : Parts) (plan : PlanParts) (output : Output) : Type 
 abbrev pub IsTraced : Parts → PlanParts → Option Output → Type 0
 IsTraced p plan (Some output) = TraceVerdict p plan output
 IsTraced p plan None = ⊥
-
--- whatever the answer is, it is short enough that its bytes can be counted
-abbrev pub TraceFits : Parts → PlanParts → Type 0
-TraceFits p plan = (output : Output) → TraceVerdict p plan output → length output.text < 2 ^ 64

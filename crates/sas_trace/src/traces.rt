@@ -1,9 +1,9 @@
 // The trace of a plan, as it goes out.
 ghost use Rattle.std.specs.Prelude.{◌≡◌, ◌⊎◌, ◌↔◌, false, IfErr, IsErrAnd, IsTrue};
 ghost use Rattle.std.specs.Io.KnownBytes.{Appends};
-ghost use Rattle.sas_output.specs.Ending.{Ends, IsWrite};
+ghost use Rattle.sas_output.specs.Ending.{EndsCounting, IsWrite};
 ghost use Rattle.sas_run.specs.Courses.{SetsOut};
-ghost use Rattle.sas_trace.specs.Traced.{IsTraced, TraceFits};
+ghost use Rattle.sas_trace.specs.Traced.{IsTraced};
 
 use crate::judging::judge;
 use crate::tracing::Tracer;
@@ -26,8 +26,7 @@ pub fn write_trace<W: Write>(
     out: &mut Watched<W>,
 ) -> Result<Status, ToolFault>
     requires out { out.old.failed ≡ false }
-    requires fits { TraceFits task.now plan.now }
-    ensures ends { Ends (IsTraced task.now plan.now)
+    ensures ends { EndsCounting (IsTraced task.now plan.now)
         (Appends (W.contents out.old.device) (W.contents out.new.device)) result }
     ensures nothing { IfErr result (λ e. IsWrite e
         ⊎ ((e ≡ ToolFault.Memory) × (out.new ≡ out.old))) }
@@ -50,8 +49,7 @@ fn write_course<W: Write, E: Settle<FlatTask> + Drop>(
 ) -> Result<Status, ToolFault>
     requires course { SetsOut task.now plan.now course.old }
     requires out { out.old.failed ≡ false }
-    requires fits { TraceFits task.now plan.now }
-    ensures ends { Ends (IsTraced task.now plan.now)
+    ensures ends { EndsCounting (IsTraced task.now plan.now)
         (Appends (W.contents out.old.device) (W.contents out.new.device)) result }
     ensures nothing { IfErr result (λ e. IsWrite e
         ⊎ ((e ≡ ToolFault.Memory) × (out.new ≡ out.old))) }

@@ -1,7 +1,8 @@
-use Rattle.std.proofs.Common.{List, ℕ, Bor, ap, Some, ◌∙◌}
+use Rattle.std.proofs.Common.{List, ℕ, Bor, ap, Some, Err, ◌∙◌}
 use Rattle.std.specs.Global.{Vec}
 use Rattle.std.specs.Io.KnownBytes.{Appends}
 use Rattle.sas_outputs.specs.Output.{Out}
+use Rattle.sas_output.proofs.Sent.{counting_ends}
 use Rattle.sas_c.proofs.Tellings.{tells_ended, ends_fault}
 use Rattle.sas_c.proofs.answering.answer.Goals as goal
 
@@ -18,4 +19,4 @@ pub returns-in-Err : goal.returns-in-Err
 returns-in-Err c =
     let known = λ (s : Bor (List ℕ)). Some s.now in
     ends_fault (Out c.args.asked.request c.args.asked.task.now c.args.asked.plan.now) _ _ (Appends (Some c.new-text.result.device.items) (Some c.run.new.out.device.items)) c.in-Err.fault _ c.number_without.ensures
-    (c.in-Err.ensures.output c.args.asked.task.now c.args.asked.plan.now (λ _. ap known c.new-task.ensures.device, λ _. ap known c.new-plan.ensures.device))
+    (counting_ends _ _ (Err c.in-Err.fault) (c.in-Err.ensures.output c.args.asked.task.now c.args.asked.plan.now (λ _. ap known c.new-task.ensures.device, λ _. ap known c.new-plan.ensures.device)))

@@ -1,5 +1,4 @@
 use Rattle.sas_file_reasons.proofs.ReasonLines.{task_lines_tell, plan_lines_tell}
-use Rattle.sas_file_reasons.proofs.ReasonLengths.{task_reasons_short, plan_reasons_short}
 use Rattle.sas_file_reasons.proofs.laws.file_reason_laws.Goals as goal
 
 pub returns-clause-task_lines : goal.returns-clause-task_lines
@@ -7,9 +6,3 @@ returns-clause-task_lines c = task_lines_tell
 
 pub returns-clause-plan_lines : goal.returns-clause-plan_lines
 returns-clause-plan_lines c = plan_lines_tell
-
-pub returns-clause-task_length : goal.returns-clause-task_length
-returns-clause-task_length c = task_reasons_short
-
-pub returns-clause-plan_length : goal.returns-clause-plan_length
-returns-clause-plan_length c = plan_reasons_short

@@ -11,6 +11,7 @@ use Rattle.sas_answers.proofs.CheckAnswers.{one_check_answer, some_check_answer}
 use Rattle.sas_answers.proofs.MutexAnswers.{one_mutex_answer, some_mutex_answer}
 use Rattle.sas_answers.proofs.VerdictAnswers.{one_verdict_answer, some_verdict_answer}
 use Rattle.sas_outputs.proofs.PlanOutputs.{plain_refuses, one_plan_output, some_plan_output, no_plan_output}
+use Rattle.sas_requests.proofs.ShortOutputs.{short_output}
 use Rattle.sas_requests.proofs.laws.run_laws.Goals as goal
 
 one : OneOutput
@@ -45,3 +46,6 @@ returns-clause-some c = some
 
 pub returns-clause-long : goal.returns-clause-long
 returns-clause-long c = long
+
+pub returns-clause-short : goal.returns-clause-short
+returns-clause-short c = short_output

@@ -7,11 +7,7 @@ use Rattle.sas_requests.specs.FileReasons.{TellsTask}
 use Rattle.sas_requests.proofs.Explained.{explains_value, explains_refusal, task_refusal_tells}
 use Rattle.sas_requests.proofs.RefusalLaws.{task_telling}
 use Rattle.sas_task_reasons.specs.WhyLayers.{WhyCheckAnswer}
-use Rattle.sas_requests.proofs.LayerLengths.{layers_fit}
 use Rattle.sas_requests.proofs.why.check_explanation.Goals as goal
-
-pub explain_check-requires : goal.explain_check-requires
-explain_check-requires g c = let read = c.in-Ok.ensures.read in layers_fit read.0 _ read.2
 
 pub returns : goal.returns
 returns g c =

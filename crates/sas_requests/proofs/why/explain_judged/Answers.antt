@@ -8,11 +8,7 @@ use Rattle.sas_requests.proofs.Explained.{explains_value, explains_refusal, plan
 use Rattle.sas_requests.proofs.RefusalLaws.{plan_telling}
 use Rattle.sas_explain.specs.Verdict.{WhyVerdict}
 use Rattle.sas_requests.specs.declared.answers.Answer.TheVariants.{Text, Explained}
-use Rattle.sas_requests.proofs.WhyFits.{reasons_fit}
 use Rattle.sas_requests.proofs.why.explain_judged.Goals as goal
-
-pub explain_plan-requires : goal.explain_plan-requires
-explain_plan-requires g c = reasons_fit _ _ _ _ c.requires.task.1 c.in-Ok.ensures.read.2
 
 pub returns-in-Valid : goal.returns-in-Valid
 returns-in-Valid g c =

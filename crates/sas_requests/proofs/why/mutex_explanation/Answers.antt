@@ -7,15 +7,7 @@ use Rattle.sas_requests.specs.FileReasons.{TellsTask}
 use Rattle.sas_requests.proofs.Explained.{explains_value, explains_refusal, task_refusal_tells}
 use Rattle.sas_requests.proofs.RefusalLaws.{task_telling}
 use Rattle.sas_task_reasons.specs.WhyLayers.{WhyMutexAnswer}
-use Rattle.sas_requests.proofs.LayerLengths.{layers_fit}
-use Rattle.sas_requests.proofs.GroupLengths.{groups_fit}
 use Rattle.sas_requests.proofs.why.mutex_explanation.Goals as goal
-
-pub explain_groups-requires-clause-layers : goal.explain_groups-requires-clause-layers
-explain_groups-requires-clause-layers g c = let read = c.in-Ok.ensures.read in layers_fit read.0 _ read.2
-
-pub explain_groups-requires-clause-groups : goal.explain_groups-requires-clause-groups
-explain_groups-requires-clause-groups g c = let read = c.in-Ok.ensures.read in groups_fit read.0 _ read.2
 
 pub returns : goal.returns
 returns g c =

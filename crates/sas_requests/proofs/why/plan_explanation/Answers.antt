@@ -9,16 +9,10 @@ use Rattle.sas_requests.specs.FileReasons.{TellsTask}
 use Rattle.sas_requests.specs.Why.{OutWhy}
 use Rattle.sas_requests.proofs.Explained.{plain_read, explains_refusal, task_refusal_tells}
 use Rattle.sas_requests.proofs.ExplainedPlans.{refused_why, judged_why, unlayered_files_why}
-use Rattle.sas_requests.proofs.LayerLengths.{layers_fit}
 use Rattle.sas_outputs.proofs.PlanOutputs.{NoAnswer}
 use Rattle.sas_requests.proofs.PlanAnswers.{refused_files_by, judged_files_by}
 use Rattle.sas_requests.proofs.RefusalLaws.{task_telling}
 use Rattle.sas_requests.proofs.why.plan_explanation.Goals as goal
-
-pub explain_judged-requires-clause-task : goal.explain_judged-requires-clause-task
-explain_judged-requires-clause-task g c =
-    let read = c.in-Ok.ensures.read in
-    rw c.in-Ok-new.ensures.task (read.0, read.2)
 
 pub returns-in-Err : goal.returns-in-Err
 returns-in-Err g c =
@@ -33,11 +27,6 @@ returns-in-Ok-new g c =
     let layered = rw c.in-Ok-new.ensures.task at c.in-Ok-new.ensures.layered in
     judged_files_by g.T.Read.remaining g.P.Read.remaining (OutWhy Plan) _ _ c.in-Ok.read read (PlanOutWhy (WhyVerdict c.in-Ok.read)) (λ b c' reads o out. judged_why c.in-Ok.read layered b c' reads o out) _ _ c.explain_judged.result layered
     (rw c.in-Ok-new.ensures.task at c.explain_judged.ensures)
-
-pub explain_refused-requires : goal.explain_refused-requires
-explain_refused-requires g c =
-    let read = c.in-Ok.ensures.read in
-    rw c.in-Err-new.ensures.handed_back (layers_fit read.0 c.in-Ok.read read.2)
 
 pub returns-in-Err-new : goal.returns-in-Err-new
 returns-in-Err-new g c =

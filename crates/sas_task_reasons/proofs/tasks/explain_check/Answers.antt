@@ -1,11 +1,7 @@
-use Rattle.std.proofs.Common.{subst, sym}
 use Rattle.sas_answers.proofs.AnswerLaws.{so_if_ok}
-use Rattle.sas_task_reasons.specs.WhyLayers.{LayerReasonsFit, output_of_task}
+use Rattle.sas_task_reasons.specs.WhyLayers.{output_of_task}
 use Rattle.sas_task_reasons.proofs.TaskAnswers.{check_layered}
 use Rattle.sas_task_reasons.proofs.tasks.explain_check.Goals as goal
-
-pub explain_layers-requires : goal.explain_layers-requires
-explain_layers-requires c = subst LayerReasonsFit (sym c.in-Err.ensures.handed_back) c.requires
 
 pub returns-in-Ok : goal.returns-in-Ok
 returns-in-Ok c =

@@ -1,6 +1,6 @@
 -- What goes out in the second pass is the trace.
 use Rattle.std.proofs.Common.{refl, ◌∙◌}
-use Rattle.sas_output.proofs.Sent.{all_sent, first_sent}
+use Rattle.sas_output.proofs.Sent.{all_sent, first_counted}
 use Rattle.sas_trace.proofs.Twice.{starts_anew, written, is_traced}
 use Rattle.sas_trace.proofs.traces.write_course.Goals as goal
 
@@ -28,5 +28,5 @@ returns-clause-ends g c =
     let judged = c.in_ok-judged.judged in
     let same = c.restart.ensures.of_plan ∙ c.in_ok-judged.ensures.of_plan in
     let traced = is_traced p c.args.plan.now c.restart.new.self.plan judged w.0 same w.1 in
-    let sent = first_sent _ _ _ _ _ _ c.in_ok-tracer.ensures.pieces refl (c.requires.fits (written p judged w.0) traced) w.2 in
-    (written p judged w.0, traced, sent.0, sent.1)
+    let (number, counts, less, sent) = first_counted _ _ _ _ _ _ c.in_ok-tracer.ensures.pieces refl w.2 in
+    (number, counts, (written p judged w.0, traced, less, sent))

@@ -1,6 +1,6 @@
-use Rattle.std.proofs.Common.{◌<◌, ◌^◌, ◌++◌, List, ℕ, length, refl, ap, subst, ◌∙◌}
+use Rattle.std.proofs.Common.{◌++◌, List, ℕ, refl, ap, ◌∙◌}
 use Rattle.sas_why.specs.declared.line.Line.{Line}
-use Rattle.sas_output.proofs.Sent.{all_sent, first_sent}
+use Rattle.sas_output.proofs.Sent.{all_sent, first_counted}
 use Rattle.sas_explain.specs.ReasonsText.{reasons_text}
 use Rattle.sas_explain.proofs.explained.Explained.write.Goals as goal
 
@@ -16,6 +16,5 @@ returns-clause-ends g c =
     let i = c.self.inside in
     let is = ap (λ (l : List ℕ). l ++ reasons_text i.task i.plan c.as_slice.result.now) c.as_slice-verdict.ensures.value
     ∙ ap (λ (r : List Line). i.verdict.items ++ reasons_text i.task i.plan r) c.as_slice.ensures.value ∙ c.self.view_is in
-    let fits = subst (λ (l : List ℕ). length l < 2 ^ 64) c.self.view_is c.self.invariant in
-    let (less, sent) = first_sent _ _ _ _ _ _ c.in_ok-pieces.ensures is fits c.in-Err.ensures.puts in
-    (_, refl, less, sent)
+    let (number, counts, less, sent) = first_counted _ _ _ _ _ _ c.in_ok-pieces.ensures is c.in-Err.ensures.puts in
+    (number, counts, (_, refl, less, sent))

@@ -1,0 +1,238 @@
+-- Each output without reasons is shorter than 2 ^ 64 bytes.
+use Rattle.std.proofs.Common.{◌≡◌, ℕ, suc, zero, ◌+◌, ◌*◌, ◌^◌, ◌<◌, ◌≤◌, Bool, true, false, if◌then◌else◌, List, [], ◌∷◌, ◌++◌, length, codes, length-append, arith, refl, sym, subst, inl, inr, Option, Some, None, Result, Ok, Err}
+use Rattle.std.specs.Prelude.{decimal, option_map, ◌==◌, ◌/◌, ◌%◌}
+use Rattle.std.specs.Fmt.{digits, digits_onto, digit_glyph}
+use Rattle.std.proofs.lemmas.Option.{none-some}
+use Rattle.sas_core.specs.declared.parts.Parts.{Parts}
+use Rattle.sas_core.specs.PlanParts.{PlanParts}
+use Rattle.sas_core.specs.FirstFault.{first_fault}
+use Rattle.sas_lines.specs.Lines.{text}
+use Rattle.sas_meaning.specs.declared.layered.LayerFault.{LayerFault}
+use Rattle.sas_meaning.specs.declared.layered.LayerFault.TheVariants as layer_fault
+use Rattle.sas_meaning.specs.LayerChecks.{layer_checks}
+use Rattle.sas_groups.specs.declared.verdict.Verdict.{Verdict}
+use Rattle.sas_groups.specs.declared.verdict.Verdict.TheVariants.{Exclusive, Derived, Initial, Broken}
+use Rattle.sas_run.specs.declared.plan_check.PlanFault.{PlanFault}
+use Rattle.sas_run.specs.declared.plan_check.PlanFault.TheVariants as plan_fault
+use Rattle.sas_reader.specs.declared.fault.Fault.{Fault}
+use Rattle.sas_reader.specs.declared.fault.Kind.{Kind}
+use Rattle.sas_reader.specs.declared.fault.Kind.TheVariants as kinds
+use Rattle.sas_reader.specs.Devices.{ValueOf}
+use Rattle.sas_reader.specs.Format.{Format, ReadsAs}
+use Rattle.sas_reader.specs.Limit.{most_bytes}
+use Rattle.sas_plan_file.specs.PlanFormat.{plan_format}
+use Rattle.sas_task_format.specs.TaskFormat.{task_format}
+use Rattle.sas_flat.specs.Outlines.{outline_of}
+use Rattle.sas_output.specs.declared.ending.Status.TheVariants.{Yes, No}
+use Rattle.sas_output.specs.Ending.{Output}
+use Rattle.sas_answers.specs.Answers.{layers_refusal, layers_verdict, CheckAnswer, LayeredGroupsAnswer, MutexAnswer, valid_answer, VerdictAnswer}
+use Rattle.sas_answers.specs.LayerWords.{part_words, layer_words, layers_line}
+use Rattle.sas_answers.specs.PlanWords.{step_words, goal_words, sum_words, fault_words, invalid_line}
+use Rattle.sas_answers.specs.GroupWords.{verdict_words, group_line, verdict_lines_from}
+use Rattle.sas_outputs.specs.declared.Request.TheVariants.{Show, Print, Steps, Check, Plan, Mutex}
+use Rattle.sas_outputs.specs.Output.{word_of, refusal_line, refusal, IsAnswerOrRefusal, ShowAnswer, PrintAnswer, FileOut, LayersOut, JudgedOut, plain_refusal, ShortOutput}
+use Rattle.sas_outputs.proofs.Lengths.{text_short}
+use Rattle.sas_requests.proofs.SummaryLengths.{summary_fits}
+
+-- ---- numbers
+
+-- a number is spelled in 64 digits at most
+either_short : (last : Bool) (front more : List ℕ) (most : ℕ) → length front ≤ most → length more ≤ most → length (if last then front else more) ≤ most
+either_short true front more most f m = f
+either_short false front more most f m = m
+
+onto_short : (k n : ℕ) (acc : List ℕ) → length (digits_onto k 10 false n acc) ≤ k + length acc
+onto_short zero n acc = omega arith
+onto_short (suc k) n acc =
+    let with : List ℕ = digit_glyph false (n % 10) ∷ acc in
+    either_short (n / 10 == 0) with (digits_onto k 10 false (n / 10) with) (suc k + length acc) (omega arith) (omega (arith, onto_short k (n / 10) with))
+
+decimal_short : (n : ℕ) → length (decimal n) ≤ 64
+unfolding digits
+decimal_short n = onto_short 64 n []
+
+-- ---- lines of words
+
+-- these words, if there are any, are short
+abbrev AreShort : Option (List ℕ) → Type 0
+AreShort found = (words : List ℕ) → found ≡ Some words → length words ≤ 200
+
+some_short : (words : List ℕ) → length words ≤ 200 → AreShort (Some words)
+some_short words short other is = subst (λ (w : List ℕ). length w ≤ 200) (let same : words ≡ other = cc in same) short
+
+none_short : AreShort None
+none_short words is = absurd (none-some words is)
+
+-- so is what is made of them
+line_short : (line_of : List ℕ → Output) → ((words : List ℕ) → length (line_of words).text ≤ length words + 200) → (found : Option (List ℕ)) → AreShort found
+    → (o : Output) → option_map line_of found ≡ Some o → length o.text < 2 ^ 64
+line_short line_of longer None short o is = absurd (none-some o is)
+line_short line_of longer (Some words) short o is =
+    let same : line_of words ≡ o = cc in
+    subst (λ (x : Output). length x.text < 2 ^ 64) same (omega (arith, longer words, short words refl))
+
+-- ---- the refusal of a file
+
+kind_short : (kind : Kind) → AreShort (word_of kind)
+kind_short kinds.Keyword = some_short _ (omega arith)
+kind_short kinds.Name = some_short _ (omega arith)
+kind_short kinds.Shape = some_short _ (omega arith)
+kind_short kinds.Value = some_short _ (omega arith)
+kind_short kinds.End = some_short _ (omega arith)
+kind_short kinds.Trailing = some_short _ (omega arith)
+kind_short kinds.TooLong = none_short
+kind_short kinds.Read = none_short
+kind_short kinds.Memory = none_short
+
+refusal_short : (name : List ℕ) → length name ≤ 9 → (fault : Fault) (o : Output) → refusal name fault ≡ Some o → length o.text < 2 ^ 64
+refusal_short name named fault =
+    line_short (λ word. record { text = refusal_line name fault.line word; status = No }) (λ word. omega (
+      arith,
+      named,
+      length-append (name ++ codes " refused: line " ++ decimal fault.line ++ codes ": " ++ word) (codes "\n"),
+      length-append (name ++ codes " refused: line " ++ decimal fault.line ++ codes ": ") word,
+      length-append (name ++ codes " refused: line " ++ decimal fault.line) (codes ": "),
+      length-append (name ++ codes " refused: line ") (decimal fault.line),
+      length-append name (codes " refused: line "),
+      decimal_short fault.line,
+    )) (word_of fault.kind) (kind_short fault.kind)
+
+-- ---- the refusal of a task
+
+part_short : (part : List ℕ) (place : ℕ) (what : List ℕ) → length part + length what ≤ 100 → AreShort (Some (part_words part place what))
+part_short part place what short = some_short (part_words part place what) (omega (
+  arith,
+  short,
+  length-append (part ++ codes " " ++ decimal place ++ codes ": ") what,
+  length-append (part ++ codes " " ++ decimal place) (codes ": "),
+  length-append (part ++ codes " ") (decimal place),
+  length-append part (codes " "),
+  decimal_short place,
+))
+
+layer_words_short : (fault : LayerFault) → AreShort (layer_words fault)
+layer_words_short (layer_fault.EffectOnDerived operator effect) = part_short (codes "operator") operator (codes "effect on derived variable") (omega arith)
+layer_words_short (layer_fault.RuleOnBasic rule) = part_short (codes "rule") rule (codes "not on a derived variable") (omega arith)
+layer_words_short (layer_fault.OldValue rule) = part_short (codes "rule") rule (codes "old value") (omega arith)
+layer_words_short (layer_fault.TwoValues rule) = part_short (codes "rule") rule (codes "two values") (omega arith)
+layer_words_short (layer_fault.LayerOrder rule condition) = part_short (codes "rule") rule (codes "layer order") (omega arith)
+layer_words_short layer_fault.Memory = none_short
+
+layers_short : (fault : LayerFault) (o : Output) → layers_refusal fault ≡ Some o → length o.text < 2 ^ 64
+layers_short fault =
+    line_short (λ words. record { text = layers_line words; status = No })
+    (λ words. omega (arith, length-append (codes "task refused: " ++ words) (codes "\n"), length-append (codes "task refused: ") words)) (layer_words fault) (layer_words_short fault)
+
+layered_short : (first : Option LayerFault) (o : Output) → layers_verdict first ≡ Some o → length o.text < 2 ^ 64
+layered_short None o is = let same : (record { text = codes "task layered\n"; status = Yes }) ≡ o = cc in subst (λ (x : Output). length x.text < 2 ^ 64) same (omega arith)
+layered_short (Some fault) o is = layers_short fault o is
+
+-- ---- the verdict on a plan
+
+step_short : (step : ℕ) (what : List ℕ) → length what ≤ 100 → AreShort (Some (step_words step what))
+step_short step what short = some_short (step_words step what) (omega (
+  arith,
+  short,
+  length-append (codes "step " ++ decimal step ++ codes ": ") what,
+  length-append (codes "step " ++ decimal step) (codes ": "),
+  length-append (codes "step ") (decimal step),
+  decimal_short step,
+))
+
+fault_words_short : (cost : ℕ) (fault : PlanFault) → AreShort (fault_words cost fault)
+fault_words_short cost (plan_fault.NoOperator step) = step_short step (codes "no operator of that name") (omega arith)
+fault_words_short cost (plan_fault.NotApplicable step) = step_short step (codes "not applicable") (omega arith)
+fault_words_short cost (plan_fault.Conflict step operator) = step_short step (codes "conflicting effects") (omega arith)
+fault_words_short cost (plan_fault.GoalMissed index) = some_short (goal_words index) (omega (
+  arith,
+  length-append (codes "goal fact " ++ decimal index) (codes " not reached"),
+  length-append (codes "goal fact ") (decimal index),
+  decimal_short index,
+))
+fault_words_short cost (plan_fault.CostDiffers sum) = some_short (sum_words sum cost) (omega (
+  arith,
+  length-append (codes "cost is " ++ decimal sum ++ codes ", not ") (decimal cost),
+  length-append (codes "cost is " ++ decimal sum) (codes ", not "),
+  length-append (codes "cost is ") (decimal sum),
+  decimal_short sum,
+  decimal_short cost,
+))
+fault_words_short cost plan_fault.Memory = none_short
+
+valid_short : (plan : PlanParts) → length (valid_answer plan).text < 2 ^ 64
+valid_short plan = omega (
+  arith,
+  length-append (codes "plan valid: " ++ decimal (length plan.steps) ++ codes " steps, cost " ++ decimal plan.cost) (codes "\n"),
+  length-append (codes "plan valid: " ++ decimal (length plan.steps) ++ codes " steps, cost ") (decimal plan.cost),
+  length-append (codes "plan valid: " ++ decimal (length plan.steps)) (codes " steps, cost "),
+  length-append (codes "plan valid: ") (decimal (length plan.steps)),
+  decimal_short (length plan.steps),
+  decimal_short plan.cost,
+)
+
+verdict_short : (p : Parts) (plan : PlanParts) (o : Output) → VerdictAnswer p plan o → length o.text < 2 ^ 64
+verdict_short p plan o (inl (valid, is)) = subst (λ (x : Output). length x.text < 2 ^ 64) (sym is) (valid_short plan)
+verdict_short p plan o (inr (fault, is_fault, is)) =
+    line_short (λ words. record { text = invalid_line words; status = No })
+    (λ words. omega (arith, length-append (codes "plan invalid: " ++ words) (codes "\n"), length-append (codes "plan invalid: ") words)) (fault_words plan.cost fault) (fault_words_short plan.cost fault) o is
+
+-- ---- mutex groups
+
+words_short : (verdict : Verdict) → length (verdict_words verdict) ≤ 100
+words_short Exclusive = omega arith
+words_short Derived = omega arith
+words_short Initial = omega arith
+words_short (Broken operator) = omega (arith, length-append (codes "not shown: operator ") (decimal operator), decimal_short operator)
+
+groups_short : (place : ℕ) (verdicts : List Verdict) → length (text (verdict_lines_from place verdicts)) ≤ length verdicts * 200
+groups_short place [] = omega arith
+groups_short place (verdict ∷ verdicts) = omega (
+  arith,
+  groups_short (place + 1) verdicts,
+  length-append (group_line place verdict ++ 10 ∷ []) (text (verdict_lines_from (place + 1) verdicts)),
+  length-append (group_line place verdict) (10 ∷ []),
+  length-append (codes "group " ++ decimal place ++ codes " ") (verdict_words verdict),
+  length-append (codes "group " ++ decimal place) (codes " "),
+  length-append (codes "group ") (decimal place),
+  decimal_short place,
+  words_short verdict,
+)
+
+mutex_short : (b : List ℕ) (p : Parts) → ValueOf task_format b p → (first : Option LayerFault) (o : Output) → LayeredGroupsAnswer p first o → length o.text < 2 ^ 64
+mutex_short b p value (Some fault) o is = layers_short fault o is
+mutex_short b p value None o (verdicts, joint, is) =
+    subst (λ (x : Output). length x.text < 2 ^ 64) (sym is) (omega (arith, groups_short 0 verdicts, joint.one_each, value.0.good.groups.count))
+
+-- ---- the output about one file
+
+module _ {V I S : Type 0} (F : Format V I S) (name : List ℕ) (named : length name ≤ 9) (IsAnswer : V → Output → Type 0) (b : List ℕ) (short : (v : V) → ValueOf F b v → (o : Output) → IsAnswer v o → length o.text < 2 ^ 64) where
+  reading_short : (r : Result V Fault) → ReadsAs F most_bytes b r → (o : Output) → IsAnswerOrRefusal name IsAnswer r (Some o) → length o.text < 2 ^ 64
+  reading_short (Ok v) value o (answer, is, same) = short v value o (let e : answer ≡ o = cc in subst (IsAnswer v) e is)
+  reading_short (Err fault) reads o is = refusal_short name named fault o (sym is)
+
+  file_short : (o : Output) → FileOut F name IsAnswer b (Some o) → length o.text < 2 ^ 64
+  file_short o (r, reads, is) = reading_short r reads o is
+
+printed_short : {V I S : Type 0} (F : Format V I S) (b : List ℕ) (v : V) → ValueOf F b v → (o : Output) → PrintAnswer F v o → length o.text < 2 ^ 64
+printed_short F b v value o is =
+    subst (λ (x : Output). length x.text < 2 ^ 64) (sym is) (subst (λ (l : List (List ℕ)). length (text l) < 2 ^ 64) value.0.lines (omega (arith, text_short b, value.1)))
+
+-- ---- the output about a task and a plan
+
+layers_out_short : (p : Parts) (first : Option LayerFault) (c : List ℕ) (o : Output) → LayersOut VerdictAnswer plain_refusal p first c (Some o) → length o.text < 2 ^ 64
+layers_out_short p (Some fault) c o is = layers_short fault o (sym is)
+layers_out_short p None c o is = file_short plan_format (codes "plan") (omega arith) (VerdictAnswer p) c (λ plan value. verdict_short p plan) o is
+
+judged_short : (r : Result Parts Fault) (c : List ℕ) (o : Output) → JudgedOut VerdictAnswer plain_refusal r c (Some o) → length o.text < 2 ^ 64
+judged_short (Err fault) c o is = refusal_short (codes "task") (omega arith) fault o (sym is)
+judged_short (Ok p) c o is = layers_out_short p (first_fault (layer_checks p)) c o is
+
+-- ---- each output
+
+pub short_output : ShortOutput
+short_output Show b c = file_short task_format (codes "task") (omega arith) ShowAnswer b (λ p value o is. subst (λ (x : Output). length x.text < 2 ^ 64) (sym is) (summary_fits b (outline_of p) (p, value, refl)))
+short_output Print b c = file_short task_format (codes "task") (omega arith) (PrintAnswer task_format) b (printed_short task_format b)
+short_output Steps b c = file_short plan_format (codes "plan") (omega arith) (PrintAnswer plan_format) c (printed_short plan_format c)
+short_output Check b c = file_short task_format (codes "task") (omega arith) CheckAnswer b (λ p value. layered_short (first_fault (layer_checks p)))
+short_output Plan b c = λ o out. judged_short out.0 c o out.2
+short_output Mutex b c = file_short task_format (codes "task") (omega arith) MutexAnswer b (λ p value. mutex_short b p value (first_fault (layer_checks p)))
