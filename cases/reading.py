@@ -13,7 +13,7 @@ import report
 
 TOP = os.path.dirname(os.path.dirname(os.path.abspath(__file__)))
 READING = f"{TOP}/docs/READING.md"
-PATHS = 9
+PATHS = 10
 # a heading of READING.md that begins a path, and the file that it leads to; a file that it names, and how many lines that has
 HEADING = re.compile(r"^## .*: `(\S+\.antt)`$", re.MULTILINE)
 NAMED = re.compile(r"`(\S+?\.antt)` \((\d+)\)")
