@@ -99,26 +99,6 @@ fn judge_whole<R: AllocGlobal + Print>(
     Ok(())
 }
 
-/// Calls `judge_slices` over the same bytes. It could show that it always wants memory, and inputs that are exchanged.
-fn judge_in_memory<R: AllocGlobal + Print>(rt: &R, given: &Given<'_>) -> Result<(), AllocError> {
-    let mut plans = Vec::new(rt.alloc());
-    for plan in given.plans.as_slice() {
-        plans.push(PlanBytes {
-            label: plan.label,
-            bytes: plan.told,
-        })?;
-    }
-    if !sas_plans::are_labels(plans.as_slice()) {
-        say(rt, "WRONG: a label");
-        return Ok(());
-    }
-    match judge_slices(rt.alloc(), given.task, plans.as_slice()) {
-        Ok(told) => say_answer(rt, &Ok(told.status), told.text.as_slice()),
-        Err(fault) => say_answer(rt, &over_files(Err(fault)), &[]),
-    }
-    Ok(())
-}
-
 /// Does the same with a task whose device follows a text, too. It could show the fault of another plan or of another kind, a plan
 /// that is opened before its turn, twice, or though the task is refused, and a read that is tried again behind a failure.
 fn judge_told<R: AllocGlobal + Print>(rt: &R, given: &Given<'_>) -> Result<(), AllocError> {
@@ -317,4 +297,36 @@ fn wrong_room(alloc: Global, given: &Given<'_>) -> Result<Option<usize>, AllocEr
         }
     }
     Ok(None)
+}
+
+/// Calls `judge_slices` over these bytes. It could show that it always wants memory, and inputs that are exchanged.
+fn judge_in_memory<R: AllocGlobal + Print>(rt: &R, given: &Given<'_>) -> Result<(), AllocError> {
+    let plans = in_memory(rt.alloc(), given.plans.as_slice())?;
+    say_slices(rt, given.task, plans.as_slice());
+    drop(plans);
+    Ok(())
+}
+
+/// Returns the plans as bytes in memory: those that their devices are told.
+fn in_memory<'a>(alloc: Global, plans: &[GivenPlan<'a>]) -> Result<Vec<PlanBytes<'a>>, AllocError> {
+    let mut slices = Vec::new(alloc);
+    for plan in plans {
+        slices.push(PlanBytes {
+            label: plan.label,
+            bytes: plan.told,
+        })?;
+    }
+    Ok(slices)
+}
+
+/// Prints the answer about plans in memory.
+fn say_slices<R: AllocGlobal + Print>(rt: &R, task: &[u8], plans: &[PlanBytes<'_>]) {
+    if !sas_plans::are_labels(plans) {
+        say(rt, "WRONG: a label");
+        return;
+    }
+    match judge_slices(rt.alloc(), task, plans) {
+        Ok(told) => say_answer(rt, &Ok(told.status), told.text.as_slice()),
+        Err(fault) => say_answer(rt, &over_files(Err(fault)), &[]),
+    }
 }
