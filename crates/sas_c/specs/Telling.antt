@@ -54,7 +54,7 @@ TellsHeadline b c room size number = (status : Status) → number ≡ number_of_
 abbrev pub EndsInLine : List ℕ → List ℕ → Type 0
 EndsInLine bytes line = (front : List (List ℕ)) × (bytes ≡ text front ++ line)
 
--- Where the answer is told behind a trace, so it is with the last line in the room.
+-- Where an answer is told behind a trace, the same holds of the last line in the room.
 abbrev pub TellsLastLine : List ℕ → List ℕ → List ℕ → ℕ → ℕ → Type 0
 TellsLastLine b c room size number = (status : Status) → number ≡ number_of_status status
     → Headline b c (EndsInLine (take size room)) status

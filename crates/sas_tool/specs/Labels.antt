@@ -20,6 +20,6 @@ OpensAs word (Some Nothing) = ⊥
 abbrev pub names_input : {Z : Type 0} → String Z → Bool
 names_input label = bytes_eq (string_bytes label) (codes "-")
 
--- how often standard input is named: by the task, if it is, and by labels of plans
+-- how often standard input is named: by the task, if `by_task` says so, and by each such label
 abbrev pub times_named : {Z : Type 0} → Bool → List (String Z) → ℕ
 times_named by_task labels = (if by_task then 1 else 0) + count_by names_input labels
