@@ -18,5 +18,7 @@ returns-in-Ok c =
 pub returns-in-Err : goal.returns-in-Err
 returns-in-Err c =
     let known = λ (s : Bor (List ℕ)). Some s.now in
-    ends_fault (Out c.args.asked.request c.args.asked.task.now c.args.asked.plan.now) _ _ (Appends (Some c.new-text.result.device.items) (Some c.run.new.out.device.items)) c.in-Err.fault _ c.number_without.ensures
-    (counting_ends _ _ (Err c.in-Err.fault) (c.in-Err.ensures.output c.args.asked.task.now c.args.asked.plan.now (λ _. ap known c.new-task.ensures.device, λ _. ap known c.new-plan.ensures.device)))
+    let out = Out c.args.asked.request c.args.asked.task.now c.args.asked.plan.now in
+    let sent = Appends (Some c.new-text.result.device.items) (Some c.run.new.out.device.items) in
+    ends_fault out _ _ sent c.in-Err.fault _ c.number_without.ensures
+    (counting_ends out sent (Err c.in-Err.fault) (c.in-Err.ensures.output c.args.asked.task.now c.args.asked.plan.now (λ _. ap known c.new-task.ensures.device, λ _. ap known c.new-plan.ensures.device)))
