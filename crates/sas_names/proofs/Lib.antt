@@ -1,3 +1,5 @@
+mod NameHashing
+mod NameKeys
 mod TablePuts
 mod NamesFrom
 pub mod Searching

@@ -9,22 +9,19 @@ use Rattle.sas_core.specs.Grounded.{operator_at}
 use Rattle.sas_names.specs.Named.{IsNamed}
 use Rattle.sas_names.specs.Names.{IsNextNamed}
 use Rattle.sas_names.specs.declared.names.Names.{Names}
+use Rattle.sas_names.specs.NameMap.{AreMappedFrom}
 use Rattle.sas_names.specs.NameDigest.{digest_of}
 use Rattle.sas_names.specs.NameTable.{AreNamesFrom, IsEmptyTable, NumbersExist, Puts, number_of, operator_names, other_of, own_else}
 
--- behind the last operator there is none
-pub AreNamesFrom-end : (p : Parts) (from : ℕ) (names : Names) → from ≡ length p.operators → length names.next.items ≡ length p.operators
-    → IsEmptyTable names.first → AreNamesFrom p from names
-AreNamesFrom-end p from names all one_each empty = record {
-  exist = λ digest k is. absurd (none-some k (sym (empty.first digest) ∙ is));
+-- behind the last operator nothing is told
+pub AreMappedFrom-end : (p : Parts) (from : ℕ) (tells : List ℕ → Option ℕ) (table : List (Option ℕ)) → from ≡ length p.operators
+    → length table ≡ length p.operators → ((name : List ℕ) → tells name ≡ None) → AreMappedFrom p from tells table
+AreMappedFrom-end p from tells table all one_each none = record {
+  one_each = one_each;
   lowest = λ name. subst (IsNextNamed p name from) (sym (none name)) (λ operator from_on named.
       let exists = named.exists in absurd (omega (arith, all)));
-  one_each = one_each;
   next = λ operator from_on within. absurd (omega (arith, all));
 }
-  where
-    none : (name : List ℕ) → number_of (operator_names p) names.first name ≡ None
-    none name = ap (λ had. own_else (operator_names p) name had (other_of names.first.others name)) (empty.first (digest_of name)) ∙ empty.others name
 
 -- an operator that doesn't have the name is passed over
 pub IsNextNamed-pass : (p : Parts) (name : List ℕ) (operator : ℕ) → (IsNamed p name operator → ⊥) → (r : Option ℕ)
@@ -44,17 +41,12 @@ IsNextNamed-pass p name operator other (Some found) lowest = record {
       ];
 }
 
-module _ (p : Parts) (operator : ℕ) (old new : Names) (had : Option ℕ)
+module _ (p : Parts) (operator : ℕ) (tells after : List ℕ → Option ℕ) (table : List (Option ℕ)) (had : Option ℕ)
     (within : operator < length p.operators)
-    (are : AreNamesFrom p (operator + 1) old)
-    (exist : NumbersExist (length p.operators) new.first)
-    (is_had : had ≡ number_of (operator_names p) old.first (operator_at p operator).name)
-    (puts : Puts (operator_names p) operator old.first new.first)
-    (next_set : new.next.items ≡ slice_set old.next.items operator had) where
-  abbrev tells : List ℕ → Option ℕ
-  tells name = number_of (operator_names p) old.first name
-
-  lowest_of : (name : List ℕ) → IsNextNamed p name operator (number_of (operator_names p) new.first name)
+    (are : AreMappedFrom p (operator + 1) tells table)
+    (is_had : had ≡ tells (operator_at p operator).name)
+    (puts : (name : List ℕ) → after name ≡ (if pointwise nat_eq (operator_at p operator).name name then Some operator else tells name)) where
+  lowest_of : (name : List ℕ) → IsNextNamed p name operator (after name)
   lowest_of name = subst (IsNextNamed p name operator) (sym (puts name)) (by (pointwise nat_eq (operator_at p operator).name name) refl)
     where
       by : (b : Bool) → pointwise nat_eq (operator_at p operator).name name ≡ b
@@ -70,23 +62,43 @@ module _ (p : Parts) (operator : ℕ) (old new : Names) (had : Option ℕ)
           (tells name) (are.lowest name)
 
   next_of : (k : ℕ) → operator ≤ k → k < length p.operators
-      → IsNextNamed p (operator_at p k).name (k + 1) (get_or (slice_set old.next.items operator had) k None)
+      → IsNextNamed p (operator_at p k).name (k + 1) (get_or (slice_set table operator had) k None)
   next_of k from_on exists = elim (eq-or-lt_of_le from_on) [
-    | inl same ↦ subst (λ j. IsNextNamed p (operator_at p j).name (j + 1) (get_or (slice_set old.next.items operator had) j None)) same
+    | inl same ↦ subst (λ j. IsNextNamed p (operator_at p j).name (j + 1) (get_or (slice_set table operator had) j None)) same
         (subst (IsNextNamed p (operator_at p operator).name (operator + 1))
-        (sym (get_or-set_same old.next.items operator had None (omega (arith, are.one_each)) ∙ is_had))
+        (sym (get_or-set_same table operator had None (omega (arith, are.one_each)) ∙ is_had))
         (are.lowest (operator_at p operator).name))
     | inr above ↦
         let apart : k ≢ operator = omega arith in
-        subst (IsNextNamed p (operator_at p k).name (k + 1)) (sym (get_or-set_other old.next.items operator k had None apart))
+        subst (IsNextNamed p (operator_at p k).name (k + 1)) (sym (get_or-set_other table operator k had None apart))
         (are.next k (omega arith) exists)
   ]
 
   -- one operator more
-  pub AreNamesFrom-step : AreNamesFrom p operator new
-  AreNamesFrom-step = record {
-    exist = exist;
+  pub AreMappedFrom-step : AreMappedFrom p operator after (slice_set table operator had)
+  AreMappedFrom-step = record {
+    one_each = length-set table operator had ∙ are.one_each;
     lowest = lowest_of;
-    one_each = ap length next_set ∙ length-set old.next.items operator had ∙ are.one_each;
-    next = λ k from_on exists. subst (λ (its : List (Option ℕ)). IsNextNamed p (operator_at p k).name (k + 1) (get_or its k None)) (sym next_set) (next_of k from_on exists);
+    next = next_of;
   }
+
+-- behind the last operator there is none
+pub AreNamesFrom-end : (p : Parts) (from : ℕ) (names : Names) → from ≡ length p.operators → length names.next.items ≡ length p.operators
+    → IsEmptyTable names.first → AreNamesFrom p from names
+AreNamesFrom-end p from names all one_each empty = record {
+  exist = λ digest k is. absurd (none-some k (sym (empty.first digest) ∙ is));
+  mapped = AreMappedFrom-end p from (number_of (operator_names p) names.first) names.next.items all one_each none;
+}
+  where
+    none : (name : List ℕ) → number_of (operator_names p) names.first name ≡ None
+    none name = ap (λ had. own_else (operator_names p) name had (other_of names.first.others name)) (empty.first (digest_of name)) ∙ empty.others name
+
+-- one operator more
+pub AreNamesFrom-step : (p : Parts) (operator : ℕ) (old new : Names) (had : Option ℕ) → operator < length p.operators → AreNamesFrom p (operator + 1) old
+    → NumbersExist (length p.operators) new.first → had ≡ number_of (operator_names p) old.first (operator_at p operator).name
+    → Puts (operator_names p) operator old.first new.first → new.next.items ≡ slice_set old.next.items operator had → AreNamesFrom p operator new
+AreNamesFrom-step p operator old new had within are exist is_had puts next_set = record {
+  exist = exist;
+  mapped = subst (AreMappedFrom p operator (number_of (operator_names p) new.first)) (sym next_set)
+      (AreMappedFrom-step p operator (number_of (operator_names p) old.first) (number_of (operator_names p) new.first) old.next.items had within are.mapped is_had puts);
+}

@@ -1,5 +1,5 @@
 -- What a table of names holds.
-use Rattle.std.specs.Prelude.{◌≡◌, ◌⊎◌, ℕ, ◌+◌, ◌<◌, ◌≤◌, List, length, Option, None, Some, nat_eq, if◌then◌else◌, slice_index_or}
+use Rattle.std.specs.Prelude.{◌≡◌, ◌⊎◌, ℕ, ◌<◌, List, length, Option, None, Some, nat_eq, if◌then◌else◌}
 use Rattle.std.specs.BTreeMap as tree
 use Rattle.std.specs.BTreeMap.{BTreeMap}
 use Rattle.std.specs.Cmp.Lexicographic.{pointwise, slice_cmp}
@@ -11,7 +11,7 @@ use Rattle.sas_core.specs.Grounded.{operator_at}
 use Rattle.sas_names.specs.declared.names.Names.{Names}
 use Rattle.sas_names.specs.declared.name_table.NameTable.{NameTable}
 use Rattle.sas_names.specs.NameDigest.{digest_of}
-use Rattle.sas_names.specs.Names.{IsNextNamed}
+use Rattle.sas_names.specs.NameMap.{AreMappedFrom}
 
 -- ---- a table of numbered names: `names` has the name with each number
 
@@ -66,16 +66,10 @@ PutsEither name digest number old new =
 abbrev pub operator_names : Parts → ℕ → List ℕ
 operator_names p operator = (operator_at p operator).name
 
--- The names of the operators from this place on. The table has for each name the lowest of them that
--- has it, or nothing; the list has, for each of them, the next one of its name.
+-- The names of the operators from this place on, and the tables of them.
 pub record AreNamesFrom (p : Parts) (from : ℕ) (names : Names) : Type 0 where
   pub exist : NumbersExist (length p.operators) names.first
-  pub lowest : (name : List ℕ)
-      → IsNextNamed p name from (number_of (operator_names p) names.first name)
-  pub one_each : length names.next.items ≡ length p.operators
-  pub next : (operator : ℕ) → from ≤ operator → operator < length p.operators
-      → IsNextNamed p (operator_at p operator).name (operator + 1)
-      (slice_index_or names.next.items operator None)
+  pub mapped : AreMappedFrom p from (number_of (operator_names p) names.first) names.next.items
 
 -- the names of all operators
 abbrev pub AreNames : Parts → Names → Type 0

@@ -4,7 +4,9 @@
 mod chains;
 mod digest;
 mod looking_up;
+mod name_key;
 mod name_list;
+mod name_map;
 mod name_table;
 mod names;
 mod step_names;
@@ -13,4 +15,4 @@ mod step_operators;
 pub use chains::next_in;
 pub use looking_up::{FirstNamed, first_operators};
 pub use names::{NamedTask, Names};
-pub use step_operators::{Found, StepOperators};
+pub use step_operators::{Found, StepOperators, is_long};

@@ -81,15 +81,6 @@ impl Names {
     {
         self.next.as_slice()
     }
-
-    /// Returns the same, and lets all else go.
-    pub fn into_next(self) -> Vec<Option<u32>>
-        ensures { (p : Parts) → AreNames p self → (first : ℕ) → IsChain p first result.items }
-    {
-        let Names { next, first } = self;
-        drop(first);
-        next
-    }
 }
 
 /// A task, and the names of its operators. In a contract its value is the parts that the task represents.

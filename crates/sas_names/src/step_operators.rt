@@ -5,7 +5,7 @@ ghost use Rattle.sas_names.specs.Names.{AreFirsts};
 
 use crate::chains::Chains;
 use crate::looking_up::first_operators;
-use crate::names::{NamedTask, Names};
+use crate::name_map::NameMap;
 use crate::step_names::StepNames;
 use sas_core::{Grounded, Stepwise};
 use std::alloc::{AllocError, Global};
@@ -37,7 +37,7 @@ pub struct Found<'f> {
 
 impl StepOperators {
     /// Returns the operators that the steps of the plan may mean. For a plan of half as many steps as there are operators or more, a
-    /// table of all operators' names is faster than one of the steps' names.
+    /// map of all operators' names is faster than a table of the steps' names.
     pub fn new<T: Grounded, P: Stepwise>(
         alloc: Global,
         task: &T,
@@ -72,7 +72,7 @@ impl StepOperators {
     }
 
     /// Looks up the names of the plan's steps among those of the operators.
-    fn by_operator_names<T: Grounded, P: Stepwise>(
+    pub fn by_operator_names<T: Grounded, P: Stepwise>(
         alloc: Global,
         task: &T,
         plan: &P,
@@ -80,15 +80,11 @@ impl StepOperators {
         ensures firsts { IfOk result (λ o. AreFirsts (T.says task.now) (P.says plan.now).steps o.firsts.items) }
         ensures chains { IfOk result (λ o. HaveChains (T.says task.now) o.firsts.items o.next.items) }
     {
-        let names = Names::new(alloc, task)?;
-        let named = NamedTask {
-            task,
-            names: &names,
-        };
-        let firsts = first_operators(alloc, &named, plan)?;
+        let map = NameMap::new(alloc, task)?;
+        let firsts = first_operators(alloc, &map, plan)?;
         Ok(StepOperators {
             firsts,
-            next: names.into_next(),
+            next: map.into_next(),
         })
     }
 
@@ -119,8 +115,8 @@ impl StepOperators {
     }
 }
 
-/// Returns whether the plan has half as many steps as the task has operators, or more. Then a table of all operators' names takes
+/// Returns whether the plan has half as many steps as the task has operators, or more. Then a map of all operators' names takes
 /// no longer than the steps do.
-fn is_long<T: Grounded, P: Stepwise>(task: &T, plan: &P) -> bool {
+pub fn is_long<T: Grounded, P: Stepwise>(task: &T, plan: &P) -> bool {
     plan.steps() >= task.operators() as usize / 2
 }
