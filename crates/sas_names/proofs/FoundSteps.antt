@@ -5,7 +5,7 @@ use Rattle.sas_core.specs.Grounded.{operator_at}
 use Rattle.sas_names.specs.declared.chains.Chains.{Chains}
 use Rattle.sas_names.specs.declared.step_names.StepNames.{StepNames}
 use Rattle.sas_names.specs.Names.{IsNextNamed, IsLowestNamed, AreFirsts}
-use Rattle.sas_names.specs.NameTable.{number_of}
+use Rattle.sas_names.specs.NameTable.{value_of}
 use Rattle.sas_names.specs.StepNames.{AreStepNames, step_names}
 use Rattle.sas_names.specs.Chains.{AreChains, AreFound, HaveChains}
 
@@ -31,4 +31,4 @@ module _ (p : Parts) (steps : List (List ℕ)) (names : StepNames) (chains : Cha
       let same : (operator_at p operator).name ≡ get_or steps step [] = alike.named ∙ (first_of step lt).of_name.named in
       subst (λ n. IsNextNamed p n (operator + 1) (get_or chains.next.items operator None)) alike.named
       (are.next operator (get_or names.of_steps.items step 0) alike.exists
-      (ap (λ name. number_of (step_names steps) names.numbers name) same ∙ named.each step (let le = found.within in omega arith)))
+      (ap (λ name. value_of (step_names steps) names.numbers name) same ∙ named.each step (let le = found.within in omega arith)))

@@ -1,5 +1,3 @@
-mod NameHashing
-mod NameKeys
 mod TablePuts
 mod NamesFrom
 pub mod Searching

@@ -1,17 +1,17 @@
 -- A table of names that is built from the last operator to the first.
-use Rattle.std.proofs.Common.{◌≡◌, ℕ, ◌+◌, ◌<◌, ◌≤◌, ◌≢◌, Bool, true, false, List, length, nat_eq, get_or, slice_set, Option, None, Some, refl, sym, ap, subst, ◌∙◌, inl, inr, if◌then◌else◌, true≢false, arith}
+use Rattle.std.proofs.Common.{◌≡◌, ℕ, ◌+◌, ◌<◌, ◌≤◌, ◌≢◌, Bool, true, false, List, length, nat_eq, get_or, slice_set, Option, None, Some, refl, sym, ap, subst, ◌∙◌, inl, inr, if◌then◌else◌, option_map, true≢false, arith}
 use Rattle.std.specs.Cmp.Lexicographic.{pointwise, bytes_decides}
 use Rattle.std.proofs.Math.Nat.{eq-or-lt_of_le}
-use Rattle.std.proofs.lemmas.Option.{none-some}
 use Rattle.std.proofs.lemmas.List.{get_or-set_same, get_or-set_other, length-set}
 use Rattle.sas_core.specs.declared.parts.Parts.{Parts}
 use Rattle.sas_core.specs.Grounded.{operator_at}
 use Rattle.sas_names.specs.Named.{IsNamed}
 use Rattle.sas_names.specs.Names.{IsNextNamed}
+use Rattle.sas_names.specs.declared.name_table.NameTable.{NameTable}
+use Rattle.sas_names.specs.declared.named.NamedOperator.{NamedOperator}
 use Rattle.sas_names.specs.declared.names.Names.{Names}
-use Rattle.sas_names.specs.NameMap.{AreMappedFrom}
-use Rattle.sas_names.specs.NameDigest.{digest_of}
-use Rattle.sas_names.specs.NameTable.{AreNamesFrom, IsEmptyTable, NumbersExist, Puts, number_of, operator_names, other_of, own_else}
+use Rattle.sas_names.specs.NameTable.{AreMappedFrom, AreNamesFrom, Exist, IsEmptyTable, Puts, value_of, operator_names, operator_of}
+use Rattle.sas_names.proofs.TablePuts.{Exist-empty, value_of-empty}
 
 -- behind the last operator nothing is told
 pub AreMappedFrom-end : (p : Parts) (from : ℕ) (tells : List ℕ → Option ℕ) (table : List (Option ℕ)) → from ≡ length p.operators
@@ -82,23 +82,53 @@ module _ (p : Parts) (operator : ℕ) (tells after : List ℕ → Option ℕ) (t
     next = next_of;
   }
 
+-- ---- a table with the names where they stand
+
+-- the name of an operator, where it stands, and the operator
+abbrev name_of : NamedOperator → List ℕ
+name_of named = named.name.now
+
+abbrev operator_in : NamedOperator → ℕ
+operator_in named = named.operator
+
+module _ (p : Parts) (operator : ℕ) (named : NamedOperator) (old new : NameTable NamedOperator) (had : Option NamedOperator) (nexts : List (Option ℕ))
+    (within : operator < length p.operators)
+    (is_operator : named.operator ≡ operator) (is_name : named.name.now ≡ (operator_at p operator).name)
+    (are : AreMappedFrom p (operator + 1) (operator_of old) nexts)
+    (is_had : had ≡ value_of name_of old named.name.now)
+    (puts : Puts name_of named old new) where
+  told : (name : List ℕ) → operator_of new name ≡ (if pointwise nat_eq (operator_at p operator).name name then Some operator else operator_of old name)
+  told name =
+      subst (λ own. operator_of new name ≡ (if pointwise nat_eq own name then Some operator else operator_of old name)) is_name
+      (ap (option_map operator_in) (puts name) ∙ by (pointwise nat_eq named.name.now name))
+    where
+      by : (b : Bool) → option_map operator_in (if b then Some named else value_of name_of old name) ≡ (if b then Some operator else operator_of old name)
+      by true = ap Some is_operator
+      by false = refl
+
+  -- one operator more
+  pub AreMappedFrom-put : AreMappedFrom p operator (operator_of new) (slice_set nexts operator (option_map operator_in had))
+  AreMappedFrom-put =
+      AreMappedFrom-step p operator (operator_of old) (operator_of new) nexts (option_map operator_in had) within are
+      (ap (option_map operator_in) is_had ∙ ap (operator_of old) is_name) told
+
+-- ---- a table with the numbers of operators
+
 -- behind the last operator there is none
 pub AreNamesFrom-end : (p : Parts) (from : ℕ) (names : Names) → from ≡ length p.operators → length names.next.items ≡ length p.operators
     → IsEmptyTable names.first → AreNamesFrom p from names
 AreNamesFrom-end p from names all one_each empty = record {
-  exist = λ digest k is. absurd (none-some k (sym (empty.first digest) ∙ is));
-  mapped = AreMappedFrom-end p from (number_of (operator_names p) names.first) names.next.items all one_each none;
+  exist = Exist-empty (λ k. k < length p.operators) names.first empty;
+  mapped = AreMappedFrom-end p from (value_of (operator_names p) names.first) names.next.items all one_each
+      (value_of-empty (operator_names p) names.first empty);
 }
-  where
-    none : (name : List ℕ) → number_of (operator_names p) names.first name ≡ None
-    none name = ap (λ had. own_else (operator_names p) name had (other_of names.first.others name)) (empty.first (digest_of name)) ∙ empty.others name
 
 -- one operator more
 pub AreNamesFrom-step : (p : Parts) (operator : ℕ) (old new : Names) (had : Option ℕ) → operator < length p.operators → AreNamesFrom p (operator + 1) old
-    → NumbersExist (length p.operators) new.first → had ≡ number_of (operator_names p) old.first (operator_at p operator).name
+    → Exist (λ k. k < length p.operators) new.first → had ≡ value_of (operator_names p) old.first (operator_at p operator).name
     → Puts (operator_names p) operator old.first new.first → new.next.items ≡ slice_set old.next.items operator had → AreNamesFrom p operator new
 AreNamesFrom-step p operator old new had within are exist is_had puts next_set = record {
   exist = exist;
-  mapped = subst (AreMappedFrom p operator (number_of (operator_names p) new.first)) (sym next_set)
-      (AreMappedFrom-step p operator (number_of (operator_names p) old.first) (number_of (operator_names p) new.first) old.next.items had within are.mapped is_had puts);
+  mapped = subst (AreMappedFrom p operator (value_of (operator_names p) new.first)) (sym next_set)
+      (AreMappedFrom-step p operator (value_of (operator_names p) old.first) (value_of (operator_names p) new.first) old.next.items had within are.mapped is_had puts);
 }

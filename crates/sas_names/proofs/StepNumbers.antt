@@ -6,37 +6,37 @@ use Rattle.std.proofs.Math.Seq.{get_or-append_seam}
 use Rattle.std.proofs.lemmas.Bool.{cases_lt}
 use Rattle.std.proofs.lemmas.Option.{none-some, same_Some}
 use Rattle.sas_names.specs.declared.name_table.NameTable.{NameTable}
-use Rattle.sas_names.specs.NameDigest.{digest_of}
-use Rattle.sas_names.specs.NameTable.{IsEmptyTable, NumbersExist, Puts, number_of, other_of, own_else}
+use Rattle.sas_names.specs.NameTable.{IsEmptyTable, Exist, Puts, value_of}
 use Rattle.sas_names.specs.StepNames.{AreStepsOf, HaveNumbers, Numbers, step_names}
+use Rattle.sas_names.proofs.TablePuts.{Exist-empty, value_of-empty}
 
 -- no step has a number yet
-pub AreStepsOf-start : (steps : List (List ℕ)) (table : NameTable) → IsEmptyTable table → AreStepsOf steps table
+pub AreStepsOf-start : (steps : List (List ℕ)) (table : NameTable ℕ) → IsEmptyTable table → AreStepsOf steps table
 AreStepsOf-start steps table empty = record {
-  exist = λ digest k is. absurd (none-some k (sym (empty.first digest) ∙ is));
+  exist = Exist-empty (λ k. k < length steps) table empty;
   below = λ name k is. absurd (none-some k (sym (none name) ∙ is));
   named = λ name k is. absurd (none-some k (sym (none name) ∙ is));
 }
   where
-    none : (name : List ℕ) → number_of (step_names steps) table name ≡ None
-    none name = ap (λ had. own_else (step_names steps) name had (other_of table.others name)) (empty.first (digest_of name)) ∙ empty.others name
+    none : (name : List ℕ) → value_of (step_names steps) table name ≡ None
+    none = value_of-empty (step_names steps) table empty
 
 -- a name that has a number keeps it
-pub Numbers-same : (steps : List (List ℕ)) (name : List ℕ) (number : ℕ) (table : NameTable) → AreStepsOf steps table
-    → number_of (step_names steps) table name ≡ Some number → Numbers steps name number table table
+pub Numbers-same : (steps : List (List ℕ)) (name : List ℕ) (number : ℕ) (table : NameTable ℕ) → AreStepsOf steps table
+    → value_of (step_names steps) table name ≡ Some number → Numbers steps name number table table
 Numbers-same steps name number table are is = record { is = is; kept = λ other k e. e; numbers = are }
 
-module _ (steps : List (List ℕ)) (m n : NameTable) (step : ℕ) (within : step < length steps)
-    (are : AreStepsOf steps m) (new : number_of (step_names steps) m (step_names steps step) ≡ None)
-    (puts : Puts (step_names steps) step m n) (exist : NumbersExist (length steps) n) where
+module _ (steps : List (List ℕ)) (m n : NameTable ℕ) (step : ℕ) (within : step < length steps)
+    (are : AreStepsOf steps m) (new : value_of (step_names steps) m (step_names steps step) ≡ None)
+    (puts : Puts (step_names steps) step m n) (exist : Exist (λ k. k < length steps) n) where
   abbrev name : List ℕ
   name = step_names steps step
 
   abbrev before : List ℕ → Option ℕ
-  before other = number_of (step_names steps) m other
+  before other = value_of (step_names steps) m other
 
   abbrev after : List ℕ → Option ℕ
-  after other = number_of (step_names steps) n other
+  after other = value_of (step_names steps) n other
 
   -- which names have a number
   of_new : (other : List ℕ) (k : ℕ) → after other ≡ Some k → ((name ≡ other) × (step ≡ k)) ⊎ (before other ≡ Some k)
@@ -75,12 +75,12 @@ module _ (steps : List (List ℕ)) (m n : NameTable) (step : ℕ) (within : step
   }
 
 -- the next step has its number, too
-pub numbers_one_more : (steps : List (List ℕ)) (m n : NameTable) (of_steps : List ℕ) (number : ℕ) → HaveNumbers steps m of_steps
+pub numbers_one_more : (steps : List (List ℕ)) (m n : NameTable ℕ) (of_steps : List ℕ) (number : ℕ) → HaveNumbers steps m of_steps
     → Numbers steps (get_or steps (length of_steps) []) number m n → HaveNumbers steps n (of_steps ++ number ∷ [])
 numbers_one_more steps m n of_steps number each next step lt = elim (cases_lt step (length of_steps)) [
   | inl before ↦ next.kept (get_or steps step []) (get_or of_steps step 0) (each step before) ∙ ap Some (sym (get_or-append of_steps (number ∷ []) 0 step before))
   | inr late ↦
       let same : length of_steps ≡ step = omega (arith, length-append of_steps (number ∷ [])) in
-      subst (λ i. number_of (step_names steps) n (get_or steps i []) ≡ Some (get_or (of_steps ++ number ∷ []) i 0)) same
+      subst (λ i. value_of (step_names steps) n (get_or steps i []) ≡ Some (get_or (of_steps ++ number ∷ []) i 0)) same
       (next.is ∙ ap Some (sym (get_or-append_seam of_steps number [] 0)))
 ]

@@ -6,7 +6,7 @@ use Rattle.sas_names.specs.declared.chains.Chains.{Chains}
 use Rattle.sas_names.specs.declared.step_names.StepNames.{StepNames}
 use Rattle.sas_names.specs.Names.{IsNextNamed}
 use Rattle.sas_names.specs.Named.{IsNamed}
-use Rattle.sas_names.specs.NameTable.{number_of}
+use Rattle.sas_names.specs.NameTable.{value_of}
 use Rattle.sas_names.specs.StepNames.{step_names}
 
 -- the list has, for each operator of the first one's name, the next one of this name
@@ -24,10 +24,10 @@ pub record AreChains (p : Parts) (steps : List (List ℕ)) (names : StepNames) (
     : Type 0 where
   pub one_each : length chains.first.items ≡ length steps
   pub first : (name : List ℕ) (k : ℕ)
-      → number_of (step_names steps) names.numbers name ≡ Some k
+      → value_of (step_names steps) names.numbers name ≡ Some k
       → IsNextNamed p name 0 (slice_index_or chains.first.items k None)
   pub next : (operator k : ℕ) → operator < length p.operators
-      → number_of (step_names steps) names.numbers (operator_at p operator).name ≡ Some k
+      → value_of (step_names steps) names.numbers (operator_at p operator).name ≡ Some k
       → IsNextNamed p (operator_at p operator).name (operator + 1)
       (slice_index_or chains.next.items operator None)
 

@@ -2,8 +2,6 @@
 pub mod Named
 pub mod Names
 pub mod NameDigest
-pub mod NameHash
-pub mod NameMap
 pub mod NameTable
 pub mod StepNames
 pub mod Chains

@@ -2,32 +2,32 @@
 use Rattle.std.specs.Prelude.{◌≡◌, ℕ, ◌<◌, List, [], length, Some, slice_index, slice_index_or}
 use Rattle.sas_names.specs.declared.name_table.NameTable.{NameTable}
 use Rattle.sas_names.specs.declared.step_names.StepNames.{StepNames}
-use Rattle.sas_names.specs.NameTable.{NumbersExist, number_of}
+use Rattle.sas_names.specs.NameTable.{Exist, value_of}
 
 -- the name of each step
 abbrev pub step_names : List (List ℕ) → ℕ → List ℕ
 step_names steps step = slice_index_or steps step []
 
 -- the number of a name is a step that has it
-pub record AreStepsOf (steps : List (List ℕ)) (table : NameTable) : Type 0 where
-  pub exist : NumbersExist (length steps) table
-  pub below : (name : List ℕ) (k : ℕ) → number_of (step_names steps) table name ≡ Some k
+pub record AreStepsOf (steps : List (List ℕ)) (table : NameTable ℕ) : Type 0 where
+  pub exist : Exist (λ step. step < length steps) table
+  pub below : (name : List ℕ) (k : ℕ) → value_of (step_names steps) table name ≡ Some k
       → k < length steps
-  pub named : (name : List ℕ) (k : ℕ) → number_of (step_names steps) table name ≡ Some k
+  pub named : (name : List ℕ) (k : ℕ) → value_of (step_names steps) table name ≡ Some k
       → step_names steps k ≡ name
 
 -- a name has this number, and each name that had one keeps it
-pub record Numbers (steps : List (List ℕ)) (name : List ℕ) (number : ℕ) (old new : NameTable)
+pub record Numbers (steps : List (List ℕ)) (name : List ℕ) (number : ℕ) (old new : NameTable ℕ)
     : Type 0 where
-  pub is : number_of (step_names steps) new name ≡ Some number
-  pub kept : (other : List ℕ) (k : ℕ) → number_of (step_names steps) old other ≡ Some k
-      → number_of (step_names steps) new other ≡ Some k
+  pub is : value_of (step_names steps) new name ≡ Some number
+  pub kept : (other : List ℕ) (k : ℕ) → value_of (step_names steps) old other ≡ Some k
+      → value_of (step_names steps) new other ≡ Some k
   pub numbers : AreStepsOf steps new
 
 -- for each of the first steps the number of its name
-abbrev pub HaveNumbers : List (List ℕ) → NameTable → List ℕ → Type 0
+abbrev pub HaveNumbers : List (List ℕ) → NameTable ℕ → List ℕ → Type 0
 HaveNumbers steps table of_steps = (step : ℕ) → step < length of_steps
-    → number_of (step_names steps) table (step_names steps step)
+    → value_of (step_names steps) table (step_names steps step)
     ≡ Some (slice_index of_steps step)
 
 -- the names of these steps

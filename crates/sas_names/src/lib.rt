@@ -4,10 +4,9 @@
 mod chains;
 mod digest;
 mod looking_up;
-mod name_key;
-mod name_list;
 mod name_map;
 mod name_table;
+mod named;
 mod names;
 mod step_names;
 mod step_operators;

@@ -1,10 +1,10 @@
-//! A table that has a number for each of some names.
-ghost use Rattle.std.specs.Prelude.{◌≡◌, ◌<◌, IfOk, OnOk};
-ghost use Rattle.sas_names.specs.NameTable.{IsEmptyTable, NumbersExist, Puts, PutsDigest, PutsEither, PutsOther};
-ghost use Rattle.sas_names.specs.NameTable.{number_of, other_of};
+//! A table that has a value for each of some names.
+ghost use Rattle.std.specs.Prelude.{◌≡◌, IfOk, OnOk};
+ghost use Rattle.sas_names.specs.NameTable.{IsEmptyTable, Exist, Puts, PutsDigest, PutsEither, PutsOther};
+ghost use Rattle.sas_names.specs.NameTable.{value_of, other_of};
 
 use crate::digest::digest;
-use crate::name_list::NameList;
+use crate::named::Named;
 use indexmap::IndexMap;
 use std::alloc::{AllocError, Global};
 use std::collections::BTreeMap;
@@ -19,20 +19,20 @@ const LOAD: usize = 9;
 /// How many digests a group of the map has room for.
 const ROOM: u8 = 12;
 
-/// A table that has a number for each of some names, which are stored elsewhere. A map finds a name by its digest. Another name of the same
-/// digest is found by its bytes, in an ordered map, and so is a name where the map would look through more than one group of its places for
-/// it. So whatever the names are, a look-up takes no more steps than the logarithm of their count. Few names of ordinary tasks are in
-/// the ordered map.
-pub struct NameTable {
-    /// For each of some digests the number of a name that has it.
-    first: IndexMap<u64, usize>,
-    /// The numbers of all other names.
-    others: BTreeMap<Vec<u8>, usize>,
+/// A table that has a value for each of some names. A value stands for its name, which is stored elsewhere. A map finds a name by its
+/// digest. Another name of the same digest is found by its bytes, in an ordered map, and so is a name where the map would look through
+/// more than one group of its places for it. So whatever the names are, a look-up takes no more steps than the logarithm of their count.
+/// Few names of ordinary tasks are in the ordered map.
+pub struct NameTable<V: Copy> {
+    /// For each of some digests the value of a name that has it.
+    first: IndexMap<u64, V>,
+    /// The values of all other names.
+    others: BTreeMap<Vec<u8>, V>,
     /// How many digests begin in each group of the map.
     loads: Vec<u8>,
 }
 
-impl Drop for NameTable {
+impl<V: Copy> Drop for NameTable<V> {
     fn drop(self) {
         let NameTable {
             first,
@@ -45,9 +45,9 @@ impl Drop for NameTable {
     }
 }
 
-impl NameTable {
+impl<V: Copy> NameTable<V> {
     /// Returns a table of no names, with room for so many.
-    pub fn new(alloc: Global, count: usize) -> Result<NameTable, AllocError>
+    pub fn new(alloc: Global, count: usize) -> Result<NameTable<V>, AllocError>
         ensures { IfOk result IsEmptyTable }
     {
         let groups = groups_for(count);
@@ -60,60 +60,59 @@ impl NameTable {
         })
     }
 
-    /// Returns the number of this name, if it has one. It takes no memory.
-    pub fn number<N: NameList>(&self, names: &N, name: &[u8]) -> Option<usize>
-        requires { NumbersExist (N.count names.now) self.now }
-        ensures { result ≡ number_of (N.names names.now) self.now name.now }
+    /// Returns the value of this name, if it has one. It takes no memory.
+    pub fn get<L>(&self, place: &L, name: &[u8]) -> Option<V>
+    where
+        V: Named<L>,
+        requires { Exist (V.exists place.now) self.now }
+        ensures { result ≡ value_of (V.names place.now) self.now name.now }
     {
         match self.first.get(&digest(name)).copied() {
-            Some(number) if names.name_at(number) == name => Some(number),
+            Some(value) if value.name(place) == name => Some(value),
             _ => self.others.get(name).copied(),
         }
     }
 
-    /// Gives the name with this number this number, and returns the one that it had before, if any.
-    pub fn put<N: NameList>(
-        &mut self,
-        alloc: Global,
-        names: &N,
-        number: usize,
-    ) -> Result<Option<usize>, AllocError>
-        requires exists { number < N.count names.now }
-        requires exist { NumbersExist (N.count names.now) self.old }
+    /// Gives the name of the value this value, and returns the one that it had before, if any.
+    pub fn put<L>(&mut self, alloc: Global, place: &L, value: V) -> Result<Option<V>, AllocError>
+    where
+        V: Named<L>,
+        requires exists { V.exists place.now value }
+        requires exist { Exist (V.exists place.now) self.old }
         ensures had { IfOk result (λ had. had
-            ≡ number_of (N.names names.now) self.old (N.names names.now number)) }
-        ensures puts { OnOk result (Puts (N.names names.now) number self.old self.new) }
-        ensures exist { OnOk result (NumbersExist (N.count names.now) self.new) }
+            ≡ value_of (V.names place.now) self.old (V.names place.now value)) }
+        ensures puts { OnOk result (Puts (V.names place.now) value self.old self.new) }
+        ensures exist { OnOk result (Exist (V.exists place.now) self.new) }
     {
-        let name = names.name_at(number);
+        let name = value.name(place);
         let digest = digest(name);
         match self.first.get(&digest).copied() {
-            None => self.put_new(alloc, name, digest, number),
-            Some(own) if names.name_at(own) == name => {
-                put_digest(&mut self.first, digest, number)?;
+            None => self.put_new(alloc, name, digest, value),
+            Some(own) if own.name(place) == name => {
+                put_digest(&mut self.first, digest, value)?;
                 Ok(Some(own))
             }
-            Some(_) => put_other(alloc, &mut self.others, name, number),
+            Some(_) => put_other(alloc, &mut self.others, name, value),
         }
     }
 
-    /// Gives a name this number whose digest isn't in the map, and returns the one that it had before, if any.
+    /// Gives a name this value whose digest isn't in the map, and returns the one that it had before, if any.
     fn put_new(
         &mut self,
         alloc: Global,
         name: &[u8],
         digest: u64,
-        number: usize,
-    ) -> Result<Option<usize>, AllocError>
+        value: V,
+    ) -> Result<Option<V>, AllocError>
         ensures had { IfOk result (λ had. had ≡ other_of self.old.others name.now) }
-        ensures puts { OnOk result (PutsEither name.now digest number self.old self.new) }
+        ensures puts { OnOk result (PutsEither name.now digest value self.old self.new) }
     {
         match self.others.get(name).copied() {
             None if self.takes(digest) => {
-                put_digest(&mut self.first, digest, number)?;
+                put_digest(&mut self.first, digest, value)?;
                 Ok(None)
             }
-            _ => put_other(alloc, &mut self.others, name, number),
+            _ => put_other(alloc, &mut self.others, name, value),
         }
     }
 
@@ -148,34 +147,29 @@ fn groups_for(count: usize) -> usize {
     }
 }
 
-/// Maps the digest to this number.
-fn put_digest(
-    first: &mut IndexMap<u64, usize>,
+/// Maps the digest to this value.
+fn put_digest<V: Copy>(
+    first: &mut IndexMap<u64, V>,
     digest: u64,
-    number: usize,
+    value: V,
 ) -> Result<(), AllocError>
-    ensures { OnOk result (PutsDigest digest number first.old first.new) }
+    ensures { OnOk result (PutsDigest digest value first.old first.new) }
 {
-    match first.insert(digest, number) {
-        Ok(_) => Ok(()),
-        Err(_) => Err(AllocError),
-    }
+    first.insert(digest, value)?;
+    Ok(())
 }
 
-/// Gives the name this number, and returns the one that it had before, if any.
-fn put_other(
+/// Gives the name this value, and returns the one that it had before, if any.
+fn put_other<V: Copy>(
     alloc: Global,
-    others: &mut BTreeMap<Vec<u8>, usize>,
+    others: &mut BTreeMap<Vec<u8>, V>,
     name: &[u8],
-    number: usize,
-) -> Result<Option<usize>, AllocError>
+    value: V,
+) -> Result<Option<V>, AllocError>
     ensures had { IfOk result (λ had. had ≡ other_of others.old name.now) }
-    ensures puts { OnOk result (PutsOther name.now number others.old others.new) }
+    ensures puts { OnOk result (PutsOther name.now value others.old others.new) }
 {
     let mut key = Vec::new(alloc);
     key.extend_from_slice(name)?;
-    match others.insert(key, number) {
-        Ok(had) => Ok(had),
-        Err(_) => Err(AllocError),
-    }
+    Ok(others.insert(key, value)?)
 }

@@ -1,12 +1,11 @@
 // The operators of a task by their names.
-ghost use Rattle.std.specs.Prelude.{◌≡◌, ◌+◌, ◌<◌, ℕ, length, IfOk, IfSome, OnOk};
+ghost use Rattle.std.specs.Prelude.{◌+◌, ◌<◌, ℕ, length, IfOk, OnOk};
 ghost use Rattle.sas_core.specs.declared.parts.Parts.{Parts};
 ghost use Rattle.sas_names.specs.NameTable.{AreNames, AreNamesFrom};
 ghost use Rattle.sas_names.specs.Names.{IsNextNamed};
 ghost use Rattle.sas_names.specs.Chains.{IsChain};
 
 use crate::looking_up::FirstNamed;
-use crate::name_list::OperatorNames;
 use crate::name_table::NameTable;
 use sas_core::Grounded;
 use std::alloc::{AllocError, Global};
@@ -15,7 +14,7 @@ use std::marker::Model;
 /// The operators of a task by their names, to be kept beside the task: no name is stored twice, and none is borrowed.
 pub struct Names {
     /// For each name the lowest operator that has it.
-    first: NameTable,
+    first: NameTable<u32>,
     /// For each operator the next one of the same name.
     next: Vec<Option<u32>>,
 }
@@ -61,9 +60,7 @@ impl Names {
         requires behind { AreNamesFrom (T.says task.now) (operator + 1) self.old }
         ensures { OnOk result (AreNamesFrom (T.says task.now) operator self.new) }
     {
-        let names = OperatorNames { task };
-        let had = self.first.put(alloc, &names, operator as usize)?;
-        self.next[operator as usize] = operator_numbered(task, had);
+        self.next[operator as usize] = self.first.put(alloc, task, operator)?;
         Ok(())
     }
 
@@ -72,7 +69,7 @@ impl Names {
         requires { AreNames (T.says task.now) self.now }
         ensures { IsNextNamed (T.says task.now) name.now 0 result }
     {
-        operator_numbered(task, self.first.number(&OperatorNames { task }, name))
+        self.first.get(task, name)
     }
 
     /// Returns for each operator the next one of the same name. It takes no memory.
@@ -106,17 +103,5 @@ impl<'n, T: Grounded> FirstNamed for NamedTask<'n, T> {
 
     fn first(&self, name: &[u8]) -> Option<u32> {
         self.names.first(self.task, name)
-    }
-}
-
-/// Returns the number of an operator of the task, which fits 32 bits.
-fn operator_numbered<T: Grounded>(task: &T, number: Option<usize>) -> Option<u32>
-    requires { IfSome number (λ k. k < length (T.says task.now).operators) }
-    ensures { result ≡ number }
-{
-    let _operators = task.operators();
-    match number {
-        Some(number) => Some(number as u32),
-        None => None,
     }
 }

@@ -1,16 +1,15 @@
 // The names of a plan's steps.
 ghost use Rattle.std.specs.Prelude.{◌≡◌, ◌<◌, [], length, slice_index_or, IfOk};
-ghost use Rattle.sas_names.specs.NameTable.{number_of};
+ghost use Rattle.sas_names.specs.NameTable.{value_of};
 ghost use Rattle.sas_names.specs.StepNames.{AreStepsOf, HaveNumbers, AreStepNames, Numbers, step_names};
 
-use crate::name_list::StepList;
 use crate::name_table::NameTable;
 use sas_core::Stepwise;
 use std::alloc::{AllocError, Global};
 
 /// The names of a plan's steps. The number of a name is that of the first step that has it, from 0 on.
 pub struct StepNames {
-    numbers: NameTable,
+    numbers: NameTable<usize>,
     of_steps: Vec<usize>,
 }
 
@@ -40,9 +39,9 @@ impl StepNames {
     /// Returns the number of the name, if a step of the plan that these names are of has it. It takes no memory.
     pub fn number<P: Stepwise>(&self, plan: &P, name: &[u8]) -> Option<usize>
         requires { AreStepsOf (P.says plan.now).steps self.now.numbers }
-        ensures { result ≡ number_of (step_names (P.says plan.now).steps) self.now.numbers name.now }
+        ensures { result ≡ value_of (step_names (P.says plan.now).steps) self.now.numbers name.now }
     {
-        self.numbers.number(&StepList { plan }, name)
+        self.numbers.get(plan, name)
     }
 
     /// Returns for each step the number of its name. It takes no memory.
@@ -57,7 +56,7 @@ impl StepNames {
 fn number_all<P: Stepwise>(
     alloc: Global,
     plan: &P,
-    numbers: &mut NameTable,
+    numbers: &mut NameTable<usize>,
 ) -> Result<Vec<usize>, AllocError>
     requires { AreStepsOf (P.says plan.now).steps numbers.old }
     ensures numbers { IfOk result (λ _. AreStepsOf (P.says plan.now).steps numbers.new) }
@@ -79,7 +78,7 @@ fn number_all<P: Stepwise>(
 fn next_number<P: Stepwise>(
     alloc: Global,
     plan: &P,
-    numbers: &mut NameTable,
+    numbers: &mut NameTable<usize>,
     of_steps: &[usize],
 ) -> Result<usize, AllocError>
     requires step { length of_steps.now < length (P.says plan.now).steps }
@@ -101,7 +100,7 @@ fn next_number<P: Stepwise>(
 fn number_of<P: Stepwise>(
     alloc: Global,
     plan: &P,
-    numbers: &mut NameTable,
+    numbers: &mut NameTable<usize>,
     step: usize,
 ) -> Result<usize, AllocError>
     requires step { step < length (P.says plan.now).steps }
@@ -109,10 +108,9 @@ fn number_of<P: Stepwise>(
     ensures { IfOk result (λ number. Numbers (P.says plan.now).steps
         (slice_index_or (P.says plan.now).steps step []) number numbers.old numbers.new) }
 {
-    let names = StepList { plan };
-    if let Some(number) = numbers.number(&names, plan.step(step)) {
+    if let Some(number) = numbers.get(plan, plan.step(step)) {
         return Ok(number);
     }
-    numbers.put(alloc, &names, step)?;
+    numbers.put(alloc, plan, step)?;
     Ok(step)
 }

@@ -1,6 +1,6 @@
 -- A new name has the number of its step.
 use Rattle.std.proofs.Common.{◌≡◌, None, rules}
-use Rattle.sas_names.specs.NameTable.{number_of}
+use Rattle.sas_names.specs.NameTable.{value_of}
 use Rattle.sas_names.specs.StepNames.{step_names}
 use Rattle.sas_names.proofs.StepNumbers.{Numbers-new}
 use Rattle.sas_names.proofs.step_names.number_of.Goals as goal
@@ -8,5 +8,5 @@ use Rattle.sas_names.proofs.step_names.number_of.Goals as goal
 pub returns : goal.returns
 returns g c =
     let steps = (g.P.Stepwise.says c.args.plan.now).steps in
-    let new : number_of (step_names steps) c.args.numbers.now (step_names steps c.args.step) ≡ None = search rules in
+    let new : value_of (step_names steps) c.args.numbers.now (step_names steps c.args.step) ≡ None = search rules in
     Numbers-new steps c.args.numbers.now c.put.new.self c.args.step c.requires.step c.requires.numbers new c.in_ok-put.ensures.puts c.in_ok-put.ensures.exist

@@ -2,7 +2,7 @@
 use Rattle.std.proofs.Common.{◌≡◌, ℕ, ◌+◌, ◌-◌, ◌<◌, List, length, get_or, slice_set, None, Some, sym, ap, subst, ◌∙◌, arith}
 use Rattle.std.proofs.lemmas.List.{length-set, get_or_read}
 use Rattle.sas_core.specs.Grounded.{operator_at}
-use Rattle.sas_names.specs.NameTable.{number_of}
+use Rattle.sas_names.specs.NameTable.{value_of}
 use Rattle.sas_names.specs.StepNames.{step_names}
 use Rattle.sas_names.proofs.ChainsFrom.{AreChainsFrom, AreChainsFrom-pass, AreChainsFrom-step}
 use Rattle.sas_names.proofs.chains.Chains.new.Goals as goal
@@ -13,7 +13,7 @@ loop-operator-preserved-in-Some g c =
     let l = c.loop-operator in
     let o = l.operator - 1 in
     let k = c.in-Some.number in
-    let number = λ (name : List ℕ). number_of (step_names (g.P.Stepwise.says c.args.plan.now).steps) c.args.names.now.numbers name in
+    let number = λ (name : List ℕ). value_of (step_names (g.P.Stepwise.says c.args.plan.now).steps) c.args.names.now.numbers name in
     let inv = l.invariant in
     let back : o + 1 ≡ l.operator = omega arith in
     let within : o < length p.operators = omega arith in
@@ -36,7 +36,7 @@ loop-operator-preserved-in-Some g c =
 
 pub index-requires : goal.index-requires
 index-requires g c =
-    let number = λ (name : List ℕ). number_of (step_names (g.P.Stepwise.says c.args.plan.now).steps) c.args.names.now.numbers name in
+    let number = λ (name : List ℕ). value_of (step_names (g.P.Stepwise.says c.args.plan.now).steps) c.args.names.now.numbers name in
     let k = c.in-Some.number in
     let named : number c.name.result.now ≡ Some k = sym c.in-Some.ensures in
     omega (arith, c.requires.below c.name.result.now k named, c.loop-operator.invariant.names, c.loop-operator.first.ok.0)
@@ -46,7 +46,7 @@ index_mut-requires g c = omega (arith, c.loop-operator.invariant.within, c.loop-
 
 pub index_mut-requires-in-Some : goal.index_mut-requires-in-Some
 index_mut-requires-in-Some g c =
-    let number = λ (name : List ℕ). number_of (step_names (g.P.Stepwise.says c.args.plan.now).steps) c.args.names.now.numbers name in
+    let number = λ (name : List ℕ). value_of (step_names (g.P.Stepwise.says c.args.plan.now).steps) c.args.names.now.numbers name in
     let k = c.in-Some.number in
     let named : number c.name.result.now ≡ Some k = sym c.in-Some.ensures in
     omega (arith, c.requires.below c.name.result.now k named, c.loop-operator.invariant.names, c.loop-operator.first.ok.0)
@@ -57,7 +57,7 @@ loop-operator-preserved g c =
     let p = g.T.Grounded.says c.args.task.now in
     let l = c.loop-operator in
     let o = l.operator - 1 in
-    let number = λ (name : List ℕ). number_of (step_names (g.P.Stepwise.says c.args.plan.now).steps) c.args.names.now.numbers name in
+    let number = λ (name : List ℕ). value_of (step_names (g.P.Stepwise.says c.args.plan.now).steps) c.args.names.now.numbers name in
     let inv = l.invariant in
     let back : o + 1 ≡ l.operator = omega arith in
     let within : o < length p.operators = omega arith in
@@ -72,7 +72,7 @@ loop-operator-preserved g c =
 pub returns : goal.returns
 returns g c =
     let l = c.loop-operator in
-    let number = λ (name : List ℕ). number_of (step_names (g.P.Stepwise.says c.args.plan.now).steps) c.args.names.now.numbers name in
+    let number = λ (name : List ℕ). value_of (step_names (g.P.Stepwise.says c.args.plan.now).steps) c.args.names.now.numbers name in
     let first : l.operator ≡ 0 = omega arith in
     let are = subst (λ n. AreChainsFrom (g.T.Grounded.says c.args.task.now) n number l.first.items l.next.items) first l.invariant.are in
     record { one_each = l.invariant.names; first = are.lowest; next = λ operator k lt is. are.next operator k (omega arith) lt is }

@@ -1,6 +1,6 @@
 -- From the operator on all is noted.
 use Rattle.std.proofs.Common.{◌≡◌, ◌≤◌, length}
-use Rattle.sas_names.specs.NameTable.{number_of}
+use Rattle.sas_names.specs.NameTable.{value_of}
 use Rattle.sas_names.specs.StepNames.{step_names}
 use Rattle.sas_names.proofs.ChainsFrom.{AreChainsFrom}
 use Rattle.sas_names.proofs.chains.Chains.new.Given as goal
@@ -10,7 +10,7 @@ invariant-loop-operator g l = record {
   within : l.operator ≤ l.operators;
   names : length l.first.items ≡ length (g.P.Stepwise.says l.plan).steps;
   one_each : length l.next.items ≡ length (g.T.Grounded.says l.task).operators;
-  are : AreChainsFrom (g.T.Grounded.says l.task) l.operator (number_of (step_names (g.P.Stepwise.says l.plan).steps) l.names.numbers) l.first.items l.next.items;
+  are : AreChainsFrom (g.T.Grounded.says l.task) l.operator (value_of (step_names (g.P.Stepwise.says l.plan).steps) l.names.numbers) l.first.items l.next.items;
 }
 
 abbrev pub decreases-loop-operator : goal.decreases-loop-operator

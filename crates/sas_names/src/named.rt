@@ -1,0 +1,59 @@
+//! What stands for a name.
+ghost use Rattle.std.specs.Prelude.{◌≡◌, ◌<◌, ⊤, List, ℕ, length};
+ghost use Rattle.sas_core.specs.Grounded.{operator_at};
+ghost use Rattle.sas_core.specs.Stepwise.{step_at};
+
+use sas_core::{Grounded, Stepwise};
+
+/// A value that a table has for a name, which is stored in an `L`.
+pub trait Named<L> {
+    /// That the value stands for a name in there.
+    ghost exists: { L → Self → Type 0 };
+
+    /// The name.
+    ghost names: { L → Self → List ℕ };
+
+    /// Returns the name.
+    fn name<'n>(&'n self, place: &'n L) -> &'n [u8]
+        requires { exists place.now self.now }
+        ensures { result.now ≡ names place.now self.now };
+}
+
+/// An operator of a task, by its number.
+impl<T: Grounded> Named<T> for u32 {
+    ghost exists = { λ task operator. operator < length (T.says task).operators };
+
+    ghost names = { λ task operator. (operator_at (T.says task) operator).name };
+
+    fn name<'n>(&'n self, task: &'n T) -> &'n [u8] {
+        task.name(*self)
+    }
+}
+
+/// A step of a plan, by its number.
+impl<P: Stepwise> Named<P> for usize {
+    ghost exists = { λ plan step. step < length (P.says plan).steps };
+
+    ghost names = { λ plan step. step_at (P.says plan) step };
+
+    fn name<'n>(&'n self, plan: &'n P) -> &'n [u8] {
+        plan.step(*self)
+    }
+}
+
+/// An operator of a task, with its name where it stands there.
+#[derive(Clone, Copy)]
+pub struct NamedOperator<'a> {
+    pub name: &'a [u8],
+    pub operator: u32,
+}
+
+impl<'a> Named<()> for NamedOperator<'a> {
+    ghost exists = { λ _ _. ⊤ };
+
+    ghost names = { λ _ named. named.name.now };
+
+    fn name<'n>(&'n self, _place: &'n ()) -> &'n [u8] {
+        self.name
+    }
+}
