@@ -727,7 +727,7 @@ def lines_of_wrappers(sas, task, plan):
         "cpp": [*first, *moved, ("read", came), *moved, ("read", refused), ("refused", None)],
         "rs": [("held", held), ("elsewhere", held), ("read", refused)] if came else [("read", came), ("read", refused)],
     }
-    constructed = answer_lines("constructed", held) if came else came.text
+    constructed = answer_lines("constructed", held) if came else b"constructed " + came.text
     said = {"cpp": said + constructed, "rs": said}
     return {name: said[name] + b"".join(answer_lines(*it) for it in lines) for name, lines in parts.items()}
 
@@ -875,6 +875,18 @@ def refused_code_tests(_, library, folder):
         yield f"Rust, a task that is {name}", [] if found == [error] else [f"{found}, {ran.stderr.decode()[:300]}"]
 
 
+def builder_tests(_, __, ___):
+    """Yields what library/build.py says of compilers that can't build. They could show a library that is gone when another one isn't
+    built."""
+    out = os.path.join(TOP, "library/out")
+    for compiler in ("no-compiler", "false"):
+        before = os.path.isdir(out) and sorted(os.listdir(out))
+        ran = ended(sys.executable, os.path.join(TOP, "library/build.py"), env={**os.environ, "CC": compiler})
+        after = os.path.isdir(out) and sorted(os.listdir(out))
+        said = ran.returncode == 1 and not ran.stdout and re.fullmatch(rf"not built: {compiler}.*\n", ran.stderr.decode())
+        yield f"built with {compiler}", [] if said and before == after else [f"{ran}"]
+
+
 # the pages about languages: what their programs are marked as, and what runs or compiles them
 PAGES = {"C": ("c", "cc"), "CPP": ("cpp", "g++"), "PYTHON": ("python", "python3"), "RUST": ("rust", "cargo")}
 # the ends of the names of their programs
@@ -911,6 +923,7 @@ def page_tests(_, library, folder):
             yield f"docs/{page}.md: {command}", [] if (ran.stdout.decode(), ran.stderr) == (output, b"") else [f"{ran}"]
         if page in ("C", "CPP"):
             yield f"docs/{page}.md: a large task", wrong_large(library.sas, os.path.join(place, "judge"))
+            os.remove(os.path.join(place, "judge"))
 
 
 def wrong_large(sas, judge):
@@ -940,6 +953,7 @@ TESTS = (
     dialect_tests,
     no_exception_tests,
     refused_code_tests,
+    builder_tests,
     example_tests,
     page_tests,
     driver_tests,

@@ -165,13 +165,13 @@ inline Answer of_both(decltype(sas_plan) *request, Bytes task, Bytes plan, std::
 inline Answer plan(Bytes task, Bytes plan) { return detail::of_both(sas_plan, task, plan, SAS_LINE_ROOM); }
 inline Answer plan_why(Bytes task, Bytes plan) { return detail::of_both(sas_plan_why, task, plan, detail::usual_room); }
 inline Answer trace(Bytes task, Bytes plan) {
-    return detail::of_both(sas_trace, task, plan, detail::usual_room + 8 * plan.size() + task.size() / 8);
+    return detail::of_both(sas_trace, task, plan, detail::usual_room + 10 * plan.size() + task.size() / 8);
 }
 inline Answer check(Bytes task) { return detail::of_one(sas_check, task, SAS_LINE_ROOM); }
 inline Answer check_why(Bytes task) { return detail::of_one(sas_check_why, task, detail::usual_room); }
-inline Answer mutex(Bytes task) { return detail::of_one(sas_mutex, task, detail::usual_room + task.size() / 8); }
-inline Answer mutex_why(Bytes task) { return detail::of_one(sas_mutex_why, task, detail::usual_room + task.size() / 8); }
-inline Answer show(Bytes task) { return detail::of_one(sas_show, task, detail::usual_room + task.size() / 8); }
+inline Answer mutex(Bytes task) { return detail::of_one(sas_mutex, task, detail::usual_room + task.size()); }
+inline Answer mutex_why(Bytes task) { return detail::of_one(sas_mutex_why, task, detail::usual_room + task.size()); }
+inline Answer show(Bytes task) { return detail::of_one(sas_show, task, detail::usual_room + task.size()); }
 inline Answer print(Bytes task) { return detail::of_one(sas_print, task, SAS_LINE_ROOM + task.size()); }
 inline Answer steps(Bytes plan) { return detail::of_one(sas_steps, plan, SAS_LINE_ROOM + plan.size()); }
 

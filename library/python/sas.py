@@ -36,7 +36,7 @@ __all__ = [
     "show", "steps", "trace",
 ]  # fmt: skip
 
-Data = Union[bytes, bytearray, memoryview, mmap.mmap, "array.array[int]"]
+Data = Union[bytes, bytearray, memoryview, mmap.mmap, array.array]
 
 _YES, _NO, _ROOM_TOO_SHORT, _OUT_OF_MEMORY, _INPUT_TOO_LONG, _NO_TASK = range(6)
 # the rooms that calls get first, in bytes: of a line, and of a longer answer
@@ -200,7 +200,7 @@ def plan_why(task: Data, plan: Data) -> Answer:
 def trace(task: Data, plan: Data) -> Answer:
     """Checks a plan as `plan` does, and prints what each of its steps does: `sas trace`."""
     (task_at, task_length), (plan_at, plan_length) = _given(task), _given(plan)
-    room = _USUAL_ROOM + 8 * plan_length + task_length // 8
+    room = _USUAL_ROOM + 10 * plan_length + task_length // 8
     return _answer(_TRACE, task_at, task_length, plan_at, plan_length, room=room)
 
 
@@ -248,7 +248,7 @@ def steps(plan: Data) -> Answer:
 def _answer_by_task(call: Callable[..., int], task: Data) -> Answer:
     """Returns the answer of a call whose answer grows with the task."""
     at, length = _given(task)
-    return _answer(call, at, length, room=_USUAL_ROOM + length // 8)
+    return _answer(call, at, length, room=_USUAL_ROOM + length)
 
 
 class Task:

@@ -120,7 +120,7 @@ pub fn plan_why(task: &[u8], plan: &[u8]) -> Result<Answer, Error> {
 
 /// Checks a plan as [`plan`] does, and prints what each of its steps does: `sas trace`.
 pub fn trace(task: &[u8], plan: &[u8]) -> Result<Answer, Error> {
-    of_both(sas_trace, task, plan, USUAL_ROOM + 8 * plan.len() + task.len() / 8)
+    of_both(sas_trace, task, plan, USUAL_ROOM + 10 * plan.len() + task.len() / 8)
 }
 
 /// Checks whether a task is layered: `sas check`.
@@ -135,17 +135,17 @@ pub fn check_why(task: &[u8]) -> Result<Answer, Error> {
 
 /// Checks which mutex groups of a task are exclusive: `sas mutex`. The answer is yes if all are shown to be.
 pub fn mutex(task: &[u8]) -> Result<Answer, Error> {
-    of_one(sas_mutex, task, USUAL_ROOM + task.len() / 8)
+    of_one(sas_mutex, task, USUAL_ROOM + task.len())
 }
 
 /// Checks mutex groups as [`mutex`] does, with the reasons of a no in further lines: `sas mutex --why`.
 pub fn mutex_why(task: &[u8]) -> Result<Answer, Error> {
-    of_one(sas_mutex_why, task, USUAL_ROOM + task.len() / 8)
+    of_one(sas_mutex_why, task, USUAL_ROOM + task.len())
 }
 
 /// Prints a summary of a task: `sas show`.
 pub fn show(task: &[u8]) -> Result<Answer, Error> {
-    of_one(sas_show, task, USUAL_ROOM + task.len() / 8)
+    of_one(sas_show, task, USUAL_ROOM + task.len())
 }
 
 /// Prints a task file, each line ended by LF: `sas print`.
@@ -178,7 +178,7 @@ impl Task {
         if answer.is_yes { Ok(read) } else { Err(ReadError::Refused(answer.text)) }
     }
 
-    /// Checks whether a plan solves the task, as the function [`plan`](crate::plan) does.
+    /// Checks whether a plan solves the task, as the function `plan` does.
     pub fn plan(&mut self, plan: &[u8]) -> Result<Answer, Error> {
         // SAFETY: as in `read`; `self` is borrowed by one call at a time.
         answer(LINE_ROOM, |room, length, size| unsafe {
