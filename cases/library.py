@@ -378,12 +378,11 @@ PROCESSES = {
     "an exit while threads make calls": """
 import sys, threading, sas
 task, plan = (open(it, "rb").read() for it in sys.argv[1:])
-held = sas.Task(task)
-def run():
+def run(held):
     while True:
         held.plan(plan)
-for _ in range(4):
-        threading.Thread(target=run, daemon=True).start()
+for _ in range(16):
+    threading.Thread(target=run, args=[sas.Task(task)], daemon=True).start()
 """,
     "a fork while a thread is inside a call": """
 import os, sys, threading, sas
@@ -598,7 +597,7 @@ def symbols(path, *words):
 
 def symbol_tests(_, library, __):
     """Yields what the libraries want of others and show to them. They could show a call of the system that the proofs know nothing
-    of, and a name that is another's in a program that links the library."""
+    of, a name that is another's in a program that links the library, and a library that is loaded where its instructions aren't known."""
     if not compilers("nm"):
         return
     found = symbols(os.path.join(library.folder, "libsas.a"))
@@ -607,6 +606,9 @@ def symbol_tests(_, library, __):
     shown = {name for name, _ in symbols(os.path.join(library.folder, "libsas.so"), "-D", "--defined-only")}
     names = declared(os.path.join(library.folder, "sas.h"))
     yield "what libsas.so shows", [] if shown == names else [f"{sorted(shown ^ names)} more or less"]
+    if compilers("readelf"):
+        said = ended("readelf", "-n", "-d", os.path.join(library.folder, "libsas.so")).stdout.decode()
+        yield "what the loader is told", [it for it in ("x86 ISA needed: x86-64-v2", "soname: [libsas.so.1]") if it not in said]
 
 
 def built_driver(library, folder):

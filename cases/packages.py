@@ -102,7 +102,7 @@ def cargo_tests(top, place):
 def pip_tests(top, place):
     """Yields what pip installs. It could show a module that doesn't find its library, and a package that another one has to build."""
     site = os.path.join(place, "site")
-    pip = [sys.executable, "-m", "pip", "install", "-q", "--no-index", "--disable-pip-version-check", "--root-user-action", "ignore"]
+    pip = [sys.executable, "-m", "pip", "install", "-q", "--no-index", "--disable-pip-version-check"]
     if ended(sys.executable, "-m", "pip", "--version")[0]:
         print("without pip")
         return
