@@ -2,8 +2,8 @@
 # make test   the whole gate: every proof from nothing, the edits that must fail, and the cases over the programs that the
 #             gate built; the last line is 'N passed, M failed', and the exit status is 0 exactly if M is 0
 # make lib    proves what the library needs and builds it, with $CC or cc, into library/out/; docs/LIBRARY.md says what is there
-# make install    installs what was built, below PREFIX (/usr/local), with NAME (sas) for the program, and DESTDIR in front; proves
-#                 nothing. make uninstall takes it away again; docs/INSTALL.md says which files these are
+# make install    installs what was built, below PREFIX (/usr/local), libraries in its folder LIBDIR (lib), with NAME (sas) for the
+#                 program, and DESTDIR in front; proves nothing. make uninstall removes it; docs/INSTALL.md says which files these are
 # make dist   packs what was built into sas-VERSION-x86_64-linux.tar.gz, with a program that needs no other file; docs/INSTALL.md
 # make bench  measures ./sas over inputs of a fiftieth of the size, in a minute; docs/BENCHMARK.md says how to measure in full
 # make clean  removes what was built and packed, and the inputs of `make bench`
@@ -18,8 +18,9 @@ JOBS ?= $(shell nproc)
 .PHONY: program test lib install uninstall dist bench clean
 
 PREFIX = /usr/local
+LIBDIR = lib
 NAME = sas
-PLACE = "PREFIX=$(PREFIX)" "NAME=$(NAME)" "DESTDIR=$(DESTDIR)"
+PLACE = "PREFIX=$(PREFIX)" "LIBDIR=$(LIBDIR)" "NAME=$(NAME)" "DESTDIR=$(DESTDIR)"
 
 program:
 	@python3 build.py sas $(JOBS)
@@ -46,4 +47,4 @@ bench:
 	@python3 bench/run.py ./sas bench/out --scale 0.02 --rounds 3
 
 clean:
-	rm -rf crates/*/out out bench/out library/out sas build.log gate.log sas-*.tar.gz
+	rm -rf crates/*/out out bench/out library/out library/out.new library/rust/target sas build.log gate.log sas-*.tar.gz

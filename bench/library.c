@@ -47,9 +47,9 @@ int main(int words_given, char **words) {
     struct bytes task = read_file(words[1]), plan = read_file(words[2]);
     long count = atol(words[3]), rounds = atol(words[4]);
     double read = 1e18, held_plan = 1e18, both = 1e18, began;
-    uint8_t room[128], other[128];
+    uint8_t room[SAS_LINE_ROOM], other[SAS_LINE_ROOM];
     size_t size = 0, other_size = 0;
-    uint32_t number = SAS_NO_TASK;
+    enum sas_number number = SAS_NO_TASK;
     for (long round = 0; round < rounds; round++) {
         sas_task held = SAS_TASK_NONE;
         began = now();
@@ -65,7 +65,7 @@ int main(int words_given, char **words) {
         held_plan = least(held_plan, (now() - began) / (double)count);
         sas_task_free(&held);
         began = now();
-        uint32_t whole = sas_plan(task.at, task.length, plan.at, plan.length, other, sizeof other, &other_size);
+        enum sas_number whole = sas_plan(task.at, task.length, plan.at, plan.length, other, sizeof other, &other_size);
         both = least(both, now() - began);
         if (number > SAS_NO || whole != number || other_size != size || memcmp(room, other, size) != 0) {
             return 1;

@@ -55,7 +55,7 @@ struct bytes {
 };
 
 struct answer {
-    uint32_t number;
+    enum sas_number number;
     size_t size;
     uint8_t room[ROOM];
 };
@@ -63,8 +63,8 @@ struct answer {
 static struct bytes task, plan;
 static long count;
 
-typedef uint32_t over_one(const uint8_t *, size_t, uint8_t *, size_t, size_t *);
-typedef uint32_t over_two(const uint8_t *, size_t, const uint8_t *, size_t, uint8_t *, size_t, size_t *);
+typedef enum sas_number over_one(const uint8_t *, size_t, uint8_t *, size_t, size_t *);
+typedef enum sas_number over_two(const uint8_t *, size_t, const uint8_t *, size_t, uint8_t *, size_t, size_t *);
 
 static const struct request {
     const char *name;

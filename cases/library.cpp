@@ -1,5 +1,5 @@
 // library TASK PLAN: makes each call of sas.hpp, for library.py. Of each answer it prints the call's name, 0 or 1 as the status of
-// `sas`, and the text; or the name and which exception was thrown.
+// `sas`, its steps and its cost, or 0 where there are none, and the text; or the name and which exception was thrown.
 #include "sas.hpp"
 #include <fstream>
 #include <iostream>
@@ -18,7 +18,8 @@ template <class Call> static void tell(const char *name, Call call) {
     std::cout << name << ' ';
     try {
         sas::Answer answer = call();
-        std::cout << (answer.status == sas::Status::yes ? 0 : 1) << '\n' << answer.text;
+        std::cout << (answer.status == sas::Status::yes ? 0 : 1) << ' ' << answer.steps().value_or(0) << ' ';
+        std::cout << answer.cost().value_or(0) << '\n' << answer.text;
     } catch (const std::bad_alloc &) {
         std::cout << "out of memory\n";
     } catch (const sas::InputTooLong &) {
@@ -42,10 +43,15 @@ int main(int, char **words) {
     tell("steps", [&] { return sas::steps(plan); });
     tell("empty", [&] { return sas::plan(std::string_view(), std::string_view()); });
 
+    try {
+        tell("constructed", [&] { return sas::Task(task).plan(plan); });
+    } catch (const sas::Refused &refusal) {
+        std::cout << refusal.what() << '\n';
+    }
     sas::Task first;
     tell("none", [&] { return first.plan(plan); });
     tell("read", [&] { return first.read(task); });
-    tell("held", [&] { return first.plan(plan); });
+    tell(first.is_held() ? "held" : "not held", [&] { return first.plan(plan); });
     sas::Task second = std::move(first);
     tell("moved from", [&] { return first.plan(plan); });
     tell("moved to", [&] { return second.plan(plan); });

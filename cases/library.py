@@ -14,12 +14,14 @@ Each test that fails has a line, and the last line is 'N passed, M failed'. The 
 """
 import array
 import contextlib
+import copy
 import ctypes
 import functools
 import glob
 import importlib.util
 import mmap
 import os
+import pickle
 import re
 import shlex
 import shutil
@@ -53,6 +55,8 @@ SECONDS, LONGEST = 300, 3000
 UNDEFINED = {"malloc", "realloc", "free", "memcpy", "memmove", "memset"}
 C_WARNINGS = ("-Wall", "-Wextra", "-pedantic", "-Werror")
 LANGUAGES_OF_C = (("c", "-std=c99", ("gcc", "clang")), ("cpp", "-std=c++17", ("g++", "clang++")))
+# a task that a program whose room is fixed would cut off
+LARGE = 2 << 20
 
 
 class Held(ctypes.Structure):
@@ -320,6 +324,9 @@ def python_tests(_, library, folder):
         ("a task that is refused", sas.Refused, lambda: sas.Task(plan)),
         ("a task that isn't layered", sas.Refused, lambda: sas.Task(read(f"{LAMPS}.sas"))),
         ("a task that was closed", sas.NoTask, lambda: closed(sas, task).plan(plan)),
+        ("a task that is pickled", TypeError, lambda: pickle.dumps(sas.Task(task))),
+        ("a task that is copied", TypeError, lambda: copy.copy(sas.Task(task))),
+        ("a task that is copied deeply", TypeError, lambda: copy.deepcopy(sas.Task(task))),
     ):
         yield f"Python, {name}", [] if raised(call) is exception else [f"{raised(call)}"]
     with contextlib.suppress(sas.Refused):
@@ -327,6 +334,123 @@ def python_tests(_, library, folder):
     with ThreadPoolExecutor(4) as pool, sas.Task(task) as held:
         answers = list(pool.map(held.plan, [plan] * 1000))
     yield "Python, one task in four threads", [it for answer in answers for it in differs(answer, due)][:1]
+
+
+def answer_tests(_, library, __):
+    """Yields what the answers in Python say, and that they and the exceptions are the same when they were pickled or copied. They could
+    show a number that is read of another line, and a pool of processes that waits for an exception for ever."""
+    sas, task, plan = library.sas, read(f"{FUSES}.sas"), read(f"{FUSES}.plan")
+    doorway = read(f"{DOORWAY}.sas")
+    # the value's name of the task that is printed is the line of a valid plan
+    printed = task.replace(b"Atom handempty()", b"plan valid: 1 steps, cost 1")
+    for name, answer, due in (
+        ("valid", sas.plan(task, plan), (True, 4, 4, None)),
+        ("valid, traced", sas.trace(task, plan), (True, 4, 4, None)),
+        ("invalid", sas.plan(doorway, plan), (False, None, None, "step 1: no operator of that name")),
+        ("invalid, with reasons", sas.plan_why(doorway, plan), (False, None, None, "step 1: no operator of that name")),
+        ("invalid, traced", sas.trace(doorway, plan), (False, None, None, "step 1: no operator of that name")),
+        ("refused plan", sas.plan(task, b"(take f1)\n"), (False, None, None, "line 2: end")),
+        ("refused task", sas.show(plan), (False, None, None, "line 1: keyword")),
+        ("not layered", sas.check_why(read(f"{LAMPS}.sas")), (False, None, None, "rule 0: layer order")),
+        ("groups", sas.mutex(doorway), (False, None, None, "group 0 not shown: operator 4")),
+        ("groups with reasons", sas.mutex_why(doorway), (False, None, None, "group 0 not shown: operator 4")),
+        ("layered", sas.check(task), (True, None, None, None)),
+        ("printed", sas.print_task(printed), (True, None, None, None)),
+    ):
+        is_yes, text = answer
+        got = bool(answer), answer.steps, answer.cost, answer.reason
+        yield f"Python, {name}", [] if got == due and (is_yes, text) == (answer.is_yes, answer.text) else [f"{got}, not {due}"]
+    sys.modules["sas"] = sas
+    for it in (sas.plan(task, plan), sas.Refused(b"task refused: \xff\n"), sas.NoTask("a"), sas.InputTooLong("b")):
+        copies = pickle.loads(pickle.dumps(it)), copy.copy(it), copy.deepcopy(it)
+        same = all((type(one), repr(one), str(one), vars_of(one)) == (type(it), repr(it), str(it), vars_of(it)) for one in copies)
+        yield f"Python, copies of {it!r}", [] if same else [f"{copies}"]
+    del sys.modules["sas"]
+
+
+def vars_of(it):
+    """Returns the attributes of an exception."""
+    return getattr(it, "__dict__", None)
+
+
+# programs in Python that end with status 0, and print nothing
+PROCESSES = {
+    "an exit while threads make calls": """
+import sys, threading, sas
+task, plan = (open(it, "rb").read() for it in sys.argv[1:])
+def run(held):
+    while True:
+        held.plan(plan)
+for _ in range(16):
+    threading.Thread(target=run, args=[sas.Task(task)], daemon=True).start()
+""",
+    "a fork while a thread is inside a call": """
+import os, sys, threading, sas
+task, plan = (open(it, "rb").read() for it in sys.argv[1:])
+busy, idle = sas.Task(task), sas.Task(task)
+threading.Thread(target=busy._one_call.acquire).start()
+child = os.fork()
+if child == 0:
+    try:
+        busy.plan(plan)
+    except sas.NoTask:
+        busy.close()
+        os._exit(0 if idle.plan(plan) else 1)
+    os._exit(2)
+busy._one_call.release()
+sys.exit(os.waitstatus_to_exitcode(os.waitpid(child, 0)[1]) or not busy.plan(plan))
+""",
+    "a pool over tasks of which some are refused": """
+import multiprocessing, sys, sas
+task, plan = (open(it, "rb").read() for it in sys.argv[1:])
+def is_valid(text):
+    with sas.Task(text) as held:
+        return held.plan(plan).steps
+def result(pool, text):
+    try:
+        return pool.apply(is_valid, (text,))
+    except sas.Refused as refusal:
+        return str(refusal)
+if __name__ == "__main__":
+    with multiprocessing.Pool(2) as pool:
+        came = [result(pool, text) for text in [task, plan] * 20]
+        try:
+            pool.map(is_valid, [task, plan] * 20)
+        except sas.Refused as refusal:
+            came.append(str(refusal))
+    refused = "task refused: line 1: keyword"
+    sys.exit(came != [4, refused] * 20 + [refused])
+""",
+}
+
+
+def process_tests(_, library, folder):
+    """Yields programs in Python with threads and processes. They could show a task that is freed while a thread is inside a call, a lock
+    that nobody releases, and an exception that doesn't come back from another process."""
+    env = {**os.environ, "PYTHONPATH": library.folder}
+    files = [os.path.join(TOP, f"{FUSES}.{it}") for it in ("sas", "plan")]
+    for name, code in PROCESSES.items():
+        path = os.path.join(folder, "program.py")
+        with open(path, "w", encoding="utf-8") as file:
+            file.write(code)
+        ran = ended(sys.executable, path, *files, env=env)
+        yield f"Python, {name}", [] if (ran.returncode, ran.stdout, ran.stderr) == (0, b"", b"") else [f"{ran}"]
+
+
+def found_tests(_, library, folder):
+    """Yields where the module in Python looks for the library. They could show one that is installed and isn't found."""
+    shutil.copy(os.path.join(library.folder, "sas.py"), folder)
+    env = {name: value for name, value in os.environ.items() if name not in ("LIBSAS", "LD_LIBRARY_PATH")}
+    for name, more, status in (
+        ("nowhere", {}, 1),
+        ("by the loader", {"LD_LIBRARY_PATH": library.folder}, 0),
+        ("by LIBSAS", {"LIBSAS": os.path.join(library.folder, "libsas.so")}, 0),
+        ("by LIBSAS that is wrong", {"LIBSAS": "none", "LD_LIBRARY_PATH": library.folder}, 1),
+    ):
+        ran = ended(sys.executable, "-c", "import sas", env={**env, **more}, cwd=folder)
+        last = ran.stderr.decode().splitlines()[-1:]
+        well = ran.returncode == status and all(it.startswith("ImportError: sas: the library isn't found: ") for it in last)
+        yield f"Python, the library is found {name}", [] if well else [f"{ran}"]
 
 
 def closed(sas, task):
@@ -422,7 +546,7 @@ def exports():
         for name, given, answer in re.findall(r'pub extern "C" fn (\w+)\((.*?),?\s*\)(?: -> (\w+))?', code, re.DOTALL):
             kinds = [part.split(":", 1)[1].strip() for part in re.split(r",\s*", given)]
             shapes = ", ".join(filter(None, (KINDS[kind] for kind in kinds)))
-            found[name] = f"{'uint32_t' if answer == 'u32' else 'void'} {name}({shapes});"
+            found[name] = f"{'enum sas_number' if answer == 'u32' else 'void'} {name}({shapes});"
     return found
 
 
@@ -473,7 +597,7 @@ def symbols(path, *words):
 
 def symbol_tests(_, library, __):
     """Yields what the libraries want of others and show to them. They could show a call of the system that the proofs know nothing
-    of, and a name that is another's in a program that links the library."""
+    of, a name that is another's in a program that links the library, and a library that is loaded where its instructions aren't known."""
     if not compilers("nm"):
         return
     found = symbols(os.path.join(library.folder, "libsas.a"))
@@ -482,6 +606,9 @@ def symbol_tests(_, library, __):
     shown = {name for name, _ in symbols(os.path.join(library.folder, "libsas.so"), "-D", "--defined-only")}
     names = declared(os.path.join(library.folder, "sas.h"))
     yield "what libsas.so shows", [] if shown == names else [f"{sorted(shown ^ names)} more or less"]
+    if compilers("readelf"):
+        said = ended("readelf", "-n", "-d", os.path.join(library.folder, "libsas.so")).stdout.decode()
+        yield "what the loader is told", [it for it in ("x86 ISA needed: x86-64-v2", "soname: [libsas.so.1]") if it not in said]
 
 
 def built_driver(library, folder):
@@ -539,13 +666,24 @@ def built_examples(library, folder):
     for source, compiler, words in (
         ("held.c", c_compiler(), [*flags, archive]),
         ("held.cpp", ["g++"], ["-std=c++17", *flags, archive]),
-        ("held.rs", ["rustc"], ["--edition", "2021", "-O", "-L", library.folder]),
+        ("held.rs", ["rustc"], ["--edition", "2021", "-O"]),
     ):
         if compilers(compiler[0]):
             path = os.path.join(folder, source.replace(".", "_"))
+            words = words if compiler != ["rustc"] else [*words, *crate(library.folder, folder)]
             wrong = failed(*compiler, os.path.join(examples, source), *words, "-o", path)
             assert not wrong, wrong
             yield source, [path]
+
+
+def crate(library, folder):
+    """Builds the crate in Rust over the library in a folder, and returns the words by which rustc uses it."""
+    source, built = os.path.join(TOP, "library/rust/src/lib.rs"), os.path.join(folder, "crate")
+    os.makedirs(built, exist_ok=True)
+    words = ["--edition", "2021", "-D", "warnings", "--crate-type", "rlib", "--crate-name", "sas", source]
+    wrong = failed("rustc", *words, "-l", "static=sas", "-L", library, "--out-dir", built)
+    assert not wrong, wrong
+    return ["--extern", f"sas={built}/libsas.rlib"]
 
 
 def example_tests(program, library, folder):
@@ -570,7 +708,9 @@ def example_tests(program, library, folder):
 
 def answer_lines(name, answer):
     """Returns what library.cpp and library.rs print of an answer, or of none."""
-    return f"{name} {0 if answer[0] else 1}\n".encode() + answer[1] if answer else f"{name} no task\n".encode()
+    if answer is None:
+        return f"{name} no task\n".encode()
+    return f"{name} {0 if answer else 1} {answer.steps or 0} {answer.cost or 0}\n".encode() + answer.text
 
 
 # the requests in the order in which library.cpp and library.rs make them
@@ -582,20 +722,25 @@ def lines_of_wrappers(sas, task, plan):
     said = b"".join(answer_lines(it, asked(sas, it, *inputs_of(it, task, plan))) for it in IN_ORDER)
     said += answer_lines("empty", sas.plan(b"", b""))
     came, refused = sas.check(task), sas.check(plan)
-    held = sas.plan(task, plan) if came[0] else None
+    held = sas.plan(task, plan) if came else None
     moved = [("moved from", None), ("moved to", held)]
+    first = [("none", None), ("read", came), ("held" if came else "not held", held)]
     parts = {
-        "cpp": [("none", None), ("read", came), ("held", held), *moved, ("read", came), *moved, ("read", refused), ("refused", None)],
-        "rs": [("held", held), ("elsewhere", held), ("read", refused)] if held else [("read", came), ("read", refused)],
+        "cpp": [*first, *moved, ("read", came), *moved, ("read", refused), ("refused", None)],
+        "rs": [("held", held), ("elsewhere", held), ("read", refused)] if came else [("read", came), ("read", refused)],
     }
-    return {name: said + b"".join(answer_lines(*it) for it in lines) for name, lines in parts.items()}
+    constructed = answer_lines("constructed", held) if came else b"constructed " + came.text
+    said = {"cpp": said + constructed, "rs": said}
+    return {name: said[name] + b"".join(answer_lines(*it) for it in lines) for name, lines in parts.items()}
 
 
 def built_wrapper(language, library, folder):
     """Returns library.cpp or library.rs, built with the library in a folder."""
     source, path = os.path.join(TOP, f"cases/library.{language}"), os.path.join(folder, f"library_{language}")
-    command = ["rustc", "--edition", "2021", "-D", "warnings", source, "-L", library]
-    if language == "cpp":
+    command = []
+    if language == "rs":
+        command = ["rustc", "--edition", "2021", "-D", "warnings", source, *crate(library, folder)]
+    else:
         command = ["g++", "-std=c++17", "-I", os.path.join(TOP, "library"), source, os.path.join(library, "libsas.a")]
     wrong = failed(*command, "-o", path)
     assert not wrong, wrong
@@ -662,28 +807,90 @@ def number_tests(_, library, folder):
         yield f"sas.py, number {number}", [] if set(came) == {exception} else [f"{came}"]
 
 
+# code in C++ and how it is compiled, each with a part of what the compiler says where it is refused
+DIALECTS = (
+    ("bytes", "-std=c++17", "std::vector<std::byte> it; std::vector<unsigned char> other; return sas::plan(it, other) ? 1 : 0;", None),
+    ("a pointer", "-std=c++17", "sas::Task task; return task.read({nullptr, 0}) ? 1 : 0;", None),
+    ("spans", "-std=c++20", "std::span<const std::byte> it; std::span<char> other; return sas::plan(it, other) ? 1 : 0;", None),
+    ("numbers", "-std=c++17", "std::vector<int> it; return sas::check(it) ? 1 : 0;", "could not convert"),
+    ("an answer that isn't used", "-std=c++17", 'sas::check(""); return 0;', "unused-result"),
+    ("an earlier standard", "-std=c++14", "return 0;", "sas.hpp requires C++17"),
+)
+
+
+def dialect_tests(_, library, folder):
+    """Yields what a compiler of C++ takes, and what it refuses. They could show bytes that have to be copied, and an answer that is
+    lost unseen."""
+    path = os.path.join(folder, "dialect.cpp")
+    for name, standard, code, refusal in DIALECTS if compilers("g++") else ():
+        with open(path, "w", encoding="utf-8") as file:
+            file.write("#include <sas.hpp>\n#include <vector>\n" + "#include <span>\n" * (standard == "-std=c++20"))
+            file.write(f"int main() {{ {code} }}\n")
+        words = [standard, *C_WARNINGS, "-I", library.folder, path, os.path.join(library.folder, "libsas.a"), "-o", f"{path}.out"]
+        wrong = failed("g++", *words)
+        if refusal is None:
+            yield f"C++, {name}", wrong or failed(f"{path}.out")
+        else:
+            yield f"C++, {name}, refused", [] if wrong and refusal in wrong[0] else [f"{wrong}"]
+
+
+NO_EXCEPTIONS = """
+#include "sas.hpp"
+#include <cstdio>
+int main() {
+    sas::Task task("");
+    std::printf("%d %d %d\\n", int(sas::check("").status), int(task.plan("").status), task.is_held());
+}
+"""
+
+
+def no_exception_tests(_, library, folder):
+    """Yields the statuses of C++ without exceptions, of a library that only returns a number. They could show one that is taken for
+    another."""
+    stub, path = stub_library(library, folder), os.path.join(folder, "statuses.cpp")
+    with open(path, "w", encoding="utf-8") as file:
+        file.write(NO_EXCEPTIONS)
+    for compiler in compilers("g++", "clang++"):
+        words = ["-std=c++17", "-fno-exceptions", *C_WARNINGS, "-I", library.folder, path, f"{stub}/libsas.a", "-o", f"{path}.out"]
+        yield f"C++ without exceptions, by {compiler}", failed(compiler, *words)
+        for number, status in ((YES, 0), (NO, 1), (OUT_OF_MEMORY, 2), (INPUT_TOO_LONG, 3), (NO_TASK, 4)):
+            said = ended(f"{path}.out", env={**os.environ, "STUB": str(number)}).stdout.decode()
+            yield f"C++ without exceptions, number {number}", [] if said == f"{status} {status} 0\n" else [said]
+
+
 def refused_code_tests(_, library, folder):
     """Yields code in Rust that a compiler has to refuse. They could show a task that two threads may ask at once, or two that let go
     of the same one."""
     if not compilers("rustc"):
         return
-    held = "let mut held = sas::Task::read(b\"\").unwrap();"
+    held, words = "let mut held = sas::Task::read(b\"\").unwrap();", crate(library.folder, folder)
     for name, code, error in (
         ("asked by two threads", "fn shared<T: Sync>() {} shared::<sas::Task>();", "E0277"),
         ("copied", f"{held} let other = held.clone(); drop(other);", "E0599"),
         ("used after it was let go", f"{held} drop(held); let _ = held.plan(b\"\");", "E0382"),
     ):
         path = os.path.join(folder, "refused.rs")
-        module = os.path.join(TOP, "library/rust/sas.rs")
         with open(path, "w", encoding="utf-8") as file:
-            file.write(f'#[allow(dead_code)]\n#[path = "{module}"]\nmod sas;\nfn main() {{ {code} }}\n')
-        ran = ended("rustc", "--edition", "2021", "-L", library.folder, path, "-o", f"{path}.out")
+            file.write(f"fn main() {{ {code} }}\n")
+        ran = ended("rustc", "--edition", "2021", *words, path, "-o", f"{path}.out")
         found = re.findall(r"^error\[(E\d+)\]", ran.stderr.decode(), re.MULTILINE)
         yield f"Rust, a task that is {name}", [] if found == [error] else [f"{found}, {ran.stderr.decode()[:300]}"]
 
 
+def builder_tests(_, __, ___):
+    """Yields what library/build.py says of compilers that can't build. They could show a library that is gone when another one isn't
+    built."""
+    out = os.path.join(TOP, "library/out")
+    for compiler in ("no-compiler", "false"):
+        before = os.path.isdir(out) and sorted(os.listdir(out))
+        ran = ended(sys.executable, os.path.join(TOP, "library/build.py"), env={**os.environ, "CC": compiler})
+        after = os.path.isdir(out) and sorted(os.listdir(out))
+        said = ran.returncode == 1 and not ran.stdout and re.fullmatch(rf"not built: {compiler}.*\n", ran.stderr.decode())
+        yield f"built with {compiler}", [] if said and before == after else [f"{ran}"]
+
+
 # the pages about languages: what their programs are marked as, and what runs or compiles them
-PAGES = {"C": ("c", "cc"), "CPP": ("cpp", "g++"), "PYTHON": ("python", "python3"), "RUST": ("rust", "rustc")}
+PAGES = {"C": ("c", "cc"), "CPP": ("cpp", "g++"), "PYTHON": ("python", "python3"), "RUST": ("rust", "cargo")}
 # the ends of the names of their programs
 SUFFIXES = {"c": ".c", "cpp": ".cpp", "python": ".py", "rust": ".rs"}
 
@@ -704,6 +911,8 @@ def page_tests(_, library, folder):
     os.mkdir(place)
     shutil.copytree(os.path.join(TOP, "examples"), os.path.join(place, "examples"))
     shutil.copytree(library.folder, os.path.join(place, "library/out"))
+    shutil.copytree(os.path.join(TOP, "library/examples"), os.path.join(place, "library/examples"))
+    shutil.copytree(os.path.join(TOP, "library/rust"), os.path.join(place, "library/rust"), ignore=shutil.ignore_patterns("target"))
     for page, (language, compiler) in PAGES.items():
         if not compilers(compiler):
             continue
@@ -714,6 +923,21 @@ def page_tests(_, library, folder):
         for command, output in commands:
             ran = ended("bash", "-c", command, cwd=place)
             yield f"docs/{page}.md: {command}", [] if (ran.stdout.decode(), ran.stderr) == (output, b"") else [f"{ran}"]
+        if page in ("C", "CPP"):
+            yield f"docs/{page}.md: a large task", wrong_large(library.sas, os.path.join(place, "judge"))
+            os.remove(os.path.join(place, "judge"))
+
+
+def wrong_large(sas, judge):
+    """Returns what is wrong with what the program of a page says of a task of two million bytes, of which no plan of the page is one."""
+    task = read("cases/tasks/minimal.sas").splitlines(keepends=True)
+    operator = b"begin_operator\n" + b"a" * 1000 + b"\n0\n0\n1\nend_operator\n"
+    count = LARGE // len(operator) + 1
+    task[21] = b"%d\n" % count
+    text = b"".join([*task[:22], operator * count, *task[22:]])
+    ran, plan = ended(judge, input=text), sas.plan(text, b"(take f1)\n; cost = 1 (unit cost)\n")
+    due = 1, plan.text
+    return [] if len(text) > LARGE and (ran.returncode, ran.stdout[: len(plan.text)]) == due else [f"{ran}, {plan}"]
 
 
 TESTS = (
@@ -723,9 +947,15 @@ TESTS = (
     held_tests,
     room_tests,
     python_tests,
+    answer_tests,
+    process_tests,
+    found_tests,
     wrapper_tests,
     number_tests,
+    dialect_tests,
+    no_exception_tests,
     refused_code_tests,
+    builder_tests,
     example_tests,
     page_tests,
     driver_tests,

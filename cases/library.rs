@@ -1,20 +1,19 @@
-//! library TASK PLAN: makes each call of sas.rs, for library.py. Of each answer it prints the call's name, 0 or 1 as the status of
-//! `sas`, and the text; or the name and which fault there is.
-#[path = "../library/rust/sas.rs"]
-mod sas;
+//! library TASK PLAN: makes each call of the crate, for library.py. Of each answer it prints the call's name, 0 or 1 as the status of
+//! `sas`, its steps and its cost, or 0 where there are none, and the text; or the name and which error there is.
 
 use std::io::Write;
 
 fn is_send<T: Send>() {}
 
-fn tell(name: &str, answer: Result<sas::Answer, sas::Fault>) {
+fn tell(name: &str, answer: Result<sas::Answer, sas::Error>) {
     let mut out = std::io::stdout().lock();
     match answer {
         Ok(answer) => {
-            write!(out, "{name} {}\n", if answer.is_yes { 0 } else { 1 }).unwrap();
+            let (steps, cost) = (answer.steps().unwrap_or(0), answer.cost().unwrap_or(0));
+            write!(out, "{name} {} {steps} {cost}\n", if answer.is_yes { 0 } else { 1 }).unwrap();
             out.write_all(&answer.text).unwrap();
         }
-        Err(fault) => write!(out, "{name} {}\n", fault.to_string().replace("sas: ", "")).unwrap(),
+        Err(error) => write!(out, "{name} {}\n", error.to_string().replace("sas: ", "")).unwrap(),
     }
 }
 
@@ -39,12 +38,12 @@ fn main() {
             tell("held", held.plan(plan));
             tell("elsewhere", std::thread::scope(|it| it.spawn(|| held.plan(plan)).join().unwrap()));
         }
-        Err(sas::NoTask::Refused(text)) => tell("read", Ok(sas::Answer { is_yes: false, text })),
-        Err(sas::NoTask::Fault(fault)) => tell("read", Err(fault)),
+        Err(sas::ReadError::Refused(text)) => tell("read", Ok(sas::Answer { is_yes: false, text })),
+        Err(sas::ReadError::Failed(error)) => tell("read", Err(error)),
     }
     match sas::Task::read(plan) {
         Ok(_) => println!("a plan is read as a task"),
-        Err(sas::NoTask::Refused(text)) => tell("read", Ok(sas::Answer { is_yes: false, text })),
-        Err(sas::NoTask::Fault(fault)) => tell("read", Err(fault)),
+        Err(sas::ReadError::Refused(text)) => tell("read", Ok(sas::Answer { is_yes: false, text })),
+        Err(sas::ReadError::Failed(error)) => tell("read", Err(error)),
     }
 }

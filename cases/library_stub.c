@@ -3,24 +3,24 @@
 #include "sas.h"
 #include <stdlib.h>
 
-static uint32_t number(size_t *size) {
+static enum sas_number number(size_t *size) {
     *size = 0;
-    return (uint32_t)atoi(getenv("STUB"));
+    return (enum sas_number)atoi(getenv("STUB"));
 }
 
 #define OVER_ONE(NAME) \
-    uint32_t NAME(const uint8_t *file, size_t file_length, uint8_t *room, size_t room_length, size_t *size) { \
+    enum sas_number NAME(const uint8_t *file, size_t file_length, uint8_t *room, size_t room_length, size_t *size) { \
         (void)file, (void)file_length, (void)room, (void)room_length; \
         return number(size); \
     }
 #define OVER_TWO(NAME) \
-    uint32_t NAME(const uint8_t *task, size_t task_length, const uint8_t *plan, size_t plan_length, \
+    enum sas_number NAME(const uint8_t *task, size_t task_length, const uint8_t *plan, size_t plan_length, \
                   uint8_t *room, size_t room_length, size_t *size) { \
         (void)task, (void)task_length, (void)plan, (void)plan_length, (void)room, (void)room_length; \
         return number(size); \
     }
 #define OVER_HELD(NAME) \
-    uint32_t NAME(sas_task *held, const uint8_t *file, size_t file_length, uint8_t *room, size_t room_length, size_t *size) { \
+    enum sas_number NAME(sas_task *held, const uint8_t *file, size_t file_length, uint8_t *room, size_t room_length, size_t *size) { \
         (void)held, (void)file, (void)file_length, (void)room, (void)room_length; \
         return number(size); \
     }

@@ -5,9 +5,9 @@
 
 Each request and each flag that `sas --help` names stands in README.md, in the manual page and in each completion, and none stands there
 that it doesn't name. Each line that the program may print on standard error stands in README.md and in the manual page. The version is
-one: that of the program, of the first entry of CHANGELOG.md, of sas.pc and of the manual page. Links of documents lead to files. The
-completions are tried in bash and in fish and read by zsh, and the manual page by mandoc, where these are there; what isn't there is told
-in a line that begins with `without`.
+one: that of the program, of the first entry of CHANGELOG.md, of the packages of the library and of the manual page. Links of documents
+lead to files. The completions are tried in bash and in fish and read by zsh, and the manual page by mandoc, where these are there; what
+isn't there is told in a line that begins with `without`.
 
 No proof reads these files. A request that no page names, or a page of another version, would be found here alone.
 """
@@ -135,7 +135,11 @@ def version_cases(sas):
     for file, pattern in (
         ("CHANGELOG.md", r"^## (\S+)"),
         ("crates/sas_tool/src/words.rt", r'^const VERSION: &str = "(.*)";$'),
+        ("library/sas.h", r'^#define SAS_VERSION "(.*)"$'),
         ("library/sas.pc", r"^Version: (.*)$"),
+        ("library/sasConfigVersion.cmake", r'^set\(PACKAGE_VERSION "(.*)"\)$'),
+        ("library/python/sas.py", r'^__version__ = "(.*)"$'),
+        ("library/rust/Cargo.toml", r'^version = "(.*)"$'),
         (PAGE, r"^This page is that of version (.*)\.$"),
     ):
         found = re.search(pattern, text_of(os.path.join(TOP, file)), re.MULTILINE)

@@ -99,6 +99,13 @@ def wrong_plans(parse, lines):
     return wrong + [f"{got!r}, not {line!r}" for got, line in zip(rebuilt, lines[:-1]) if got != line]
 
 
+def wrong_runs(parse, runs):
+    """Returns what is wrong with what is found in several answers of `plans`, one after another."""
+    answers = ["".join(f"{it}\n" for it in lines) for lines in runs]
+    due = sum(map(parse.verdicts, answers), [])
+    return [] if parse.verdicts("".join(answers)) == due and len(due) == sum(map(len, runs)) - len(runs) else [f"{runs}"]
+
+
 def wrong_groups(parse, lines):
     """Returns what is wrong with what is found in the lines about groups."""
     found = [re.search(parse.GROUP, line) for line in lines]
@@ -130,6 +137,7 @@ def answers():
         yield f"many.json: {case['shows']}", case["lines"], wrong_plans
     for name, lines in labelled():
         yield name, lines, wrong_plans
+    yield "several answers of plans", [lines for _, lines in labelled()], wrong_runs
     for case in table("tasks.json"):
         yield f"tasks.json: {case['file']}", f"{case['check']}\n", wrong_answer
         if case["check"] == "task layered":

@@ -1,13 +1,13 @@
 #!/usr/bin/env python3
-"""Builds the library, into library/out/: libsas.a and libsas.so, and beside them what a program includes or imports, sas.h, sas.hpp,
-sas.py and sas.rs.
+"""Builds the library, into library/out/: libsas.a and libsas.so, and beside them what a program includes, imports or looks for, sas.h,
+sas.hpp, sas.py, sas.pc and the package files of CMake.
 
     python3 library/build.py [--over-gate]
 
 The archive of the proved crate sas_c is its heart. Where there is none yet, or a file of a crate is younger, build.py proves the crate
-and what it stands on, and builds it. With --over-gate the archive is built over the libraries that `rt ci` has just proved and left in
-each out/rlib/, so that nothing is proved twice. What the heart asks of memory is added, sas_memory.c. The C compiler is $CC or
-cc, and `ar` is $AR or ar.
+and what it stands on, and builds it; build.log has what the prover prints. With --over-gate the archive is built over the libraries that
+`rt ci` has just proved and left in each out/rlib/, so that nothing is proved twice. What the heart requires of memory is added,
+sas_memory.c. The C compiler is $CC or cc, and `ar` is $AR or ar. A library that was there is replaced only by one that is built whole.
 """
 import glob
 import os
@@ -21,18 +21,25 @@ TOP = os.path.dirname(HERE)
 sys.path.insert(0, TOP)
 import build as proving  # the file at the top, not this one
 
-OUT = f"{HERE}/out"
+# where it is built, and where it is then
+NEW, OUT = f"{HERE}/out.new", f"{HERE}/out"
 NAME = "sas_c"
 CRATE = f"{TOP}/crates/{NAME}"
 HEART = f"{CRATE}/out/lib{NAME}.a"
-BESIDE = ("sas.h", "sas.hpp", "python/sas.py", "rust/sas.rs")
+# the shared library, of which libsas.so is a link; its number changes with its calls
+SHARED = "libsas.so.1"
+BESIDE = ("sas.h", "sas.hpp", "python/sas.py", "sas.pc", "sasConfig.cmake", "sasConfigVersion.cmake")
 
 
-def run(*command, **more):
-    """Runs a command, and ends with its status where that isn't 0."""
-    ended = subprocess.run(command, check=False, **more)
+def run(*command):
+    """Runs a tool, and ends with its status and the first line that it prints where that isn't 0."""
+    try:
+        ended = subprocess.run(command, check=False, stdout=subprocess.PIPE, stderr=subprocess.STDOUT, encoding="utf-8", errors="replace")
+    except OSError as fault:
+        sys.exit(f"not built: {command[0]}: {fault.strerror}")
     if ended.returncode:
-        sys.exit(f"not built: {' '.join(command)} ended with status {ended.returncode}")
+        first = ended.stdout.strip().partition("\n")[0]
+        sys.exit(f"not built: {command[0]} ended with status {ended.returncode}" + (f": {first}" if first else ""))
 
 
 def tool(name, usual):
@@ -53,27 +60,47 @@ def is_there():
 def build_over_gate():
     """Builds the archive over the libraries that `rt ci` left. It proves the crate alone."""
     ended = proving.build(NAME, glob.glob(f"{TOP}/crates/*/out/rlib"), os.cpu_count())
+    with open(f"{TOP}/build.log", "w", encoding="utf-8") as log:
+        log.write(ended.stdout)
     if ended.returncode:
-        sys.exit(f"not built: {ended.stdout}")
+        sys.exit("not built; build.log says why")
+
+
+def prove():
+    """Proves the crate and what it stands on, and builds the archive."""
+    ended = subprocess.run([sys.executable, f"{TOP}/build.py", NAME], check=False)
+    if ended.returncode:
+        sys.exit(ended.returncode)
+
+
+def link():
+    """Makes the two libraries of the archive."""
+    compiler, made = tool("CC", "cc"), f"{NEW}/sas_memory.o"
+    run(*compiler, "-std=c99", "-O2", "-fPIC", "-Wall", "-Wextra", "-c", f"{HERE}/sas_memory.c", "-o", made)
+    shutil.copy(HEART, f"{NEW}/libsas.a")
+    run(*tool("AR", "ar"), "rsD", f"{NEW}/libsas.a", made)
+    os.remove(made)
+    whole = ["-Wl,--whole-archive", f"{NEW}/libsas.a", "-Wl,--no-whole-archive"]
+    # on a processor that lacks instructions of the code the loader says so
+    shown = [f"-Wl,--version-script={HERE}/sas.map", f"-Wl,-soname,{SHARED}", "-Wl,-z,defs", "-Wl,-z,x86-64-v2"]
+    run(*compiler, "-shared", *shown, *whole, "-o", f"{NEW}/{SHARED}")
+    os.symlink(SHARED, f"{NEW}/libsas.so")
 
 
 def main():
-    shutil.rmtree(OUT, ignore_errors=True)
+    # a compiler that isn't there is found before anything is proved
+    run(*tool("CC", "cc"), "--version")
     if sys.argv[1:] == ["--over-gate"]:
         build_over_gate()
     elif not is_there():
-        run(sys.executable, f"{TOP}/build.py", NAME)
-    os.mkdir(OUT)
-    compiler = tool("CC", "cc")
-    run(*compiler, "-std=c99", "-O2", "-fPIC", "-Wall", "-Wextra", "-c", f"{HERE}/sas_memory.c", "-o", f"{OUT}/sas_memory.o")
-    shutil.copy(HEART, f"{OUT}/libsas.a")
-    run(*tool("AR", "ar"), "rsD", f"{OUT}/libsas.a", f"{OUT}/sas_memory.o", stderr=subprocess.DEVNULL)
-    os.remove(f"{OUT}/sas_memory.o")
-    whole = ["-Wl,--whole-archive", f"{OUT}/libsas.a", "-Wl,--no-whole-archive"]
-    shown = [f"-Wl,--version-script={HERE}/sas.map", "-Wl,-soname,libsas.so", "-Wl,-z,defs"]
-    run(*compiler, "-shared", *shown, *whole, "-o", f"{OUT}/libsas.so")
+        prove()
+    shutil.rmtree(NEW, ignore_errors=True)
+    os.mkdir(NEW)
+    link()
     for name in BESIDE:
-        shutil.copy(f"{HERE}/{name}", OUT)
+        shutil.copy(f"{HERE}/{name}", NEW)
+    shutil.rmtree(OUT, ignore_errors=True)
+    os.rename(NEW, OUT)
     print("built library/out/libsas.a and library/out/libsas.so")
 
 

@@ -1,28 +1,63 @@
-// libsas for C++17: texts in, answers out, and a task that lets go of its memory by itself. sas.h says what each request answers.
+// libsas for C++17: bytes in, answers out, and a task that frees its own memory. sas.h says what each call answers.
 //
-// Memory that is refused is std::bad_alloc, an input past 4,294,967,296 bytes is sas::InputTooLong. Threads may call at once, each
-// with a sas::Task of its own.
+// Out of memory is std::bad_alloc, an input past 4,294,967,296 bytes sas::InputTooLong. Without exceptions (-fno-exceptions) these
+// and the others are a status of the answer, which has no text then. Threads may call at once, each with a sas::Task of its own.
 #ifndef SAS_HPP
 #define SAS_HPP
 
+#if __cplusplus < 201703L
+#error "sas.hpp requires C++17 or later: compile with -std=c++17"
+#else
+
 #include "sas.h"
 
+#include <charconv>
+#include <cstddef>
+#include <cstdint>
+#include <iterator>
 #include <new>
+#include <optional>
 #include <stdexcept>
 #include <string>
 #include <string_view>
+#include <type_traits>
 #include <utility>
 
 namespace sas {
 
-enum class Status { yes, no };
+#ifndef __cpp_exceptions
+// a program may have files that are compiled with exceptions, and others without
+inline namespace without_exceptions {
+#endif
+
+// Yes or no; without exceptions also why there is no answer.
+enum class Status { yes, no, out_of_memory, input_too_long, no_task };
 
 // What `sas` prints, and its exit status.
-struct Answer {
-    Status status;
+struct [[nodiscard]] Answer {
+    Status status = Status::no;
     std::string text;
 
     explicit operator bool() const noexcept { return status == Status::yes; }
+
+    // The number of steps where the answer is `plan valid: S steps, cost C`.
+    [[nodiscard]] std::optional<std::uint64_t> steps() const noexcept { return number_after("plan valid: "); }
+
+    // The cost where the answer is `plan valid: S steps, cost C`.
+    [[nodiscard]] std::optional<std::uint64_t> cost() const noexcept { return number_after(" steps, cost "); }
+
+private:
+    // The number after a word of the last line, if that is the line of a valid plan.
+    std::optional<std::uint64_t> number_after(std::string_view word) const noexcept {
+        const std::size_t before = text.size() < 2 ? text.npos : text.rfind('\n', text.size() - 2);
+        const std::string_view line = std::string_view(text).substr(before + 1);
+        if (line.substr(0, 12) != "plan valid: ") {
+            return std::nullopt;
+        }
+        std::uint64_t number = 0;
+        std::from_chars(line.data() + line.find(word) + word.size(), line.data() + line.size(), number);
+        return number;
+    }
 };
 
 // An input goes past 4,294,967,296 bytes.
@@ -30,35 +65,59 @@ struct InputTooLong : std::length_error {
     InputTooLong() : std::length_error("sas: input too long") {}
 };
 
-// A plan was asked about, and no task is held.
+// A plan was given to a task that isn't held.
 struct NoTask : std::logic_error {
     NoTask() : std::logic_error("sas: no task is held") {}
 };
 
+// The bytes aren't those of a layered task. The answer is that of `sas::check`.
+struct Refused : std::runtime_error {
+    Answer answer;
+
+    explicit Refused(Answer it) : std::runtime_error(it.text.substr(0, it.text.find('\n'))), answer(std::move(it)) {}
+};
+
 namespace detail {
 
-// a room in which most answers find place; each line about a plan does
-constexpr std::size_t short_room = 256;
+template <class T>
+inline constexpr bool is_byte = sizeof(T) == 1 && (std::is_integral_v<T> || std::is_same_v<T, std::byte>);
 
-// Where the bytes of a text begin, which isn't null.
-inline const std::uint8_t *bytes_of(std::string_view text) noexcept {
-    return reinterpret_cast<const std::uint8_t *>(text.empty() ? "" : text.data());
-}
+// Whether a type is a container or a span of bytes.
+template <class T, class = void> inline constexpr bool has_bytes = false;
+template <class T>
+inline constexpr bool has_bytes<T, std::void_t<decltype(*std::data(std::declval<const T &>()))>> =
+    !std::is_array_v<T> && is_byte<std::decay_t<decltype(*std::data(std::declval<const T &>()))>>;
 
-// The answer of a call, which is given a room of so many bytes, and if it wants more, as many as it wants.
-template <class Call> Answer answer(std::size_t room, Call call) {
-    std::string text;
-    std::size_t size = room;
-    std::uint32_t number = SAS_ROOM_TOO_SHORT;
-    while (number == SAS_ROOM_TOO_SHORT) {
-        text.assign(size, '\0');
-        number = call(reinterpret_cast<std::uint8_t *>(text.data()), text.size(), &size);
+} // namespace detail
+
+// The bytes of a file, which the caller keeps: of a text, or of a container or a span of char, unsigned char or std::byte.
+class Bytes {
+public:
+    Bytes(const char *text) noexcept : Bytes(std::string_view(text)) {}
+    Bytes(const void *at, std::size_t length) noexcept : at_(at), length_(length) {}
+    template <class Container, std::enable_if_t<detail::has_bytes<Container>, int> = 0>
+    Bytes(const Container &it) noexcept : Bytes(std::data(it), std::size(it)) {}
+
+    // Where the bytes begin, which isn't null.
+    [[nodiscard]] const std::uint8_t *data() const noexcept {
+        return static_cast<const std::uint8_t *>(length_ == 0 ? static_cast<const void *>("") : at_);
     }
+    [[nodiscard]] std::size_t size() const noexcept { return length_; }
+
+private:
+    const void *at_;
+    std::size_t length_;
+};
+
+namespace detail {
+
+// the room that most answers fit in
+constexpr std::size_t usual_room = 65536;
+
+// Returns the status of a number that comes without an answer, or throws its exception.
+inline Status failure(sas_number number) {
+#ifdef __cpp_exceptions
     switch (number) {
-    case SAS_YES:
-    case SAS_NO:
-        text.resize(size);
-        return {number == SAS_YES ? Status::yes : Status::no, std::move(text)};
     case SAS_OUT_OF_MEMORY:
         throw std::bad_alloc();
     case SAS_INPUT_TOO_LONG:
@@ -66,40 +125,72 @@ template <class Call> Answer answer(std::size_t room, Call call) {
     default:
         throw NoTask();
     }
+#else
+    return number == SAS_OUT_OF_MEMORY ? Status::out_of_memory
+           : number == SAS_INPUT_TOO_LONG ? Status::input_too_long : Status::no_task;
+#endif
 }
 
-using OverOne = decltype(sas_check);
-using OverTwo = decltype(sas_plan);
+// Returns the answer of a call. The call gets a room of so many bytes, and if the answer is longer, one that has its length.
+template <class Call> Answer answer(std::size_t room, Call call) {
+    std::string text;
+    std::size_t size = room;
+    sas_number number = SAS_ROOM_TOO_SHORT;
+    while (number == SAS_ROOM_TOO_SHORT) {
+        text.assign(size, '\0');
+        number = call(reinterpret_cast<std::uint8_t *>(text.data()), text.size(), &size);
+    }
+    if (number > SAS_NO) {
+        return {failure(number), {}};
+    }
+    text.resize(size);
+    text.shrink_to_fit();
+    return {number == SAS_YES ? Status::yes : Status::no, std::move(text)};
+}
 
-inline Answer over_one(OverOne *request, std::string_view file, std::size_t room = short_room) {
+inline Answer of_one(decltype(sas_check) *request, Bytes file, std::size_t room) {
     return answer(room, [=](std::uint8_t *at, std::size_t length, std::size_t *size) {
-        return request(bytes_of(file), file.size(), at, length, size);
+        return request(file.data(), file.size(), at, length, size);
     });
 }
 
-inline Answer over_two(OverTwo *request, std::string_view task, std::string_view plan) {
-    return answer(short_room, [=](std::uint8_t *at, std::size_t length, std::size_t *size) {
-        return request(bytes_of(task), task.size(), bytes_of(plan), plan.size(), at, length, size);
+inline Answer of_both(decltype(sas_plan) *request, Bytes task, Bytes plan, std::size_t room) {
+    return answer(room, [=](std::uint8_t *at, std::size_t length, std::size_t *size) {
+        return request(task.data(), task.size(), plan.data(), plan.size(), at, length, size);
     });
 }
 
 } // namespace detail
 
-inline Answer plan(std::string_view task, std::string_view plan) { return detail::over_two(sas_plan, task, plan); }
-inline Answer plan_why(std::string_view task, std::string_view plan) { return detail::over_two(sas_plan_why, task, plan); }
-inline Answer trace(std::string_view task, std::string_view plan) { return detail::over_two(sas_trace, task, plan); }
-inline Answer check(std::string_view task) { return detail::over_one(sas_check, task); }
-inline Answer check_why(std::string_view task) { return detail::over_one(sas_check_why, task); }
-inline Answer mutex(std::string_view task) { return detail::over_one(sas_mutex, task); }
-inline Answer mutex_why(std::string_view task) { return detail::over_one(sas_mutex_why, task); }
-inline Answer show(std::string_view task) { return detail::over_one(sas_show, task, detail::short_room + task.size()); }
-inline Answer print(std::string_view task) { return detail::over_one(sas_print, task, detail::short_room + task.size()); }
-inline Answer steps(std::string_view plan) { return detail::over_one(sas_steps, plan, detail::short_room + plan.size()); }
+inline Answer plan(Bytes task, Bytes plan) { return detail::of_both(sas_plan, task, plan, SAS_LINE_ROOM); }
+inline Answer plan_why(Bytes task, Bytes plan) { return detail::of_both(sas_plan_why, task, plan, detail::usual_room); }
+inline Answer trace(Bytes task, Bytes plan) {
+    return detail::of_both(sas_trace, task, plan, detail::usual_room + 10 * plan.size() + task.size() / 8);
+}
+inline Answer check(Bytes task) { return detail::of_one(sas_check, task, SAS_LINE_ROOM); }
+inline Answer check_why(Bytes task) { return detail::of_one(sas_check_why, task, detail::usual_room); }
+inline Answer mutex(Bytes task) { return detail::of_one(sas_mutex, task, detail::usual_room + task.size()); }
+inline Answer mutex_why(Bytes task) { return detail::of_one(sas_mutex_why, task, detail::usual_room + task.size()); }
+inline Answer show(Bytes task) { return detail::of_one(sas_show, task, detail::usual_room + task.size()); }
+inline Answer print(Bytes task) { return detail::of_one(sas_print, task, SAS_LINE_ROOM + task.size()); }
+inline Answer steps(Bytes plan) { return detail::of_one(sas_steps, plan, SAS_LINE_ROOM + plan.size()); }
 
-// A task that is read once, for many plans. It begins with none.
+// A task that is read once, for many plans.
 class Task {
 public:
+    // Holds no task.
     Task() noexcept = default;
+
+    // Reads a task. One that isn't layered is refused: it throws sas::Refused, or without exceptions holds no task.
+    explicit Task(Bytes task) {
+        [[maybe_unused]] Answer answer = read(task);
+#ifdef __cpp_exceptions
+        if (!answer) {
+            throw Refused(std::move(answer));
+        }
+#endif
+    }
+
     Task(const Task &) = delete;
     Task &operator=(const Task &) = delete;
     Task(Task &&other) noexcept : held_(std::exchange(other.held_, none)) {}
@@ -112,17 +203,20 @@ public:
     }
     ~Task() { sas_task_free(&held_); }
 
+    // Whether a task is held.
+    [[nodiscard]] bool is_held() const noexcept { return held_.is_there != 0; }
+
     // Reads a task in place of the one that was held, and answers as `sas::check`. If that is yes the task is held, else none is.
-    Answer read(std::string_view task) {
-        return detail::answer(detail::short_room, [&](std::uint8_t *at, std::size_t length, std::size_t *size) {
-            return sas_task_read(&held_, detail::bytes_of(task), task.size(), at, length, size);
+    Answer read(Bytes task) {
+        return detail::answer(SAS_LINE_ROOM, [&](std::uint8_t *at, std::size_t length, std::size_t *size) {
+            return sas_task_read(&held_, task.data(), task.size(), at, length, size);
         });
     }
 
     // Whether a plan solves the task that is held: answers as `sas::plan`. Where none is held it throws sas::NoTask.
-    Answer plan(std::string_view plan) {
-        return detail::answer(detail::short_room, [&](std::uint8_t *at, std::size_t length, std::size_t *size) {
-            return sas_task_plan(&held_, detail::bytes_of(plan), plan.size(), at, length, size);
+    Answer plan(Bytes plan) {
+        return detail::answer(SAS_LINE_ROOM, [&](std::uint8_t *at, std::size_t length, std::size_t *size) {
+            return sas_task_plan(&held_, plan.data(), plan.size(), at, length, size);
         });
     }
 
@@ -131,6 +225,11 @@ private:
     sas_task held_ = none;
 };
 
+#ifndef __cpp_exceptions
+} // namespace without_exceptions
+#endif
+
 } // namespace sas
 
+#endif
 #endif

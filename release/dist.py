@@ -31,6 +31,10 @@ OBJECT = f"{CRATE}/out/sas.o"
 # what `make test` notes at its end: the commit, the toolchain, the last line
 GATE = f"{TOP}/gate.log"
 PLATFORM = "x86_64-linux"
+# documents that describe the source; a release has the others
+OF_SOURCE = ("ARCHITECTURE", "BENCHMARK", "DECISIONS", "EDITS", "NOTATION", "PROMISES", "PROOFS", "READING", "SPEED")
+# what stands between these lines of a document is about the source, and left out of a release
+ONLY_SOURCE = re.compile(rb"<!-- of the source -->\n.*?<!-- end of the source -->\n", re.DOTALL)
 PACKED = (
     "install.sh",
     "README.md",
@@ -39,13 +43,13 @@ PACKED = (
     "completions/*",
     "docs/*.md",
     "examples/*",
-    "library/sas.h",
-    "library/sas.pc",
     "library/examples/*",
+    "library/python/*",
+    "library/rust/**/*",
     "library/out/*",
 )
 BUILT = "library/out/"
-PROGRAMS = ("sas", "install.sh", "library/out/libsas.so")
+PROGRAMS = ("sas", "install.sh", "library/out/libsas.so.1")
 
 
 def printed(*command, cwd=TOP):
@@ -126,20 +130,27 @@ gate       {gate_of(commit)}
 linker     {compiler}
 
 The toolchain builds the program and the library only where each function of theirs is proved to meet its contract. At this commit the
-contracts, definitions and proofs stand in the folder crates of the repository; docs/PROMISES.md has each promise, and docs/READING.md
-says what must be believed. The program sas is linked statically; libsas.a and libsas.so want the C library of the machine.
+contracts, definitions and proofs stand in the folder crates of the repository. Its document PROMISES has each promise, and READING says
+what must be believed. The program sas is linked statically; libsas.a and libsas.so want the C library of the machine.
 """
 
 
 def names():
     """Returns which files of the repository are packed: none that the repository doesn't know, but for what was built."""
     known = printed("git", "ls-files", "-z")
-    found = [it for pattern in PACKED for it in glob.glob(pattern, root_dir=TOP) if os.path.isfile(f"{TOP}/{it}")]
+    found = [it for pattern in PACKED for it in glob.glob(pattern, root_dir=TOP, recursive=True) if os.path.isfile(f"{TOP}/{it}")]
+    found = [it for it in found if it not in [f"docs/{name}.md" for name in OF_SOURCE]]
     return [it for it in found if known is None or it.startswith(BUILT) or it in known.split("\0")]
 
 
+def released(name):
+    """Returns what a file of the repository holds in a release."""
+    held = bytes_of(f"{TOP}/{name}")
+    return ONLY_SOURCE.sub(b"", held) if name.endswith(".md") else held
+
+
 def packed(version, commit, time, files):
-    """Returns a release of these files."""
+    """Returns a release of these files. A file that is a link stays one."""
     top = f"sas-{version}-{PLATFORM}"
     sums = "".join(f"{hashlib.sha256(held).hexdigest()}  {name}\n" for name, held in sorted(files.items()))
     files = files | {"SHA256SUMS": sums.encode()}
@@ -149,6 +160,8 @@ def packed(version, commit, time, files):
             for name, held in sorted(files.items()):
                 entry = tarfile.TarInfo(f"{top}/{name}")
                 entry.size, entry.mtime, entry.mode = len(held), time, 0o755 if name in PROGRAMS else 0o644
+                if os.path.islink(f"{TOP}/{name}"):
+                    entry.size, entry.type, entry.linkname = 0, tarfile.SYMTYPE, os.readlink(f"{TOP}/{name}")
                 tar.addfile(entry, io.BytesIO(held))
     return f"{top}.tar.gz", out.getvalue()
 
@@ -156,7 +169,7 @@ def packed(version, commit, time, files):
 def main(to=TOP):
     run(sys.executable, f"{TOP}/library/build.py", stdout=subprocess.DEVNULL)
     version, (commit, time) = version_of(), commit_of()
-    files = {name: bytes_of(f"{TOP}/{name}") for name in names()}
+    files = {name: released(name) for name in names()}
     with tempfile.TemporaryDirectory() as folder:
         files["sas"] = linked(folder)
     files["PROVED"] = proved(version, commit).encode()

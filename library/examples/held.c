@@ -41,9 +41,9 @@ static struct bytes read_file(const char *name) {
 
 int main(int count, char **words) {
     sas_task task = SAS_TASK_NONE;
-    uint8_t room[128]; /* a line about a plan is shorter */
+    uint8_t room[SAS_LINE_ROOM];
     size_t size = 0;
-    uint32_t number;
+    enum sas_number number;
     int status = 0;
     if (count < 3) {
         fputs("usage: held TASK PLAN..\n", stderr);

@@ -22,11 +22,7 @@ int main(int count, char **words) try {
         std::cerr << "usage: held TASK PLAN..\n";
         return 2;
     }
-    sas::Task task;
-    if (sas::Answer answer = task.read(read_file(words[1])); !answer) {
-        std::cout << answer.text;
-        return 1;
-    }
+    sas::Task task(read_file(words[1]));
     int status = 0;
     for (int place = 2; place < count; place++) {
         sas::Answer answer = task.plan(read_file(words[place]));
@@ -34,6 +30,9 @@ int main(int count, char **words) try {
         status = answer ? status : 1;
     }
     return status;
+} catch (const sas::Refused &refusal) {
+    std::cout << refusal.answer.text;
+    return 1;
 } catch (const std::exception &fault) {
     std::cerr << "held: " << fault.what() << '\n';
     return 3;

@@ -16,9 +16,9 @@ def main(task, *plans):
     try:
         with sas.Task(read_file(task)) as held:
             for name in plans:
-                is_valid, text = held.plan(read_file(name))
-                out.write(os.fsencode(name) + b": " + text)
-                status = status if is_valid else 1
+                answer = held.plan(read_file(name))
+                out.write(os.fsencode(name) + b": " + answer.text)
+                status = status if answer else 1
     except sas.Refused as refusal:
         out.write(refusal.text)
         return 1

@@ -1,43 +1,39 @@
 //! held TASK PLAN..: whether each plan solves the task, which is read once. Prints the lines that `sas plans` prints of the plans.
 //! The exit status is 0 if all are valid, 1 if one isn't or the task is refused, 3 if there is no answer.
 
-// a program uses only a part of it
-#[allow(dead_code)]
-#[path = "../rust/sas.rs"]
-mod sas;
-
 use std::error::Error;
+use std::ffi::{OsStr, OsString};
 use std::io::Write;
+use std::os::unix::ffi::OsStrExt;
 use std::process::ExitCode;
 
-fn held(task: &str, plans: &[String]) -> Result<ExitCode, Box<dyn Error>> {
+fn held(task: &OsStr, plans: &[OsString]) -> Result<ExitCode, Box<dyn Error>> {
     let mut out = std::io::stdout().lock();
     let mut held = match sas::Task::read(&std::fs::read(task)?) {
         Ok(held) => held,
-        Err(sas::NoTask::Refused(text)) => {
+        Err(sas::ReadError::Refused(text)) => {
             out.write_all(&text)?;
             return Ok(ExitCode::from(1));
         }
-        Err(fault) => return Err(fault.into()),
+        Err(error) => return Err(error.into()),
     };
     let mut status = 0;
     for name in plans {
         let answer = held.plan(&std::fs::read(name)?)?;
-        write!(out, "{name}: ")?;
-        out.write_all(&answer.text)?;
+        out.write_all(&[name.as_bytes(), b": ", &answer.text].concat())?;
         status = if answer.is_yes { status } else { 1 };
     }
     Ok(ExitCode::from(status))
 }
 
 fn main() -> ExitCode {
-    let words: Vec<String> = std::env::args().collect();
+    let words: Vec<OsString> = std::env::args_os().collect();
     if words.len() < 3 {
         eprintln!("usage: held TASK PLAN..");
         return ExitCode::from(2);
     }
-    held(&words[1], &words[2..]).unwrap_or_else(|fault| {
-        eprintln!("held: {fault}");
+    held(&words[1], &words[2..]).unwrap_or_else(|error| {
+        eprintln!("held: {error}");
         ExitCode::from(3)
     })
 }

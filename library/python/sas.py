@@ -1,33 +1,103 @@
-"""The proved validator of Fast Downward's task files and plans: libsas.so, by ctypes.
+"""Proved validator of Fast Downward's task files and plans: libsas.so, called by ctypes.
 
     import sas
 
-    is_valid, text = sas.plan(task, plan)       # the answer of `sas plan`, and the text that it prints
+    answer = sas.plan(task, plan)
+    if answer:
+        print(answer.steps, answer.cost)
+    else:
+        print(answer.reason)
+
     with sas.Task(task) as held:                # read once, for many plans
-        is_valid, text = held.plan(plan)
+        answers = [held.plan(plan) for plan in plans]
 
-Tasks and plans are bytes, or what has them, such as a bytearray, a memoryview or an mmap; only what is read-only and isn't of type
-bytes is copied. Memory that is refused is MemoryError, an input past 4,294,967,296 bytes is InputTooLong. Threads may call at once:
-a call lets others run, and a Task takes one call after another.
+Tasks and plans are bytes or have bytes, as a bytearray, a memoryview or an mmap. Only what is read-only and not of type bytes is
+copied. Threads may make calls at once: a call releases the interpreter's lock, and a Task makes one call after another.
 
-The library is looked for beside this file and in the folder above, unless the environment says where it is, by LIBSAS.
+Each call raises MemoryError where it is out of memory, and InputTooLong where an input goes past 4,294,967,296 bytes.
+
+The library is libsas.so beside this file or in the folder above, else libsas.so.1 where the system's loader finds it. The variable
+LIBSAS of the environment names another file.
 """
+from __future__ import annotations
+
+import array
 import ctypes
+import mmap
 import os
+import re
 import threading
 import weakref
+from typing import Any, Callable, NamedTuple, NoReturn, Optional, Tuple, Union
+
+__version__ = "1.1.0"
+__all__ = [
+    "Answer", "InputTooLong", "NoTask", "Refused", "Task", "check", "check_why", "mutex", "mutex_why", "plan", "plan_why", "print_task",
+    "show", "steps", "trace",
+]  # fmt: skip
+
+Data = Union[bytes, bytearray, memoryview, mmap.mmap, array.array]
 
 _YES, _NO, _ROOM_TOO_SHORT, _OUT_OF_MEMORY, _INPUT_TOO_LONG, _NO_TASK = range(6)
-# a room in which most answers find place; each line about a plan does
-_SHORT_ROOM = 256
+# the rooms that calls get first, in bytes: of a line, and of a longer answer
+_LINE_ROOM, _USUAL_ROOM = 128, 65536
+_VALID = re.compile(rb"plan valid: (\d+) steps, cost (\d+)\n")
+# the first line with a reason: of a file that is refused, of a plan that isn't valid, or of a group that isn't exclusive
+_REASON = re.compile(rb"^(?:(?:plan|task) (?:invalid|refused): (.*)|(group \d+ (?!exclusive$).*))$", re.MULTILINE)
+
+
+class Answer(NamedTuple):
+    """The answer of a call. It is true where the verdict is yes, and unpacks as `is_yes, text = answer`.
+
+    Attributes:
+        is_yes: Whether the answer is yes, or the text was printed.
+        text: What `sas` prints, in bytes.
+    """
+
+    is_yes: bool
+    text: bytes
+
+    def __bool__(self) -> bool:
+        return self.is_yes
+
+    @property
+    def steps(self) -> Optional[int]:
+        """The number of steps where the answer is `plan valid: S steps, cost C`, else None."""
+        return self._number(1)
+
+    @property
+    def cost(self) -> Optional[int]:
+        """The cost where the answer is `plan valid: S steps, cost C`, else None."""
+        return self._number(2)
+
+    @property
+    def reason(self) -> Optional[str]:
+        """The reason of a no, such as `step 2: not applicable` or `line 7: name`; None of a yes.
+
+        Of `mutex` it is the first line about a group that isn't exclusive.
+        """
+        found = None if self.is_yes else _REASON.search(self.text)
+        return found and (found[1] or found[2]).decode(errors="replace")
+
+    def _number(self, place: int) -> Optional[int]:
+        """Returns a number of the last line, if that is the line of a valid plan."""
+        found = _VALID.fullmatch(self.text, self.text.rfind(b"\n", 0, -1) + 1)
+        return found and int(found[place])
 
 
 class Refused(ValueError):
-    """The file isn't that of a layered task. `text` is the answer, in bytes."""
+    """The bytes aren't those of a layered task.
 
-    def __init__(self, text):
-        super().__init__(text.decode(errors="replace").rstrip("\n"))
+    Attributes:
+        text: What `sas check` prints, in bytes.
+    """
+
+    def __init__(self, text: bytes) -> None:
+        super().__init__(text)
         self.text = text
+
+    def __str__(self) -> str:
+        return self.text.decode(errors="replace").rstrip("\n")
 
 
 class InputTooLong(ValueError):
@@ -35,31 +105,34 @@ class InputTooLong(ValueError):
 
 
 class NoTask(ValueError):
-    """A plan was asked about, and the task was closed."""
+    """A plan was given to a task that was closed."""
 
 
 class _Held(ctypes.Structure):
-    """What is called sas_task in sas.h."""
+    """sas_task of sas.h."""
 
     _fields_ = [("is_there", ctypes.c_uint8), ("at", ctypes.c_void_p)]
 
 
-def _path():
-    """Returns where the library is."""
+def _load() -> ctypes.CDLL:
+    """Returns the library."""
+    if "LIBSAS" in os.environ:
+        return ctypes.CDLL(os.environ["LIBSAS"])
     here = os.path.dirname(os.path.abspath(__file__))
-    paths = [os.path.join(folder, "libsas.so") for folder in (here, os.path.dirname(here))]
-    paths = [os.environ["LIBSAS"]] if "LIBSAS" in os.environ else paths
-    for path in paths:
-        if os.path.exists(path):
-            return path
-    raise ImportError("no libsas.so: looked for " + " and ".join(paths))
+    for folder in (here, os.path.dirname(here)):
+        if os.path.exists(os.path.join(folder, "libsas.so")):
+            return ctypes.CDLL(os.path.join(folder, "libsas.so"))
+    return ctypes.CDLL("libsas.so.1")
 
 
-_LIBRARY = ctypes.CDLL(_path())
+try:
+    _LIBRARY = _load()
+except OSError as _fault:
+    raise ImportError(f"sas: the library isn't found: {_fault}") from _fault
 
 
-def _call(name, *kinds):
-    """Returns a call of the library with inputs of these kinds, and behind them the room and the size."""
+def _call(name: str, *kinds: Any) -> Callable[..., int]:
+    """Returns a call of the library, with inputs of these kinds, the room and the size."""
     size = ctypes.c_size_t
     call = getattr(_LIBRARY, name)
     call.argtypes = [*kinds, ctypes.c_void_p, size, ctypes.POINTER(size)]
@@ -77,8 +150,8 @@ _TASK_FREE = _LIBRARY.sas_task_free
 _TASK_FREE.argtypes, _TASK_FREE.restype = [ctypes.POINTER(_Held)], None
 
 
-def _given(data):
-    """Returns a file as a call takes it: where its bytes begin, and how many they are."""
+def _given(data: Data) -> Tuple[Any, int]:
+    """Returns a file as a call takes it: a pointer to its bytes, and how many there are."""
     if isinstance(data, bytes):
         return data, len(data)
     view = memoryview(data).cast("B")
@@ -87,9 +160,8 @@ def _given(data):
     return ctypes.byref(ctypes.c_char.from_buffer(view)), len(view)
 
 
-def _answer(call, *given, room=_SHORT_ROOM):
-    """Returns whether the answer of a call is yes, and its text. The call is given a room of so many bytes, and if it wants more,
-    as many as it wants."""
+def _answer(call: Callable[..., int], *given: Any, room: int = _LINE_ROOM) -> Answer:
+    """Returns the answer of a call. The call gets a room of so many bytes, and if the answer is longer, one that has its length."""
     size, number = ctypes.c_size_t(room), _ROOM_TOO_SHORT
     while number == _ROOM_TOO_SHORT:
         text = ctypes.create_string_buffer(size.value)
@@ -100,84 +172,156 @@ def _answer(call, *given, room=_SHORT_ROOM):
         raise InputTooLong("sas: input too long")
     if number == _NO_TASK:
         raise NoTask("sas: no task is held")
-    return number == _YES, ctypes.string_at(text, size.value)
+    return Answer(number == _YES, ctypes.string_at(text, size.value))
 
 
-def plan(task, plan):
-    """Whether a plan solves a task, and the line that `sas plan` prints."""
+def plan(task: Data, plan: Data) -> Answer:
+    """Checks whether a plan solves a task: `sas plan`.
+
+    Args:
+        task: The bytes of a task file, `output.sas`.
+        plan: The bytes of a plan file, `sas_plan`.
+
+    Returns:
+        Yes if the plan is valid, with its steps and its cost.
+
+    Raises:
+        MemoryError: Out of memory.
+        InputTooLong: A file goes past 4,294,967,296 bytes.
+    """
     return _answer(_PLAN, *_given(task), *_given(plan))
 
 
-def plan_why(task, plan):
-    """The same, with the reasons for a no."""
-    return _answer(_PLAN_WHY, *_given(task), *_given(plan))
+def plan_why(task: Data, plan: Data) -> Answer:
+    """Checks a plan as `plan` does, with the reasons of a no in further lines of the text: `sas plan --why`."""
+    return _answer(_PLAN_WHY, *_given(task), *_given(plan), room=_USUAL_ROOM)
 
 
-def trace(task, plan):
-    """Whether a plan solves a task, and what each of its steps does."""
-    return _answer(_TRACE, *_given(task), *_given(plan))
+def trace(task: Data, plan: Data) -> Answer:
+    """Checks a plan as `plan` does, and prints what each of its steps does: `sas trace`."""
+    (task_at, task_length), (plan_at, plan_length) = _given(task), _given(plan)
+    room = _USUAL_ROOM + 10 * plan_length + task_length // 8
+    return _answer(_TRACE, task_at, task_length, plan_at, plan_length, room=room)
 
 
-def check(task):
-    """Whether a task is layered, and the line that `sas check` prints."""
+def check(task: Data) -> Answer:
+    """Checks whether a task is layered: `sas check`."""
     return _answer(_CHECK, *_given(task))
 
 
-def check_why(task):
-    """The same, with the reasons for a no."""
-    return _answer(_CHECK_WHY, *_given(task))
+def check_why(task: Data) -> Answer:
+    """Checks a task as `check` does, with the reasons of a no in further lines of the text: `sas check --why`."""
+    return _answer(_CHECK_WHY, *_given(task), room=_USUAL_ROOM)
 
 
-def mutex(task):
-    """Whether all mutex groups of a task are shown to be exclusive, and a line about each."""
-    return _answer(_MUTEX, *_given(task))
+def mutex(task: Data) -> Answer:
+    """Checks which mutex groups of a task are exclusive: `sas mutex`.
+
+    Returns:
+        Yes if all groups are shown to be exclusive. The text has a line about each.
+    """
+    return _answer_by_task(_MUTEX, task)
 
 
-def mutex_why(task):
-    """The same, with the reasons for a no."""
-    return _answer(_MUTEX_WHY, *_given(task))
+def mutex_why(task: Data) -> Answer:
+    """Checks mutex groups as `mutex` does, with the reasons of a no in further lines of the text: `sas mutex --why`."""
+    return _answer_by_task(_MUTEX_WHY, task)
 
 
-def show(task):
-    """Whether a file is that of a task, and what that is about."""
+def show(task: Data) -> Answer:
+    """Prints a summary of a task: `sas show`."""
+    return _answer_by_task(_SHOW, task)
+
+
+def print_task(task: Data) -> Answer:
+    """Prints a task file, each line ended by LF: `sas print`."""
     at, length = _given(task)
-    return _answer(_SHOW, at, length, room=_SHORT_ROOM + length)
+    return _answer(_PRINT, at, length, room=_LINE_ROOM + length)
 
 
-def print_task(task):
-    """Whether a file is that of a task, and its text, each line ended by LF."""
-    at, length = _given(task)
-    return _answer(_PRINT, at, length, room=_SHORT_ROOM + length)
-
-
-def steps(plan):
-    """Whether a file is that of a plan, and its text, each line ended by LF."""
+def steps(plan: Data) -> Answer:
+    """Prints a plan file, each line ended by LF: `sas steps`."""
     at, length = _given(plan)
-    return _answer(_STEPS, at, length, room=_SHORT_ROOM + length)
+    return _answer(_STEPS, at, length, room=_LINE_ROOM + length)
+
+
+def _answer_by_task(call: Callable[..., int], task: Data) -> Answer:
+    """Returns the answer of a call whose answer grows with the task."""
+    at, length = _given(task)
+    return _answer(call, at, length, room=_USUAL_ROOM + length)
 
 
 class Task:
-    """A layered task that is read once, for many plans. One that isn't layered, or is no task, raises Refused."""
+    """A layered task that is read once, for many plans.
 
-    def __init__(self, task):
-        self._held, self._one_call = _Held(), threading.Lock()
-        self._free = weakref.finalize(self, _TASK_FREE, self._held)
-        is_layered, text = _answer(_TASK_READ, self._held, *_given(task))
-        if not is_layered:
-            raise Refused(text)
+    It is freed at the end of a `with`, by `close`, or with its last reference. In a process that was forked while another thread was
+    inside a call of the task, the task is closed.
+    """
 
-    def plan(self, plan):
-        """Whether a plan solves the task, and the line that `sas plan` prints."""
+    def __init__(self, task: Data) -> None:
+        """Reads a task.
+
+        Args:
+            task: The bytes of a task file, `output.sas`.
+
+        Raises:
+            Refused: They aren't the bytes of a layered task.
+            MemoryError: Out of memory.
+            InputTooLong: The file goes past 4,294,967,296 bytes.
+        """
+        self._hold(_Held())
+        answer = _answer(_TASK_READ, self._held, *_given(task))
+        if not answer:
+            raise Refused(answer.text)
+        _TASKS.add(self)
+
+    def _hold(self, held: _Held) -> None:
+        self._held, self._one_call = held, threading.Lock()
+        self._free = weakref.finalize(self, _TASK_FREE, held)
+        # at exit a thread may still be inside a call
+        self._free.atexit = False
+
+    def plan(self, plan: Data) -> Answer:
+        """Checks whether a plan solves the task, as the function `plan` does.
+
+        Args:
+            plan: The bytes of a plan file, `sas_plan`.
+
+        Returns:
+            Yes if the plan is valid, with its steps and its cost.
+
+        Raises:
+            NoTask: The task was closed.
+            MemoryError: Out of memory.
+            InputTooLong: The file goes past 4,294,967,296 bytes.
+        """
         with self._one_call:
             return _answer(_TASK_PLAN, self._held, *_given(plan))
 
-    def close(self):
-        """Lets go of the task, at once."""
+    def close(self) -> None:
+        """Frees the task. It may be closed more than once."""
         with self._one_call:
             self._free()
 
-    def __enter__(self):
+    def __enter__(self) -> Task:
         return self
 
-    def __exit__(self, *_):
+    def __exit__(self, *_: object) -> None:
         self.close()
+
+    def __reduce__(self) -> NoReturn:
+        raise TypeError("a sas.Task can't be pickled or copied; give the bytes of the task, and read them again")
+
+
+_TASKS: weakref.WeakSet[Task] = weakref.WeakSet()
+
+
+def _after_fork() -> None:
+    """Closes the tasks of a forked process that a thread, which isn't there, was inside a call of. What they hold isn't freed."""
+    for task in list(_TASKS):
+        if task._one_call.locked():
+            task._free.detach()
+            task._hold(_Held())
+
+
+os.register_at_fork(after_in_child=_after_fork)

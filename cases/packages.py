@@ -1,0 +1,132 @@
+#!/usr/bin/env python3
+"""Builds programs over the library as its users do, by CMake, pkg-config, cargo and pip, without a network.
+
+    python3 cases/packages.py [TOP]
+
+TOP is the repository or an unpacked release, whose library/out/ is there; the repository where none is named. Each test that fails has
+a line, and the last line is 'N passed, M failed'. The exit status is 0 where none failed. What isn't there of the tools is told in a line
+that begins with `without`.
+
+No proof knows these packages. One that names a file that isn't there, or lacks one, would be found here alone.
+"""
+import os
+import shlex
+import subprocess
+import sys
+import tempfile
+
+import report
+from pages import is_there
+from texts import TOP
+
+PROJECT = """\
+cmake_minimum_required(VERSION 3.10)
+project(held C CXX)
+find_package(sas 2 QUIET)
+if(sas_FOUND)
+  message(FATAL_ERROR "found as version 2")
+endif()
+find_package(sas 1.1 REQUIRED)
+set(CMAKE_CXX_STANDARD 17)
+add_executable(held_c {top}/library/examples/held.c)
+target_link_libraries(held_c PRIVATE sas::sas)
+add_executable(held_cpp {top}/library/examples/held.cpp)
+target_link_libraries(held_cpp PRIVATE sas::static)
+"""
+SHARED = "libsas.so.1"
+
+
+def ended(*command, **more):
+    """Returns how a command ended: its status, and all that it printed."""
+    streams = {"stdin": subprocess.DEVNULL, "stdout": subprocess.PIPE, "stderr": subprocess.STDOUT}
+    ran = subprocess.run(command, check=False, timeout=600, **streams, **more)
+    return ran.returncode, ran.stdout.decode(errors="replace")
+
+
+def wrong(*command, **more):
+    """Returns what is wrong with a command that has to end with status 0."""
+    status, said = ended(*command, **more)
+    return [f"status {status}: {said[-1500:]}"] if status else []
+
+
+def wrong_held(top, *command, **more):
+    """Returns what is wrong with a build of the example `held`, run over a plan that is valid."""
+    files = [os.path.join(top, f"examples/fuses.{it}") for it in ("sas", "plan")]
+    got, due = ended(*command, *files, **more), (0, f"{files[1]}: plan valid: 4 steps, cost 4\n")
+    return [] if got == due else [f"{got}"]
+
+
+def cmake_tests(top, prefix, place):
+    """Yields a project of CMake over the library in a folder. It could show a target that names no file, or a wrong version."""
+    if not is_there("cmake"):
+        return
+    folder = os.path.join(place, "cmake")
+    os.makedirs(folder)
+    with open(os.path.join(folder, "CMakeLists.txt"), "w", encoding="utf-8") as file:
+        file.write(PROJECT.format(top=top))
+    found = wrong("cmake", "-S", folder, "-B", f"{folder}/build", f"-DCMAKE_PREFIX_PATH={prefix}")
+    yield "CMake", found or wrong("cmake", "--build", f"{folder}/build")
+    yield "CMake, sas::sas", wrong_held(top, f"{folder}/build/held_c")
+    yield "CMake, sas::static", wrong_held(top, f"{folder}/build/held_cpp")
+
+
+def pkg_config_tests(top, place):
+    """Yields a program that is built by the flags of pkg-config. It could show a folder that isn't that of the library."""
+    if not is_there("pkg-config"):
+        return
+    out, program = os.path.join(top, "library/out"), os.path.join(place, "held")
+    status, flags = ended("pkg-config", "--cflags", "--libs", "sas >= 1.1", env={**os.environ, "PKG_CONFIG_PATH": out})
+    yield "pkg-config", [] if status == 0 else [flags]
+    compiler = shlex.split(os.environ.get("CC") or "cc")
+    words = [os.path.join(top, "library/examples/held.c"), *shlex.split(flags), f"-Wl,-rpath,{out}", "-o", program]
+    yield "pkg-config, the program", wrong(*compiler, *words) or wrong_held(top, program)
+    if is_there("readelf"):
+        needed = ended("readelf", "-d", program)[1]
+        yield "pkg-config, what the program loads", [] if f"[{SHARED}]" in needed else [needed]
+
+
+def cargo_tests(top, place):
+    """Yields the tests of the crate and its example. They could show a crate that doesn't find the library, or that a compiler warns of."""
+    if not is_there("cargo"):
+        return
+    env = {**os.environ, "CARGO_TARGET_DIR": os.path.join(place, "target"), "RUSTFLAGS": "-D warnings", "RUSTDOCFLAGS": "-D warnings"}
+    at = ["--offline", "-q", "--manifest-path", os.path.join(top, "library/rust/Cargo.toml")]
+    yield "cargo test", wrong("cargo", "test", *at, env=env)
+    yield "cargo doc", wrong("cargo", "doc", *at, env=env)
+    yield "cargo run", wrong_held(top, "cargo", "run", *at, "--example", "held", "--", env=env)
+    none = {**env, "SAS_LIB_DIR": place}
+    status, said = ended("cargo", "build", *at, env=none)
+    yield "cargo build, without the library", [] if status and "libsas isn't found" in said else [said]
+
+
+def pip_tests(top, place):
+    """Yields what pip installs. It could show a module that doesn't find its library, and a package that another one has to build."""
+    site = os.path.join(place, "site")
+    pip = [sys.executable, "-m", "pip", "install", "-q", "--no-index", "--disable-pip-version-check"]
+    if ended(sys.executable, "-m", "pip", "--version")[0]:
+        print("without pip")
+        return
+    yield "pip", wrong(*pip, "--target", site, os.path.join(top, "library/python"))
+    env = {**os.environ, "PYTHONPATH": site}
+    yield "pip, the program", wrong_held(top, sys.executable, os.path.join(top, "library/examples/held.py"), env=env, cwd=place)
+    command = "import sas, importlib.metadata as it; print(sas.__file__, sas.__version__ == it.version('sas'))"
+    got, due = ended(sys.executable, "-c", command, env=env, cwd=place), (0, f"{site}/sas.py True\n")
+    yield "pip, the module", [] if got == due else [f"{got}"]
+
+
+def package_tests(top, place):
+    """Yields all of these over the repository, or over an unpacked release."""
+    yield from cmake_tests(top, os.path.join(top, "library/out"), place)
+    yield from pkg_config_tests(top, place)
+    yield from cargo_tests(top, place)
+    yield from pip_tests(top, place)
+
+
+def main(top=TOP):
+    with tempfile.TemporaryDirectory() as place:
+        found = list(package_tests(os.path.abspath(top), place))
+    report.end([{"name": name} for name, _ in found], [it for _, it in found])
+
+
+if __name__ == "__main__":
+    main(*sys.argv[1:])

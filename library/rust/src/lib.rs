@@ -1,0 +1,264 @@
+//! Proved validator of Fast Downward's task files and plans: a safe crate over `libsas`.
+//!
+//! ```
+//! let task = include_bytes!("../../../examples/fuses.sas");
+//! let plan = include_bytes!("../../../examples/fuses.plan");
+//!
+//! let answer = sas::plan(task, plan)?;
+//! assert!(answer.is_yes);
+//! assert_eq!((answer.steps(), answer.cost()), (Some(4), Some(4)));
+//!
+//! let mut held = sas::Task::read(task)?; // read once, for many plans
+//! assert_eq!(held.plan(b"(take f9)\n")?.text, b"plan refused: line 2: end\n");
+//! # Ok::<(), Box<dyn std::error::Error>>(())
+//! ```
+//!
+//! Each function takes the bytes of files, and returns what the program `sas` prints. Threads may make calls at once. A [`Task`] may
+//! go to another thread, and makes one call at a time.
+
+#![warn(missing_docs)]
+
+use std::ffi::c_void;
+use std::fmt;
+
+/// What `sas` prints, and whether its exit status is 0.
+#[derive(Clone, Debug, PartialEq, Eq)]
+pub struct Answer {
+    /// Whether the answer is yes, or the text was printed.
+    pub is_yes: bool,
+    /// What `sas` prints. Names in it may have any bytes.
+    pub text: Vec<u8>,
+}
+
+impl Answer {
+    /// The number of steps, where the answer is `plan valid: S steps, cost C`.
+    pub fn steps(&self) -> Option<u64> {
+        self.valid().map(|(steps, _)| steps)
+    }
+
+    /// The cost, where the answer is `plan valid: S steps, cost C`.
+    pub fn cost(&self) -> Option<u64> {
+        self.valid().map(|(_, cost)| cost)
+    }
+
+    /// The numbers of the last line, if that is the line of a valid plan.
+    fn valid(&self) -> Option<(u64, u64)> {
+        let text = self.text.strip_suffix(b"\n")?;
+        let line = std::str::from_utf8(text.rsplit(|it| *it == b'\n').next()?).ok()?;
+        let (steps, cost) = line.strip_prefix("plan valid: ")?.split_once(" steps, cost ")?;
+        Some((steps.parse().ok()?, cost.parse().ok()?))
+    }
+}
+
+/// Why there is no answer.
+#[derive(Clone, Copy, PartialEq, Eq)]
+pub enum Error {
+    /// Out of memory.
+    OutOfMemory,
+    /// An input goes past 4,294,967,296 bytes.
+    InputTooLong,
+}
+
+/// Why no task is held.
+#[derive(Clone, PartialEq, Eq)]
+pub enum ReadError {
+    /// The bytes aren't those of a layered task: what `sas check` prints.
+    Refused(Vec<u8>),
+    /// There is no answer.
+    Failed(Error),
+}
+
+impl fmt::Display for Error {
+    fn fmt(&self, out: &mut fmt::Formatter) -> fmt::Result {
+        out.write_str(match self {
+            Error::OutOfMemory => "sas: out of memory",
+            Error::InputTooLong => "sas: input too long",
+        })
+    }
+}
+
+impl fmt::Display for ReadError {
+    fn fmt(&self, out: &mut fmt::Formatter) -> fmt::Result {
+        match self {
+            ReadError::Refused(text) => out.write_str(String::from_utf8_lossy(text).trim_end_matches('\n')),
+            ReadError::Failed(error) => error.fmt(out),
+        }
+    }
+}
+
+// a `main` that returns an error prints it so
+impl fmt::Debug for Error {
+    fn fmt(&self, out: &mut fmt::Formatter) -> fmt::Result {
+        fmt::Display::fmt(self, out)
+    }
+}
+
+impl fmt::Debug for ReadError {
+    fn fmt(&self, out: &mut fmt::Formatter) -> fmt::Result {
+        fmt::Display::fmt(self, out)
+    }
+}
+
+impl std::error::Error for Error {}
+impl std::error::Error for ReadError {}
+
+impl From<Error> for ReadError {
+    fn from(error: Error) -> ReadError {
+        ReadError::Failed(error)
+    }
+}
+
+/// Checks whether a plan solves a task: `sas plan`.
+pub fn plan(task: &[u8], plan: &[u8]) -> Result<Answer, Error> {
+    of_both(sas_plan, task, plan, LINE_ROOM)
+}
+
+/// Checks a plan as [`plan`] does, with the reasons of a no in further lines: `sas plan --why`.
+pub fn plan_why(task: &[u8], plan: &[u8]) -> Result<Answer, Error> {
+    of_both(sas_plan_why, task, plan, USUAL_ROOM)
+}
+
+/// Checks a plan as [`plan`] does, and prints what each of its steps does: `sas trace`.
+pub fn trace(task: &[u8], plan: &[u8]) -> Result<Answer, Error> {
+    of_both(sas_trace, task, plan, USUAL_ROOM + 10 * plan.len() + task.len() / 8)
+}
+
+/// Checks whether a task is layered: `sas check`.
+pub fn check(task: &[u8]) -> Result<Answer, Error> {
+    of_one(sas_check, task, LINE_ROOM)
+}
+
+/// Checks a task as [`check`] does, with the reasons of a no in further lines: `sas check --why`.
+pub fn check_why(task: &[u8]) -> Result<Answer, Error> {
+    of_one(sas_check_why, task, USUAL_ROOM)
+}
+
+/// Checks which mutex groups of a task are exclusive: `sas mutex`. The answer is yes if all are shown to be.
+pub fn mutex(task: &[u8]) -> Result<Answer, Error> {
+    of_one(sas_mutex, task, USUAL_ROOM + task.len())
+}
+
+/// Checks mutex groups as [`mutex`] does, with the reasons of a no in further lines: `sas mutex --why`.
+pub fn mutex_why(task: &[u8]) -> Result<Answer, Error> {
+    of_one(sas_mutex_why, task, USUAL_ROOM + task.len())
+}
+
+/// Prints a summary of a task: `sas show`.
+pub fn show(task: &[u8]) -> Result<Answer, Error> {
+    of_one(sas_show, task, USUAL_ROOM + task.len())
+}
+
+/// Prints a task file, each line ended by LF: `sas print`.
+pub fn print(task: &[u8]) -> Result<Answer, Error> {
+    of_one(sas_print, task, LINE_ROOM + task.len())
+}
+
+/// Prints a plan file, each line ended by LF: `sas steps`.
+pub fn steps(plan: &[u8]) -> Result<Answer, Error> {
+    of_one(sas_steps, plan, LINE_ROOM + plan.len())
+}
+
+/// A layered task that is read once, for many plans.
+#[derive(Debug)]
+pub struct Task {
+    held: Held,
+}
+
+// SAFETY: a task is memory of malloc, which no thread owns. Its pointer keeps `Task` from being `Sync`.
+unsafe impl Send for Task {}
+
+impl Task {
+    /// Reads a task. One that isn't layered is refused, with the answer of [`check`].
+    pub fn read(task: &[u8]) -> Result<Task, ReadError> {
+        let mut read = Task { held: Held { is_there: 0, at: std::ptr::null_mut() } };
+        // SAFETY: a slice is so many bytes at a pointer that isn't null; `answer` gives a room and a size of its own.
+        let answer = answer(LINE_ROOM, |room, length, size| unsafe {
+            sas_task_read(&mut read.held, task.as_ptr(), task.len(), room, length, size)
+        })?;
+        if answer.is_yes { Ok(read) } else { Err(ReadError::Refused(answer.text)) }
+    }
+
+    /// Checks whether a plan solves the task, as the function `plan` does.
+    pub fn plan(&mut self, plan: &[u8]) -> Result<Answer, Error> {
+        // SAFETY: as in `read`; `self` is borrowed by one call at a time.
+        answer(LINE_ROOM, |room, length, size| unsafe {
+            sas_task_plan(&mut self.held, plan.as_ptr(), plan.len(), room, length, size)
+        })
+    }
+}
+
+impl Drop for Task {
+    fn drop(&mut self) {
+        // SAFETY: only calls of the library have changed the task.
+        unsafe { sas_task_free(&mut self.held) }
+    }
+}
+
+/// `sas_task` of sas.h.
+#[repr(C)]
+#[derive(Debug)]
+struct Held {
+    is_there: u8,
+    at: *mut c_void,
+}
+
+// the rooms that calls get first, in bytes: of a line, and of a longer answer
+const LINE_ROOM: usize = 128;
+const USUAL_ROOM: usize = 65536;
+
+const YES: u32 = 0;
+const NO: u32 = 1;
+const ROOM_TOO_SHORT: u32 = 2;
+const OUT_OF_MEMORY: u32 = 3;
+const INPUT_TOO_LONG: u32 = 4;
+
+type OfOne = unsafe extern "C" fn(*const u8, usize, *mut u8, usize, *mut usize) -> u32;
+type OfBoth = unsafe extern "C" fn(*const u8, usize, *const u8, usize, *mut u8, usize, *mut usize) -> u32;
+
+unsafe extern "C" {
+    fn sas_plan(t: *const u8, t_len: usize, p: *const u8, p_len: usize, room: *mut u8, len: usize, size: *mut usize) -> u32;
+    fn sas_plan_why(t: *const u8, t_len: usize, p: *const u8, p_len: usize, room: *mut u8, len: usize, size: *mut usize) -> u32;
+    fn sas_trace(t: *const u8, t_len: usize, p: *const u8, p_len: usize, room: *mut u8, len: usize, size: *mut usize) -> u32;
+    fn sas_check(task: *const u8, task_len: usize, room: *mut u8, len: usize, size: *mut usize) -> u32;
+    fn sas_check_why(task: *const u8, task_len: usize, room: *mut u8, len: usize, size: *mut usize) -> u32;
+    fn sas_mutex(task: *const u8, task_len: usize, room: *mut u8, len: usize, size: *mut usize) -> u32;
+    fn sas_mutex_why(task: *const u8, task_len: usize, room: *mut u8, len: usize, size: *mut usize) -> u32;
+    fn sas_show(task: *const u8, task_len: usize, room: *mut u8, len: usize, size: *mut usize) -> u32;
+    fn sas_print(task: *const u8, task_len: usize, room: *mut u8, len: usize, size: *mut usize) -> u32;
+    fn sas_steps(plan: *const u8, plan_len: usize, room: *mut u8, len: usize, size: *mut usize) -> u32;
+    fn sas_task_read(held: *mut Held, task: *const u8, task_len: usize, room: *mut u8, len: usize, size: *mut usize) -> u32;
+    fn sas_task_plan(held: *mut Held, plan: *const u8, plan_len: usize, room: *mut u8, len: usize, size: *mut usize) -> u32;
+    fn sas_task_free(held: *mut Held);
+}
+
+fn of_one(request: OfOne, file: &[u8], room: usize) -> Result<Answer, Error> {
+    // SAFETY: a slice is so many bytes at a pointer that isn't null; `answer` gives a room and a size of its own.
+    answer(room, |room, length, size| unsafe { request(file.as_ptr(), file.len(), room, length, size) })
+}
+
+fn of_both(request: OfBoth, task: &[u8], plan: &[u8], room: usize) -> Result<Answer, Error> {
+    // SAFETY: as in `of_one`.
+    answer(room, |room, length, size| unsafe { request(task.as_ptr(), task.len(), plan.as_ptr(), plan.len(), room, length, size) })
+}
+
+/// Returns the answer of a call. The call gets a room of so many bytes, and if the answer is longer, one that has its length.
+fn answer(room: usize, mut call: impl FnMut(*mut u8, usize, *mut usize) -> u32) -> Result<Answer, Error> {
+    let mut text = Vec::new();
+    let mut size = room;
+    loop {
+        text.clear();
+        text.try_reserve_exact(size).map_err(|_| Error::OutOfMemory)?;
+        text.resize(size, 0);
+        match call(text.as_mut_ptr(), text.len(), &mut size) {
+            number @ (YES | NO) => {
+                text.truncate(size);
+                text.shrink_to_fit();
+                return Ok(Answer { is_yes: number == YES, text });
+            }
+            ROOM_TOO_SHORT => {}
+            OUT_OF_MEMORY => return Err(Error::OutOfMemory),
+            INPUT_TOO_LONG => return Err(Error::InputTooLong),
+            _ => unreachable!("a `Task` holds a task"),
+        }
+    }
+}
