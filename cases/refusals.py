@@ -1,10 +1,13 @@
 """Why a file is refused, computed from its bytes: the first fault of a task file or a plan file, and the lines that `--why` prints
 behind it. Two spaces stand in front of each.
 
-    at PLACE               where the refused line of a task stands
-    due DUE                what is due there; of a plan it follows from the kind of fault
-    word K may be A to B   of a task, for `value` on a line of several numbers: the first word whose number may not stand there
-    found TEXT             the line without its end; for `trailing` the one byte, and for `end` the unfinished rest, if there is any
+    at PLACE                  where the refused line of a task stands
+    expected DUE              what is due there; of a plan it follows from the kind of fault
+    number K must be A to B   of a task, for `value` on a line of several numbers: the first number that may not stand there
+    found TEXT                the line without its end; for `trailing` the one byte
+    empty line                the line was empty
+    unfinished TEXT           for `end` the rest behind the last line end
+    end of file               for `end` where there is no rest
 
 The lines of a task are read here by what is due on each, and not by anything of the program. What is due follows from the lines that
 came before.
@@ -22,13 +25,13 @@ PLAN = b"(go )\n(open door)\n; cost = 2 (unit cost)\n"
 TASKS, PLANS = 1500, 300
 # the greatest number of a task, and the greatest cost of a plan
 MOST, MOST_COST = 2**31 - 1, 2**64 - 1
-# how many bytes of what was found are told
+# how many bytes of what was found are shown
 SHOWN = 64
 FACT, HEAD = "fact: VAR VALUE", "head: VAR OLD NEW"
 EFFECT = "effect: COUNT, COUNT times VAR VALUE, VAR OLD NEW"
 STEP, COST = "(NAME)", "; cost = N (unit cost) or ; cost = N (general cost)"
 # what is due in a plan, by the kind of fault
-PLAN_DUES = {"name": STEP, "shape": COST, "keyword": f"{STEP} or {COST}", "end": f"{STEP} or {COST}", "trailing": "nothing"}
+PLAN_DUES = {"name": STEP, "shape": COST, "keyword": f"{STEP} or {COST}", "end": f"{STEP} or {COST}", "trailing": "end of file"}
 
 
 def spelled(word, most=MOST):
@@ -108,7 +111,7 @@ def words_fault(due, ranges, words):
         return "shape", []
     for place, (value, (least, most)) in enumerate(zip(values, limits(due, ranges, values)), 1):
         if not least <= value <= most:
-            return "value", [f"word {place} may be {least} to {most}"]
+            return "value", [f"number {place} must be {least} to {most}"]
     return None
 
 
@@ -235,19 +238,20 @@ def first_fault(slots, text):
             here = slots.send(held)
         except StopIteration:
             here = None
-    return (line, "trailing", "the end", "nothing", [], text[at : at + 1]) if text[at:] else None
+    return (line, "trailing", "the end", "end of file", [], text[at : at + 1]) if text[at:] else None
 
 
 def shown(text):
-    """Returns some bytes as they are shown."""
-    return "".join(chr(byte) if 32 <= byte <= 126 and byte != 92 else f"\\x{byte:02x}" for byte in text)
+    """Returns a text as it is shown: its first bytes, and ` ..` behind them if there are more, or a space at its end as `\\x20`."""
+    first = "".join(chr(byte) if 32 <= byte <= 126 and byte != 92 else f"\\x{byte:02x}" for byte in text[:SHOWN])
+    return f"{first} .." if text[SHOWN:] else re.sub(" $", r"\\x20", first)
 
 
-def found_lines(kind, found):
-    """Returns the line that tells what was found, if there is one."""
-    if kind == "end" and not found:
-        return []
-    return [f"  found {shown(found[:SHOWN])}{' ..' if found[SHOWN:] else ''}"]
+def found_line(kind, found):
+    """Returns the line about what was found."""
+    if kind == "end":
+        return f"unfinished {shown(found)}" if found else "end of file"
+    return f"found {shown(found)}" if found else "empty line"
 
 
 def refusal(what, text):
@@ -256,8 +260,8 @@ def refusal(what, text):
     if fault is None:
         return None
     line, kind, place, due, words, found = fault
-    told = [f"at {place}", f"due {due}", *words] if what == "task" else [f"due {PLAN_DUES[kind]}"]
-    return [f"{what} refused: line {line}: {kind}", *(f"  {it}" for it in told), *found_lines(kind, found)]
+    expected = [f"at {place}", f"expected {due}", *words] if what == "task" else [f"expected {PLAN_DUES[kind]}"]
+    return [f"{what} refused: line {line}: {kind}", *(f"  {it}" for it in (*expected, found_line(kind, found)))]
 
 
 def behind_file(said, text):
@@ -285,7 +289,7 @@ def told_call(call, given, answer):
 # bytes that aren't shown as they are, and those beside them
 ODD = bytes([0, 31, 32, 91, 92, 93, 126, 127, 128, 255])
 # what may stand nowhere but in the place of a name
-ANYWHERE = [b"", b"x", b"\t", ODD, b"\\", b"..", *(b"x" * size for size in (63, 64, 65)), b"\xff" * 64, ODD * 7, b"x" * 64 + b"\n"]
+ANYWHERE = [b"", b"x", b"\t", ODD, b"\\", b"..", *(b"x" * size for size in (63, 64, 65)), b" ", b"x" * 63 + b" ", b"x" * 63 + b" x", b"\xff" * 64, ODD * 7, b"x" * 64 + b"\n"]
 # what may not stand in the place of a name either
 NAMELESS = [b"a\rb", b"\r\r", b"\rx", *(b"x" * size + b"\ry" for size in (61, 62, 63, 64)), b"\r" * 65 + b"x"]
 # what stands behind the end of a file

@@ -1,1 +1,2 @@
+mod ShownTexts
 pub mod ReasonLines

@@ -1,6 +1,7 @@
 -- Each line of reasons begins with two spaces, and holds neither LF nor CR.
-use Rattle.std.proofs.Common.{◌≢◌, ℕ, ◌+◌, ◌/◌, ◌%◌, Bool, true, false, IsTrue, List, [], ◌∷◌, ◌++◌, codes, refl, arith}
-use Rattle.std.specs.Prelude.{nat_lt, ◌&&◌, ◌==◌, not, if◌then◌else◌, decimal, Option, Some, None}
+use Rattle.std.proofs.Common.{◌≢◌, ℕ, ◌+◌, ◌/◌, ◌%◌, Bool, true, false, IsTrue, List, [], ◌∷◌, ◌++◌, codes, flat_map, refl, arith}
+use Rattle.std.specs.Prelude.{nat_lt, ◌&&◌, ◌==◌, not, if◌then◌else◌, decimal}
+use Rattle.std.specs.List.{AllByRecursion}
 use Rattle.std.proofs.lemmas.Bool.{ltb-true}
 use Rattle.sas_lines.specs.Spelling.{joined}
 use Rattle.sas_reader.specs.System.{IsPlain}
@@ -15,18 +16,25 @@ use Rattle.sas_task_format.specs.declared.marks.FixedWord.{FixedWord}
 use Rattle.sas_task_format.specs.declared.marks.FixedWord.TheVariants as fixed
 use Rattle.sas_task_format.specs.declared.marks.Location.{Location}
 use Rattle.sas_task_format.specs.declared.marks.Location.TheVariants as at
-use Rattle.sas_task_format.specs.declared.marks.WrongWord.{WrongWord}
-use Rattle.sas_file_reasons.specs.Found.{hex_digit_of, in_digits, shown_byte, shown, more_mark, found_line, rest_lines, found_lines}
-use Rattle.sas_file_reasons.specs.TaskDue.{location_words, due_words, least_words, wrong_word_line, wrong_word_lines}
-use Rattle.sas_file_reasons.specs.PlanDue.{plan_due_lines}
-use Rattle.sas_file_reasons.specs.Laws.{TellsReason, TellReasons, TaskLinesTell, PlanLinesTell}
+use Rattle.sas_file_reasons.specs.FileLine.{At, Expected, ExpectedInPlan, NumberMustBe, Found, EmptyLine, Unfinished, EndOfFile}
+use Rattle.sas_file_reasons.specs.FileLine.{location_words, due_words, plan_due_words, least_words}
+use Rattle.sas_file_reasons.specs.Laws.{IsReasonLine, FileLinesAreReasons}
+use Rattle.sas_file_reasons.specs.Shown.{hex_digit_of, in_digits, shown_byte, shown_whole, shown}
 
--- a line of a word and what stands behind it
-two : (word rest : List ℕ) → IsPlain word → IsPlain rest → TellsReason (line 2 (word ∷ rest ∷ []))
-two word rest w r = record {
-  behind = word ++ 32 ∷ rest;
+-- ---- lines of words
+
+plain_joined : (words : List (List ℕ)) → AllByRecursion IsPlain words → IsPlain (joined words)
+plain_joined [] h = tt
+plain_joined (word ∷ []) h = h.0
+plain_joined (word ∷ next ∷ words) h =
+    plain-append word (32 ∷ joined (next ∷ words)) h.0 (plain-append (codes " ") (joined (next ∷ words)) (plain_bytes (codes " ") refl) (plain_joined (next ∷ words) h.1))
+
+-- a line that begins with two spaces
+worded : (words : List (List ℕ)) → AllByRecursion IsPlain words → IsReasonLine (line 2 words)
+worded words h = record {
+  behind = joined words;
   spaces = refl;
-  plain = plain-append (codes "  ") (word ++ 32 ∷ rest) (plain_bytes (codes "  ") refl) (plain-append word (32 ∷ rest) w (plain-append (codes " ") rest (plain_bytes (codes " ") refl) r));
+  plain = plain-append (codes "  ") (joined words) (plain_bytes (codes "  ") refl) (plain_joined words h);
 }
 
 -- ---- what was found
@@ -41,45 +49,36 @@ digit_plain n = either (nat_lt n 10)
     either true = (λ e. omega (arith, e), λ e. omega (arith, e))
     either false = (λ e. omega (arith, e), λ e. omega (arith, e))
 
+digits_plain : (b : ℕ) → IsPlain (in_digits b)
+digits_plain b = plain-append (codes "\\x") (hex_digit_of (b / 16) ∷ hex_digit_of (b % 16) ∷ []) (plain_bytes (codes "\\x") refl) (digit_plain (b / 16), (digit_plain (b % 16), tt))
+
 byte_plain : (b : ℕ) → IsPlain (shown_byte b)
 byte_plain b = either (nat_lt 31 b) (nat_lt b 127) (not (b == 92)) (above b)
   where
-    digits : IsPlain (in_digits b)
-    digits = plain-append (codes "\\x") (hex_digit_of (b / 16) ∷ hex_digit_of (b % 16) ∷ []) (plain_bytes (codes "\\x") refl) (digit_plain (b / 16), (digit_plain (b % 16), tt))
-
     either : (over under other : Bool) → (IsTrue over → (b ≢ 10) × (b ≢ 13)) → IsPlain (if over && under && other then b ∷ [] else in_digits b)
-    either false under other h = digits
-    either true false other h = digits
-    either true true false h = digits
+    either false under other h = digits_plain b
+    either true false other h = digits_plain b
+    either true true false h = digits_plain b
     either true true true h = (h refl, tt)
 
-shown_plain : (bytes : List ℕ) → IsPlain (shown bytes)
-shown_plain [] = tt
-shown_plain (b ∷ bytes) = plain-append (shown_byte b) (shown bytes) (byte_plain b) (shown_plain bytes)
+bytes_plain : (bytes : List ℕ) → IsPlain (flat_map shown_byte bytes)
+bytes_plain [] = tt
+bytes_plain (b ∷ bytes) = plain-append (shown_byte b) (flat_map shown_byte bytes) (byte_plain b) (bytes_plain bytes)
 
-more_plain : (more : Bool) → IsPlain (more_mark more)
-more_plain true = plain_bytes (codes " ..") refl
-more_plain false = tt
+whole_plain : (bytes : List ℕ) → IsPlain (shown_whole bytes)
+whole_plain [] = tt
+whole_plain (b ∷ []) = either (b == 32)
+  where
+    either : (is_space : Bool) → IsPlain (if is_space then in_digits b else shown_byte b)
+    either true = digits_plain b
+    either false = byte_plain b
+whole_plain (b ∷ next ∷ bytes) = plain-append (shown_byte b) (shown_whole (next ∷ bytes)) (byte_plain b) (whole_plain (next ∷ bytes))
 
-found_tells : (bytes : List ℕ) (more : Bool) → TellsReason (found_line bytes more)
-found_tells bytes more = two (codes "found") (shown bytes ++ more_mark more) (plain_bytes (codes "found") refl) (plain-append (shown bytes) (more_mark more) (shown_plain bytes) (more_plain more))
+shown_plain : (bytes : List ℕ) (more : Bool) → IsPlain (shown bytes more)
+shown_plain bytes true = plain-append (flat_map shown_byte bytes) (codes " ..") (bytes_plain bytes) (plain_bytes (codes " ..") refl)
+shown_plain bytes false = whole_plain bytes
 
-rest_tells : (bytes : List ℕ) (more : Bool) → TellReasons (rest_lines bytes more)
-rest_tells [] more = tt
-rest_tells (b ∷ bytes) more = (found_tells (b ∷ bytes) more, tt)
-
-found_lines_tell : (kind : Kind) (bytes : List ℕ) (more : Bool) → TellReasons (found_lines kind bytes more)
-found_lines_tell kinds.End bytes more = rest_tells bytes more
-found_lines_tell kinds.Keyword bytes more = (found_tells bytes more, tt)
-found_lines_tell kinds.Name bytes more = (found_tells bytes more, tt)
-found_lines_tell kinds.Shape bytes more = (found_tells bytes more, tt)
-found_lines_tell kinds.Value bytes more = (found_tells bytes more, tt)
-found_lines_tell kinds.Trailing bytes more = (found_tells bytes more, tt)
-found_lines_tell kinds.TooLong bytes more = (found_tells bytes more, tt)
-found_lines_tell kinds.Read bytes more = (found_tells bytes more, tt)
-found_lines_tell kinds.Memory bytes more = (found_tells bytes more, tt)
-
--- ---- where a line stands, and what is due there
+-- ---- where a line stands, and what is expected there
 
 numbered : (word : List ℕ) (n : ℕ) → IsPlain word → IsPlain (word ++ decimal n)
 numbered word n h = plain-append word (decimal n) h (plain-decimal n)
@@ -127,57 +126,35 @@ due_plain due.Layer = plain_bytes (codes "number -1 to 2147483647") refl
 due_plain due.Fact = plain_bytes (codes "fact: VAR VALUE") refl
 due_plain due.Head = plain_bytes (codes "head: VAR OLD NEW") refl
 due_plain due.Effect = plain_bytes (codes "effect: COUNT, COUNT times VAR VALUE, VAR OLD NEW") refl
-due_plain due.Nothing = plain_bytes (codes "nothing") refl
+due_plain due.Nothing = plain_bytes (codes "end of file") refl
 
--- ---- the wrong word
+plan_due_plain : (kind : Kind) → IsPlain (plan_due_words kind)
+plan_due_plain kinds.Name = plain_bytes (plan_due_words kinds.Name) refl
+plan_due_plain kinds.Shape = plain_bytes (plan_due_words kinds.Shape) refl
+plan_due_plain kinds.Trailing = plain_bytes (plan_due_words kinds.Trailing) refl
+plan_due_plain kinds.Keyword = plain_bytes (plan_due_words kinds.Keyword) refl
+plan_due_plain kinds.End = plain_bytes (plan_due_words kinds.End) refl
+plan_due_plain kinds.Value = plain_bytes (plan_due_words kinds.Value) refl
+plan_due_plain kinds.TooLong = plain_bytes (plan_due_words kinds.TooLong) refl
+plan_due_plain kinds.Read = plain_bytes (plan_due_words kinds.Read) refl
+plan_due_plain kinds.Memory = plain_bytes (plan_due_words kinds.Memory) refl
 
-least_plain : (none : Bool) → IsPlain (least_words none)
+least_plain : (may_be_none : Bool) → IsPlain (least_words may_be_none)
 least_plain true = plain_bytes (codes "-1") refl
 least_plain false = plain_bytes (codes "0") refl
 
-wrong_tells : (w : WrongWord) → TellsReason (wrong_word_line w)
-wrong_tells w = two (codes "word") (joined (decimal w.word ∷ codes "may be" ∷ least_words w.may_be_none ∷ codes "to" ∷ decimal w.most ∷ [])) (plain_bytes (codes "word") refl)
-    (plain-append (decimal w.word) (codes " may be " ++ (least_words w.may_be_none ++ (codes " to " ++ decimal w.most))) (plain-decimal w.word)
-    (plain-append (codes " may be ") (least_words w.may_be_none ++ (codes " to " ++ decimal w.most)) (plain_bytes (codes " may be ") refl)
-    (plain-append (least_words w.may_be_none) (codes " to " ++ decimal w.most) (least_plain w.may_be_none) (numbered (codes " to ") w.most (plain_bytes (codes " to ") refl)))))
+-- ---- each line
 
-both : (a b : List (List ℕ)) → TellReasons a → TellReasons b → TellReasons (a ++ b)
-both [] b h g = g
-both (first ∷ a) b h g = (h.0, both a b h.1 g)
-
-wrong_lines_tell : (word : Option WrongWord) → TellReasons (wrong_word_lines word)
-wrong_lines_tell None = tt
-wrong_lines_tell (Some w) = (wrong_tells w, tt)
-
--- ---- all of them
-
-pub task_lines_tell : TaskLinesTell
-task_lines_tell mark word kind bytes more = (
-  two (codes "at") (location_words mark.at) (plain_bytes (codes "at") refl) (location_plain mark.at),
-  (
-    two (codes "due") (due_words mark.due) (plain_bytes (codes "due") refl) (due_plain mark.due),
-    both (wrong_word_lines word) (found_lines kind bytes more) (wrong_lines_tell word) (found_lines_tell kind bytes more),
-  ),
-)
-
-due_tells : (words : List ℕ) → IsPlain words → TellReasons (line 2 (codes "due" ∷ words ∷ []) ∷ [])
-due_tells words h = (two (codes "due") words (plain_bytes (codes "due") refl) h, tt)
-
-plan_due_tells : (kind : Kind) → TellReasons (plan_due_lines kind)
-plan_due_tells kinds.Name = due_tells (codes "(NAME)") (plain_bytes (codes "(NAME)") refl)
-plan_due_tells kinds.Shape =
-    due_tells (codes "; cost = N (unit cost) or ; cost = N (general cost)") (plain_bytes (codes "; cost = N (unit cost) or ; cost = N (general cost)") refl)
-plan_due_tells kinds.Keyword =
-    let words = codes "(NAME) or ; cost = N (unit cost) or ; cost = N (general cost)" in
-    due_tells words (plain_bytes words refl)
-plan_due_tells kinds.End =
-    let words = codes "(NAME) or ; cost = N (unit cost) or ; cost = N (general cost)" in
-    due_tells words (plain_bytes words refl)
-plan_due_tells kinds.Trailing = due_tells (codes "nothing") (plain_bytes (codes "nothing") refl)
-plan_due_tells kinds.Value = tt
-plan_due_tells kinds.TooLong = tt
-plan_due_tells kinds.Read = tt
-plan_due_tells kinds.Memory = tt
-
-pub plan_lines_tell : PlanLinesTell
-plan_lines_tell kind bytes more = both (plan_due_lines kind) (found_lines kind bytes more) (plan_due_tells kind) (found_lines_tell kind bytes more)
+pub file_lines_are_reasons : FileLinesAreReasons
+file_lines_are_reasons (At at) = worded (codes "at" ∷ location_words at ∷ []) (plain_bytes (codes "at") refl, (location_plain at, tt))
+file_lines_are_reasons (Expected d) = worded (codes "expected" ∷ due_words d ∷ []) (plain_bytes (codes "expected") refl, (due_plain d, tt))
+file_lines_are_reasons (ExpectedInPlan kind) = worded (codes "expected" ∷ plan_due_words kind ∷ []) (plain_bytes (codes "expected") refl, (plan_due_plain kind, tt))
+file_lines_are_reasons (NumberMustBe w) =
+    worded (codes "number" ∷ decimal w.word ∷ codes "must be" ∷ least_words w.may_be_none ∷ codes "to" ∷ decimal w.most ∷ []) (
+      plain_bytes (codes "number") refl,
+      (plain-decimal w.word, (plain_bytes (codes "must be") refl, (least_plain w.may_be_none, (plain_bytes (codes "to") refl, (plain-decimal w.most, tt))))),
+    )
+file_lines_are_reasons (Found bytes more) = worded (codes "found" ∷ shown bytes more ∷ []) (plain_bytes (codes "found") refl, (shown_plain bytes more, tt))
+file_lines_are_reasons EmptyLine = worded (codes "empty line" ∷ []) (plain_bytes (codes "empty line") refl, tt)
+file_lines_are_reasons (Unfinished bytes more) = worded (codes "unfinished" ∷ shown bytes more ∷ []) (plain_bytes (codes "unfinished") refl, (shown_plain bytes more, tt))
+file_lines_are_reasons EndOfFile = worded (codes "end of file" ∷ []) (plain_bytes (codes "end of file") refl, tt)

@@ -1,4 +1,4 @@
-pub mod Found
-pub mod TaskDue
-pub mod PlanDue
+pub mod Shown
+pub mod FileLine
+pub mod Reasons
 pub mod Laws

@@ -1,14 +1,16 @@
-// Where a line of a task file stands, and what is due there, in words.
+// Lines about where a line stands, and what is expected there.
 ghost use Rattle.std.specs.Prelude.{◌≡◌, ◌++◌, [], ◌∷◌, decimal, codes, OnOk};
-ghost use Rattle.sas_file_reasons.specs.TaskDue.{due_line, due_words, location_line, location_words};
+ghost use Rattle.sas_file_reasons.specs.FileLine as line;
+ghost use Rattle.sas_file_reasons.specs.FileLine.{due_words, ended, location_words, plan_due_words};
 
-use sas_lines::push_number;
-use sas_task_format::{Due, Location};
+use sas_lines::{push_line, push_number};
+use sas_reader::Kind;
+use sas_task_format::{Due, Location, WrongWord};
 use std::alloc::AllocError;
 
-/// Appends the line that tells where a line stands.
+/// Appends the line of where a line stands.
 pub(crate) fn push_location(out: &mut Vec<u8>, at: Location) -> Result<(), AllocError>
-    ensures { OnOk result (out.new.items ≡ out.old.items ++ (location_line at ++ 10 ∷ [])) }
+    ensures { OnOk result (out.new.items ≡ out.old.items ++ ended (line.At at)) }
 {
     out.extend_from_slice(b"  at ")?;
     push_location_words(out, at)?;
@@ -45,17 +47,17 @@ fn push_counted(out: &mut Vec<u8>, bytes: &[u8], n: u32) -> Result<(), AllocErro
     push_number(out, u128::from(n))
 }
 
-/// Appends the line that tells what is due.
+/// Appends the line of what is expected in a task.
 pub(crate) fn push_due(out: &mut Vec<u8>, due: Due) -> Result<(), AllocError>
-    ensures { OnOk result (out.new.items ≡ out.old.items ++ (due_line due ++ 10 ∷ [])) }
+    ensures { OnOk result (out.new.items ≡ out.old.items ++ ended (line.Expected due)) }
 {
-    out.extend_from_slice(b"  due ")?;
+    out.extend_from_slice(b"  expected ")?;
     push_due_words(out, due)?;
     out.push(b'\n')?;
     Ok(())
 }
 
-/// Appends the words for what is due.
+/// Appends the words for what is expected in a task.
 fn push_due_words(out: &mut Vec<u8>, due: Due) -> Result<(), AllocError>
     ensures { OnOk result (out.new.items ≡ out.old.items ++ due_words due) }
 {
@@ -69,7 +71,7 @@ fn push_due_words(out: &mut Vec<u8>, due: Due) -> Result<(), AllocError>
         Due::Effect => {
             out.extend_from_slice(b"effect: COUNT, COUNT times VAR VALUE, VAR OLD NEW")
         }
-        Due::Nothing => out.extend_from_slice(b"nothing"),
+        Due::Nothing => out.extend_from_slice(b"end of file"),
     }
 }
 
@@ -80,4 +82,39 @@ fn push_range(out: &mut Vec<u8>, least: u32, most: u32) -> Result<(), AllocError
 {
     push_counted(out, b"number ", least)?;
     push_counted(out, b" to ", most)
+}
+
+/// Appends the line of the number that may not stand there.
+pub(crate) fn push_wrong_word(out: &mut Vec<u8>, wrong: WrongWord) -> Result<(), AllocError>
+    ensures { OnOk result (out.new.items ≡ out.old.items ++ ended (line.NumberMustBe wrong)) }
+{
+    out.extend_from_slice(b"  number ")?;
+    push_number(out, u128::from(wrong.word))?;
+    let least: &[u8] = if wrong.may_be_none { b"-1" } else { b"0" };
+    out.extend_from_slice(b" must be ")?;
+    out.extend_from_slice(least)?;
+    out.extend_from_slice(b" to ")?;
+    push_number(out, u128::from(wrong.most))?;
+    out.push(b'\n')?;
+    Ok(())
+}
+
+/// Appends the line of what is expected in a plan where it has a fault of this kind.
+pub(crate) fn push_plan_due(out: &mut Vec<u8>, kind: Kind) -> Result<(), AllocError>
+    ensures { OnOk result (out.new.items ≡ out.old.items ++ ended (line.ExpectedInPlan kind)) }
+{
+    out.extend_from_slice(b"  expected ")?;
+    push_line(out, plan_due(kind))
+}
+
+/// Returns the words for what is expected in a plan where it has a fault of this kind.
+fn plan_due(kind: Kind) -> &'static [u8]
+    ensures { result.now ≡ plan_due_words kind }
+{
+    match kind {
+        Kind::Name => b"(NAME)",
+        Kind::Shape => b"; cost = N (unit cost) or ; cost = N (general cost)",
+        Kind::Trailing => b"end of file",
+        _ => b"(NAME) or ; cost = N (unit cost) or ; cost = N (general cost)",
+    }
 }

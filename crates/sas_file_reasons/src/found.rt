@@ -1,80 +1,89 @@
-// What was found in place of what was due, as it is told.
-ghost use Rattle.std.specs.Prelude.{◌≡◌, ◌<◌, [], ◌∷◌, ◌++◌, length, take, nat_lt, OnOk};
-ghost use Rattle.sas_lines.specs.Lines.{text};
-ghost use Rattle.sas_file_reasons.specs.Found.{hex_digit_of, is_shown, line_told, lines_told};
-ghost use Rattle.sas_file_reasons.specs.Found.{rest_lines, shown, shown_byte};
+// The line about what was found at a fault.
+ghost use Rattle.std.specs.Prelude.{◌≡◌, ◌<◌, ◌++◌, [], ◌∷◌, flat_map, OnOk};
+ghost use Rattle.sas_reader.specs.Found.{bytes_of};
+ghost use Rattle.sas_file_reasons.specs.FileLine.{ended};
+ghost use Rattle.sas_file_reasons.specs.Reasons.{found_line, judged_line, rest_line};
+ghost use Rattle.sas_file_reasons.specs.Shown.{hex_digit_of, is_shown, shown, shown_byte, shown_whole};
 
 use sas_lines::push_line;
-use sas_reader::Kind;
+use sas_reader::{Found, Kind};
 use std::alloc::AllocError;
 
-/// How many bytes of what was found are told.
-const MOST_BYTES: usize = 64;
-
-/// What was found: its first bytes, at most 64 of them, and whether there are more.
-#[derive(Clone, Copy, Debug)]
-pub struct FoundText<'a> {
-    pub bytes: &'a [u8],
-    pub more: bool,
-}
-
-impl<'a> FoundText<'a> {
-    /// Returns what is told of these bytes.
-    pub fn of(bytes: &'a [u8]) -> FoundText<'a>
-        ensures first { result.bytes.now ≡ take 64 bytes.now }
-        ensures more { result.more ≡ nat_lt 64 (length bytes.now) }
-    {
-        let told = MOST_BYTES.min(bytes.len());
-        FoundText {
-            bytes: &bytes[..told],
-            more: told < bytes.len(),
-        }
-    }
-}
-
-/// Appends the line that tells what was found; none where the file ends and nothing is left of it.
-pub(crate) fn push_found(
-    out: &mut Vec<u8>,
-    kind: Kind,
-    found: FoundText<'_>,
-) -> Result<(), AllocError>
-    ensures { OnOk result (out.new.items ≡ out.old.items ++ text (lines_told kind found.entry)) }
+/// Appends the line of what was found at a fault of this kind.
+pub(crate) fn push_found(out: &mut Vec<u8>, kind: Kind, found: &Found) -> Result<(), AllocError>
+    ensures { OnOk result (out.new.items ≡ out.old.items
+        ++ ended (found_line kind (bytes_of found.now) found.now.more)) }
 {
     match kind {
         Kind::End => push_rest(out, found),
-        _ => push_found_line(out, found),
+        _ => push_judged(out, found),
     }
 }
 
-/// Appends the line that tells what is left of a file that ends too early, if anything is.
-fn push_rest(out: &mut Vec<u8>, found: FoundText<'_>) -> Result<(), AllocError>
-    ensures { OnOk result (
-        out.new.items ≡ out.old.items ++ text (rest_lines found.entry.bytes.now found.entry.more)) }
+/// Appends the line of what is left of a file that ends too early.
+fn push_rest(out: &mut Vec<u8>, found: &Found) -> Result<(), AllocError>
+    ensures { OnOk result (out.new.items ≡ out.old.items
+        ++ ended (rest_line (bytes_of found.now) found.now.more)) }
 {
-    if found.bytes.is_empty() {
-        return Ok(());
+    if found.bytes().is_empty() {
+        return push_line(out, b"  end of file");
     }
-    push_found_line(out, found)
+    push_text(out, b"  unfinished ", found)
 }
 
-/// Appends the line that tells what was found.
-fn push_found_line(out: &mut Vec<u8>, found: FoundText<'_>) -> Result<(), AllocError>
-    ensures { OnOk result (out.new.items ≡ out.old.items ++ (line_told found.entry ++ 10 ∷ [])) }
+/// Appends the line of what was judged: a line, or the byte behind the end.
+fn push_judged(out: &mut Vec<u8>, found: &Found) -> Result<(), AllocError>
+    ensures { OnOk result (out.new.items ≡ out.old.items
+        ++ ended (judged_line (bytes_of found.now) found.now.more)) }
 {
-    out.extend_from_slice(b"  found ")?;
-    push_shown(out, found.bytes)?;
-    let behind: &[u8] = if found.more { b" .." } else { b"" };
-    push_line(out, behind)
+    if found.bytes().is_empty() {
+        return push_line(out, b"  empty line");
+    }
+    push_text(out, b"  found ", found)
 }
 
-/// Appends the bytes as they are shown.
-fn push_shown(out: &mut Vec<u8>, bytes: &[u8]) -> Result<(), AllocError>
-    ensures { OnOk result (out.new.items ≡ out.old.items ++ shown bytes.now) }
+/// Appends the line that begins with these bytes and shows what was found.
+fn push_text(out: &mut Vec<u8>, front: &[u8], found: &Found) -> Result<(), AllocError>
+    ensures { OnOk result (out.new.items ≡ out.old.items
+        ++ (front.now ++ (shown (bytes_of found.now) found.now.more ++ 10 ∷ []))) }
+{
+    out.extend_from_slice(front)?;
+    push_shown(out, found)?;
+    out.push(b'\n')?;
+    Ok(())
+}
+
+/// Appends what was found, as it is shown.
+fn push_shown(out: &mut Vec<u8>, found: &Found) -> Result<(), AllocError>
+    ensures { OnOk result (out.new.items
+        ≡ out.old.items ++ shown (bytes_of found.now) found.now.more) }
+{
+    if found.has_more() {
+        push_bytes(out, found.bytes(), b" ..")
+    } else {
+        push_whole(out, found.bytes())
+    }
+}
+
+/// Appends a whole text, as it is shown.
+fn push_whole(out: &mut Vec<u8>, bytes: &[u8]) -> Result<(), AllocError>
+    ensures { OnOk result (out.new.items ≡ out.old.items ++ shown_whole bytes.now) }
+{
+    match bytes.strip_suffix(b" ") {
+        Some(front) => push_bytes(out, front, b"\\x20"),
+        None => push_bytes(out, bytes, b""),
+    }
+}
+
+/// Appends the bytes, each as it is shown, and then the last ones as they are.
+fn push_bytes(out: &mut Vec<u8>, bytes: &[u8], last: &[u8]) -> Result<(), AllocError>
+    ensures { OnOk result (out.new.items
+        ≡ out.old.items ++ (flat_map shown_byte bytes.now ++ last.now)) }
 {
     for byte in bytes {
         push_byte(out, *byte)?;
     }
-    Ok(())
+    out.extend_from_slice(last)
 }
 
 /// Appends the byte as it is shown.

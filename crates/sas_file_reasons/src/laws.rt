@@ -1,9 +1,7 @@
 // Laws of the lines of reasons.
-ghost use Rattle.sas_file_reasons.specs.Laws.{TaskLinesTell, PlanLinesTell};
+ghost use Rattle.sas_file_reasons.specs.Laws.{FileLinesAreReasons};
 
-/// States what holds of the lines of reasons. Each begins with two spaces, and holds neither LF nor CR: so the refusal is left where
-/// they are taken away.
+/// States what holds of each line of reasons: it begins with two spaces, and holds neither LF nor CR.
 pub fn file_reason_laws()
-    ensures task_lines { TaskLinesTell }
-    ensures plan_lines { PlanLinesTell }
+    ensures { FileLinesAreReasons }
 {}

@@ -24,15 +24,15 @@ use Rattle.sas_plan_file.specs.declared.plan_refusal.PlanRefusal.{PlanRefusal}
 use Rattle.sas_task_format.proofs.TaskSections.{less, is_less}
 use Rattle.sas_task_format.specs.TaskReasons.{IsTaskReason}
 use Rattle.sas_task_reader.specs.declared.telling.TaskRefusal.{TaskRefusal}
-use Rattle.sas_file_reasons.specs.PlanDue.{plan_reason_lines}
-use Rattle.sas_file_reasons.specs.TaskDue.{task_reason_lines}
-use Rattle.sas_requests.specs.Explaining.{FileOutWhy, IsRefusedWith, task_refusal_lines, plan_refusal_lines}
+use Rattle.sas_file_reasons.specs.FileLine.{FileLine}
+use Rattle.sas_file_reasons.specs.Reasons.{task_reasons, plan_reasons, file_lines}
+use Rattle.sas_requests.specs.Explaining.{FileOutWhy, IsRefusedWith, task_refusal_reasons, plan_refusal_reasons}
 use Rattle.sas_requests.specs.FileReasons.{FaultReasons, told, past_limit, TellsTask, TellsPlan}
 use Rattle.sas_outputs.specs.Output.{refusal}
 use Rattle.sas_outputs.proofs.Outputs.{refused_kind, too_long_else, reading_of_refusal}
 use Rattle.sas_requests.proofs.RefusalReasons.{no_reasons, some_of}
 
-module _ {D V I S A R : Type 0} (left : D → Option (List ℕ)) (F : Format V I S) (telling : TellingLaws F) (Tells : Kind → List (List ℕ) → List ℕ → List (List ℕ) → Type 0) (Gives : List ℕ → A → Type 0)
+module _ {D V I S A R : Type 0} (left : D → Option (List ℕ)) (F : Format V I S) (telling : TellingLaws F) (Tells : Kind → List (List ℕ) → List ℕ → List FileLine → Type 0) (Gives : List ℕ → A → Type 0)
     (fault : R → Fault) (found : R → Found) (Told : List (List ℕ) → List ℕ → R → Type 0) (name : List ℕ) (IsAnswer : V → Output → Type 0) where
   abbrev Reads : Device D → Device D → Result A R → Type 0
   Reads = ReadsAllTelling F fault found Told left Gives
@@ -67,14 +67,14 @@ module _ {D V I S A R : Type 0} (left : D → Option (List ℕ)) (F : Format V I
 
   -- ---- a fault is refused, or the run ends at it
 
-  module _ (r : R) (reasons : List (List ℕ)) (tells : (accepted : List (List ℕ)) (text : List ℕ) → IsFoundOf text (found r) → Told accepted text r → Tells (fault r).kind accepted text reasons) where
+  module _ (r : R) (reasons : List FileLine) (tells : (accepted : List (List ℕ)) (text : List ℕ) → IsFoundOf text (found r) → Told accepted text r → Tells (fault r).kind accepted text reasons) where
     reasons_of : (b : List ℕ) → TellsAbout F fault found Told b r → FaultReasons F Tells b (fault r) reasons
     reasons_of b (accepted, text, about, is, says) = told accepted text about (tells accepted text is says)
 
     -- the kind of a fault that is refused
     worded_kind : (o : Output) → IsRefusedWith name (fault r) reasons o → IsTold (fault r).kind
     worded_kind o is =
-        let (plain, refused, same) = some_of reasons (refusal name (fault r)) o (sym is) in (
+        let (plain, refused, same) = some_of (file_lines reasons) (refusal name (fault r)) o (sym is) in (
           refused_kind (fault r).kind Read _ plain refl refused,
           refused_kind (fault r).kind TooLong _ plain refl refused,
           refused_kind (fault r).kind Memory _ plain refl refused,
@@ -157,17 +157,17 @@ more_is true n h = sym (less 64 n (h.0 refl))
 more_is false n h = not_true (nat_lt 64 n) (λ t. h.1 (is_less 64 n t))
 
 -- what a refusal tells of a task, and of a plan
-pub task_refusal_tells : (r : TaskRefusal) (accepted : List (List ℕ)) (text : List ℕ) → IsFoundOf text r.found → IsTaskReason (r.fault).kind accepted text r.mark r.word → TellsTask (r.fault).kind accepted text (task_refusal_lines r)
+pub task_refusal_tells : (r : TaskRefusal) (accepted : List (List ℕ)) (text : List ℕ) → IsFoundOf text r.found → IsTaskReason (r.fault).kind accepted text r.mark r.word → TellsTask (r.fault).kind accepted text (task_refusal_reasons r)
 task_refusal_tells r accepted text is reason = record {
   mark = r.mark;
   word = r.word;
   reason = reason;
   lines =
-      ap (λ (bytes : List ℕ). task_reason_lines r.mark r.word (r.fault).kind bytes (r.found).more) is.front
-      ∙ ap (λ (more : Bool). task_reason_lines r.mark r.word (r.fault).kind (take 64 text) more) (more_is (r.found).more (length text) is.longer);
+      ap (λ (bytes : List ℕ). task_reasons (r.fault).kind r.mark r.word bytes (r.found).more) is.front
+      ∙ ap (λ (more : Bool). task_reasons (r.fault).kind r.mark r.word (take 64 text) more) (more_is (r.found).more (length text) is.longer);
 }
 
-pub plan_refusal_tells : (r : PlanRefusal) (accepted : List (List ℕ)) (text : List ℕ) → IsFoundOf text r.found → TellsPlan (r.fault).kind accepted text (plan_refusal_lines r)
+pub plan_refusal_tells : (r : PlanRefusal) (accepted : List (List ℕ)) (text : List ℕ) → IsFoundOf text r.found → TellsPlan (r.fault).kind accepted text (plan_refusal_reasons r)
 plan_refusal_tells r accepted text is =
-    ap (λ (bytes : List ℕ). plan_reason_lines (r.fault).kind bytes (r.found).more) is.front
-    ∙ ap (λ (more : Bool). plan_reason_lines (r.fault).kind (take 64 text) more) (more_is (r.found).more (length text) is.longer)
+    ap (λ (bytes : List ℕ). plan_reasons (r.fault).kind bytes (r.found).more) is.front
+    ∙ ap (λ (more : Bool). plan_reasons (r.fault).kind (take 64 text) more) (more_is (r.found).more (length text) is.longer)

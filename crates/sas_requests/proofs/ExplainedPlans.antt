@@ -16,6 +16,7 @@ use Rattle.sas_reader.specs.Limit.{most_bytes}
 use Rattle.sas_plan_file.specs.PlanFormat.{plan_format}
 use Rattle.sas_task_format.specs.TaskFormat.{task_format}
 use Rattle.sas_task_format.proofs.TaskLaws.{task_laws_hold}
+use Rattle.sas_file_reasons.specs.FileLine.{FileLine}
 use Rattle.sas_output.specs.declared.ending.ToolFault.{ToolFault}
 use Rattle.sas_output.specs.declared.ending.ToolFault.TheVariants as tool_fault
 use Rattle.sas_output.specs.Ending.{Output}
@@ -36,7 +37,7 @@ use Rattle.sas_requests.proofs.WhyAnswers.{why_refuses}
 -- ---- a file that is no task
 
 -- as nothing is answered by reading the task alone, it is refused, with the same reasons
-refused_reading : (b c : List ℕ) (read : Result Parts Fault) (o : Option Output) (reasons : List (List ℕ)) → IsAnswerOrRefusal (codes "task") NoAnswer read o → ReadReasons task_format TellsTask b read reasons → JudgedFileReasons b read c reasons
+refused_reading : (b c : List ℕ) (read : Result Parts Fault) (o : Option Output) (reasons : List FileLine) → IsAnswerOrRefusal (codes "task") NoAnswer read o → ReadReasons task_format TellsTask b read reasons → JudgedFileReasons b read c reasons
 refused_reading b c (Ok p) o reasons out why = absurd out.1
 refused_reading b c (Err fault) o reasons out why = why
 

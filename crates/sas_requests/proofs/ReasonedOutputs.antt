@@ -8,6 +8,8 @@ use Rattle.sas_reader.specs.declared.fault.Fault.{Fault}
 use Rattle.sas_reader.specs.System.{IsPlain}
 use Rattle.sas_reader.proofs.Plain.{plain_bytes}
 use Rattle.sas_groups.specs.declared.verdict.Verdict.TheVariants.{Exclusive}
+use Rattle.sas_file_reasons.specs.FileLine.{FileLine}
+use Rattle.sas_file_reasons.specs.Reasons.{file_lines, file_text}
 use Rattle.sas_output.specs.declared.ending.Status.{Status}
 use Rattle.sas_output.specs.declared.ending.Status.TheVariants.{Yes, No}
 use Rattle.sas_output.specs.Ending.{Output}
@@ -25,7 +27,7 @@ use Rattle.sas_outputs.proofs.Headlines.{sent_same, headline_of}
 use Rattle.sas_requests.proofs.InvariantGroups.{why_groups, invariants_of, reasons_apart}
 use Rattle.sas_requests.proofs.ReasonLines.{AreReasons}
 use Rattle.sas_requests.proofs.RefusalReasons.{no_reasons, none_of, some_of, IsFileRefusal, stand_behind}
-use Rattle.sas_requests.proofs.RefusalLaws.{one_reasons, some_reasons, reasons_tell}
+use Rattle.sas_requests.proofs.RefusalLaws.{one_reasons, some_reasons, file_lines_tell}
 use Rattle.sas_requests.proofs.SameAnswers.{same_of_read}
 use Rattle.sas_outputs.proofs.PlainLines.{file_words, file_plain, kind_plain}
 use Rattle.sas_requests.proofs.ToldLines.{IsTold, stays, first_stays, lines_of_first}
@@ -40,16 +42,16 @@ one_why request b c o p x y =
     let reasons = one_reasons request b c x.reasons y.reasons x.are_reasons y.are_reasons in
     let read = one_of_read request b c x.of_read y.of_read x.is_out y.is_out in
     x.whole
-    ∙ (ap (λ (r : List (List ℕ)). option_map (with_reasons r) x.of_read) reasons
-    ∙ (ap (λ (q : Option Output). option_map (with_reasons y.reasons) q) read ∙ sym y.whole))
+    ∙ (ap (λ (r : List FileLine). option_map (with_reasons (file_lines r)) x.of_read) reasons
+    ∙ (ap (λ (q : Option Output). option_map (with_reasons (file_lines y.reasons)) q) read ∙ sym y.whole))
 
 pub some_why : SomeWhyOutput
 some_why request b c none =
     some_of_read request b c (λ q out. some_reasons request b c (λ reasons why.
-    none (option_map (with_reasons reasons) q) (record { of_read = q; reasons = reasons; is_out = out; are_reasons = why; whole = refl })))
+    none (option_map (with_reasons (file_lines reasons)) q) (record { of_read = q; reasons = reasons; is_out = out; are_reasons = why; whole = refl })))
 
 pub long_why : NoneWhyIsLong
-long_why request b c out = long_of_read request b c (subst (OutOfRead request b c) (none_of out.reasons out.of_read out.whole) out.is_out)
+long_why request b c out = long_of_read request b c (subst (OutOfRead request b c) (none_of (file_lines out.reasons) out.of_read out.whole) out.is_out)
 
 -- ---- the refusal of a file is one line
 
@@ -101,33 +103,33 @@ refusal_line_of o refused = elim refused.1 [
 
 -- ---- the same answer
 
-module _ (o told : Output) (reasons : List (List ℕ)) (whole : o ≡ with_reasons reasons told) where
+module _ (o told : Output) (reasons : List FileLine) (whole : o ≡ with_reasons (file_lines reasons) told) where
   as_it_was : reasons ≡ [] → o ≡ told
-  as_it_was none = whole ∙ (ap (λ (r : List (List ℕ)). with_reasons r told) none ∙ no_reasons told)
+  as_it_was none = whole ∙ (ap (λ (r : List FileLine). with_reasons (file_lines r) told) none ∙ no_reasons told)
 
   module _ (l : IsRefusalLine told) where
     says_no : o.status ≡ No
     says_no = ap (λ (x : Output). x.status) whole ∙ l.status
 
-    text_is : o.text ≡ (l.line ++ 10 ∷ []) ++ text reasons
-    text_is = ap (λ (x : Output). x.text) whole ∙ ap (λ (t : List ℕ). t ++ text reasons) l.text
+    text_is : o.text ≡ (l.line ++ 10 ∷ []) ++ file_text reasons
+    text_is = ap (λ (x : Output). x.text) whole ∙ ap (λ (t : List ℕ). t ++ file_text reasons) l.text
 
-    left : AreReasons reasons → without_reasons o.text ≡ told.text
-    left are = ap without_reasons text_is ∙ (first_stays l.line reasons l.told are ∙ sym l.text)
+    left : without_reasons o.text ≡ told.text
+    left = ap without_reasons text_is ∙ (first_stays l.line (file_lines reasons) l.told (file_lines_tell reasons) ∙ sym l.text)
 
-  same_with : AreReasons reasons → (plain : Output) → IsSameAnswer plain told → IsRefusalLine told → IsSameAnswer plain o
-  same_with are plain same l =
+  same_with : (plain : Output) → IsSameAnswer plain told → IsRefusalLine told → IsSameAnswer plain o
+  same_with plain same l =
       let no : plain.status ≡ No = sym same.status ∙ l.status in
       record {
         status = says_no l ∙ sym no;
         yes = λ is_yes. absurd (let apart : Yes ≡ No = sym is_yes ∙ no in cc);
-        no = λ _. left l are ∙ (sym (stays told.text (record { told = l.line ∷ []; each = (l.told, tt); whole = l.text ∙ sym (append-nil (l.line ++ 10 ∷ [])) })) ∙ same.no no);
+        no = λ _. left l ∙ (sym (stays told.text (record { told = l.line ∷ []; each = (l.told, tt); whole = l.text ∙ sym (append-nil (l.line ++ 10 ∷ [])) })) ∙ same.no no);
       }
 
 module _ (request : Request) (b c : List ℕ) (o : Output) (out : OutWhy request b c (Some o)) where
   -- the output of what was read, behind which the reasons stand
-  came : (told : Output) × (out.of_read ≡ Some told) × (o ≡ with_reasons out.reasons told)
-  came = some_of out.reasons out.of_read o out.whole
+  came : (told : Output) × (out.of_read ≡ Some told) × (o ≡ with_reasons (file_lines out.reasons) told)
+  came = some_of (file_lines out.reasons) out.of_read o out.whole
 
   came_out : OutOfRead request b c (Some came.0)
   came_out = subst (OutOfRead request b c) came.1 out.is_out
@@ -139,9 +141,6 @@ module _ (request : Request) (b c : List ℕ) (o : Output) (out : OutWhy request
     | inr refused ↦ inr (refusal_line_of came.0 (subst IsFileRefusal came.1 refused))
   ]
 
-  tells : AreReasons out.reasons
-  tells = reasons_tell request b c out.reasons out.are_reasons
-
 pub same_answer : SameAnswer
 same_answer request b c why out =
     let read = same_of_read request b c (came request b c why out).0 (came_out request b c why out) in (
@@ -149,7 +148,7 @@ same_answer request b c why out =
       read.1,
       elim (as_read request b c why out) [
         | inl same ↦ subst (IsSameAnswer read.0) (sym same) read.2
-        | inr l ↦ same_with why (came request b c why out).0 out.reasons (came request b c why out).2 (tells request b c why out) read.0 read.2 l
+        | inr l ↦ same_with why (came request b c why out).0 out.reasons (came request b c why out).2 read.0 read.2 l
       ],
     )
 
@@ -175,7 +174,7 @@ module _ (b c : List ℕ) (o : Output) (out : OutWhy Plan b c (Some o)) where
       let whole = (came Plan b c o out).2 in
       record {
         line = λ steps cost. (
-          λ printed. absurd (l.no_plan (text out.reasons) steps cost (sym (text_is o read out.reasons whole l) ∙ sent_same old new before o.text (valid_line steps cost) known sent printed)),
+          λ printed. absurd (l.no_plan (file_text out.reasons) steps cost (sym (text_is o read out.reasons whole l) ∙ sent_same old new before o.text (valid_line steps cost) known sent printed)),
           λ solves. absurd (unsolved l steps cost solves),
         );
         yes = (
@@ -207,7 +206,7 @@ module _ (b c : List ℕ) (o : Output) (out : OutWhy Mutex b c (Some o)) where
 
   refused_says : IsRefusalLine read_of → (place : ℕ) → Contains (lines o.text) (group_line place Exclusive) → ⊥
   refused_says l place has =
-      says_none l.line out.reasons l.told (tells Mutex b c o out) l.no_group place
+      says_none l.line (file_lines out.reasons) l.told (file_lines_tell out.reasons) l.no_group place
       (subst (λ (t : List ℕ). Contains (lines t) (group_line place Exclusive)) (text_is o read_of out.reasons (came Mutex b c o out).2 l) has)
 
   pub invariants_why : (old new : Option (List ℕ)) (before : List ℕ) → old ≡ Some before → Appends old new o.text → Invariants b (Appends old new)

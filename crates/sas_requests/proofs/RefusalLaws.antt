@@ -27,10 +27,10 @@ use Rattle.sas_task_format.proofs.MarkLaws.{one_task_reason}
 use Rattle.sas_task_format.proofs.SomeReason.{some_task_reason}
 use Rattle.sas_task_format.proofs.TaskGrammar.{task_grammar}
 use Rattle.sas_task_format.proofs.TaskLaws.{task_laws_hold}
-use Rattle.sas_file_reasons.specs.Laws.{TellsReason, TellReasons}
-use Rattle.sas_file_reasons.specs.PlanDue.{plan_reason_lines}
-use Rattle.sas_file_reasons.specs.TaskDue.{task_reason_lines}
-use Rattle.sas_file_reasons.proofs.ReasonLines.{task_lines_tell, plan_lines_tell}
+use Rattle.sas_file_reasons.specs.FileLine.{FileLine, file_line_bytes}
+use Rattle.sas_file_reasons.specs.Laws.{IsReasonLine}
+use Rattle.sas_file_reasons.specs.Reasons.{task_reasons, file_lines}
+use Rattle.sas_file_reasons.proofs.ReasonLines.{file_lines_are_reasons}
 use Rattle.sas_outputs.specs.declared.Request.{Request}
 use Rattle.sas_outputs.specs.declared.Request.TheVariants.{Show, Print, Steps, Check, Plan, Mutex}
 use Rattle.sas_requests.specs.FileReasons.{FaultReasons, told, past_limit, ReadReasons, FileReasons, TellsTask, TellsPlan, LayersFileReasons, JudgedFileReasons, FilesReasons, RefusalReasons}
@@ -46,7 +46,7 @@ plan_telling = telling_laws_of plan_format PlanLineFits plan_node plan_start pla
 
 -- ---- one file
 
-module _ {V I S : Type 0} (F : Format V I S) (Tells : Kind → List (List ℕ) → List ℕ → List (List ℕ) → Type 0) (laws : Laws F) (telling : TellingLaws F) (worded : Worded F) where
+module _ {V I S : Type 0} (F : Format V I S) (Tells : Kind → List (List ℕ) → List ℕ → List FileLine → Type 0) (laws : Laws F) (telling : TellingLaws F) (worded : Worded F) where
   -- what a fault is about has a word
   about_short : (bytes : List ℕ) (f : Fault) (begun : List (List ℕ)) (found : List ℕ) → IsAbout F most_bytes bytes f begun found → f.kind ≢ kinds.TooLong
   about_short bytes f begun found (of_line h ha ht s n k) e = worded s found f.kind k (rw e refl)
@@ -55,9 +55,9 @@ module _ {V I S : Type 0} (F : Format V I S) (Tells : Kind → List (List ℕ) �
 
   -- one set of lines, where what a fault is about is told in one way
   abbrev OneTelling : Type 0
-  OneTelling = (kind : Kind) (begun : List (List ℕ)) (found : List ℕ) (r s : List (List ℕ)) → Tells kind begun found r → Tells kind begun found s → r ≡ s
+  OneTelling = (kind : Kind) (begun : List (List ℕ)) (found : List ℕ) (r s : List FileLine) → Tells kind begun found r → Tells kind begun found s → r ≡ s
 
-  one_fault : OneTelling → (bytes : List ℕ) (f : Fault) (r s : List (List ℕ)) → FaultReasons F Tells bytes f r → FaultReasons F Tells bytes f s → r ≡ s
+  one_fault : OneTelling → (bytes : List ℕ) (f : Fault) (r s : List FileLine) → FaultReasons F Tells bytes f r → FaultReasons F Tells bytes f s → r ≡ s
   one_fault one bytes f r s (told a t h x) (told b u j y) =
       let same = telling.one_about most_bytes bytes f a b t u h j in
       let here : Tells f.kind b u r = subst (λ (k : List (List ℕ)). Tells f.kind k u r) same.0 (subst (λ (w : List ℕ). Tells f.kind a w r) same.1 x) in
@@ -66,102 +66,77 @@ module _ {V I S : Type 0} (F : Format V I S) (Tells : Kind → List (List ℕ) �
   one_fault one bytes f r s (past_limit k e) (told b u j y) = absurd (about_short bytes f b u j k)
   one_fault one bytes f r s (past_limit k e) (past_limit l d) = e ∙ sym d
 
-  one_read : OneTelling → (bytes : List ℕ) (read : Result V Fault) (r s : List (List ℕ)) → ReadReasons F Tells bytes read r → ReadReasons F Tells bytes read s → r ≡ s
+  one_read : OneTelling → (bytes : List ℕ) (read : Result V Fault) (r s : List FileLine) → ReadReasons F Tells bytes read r → ReadReasons F Tells bytes read s → r ≡ s
   one_read one bytes (Ok v) r s x y = x ∙ sym y
   one_read one bytes (Err f) r s x y = one_fault one bytes f r s x y
 
-  one_file : OneTelling → (bytes : List ℕ) (r s : List (List ℕ)) → FileReasons F Tells bytes r → FileReasons F Tells bytes s → r ≡ s
+  one_file : OneTelling → (bytes : List ℕ) (r s : List FileLine) → FileReasons F Tells bytes r → FileReasons F Tells bytes s → r ≡ s
   one_file one bytes r s x y =
       let same = laws.one_reading most_bytes bytes y.0 x.0 y.1 x.1 in
       one_read one bytes x.0 r s x.2 (subst (λ (q : Result V Fault). ReadReasons F Tells bytes q s) same y.2)
 
   -- and some, where what a fault is about can be told
   abbrev SomeTelling : Type 0
-  SomeTelling = (bytes : List ℕ) (f : Fault) (begun : List (List ℕ)) (found : List ℕ) → IsAbout F most_bytes bytes f begun found → (r : List (List ℕ)) × Tells f.kind begun found r
+  SomeTelling = (bytes : List ℕ) (f : Fault) (begun : List (List ℕ)) (found : List ℕ) → IsAbout F most_bytes bytes f begun found → (r : List FileLine) × Tells f.kind begun found r
 
-  about_reasons : SomeTelling → (bytes : List ℕ) (f : Fault) → (a : List (List ℕ)) × (t : List ℕ) × IsAbout F most_bytes bytes f a t → (r : List (List ℕ)) × FaultReasons F Tells bytes f r
+  about_reasons : SomeTelling → (bytes : List ℕ) (f : Fault) → (a : List (List ℕ)) × (t : List ℕ) × IsAbout F most_bytes bytes f a t → (r : List FileLine) × FaultReasons F Tells bytes f r
   about_reasons some bytes f (a, t, h) = let r = some bytes f a t h in (r.0, told a t h r.1)
 
-  some_at : SomeTelling → (bytes : List ℕ) (f : Fault) (h : FaultOf F most_bytes bytes f) → KindAt F most_bytes h.before h.byte f.kind → (r : List (List ℕ)) × FaultReasons F Tells bytes f r
+  some_at : SomeTelling → (bytes : List ℕ) (f : Fault) (h : FaultOf F most_bytes bytes f) → KindAt F most_bytes h.before h.byte f.kind → (r : List FileLine) × FaultReasons F Tells bytes f r
   some_at some bytes f h (too_long long k) = ([], past_limit k refl)
   some_at some bytes f h (trailing short v reads k) = about_reasons some bytes f (lines h.before, h.byte ∷ [], of_byte h refl refl v reads k)
   some_at some bytes f h (wrong short line is s next k) = about_reasons some bytes f (lines h.before, line, of_line h refl is s next k)
 
-  some_fault : SomeTelling → (bytes : List ℕ) (f : Fault) → ReadsAs F most_bytes bytes (Err f) → (r : List (List ℕ)) × FaultReasons F Tells bytes f r
+  some_fault : SomeTelling → (bytes : List ℕ) (f : Fault) → ReadsAs F most_bytes bytes (Err f) → (r : List FileLine) × FaultReasons F Tells bytes f r
   some_fault some bytes f (inl h) = some_at some bytes f h h.kind
   some_fault some bytes f (inr h) = about_reasons some bytes f (lines bytes, unfinished bytes, of_end h refl refl)
 
-  some_read : SomeTelling → (bytes : List ℕ) (read : Result V Fault) → ReadsAs F most_bytes bytes read → (r : List (List ℕ)) × ReadReasons F Tells bytes read r
+  some_read : SomeTelling → (bytes : List ℕ) (read : Result V Fault) → ReadsAs F most_bytes bytes read → (r : List FileLine) × ReadReasons F Tells bytes read r
   some_read some bytes (Ok v) reads = ([], refl)
   some_read some bytes (Err f) reads = some_fault some bytes f reads
 
-  some_file : SomeTelling → (bytes : List ℕ) → ((r : List (List ℕ)) → FileReasons F Tells bytes r → ⊥) → ⊥
+  some_file : SomeTelling → (bytes : List ℕ) → ((r : List FileLine) → FileReasons F Tells bytes r → ⊥) → ⊥
   some_file some bytes none =
       laws.some_reading most_bytes bytes (λ read reads. let r = some_read some bytes read reads in none r.0 (read, reads, r.1))
 
-  -- each line tells a reason
-  abbrev TellingTells : Type 0
-  TellingTells = (kind : Kind) (begun : List (List ℕ)) (found : List ℕ) (r : List (List ℕ)) → Tells kind begun found r → AreReasons r
-
-  fault_tells : TellingTells → (bytes : List ℕ) (f : Fault) (r : List (List ℕ)) → FaultReasons F Tells bytes f r → AreReasons r
-  fault_tells each bytes f r (told a t h x) = each f.kind a t r x
-  fault_tells each bytes f r (past_limit k e) = subst AreReasons (sym e) tt
-
-  read_tells : TellingTells → (bytes : List ℕ) (read : Result V Fault) (r : List (List ℕ)) → ReadReasons F Tells bytes read r → AreReasons r
-  read_tells each bytes (Ok v) r x = subst AreReasons (sym x) tt
-  read_tells each bytes (Err f) r x = fault_tells each bytes f r x
-
 -- ---- what is told of a task, and of a plan
 
-one_task_telling : (kind : Kind) (begun : List (List ℕ)) (found : List ℕ) (r s : List (List ℕ)) → TellsTask kind begun found r → TellsTask kind begun found s → r ≡ s
+one_task_telling : (kind : Kind) (begun : List (List ℕ)) (found : List ℕ) (r s : List FileLine) → TellsTask kind begun found r → TellsTask kind begun found s → r ≡ s
 one_task_telling kind begun found r s x y =
     let same = one_task_reason kind begun found x.mark y.mark x.word y.word x.reason y.reason in
-    let lines_of = λ (m : Mark) (w : Option WrongWord). task_reason_lines m w kind (take 64 found) (nat_lt 64 (length found)) in
+    let lines_of = λ (m : Mark) (w : Option WrongWord). task_reasons kind m w (take 64 found) (nat_lt 64 (length found)) in
     x.lines ∙ (ap (λ (m : Mark). lines_of m x.word) same.0 ∙ (ap (lines_of y.mark) same.1 ∙ sym y.lines))
 
-some_task_telling : (bytes : List ℕ) (f : Fault) (begun : List (List ℕ)) (found : List ℕ) → IsAbout task_format most_bytes bytes f begun found → (r : List (List ℕ)) × TellsTask f.kind begun found r
+some_task_telling : (bytes : List ℕ) (f : Fault) (begun : List (List ℕ)) (found : List ℕ) → IsAbout task_format most_bytes bytes f begun found → (r : List FileLine) × TellsTask f.kind begun found r
 some_task_telling bytes f begun found h =
     let (m, w, reason) = some_task_reason bytes f begun found h in
     (_, record { mark = m; word = w; reason = reason; lines = refl })
-
-one_reason : (line : List ℕ) → TellsReason line → IsReason line
-one_reason line t = record { plain = t.plain; tells = subst (λ (l : List ℕ). is_reason l ≡ true) (sym t.spaces) refl }
-
-all_reasons : (ls : List (List ℕ)) → TellReasons ls → AreReasons ls
-all_reasons [] h = tt
-all_reasons (l ∷ ls) h = (one_reason l h.0, all_reasons ls h.1)
-
-task_telling_tells : (kind : Kind) (begun : List (List ℕ)) (found : List ℕ) (r : List (List ℕ)) → TellsTask kind begun found r → AreReasons r
-task_telling_tells kind begun found r x = subst AreReasons (sym x.lines) (all_reasons (task_reason_lines x.mark x.word kind (take 64 found) (nat_lt 64 (length found))) (task_lines_tell x.mark x.word kind (take 64 found) (nat_lt 64 (length found))))
-
-plan_telling_tells : (kind : Kind) (begun : List (List ℕ)) (found : List ℕ) (r : List (List ℕ)) → TellsPlan kind begun found r → AreReasons r
-plan_telling_tells kind begun found r x = subst AreReasons (sym x) (all_reasons (plan_reason_lines kind (take 64 found) (nat_lt 64 (length found))) (plan_lines_tell kind (take 64 found) (nat_lt 64 (length found))))
 
 -- ---- the files of a request
 
 worded_plan : Worded plan_format
 worded_plan s line k = plan_worded line k
 
-one_task : (b : List ℕ) (r s : List (List ℕ)) → FileReasons task_format TellsTask b r → FileReasons task_format TellsTask b s → r ≡ s
+one_task : (b : List ℕ) (r s : List FileLine) → FileReasons task_format TellsTask b r → FileReasons task_format TellsTask b s → r ≡ s
 one_task = one_file task_format TellsTask task_laws_hold task_telling task_worded one_task_telling
 
-one_plan : (c : List ℕ) (r s : List (List ℕ)) → FileReasons plan_format TellsPlan c r → FileReasons plan_format TellsPlan c s → r ≡ s
+one_plan : (c : List ℕ) (r s : List FileLine) → FileReasons plan_format TellsPlan c r → FileReasons plan_format TellsPlan c s → r ≡ s
 one_plan = one_file plan_format TellsPlan plan_laws_hold plan_telling worded_plan (λ kind begun found r s x y. x ∙ sym y)
 
-one_layers : (first : Option LayerFault) (c : List ℕ) (r s : List (List ℕ)) → LayersFileReasons first c r → LayersFileReasons first c s → r ≡ s
+one_layers : (first : Option LayerFault) (c : List ℕ) (r s : List FileLine) → LayersFileReasons first c r → LayersFileReasons first c s → r ≡ s
 one_layers (Some fault) c r s x y = x ∙ sym y
 one_layers None c r s x y = one_plan c r s x y
 
-one_judged : (b : List ℕ) (read : Result Parts Fault) (c : List ℕ) (r s : List (List ℕ)) → JudgedFileReasons b read c r → JudgedFileReasons b read c s → r ≡ s
+one_judged : (b : List ℕ) (read : Result Parts Fault) (c : List ℕ) (r s : List FileLine) → JudgedFileReasons b read c r → JudgedFileReasons b read c s → r ≡ s
 one_judged b (Err f) c r s x y = one_fault task_format TellsTask task_laws_hold task_telling task_worded one_task_telling b f r s x y
 one_judged b (Ok p) c r s x y = one_layers (first_fault (layer_checks p)) c r s x y
 
-one_files : (b c : List ℕ) (r s : List (List ℕ)) → FilesReasons b c r → FilesReasons b c s → r ≡ s
+one_files : (b c : List ℕ) (r s : List FileLine) → FilesReasons b c r → FilesReasons b c s → r ≡ s
 one_files b c r s x y =
     let same = task_laws_hold.one_reading most_bytes b y.0 x.0 y.1 x.1 in
     one_judged b x.0 c r s x.2 (subst (λ (q : Result Parts Fault). JudgedFileReasons b q c s) same y.2)
 
-pub one_reasons : (request : Request) (b c : List ℕ) (r s : List (List ℕ)) → RefusalReasons request b c r → RefusalReasons request b c s → r ≡ s
+pub one_reasons : (request : Request) (b c : List ℕ) (r s : List FileLine) → RefusalReasons request b c r → RefusalReasons request b c s → r ≡ s
 one_reasons Show b c = one_task b
 one_reasons Print b c = one_task b
 one_reasons Steps b c = one_plan c
@@ -169,24 +144,24 @@ one_reasons Check b c = one_task b
 one_reasons Plan b c = one_files b c
 one_reasons Mutex b c = one_task b
 
-some_task : (b : List ℕ) → ((r : List (List ℕ)) → FileReasons task_format TellsTask b r → ⊥) → ⊥
+some_task : (b : List ℕ) → ((r : List FileLine) → FileReasons task_format TellsTask b r → ⊥) → ⊥
 some_task = some_file task_format TellsTask task_laws_hold task_telling task_worded some_task_telling
 
-some_plan : (c : List ℕ) → ((r : List (List ℕ)) → FileReasons plan_format TellsPlan c r → ⊥) → ⊥
+some_plan : (c : List ℕ) → ((r : List FileLine) → FileReasons plan_format TellsPlan c r → ⊥) → ⊥
 some_plan = some_file plan_format TellsPlan plan_laws_hold plan_telling worded_plan (λ bytes f begun found h. (_, refl))
 
-some_layers : (first : Option LayerFault) (c : List ℕ) → ((r : List (List ℕ)) → LayersFileReasons first c r → ⊥) → ⊥
+some_layers : (first : Option LayerFault) (c : List ℕ) → ((r : List FileLine) → LayersFileReasons first c r → ⊥) → ⊥
 some_layers (Some fault) c none = none [] refl
 some_layers None c none = some_plan c none
 
-some_judged : (b : List ℕ) (read : Result Parts Fault) (c : List ℕ) → ReadsAs task_format most_bytes b read → ((r : List (List ℕ)) → JudgedFileReasons b read c r → ⊥) → ⊥
+some_judged : (b : List ℕ) (read : Result Parts Fault) (c : List ℕ) → ReadsAs task_format most_bytes b read → ((r : List FileLine) → JudgedFileReasons b read c r → ⊥) → ⊥
 some_judged b (Err f) c reads none = let r = some_fault task_format TellsTask task_laws_hold task_telling task_worded some_task_telling b f reads in none r.0 r.1
 some_judged b (Ok p) c reads none = some_layers (first_fault (layer_checks p)) c none
 
-some_files : (b c : List ℕ) → ((r : List (List ℕ)) → FilesReasons b c r → ⊥) → ⊥
+some_files : (b c : List ℕ) → ((r : List FileLine) → FilesReasons b c r → ⊥) → ⊥
 some_files b c none = task_laws_hold.some_reading most_bytes b (λ read reads. some_judged b read c reads (λ r why. none r (read, reads, why)))
 
-pub some_reasons : (request : Request) (b c : List ℕ) → ((r : List (List ℕ)) → RefusalReasons request b c r → ⊥) → ⊥
+pub some_reasons : (request : Request) (b c : List ℕ) → ((r : List FileLine) → RefusalReasons request b c r → ⊥) → ⊥
 some_reasons Show b c = some_task b
 some_reasons Print b c = some_task b
 some_reasons Steps b c = some_plan c
@@ -194,24 +169,11 @@ some_reasons Check b c = some_task b
 some_reasons Plan b c = some_files b c
 some_reasons Mutex b c = some_task b
 
-task_tells : (b : List ℕ) (r : List (List ℕ)) → FileReasons task_format TellsTask b r → AreReasons r
-task_tells b r x = read_tells task_format TellsTask task_laws_hold task_telling task_worded task_telling_tells b x.0 r x.2
+-- ---- each line tells a reason
 
-plan_tells : (c : List ℕ) (r : List (List ℕ)) → FileReasons plan_format TellsPlan c r → AreReasons r
-plan_tells c r x = read_tells plan_format TellsPlan plan_laws_hold plan_telling worded_plan plan_telling_tells c x.0 r x.2
+one_reason : (line : List ℕ) → IsReasonLine line → IsReason line
+one_reason line l = record { plain = l.plain; tells = subst (λ (bytes : List ℕ). is_reason bytes ≡ true) (sym l.spaces) refl }
 
-layers_tell : (first : Option LayerFault) (c : List ℕ) (r : List (List ℕ)) → LayersFileReasons first c r → AreReasons r
-layers_tell (Some fault) c r x = subst AreReasons (sym x) tt
-layers_tell None c r x = plan_tells c r x
-
-judged_tell : (b : List ℕ) (read : Result Parts Fault) (c : List ℕ) (r : List (List ℕ)) → JudgedFileReasons b read c r → AreReasons r
-judged_tell b (Err f) c r x = fault_tells task_format TellsTask task_laws_hold task_telling task_worded task_telling_tells b f r x
-judged_tell b (Ok p) c r x = layers_tell (first_fault (layer_checks p)) c r x
-
-pub reasons_tell : (request : Request) (b c : List ℕ) (r : List (List ℕ)) → RefusalReasons request b c r → AreReasons r
-reasons_tell Show b c r x = task_tells b r x
-reasons_tell Print b c r x = task_tells b r x
-reasons_tell Steps b c r x = plan_tells c r x
-reasons_tell Check b c r x = task_tells b r x
-reasons_tell Plan b c r x = judged_tell b x.0 c r x.2
-reasons_tell Mutex b c r x = task_tells b r x
+pub file_lines_tell : (reasons : List FileLine) → AreReasons (file_lines reasons)
+file_lines_tell [] = tt
+file_lines_tell (line ∷ reasons) = (one_reason (file_line_bytes line) (file_lines_are_reasons line), file_lines_tell reasons)

@@ -15,6 +15,7 @@ use Rattle.sas_plan_file.specs.PlanFormat.{plan_format}
 use Rattle.sas_plan_file.proofs.PlanLaws.{plan_laws_hold}
 use Rattle.sas_task_format.specs.TaskFormat.{task_format}
 use Rattle.sas_task_format.proofs.TaskLaws.{task_laws_hold}
+use Rattle.sas_file_reasons.specs.FileLine.{FileLine}
 use Rattle.sas_output.specs.Ending.{Output}
 use Rattle.sas_task_reasons.specs.WhyLayers.{with_reasons, why_refusal, WhyCheckAnswer, WhyMutexAnswer}
 use Rattle.sas_explain.specs.Verdict.{WhyVerdict}
@@ -44,15 +45,15 @@ some_of reasons (Some plain) o e = (plain, refl, let same : o ≡ with_reasons r
 abbrev pub IsFileRefusal : Option Output → Type 0
 IsFileRefusal o = (fault : Fault) × ((o ≡ refusal (codes "task") fault) ⊎ (o ≡ refusal (codes "plan") fault))
 
-abbrev pub StandBehind : List (List ℕ) → Option Output → Type 0
+abbrev pub StandBehind : List FileLine → Option Output → Type 0
 StandBehind reasons o = (reasons ≡ []) ⊎ IsFileRefusal o
 
-module _ {V I S : Type 0} (F : Format V I S) (Tells : Kind → List (List ℕ) → List ℕ → List (List ℕ) → Type 0) (laws : Laws F) (name : List ℕ) (IsAnswer : V → Output → Type 0) (is_file : (fault : Fault) (o : Option Output) → o ≡ refusal name fault → IsFileRefusal o) where
-  by_reading : (bytes : List ℕ) (r : Result V Fault) (o : Option Output) (reasons : List (List ℕ)) → IsAnswerOrRefusal name IsAnswer r o → ReadReasons F Tells bytes r reasons → StandBehind reasons o
+module _ {V I S : Type 0} (F : Format V I S) (Tells : Kind → List (List ℕ) → List ℕ → List FileLine → Type 0) (laws : Laws F) (name : List ℕ) (IsAnswer : V → Output → Type 0) (is_file : (fault : Fault) (o : Option Output) → o ≡ refusal name fault → IsFileRefusal o) where
+  by_reading : (bytes : List ℕ) (r : Result V Fault) (o : Option Output) (reasons : List FileLine) → IsAnswerOrRefusal name IsAnswer r o → ReadReasons F Tells bytes r reasons → StandBehind reasons o
   by_reading bytes (Ok v) o reasons out why = inl why
   by_reading bytes (Err fault) o reasons out why = inr (is_file fault o out)
 
-  file_behind : (bytes : List ℕ) (o : Option Output) (reasons : List (List ℕ)) → FileOut F name IsAnswer bytes o → FileReasons F Tells bytes reasons → StandBehind reasons o
+  file_behind : (bytes : List ℕ) (o : Option Output) (reasons : List FileLine) → FileOut F name IsAnswer bytes o → FileReasons F Tells bytes reasons → StandBehind reasons o
   file_behind bytes o reasons out why =
       let same = laws.one_reading most_bytes bytes why.0 out.0 why.1 out.1 in
       by_reading bytes out.0 o reasons out.2 (subst (λ (r : Result V Fault). ReadReasons F Tells bytes r reasons) same why.2)
@@ -63,15 +64,15 @@ of_task fault o is = (fault, inl is)
 of_plan : (fault : Fault) (o : Option Output) → o ≡ refusal (codes "plan") fault → IsFileRefusal o
 of_plan fault o is = (fault, inr is)
 
-layers_behind : (p : Parts) (first : Option LayerFault) (c : List ℕ) (o : Option Output) (reasons : List (List ℕ)) → LayersOut WhyVerdict why_refusal p first c o → LayersFileReasons first c reasons → StandBehind reasons o
+layers_behind : (p : Parts) (first : Option LayerFault) (c : List ℕ) (o : Option Output) (reasons : List FileLine) → LayersOut WhyVerdict why_refusal p first c o → LayersFileReasons first c reasons → StandBehind reasons o
 layers_behind p (Some fault) c o reasons out why = inl why
 layers_behind p None c o reasons out why = file_behind plan_format TellsPlan plan_laws_hold (codes "plan") (WhyVerdict p) of_plan c o reasons out why
 
-judged_behind : (b c : List ℕ) (r : Result Parts Fault) (o : Option Output) (reasons : List (List ℕ)) → JudgedOut WhyVerdict why_refusal r c o → JudgedFileReasons b r c reasons → StandBehind reasons o
+judged_behind : (b c : List ℕ) (r : Result Parts Fault) (o : Option Output) (reasons : List FileLine) → JudgedOut WhyVerdict why_refusal r c o → JudgedFileReasons b r c reasons → StandBehind reasons o
 judged_behind b c (Err fault) o reasons out why = inr (of_task fault o out)
 judged_behind b c (Ok p) o reasons out why = layers_behind p (first_fault (layer_checks p)) c o reasons out why
 
-pub stand_behind : (request : Request) (b c : List ℕ) (o : Option Output) (reasons : List (List ℕ)) → OutOfRead request b c o → RefusalReasons request b c reasons → StandBehind reasons o
+pub stand_behind : (request : Request) (b c : List ℕ) (o : Option Output) (reasons : List FileLine) → OutOfRead request b c o → RefusalReasons request b c reasons → StandBehind reasons o
 stand_behind Show b c o reasons out why = file_behind task_format TellsTask task_laws_hold (codes "task") ShowAnswer of_task b o reasons out why
 stand_behind Print b c o reasons out why = file_behind task_format TellsTask task_laws_hold (codes "task") (PrintAnswer task_format) of_task b o reasons out why
 stand_behind Steps b c o reasons out why = file_behind plan_format TellsPlan plan_laws_hold (codes "plan") (PrintAnswer plan_format) of_plan c o reasons out why

@@ -10,8 +10,8 @@ use Rattle.sas_plan_file.specs.declared.plan_refusal.PlanRefusal.{PlanRefusal}
 use Rattle.sas_plan_file.specs.PlanFormat.{plan_format}
 use Rattle.sas_task_format.specs.TaskFormat.{task_format}
 use Rattle.sas_task_reader.specs.declared.telling.TaskRefusal.{TaskRefusal}
-use Rattle.sas_file_reasons.specs.TaskDue.{task_reason_lines}
-use Rattle.sas_file_reasons.specs.PlanDue.{plan_reason_lines}
+use Rattle.sas_file_reasons.specs.FileLine.{FileLine}
+use Rattle.sas_file_reasons.specs.Reasons.{task_reasons, plan_reasons, file_lines}
 use Rattle.sas_output.specs.Ending.{Output}
 use Rattle.sas_task_reasons.specs.WhyLayers.{with_reasons}
 use Rattle.sas_requests.specs.FileReasons.{FileReasons, TellsTask, TellsPlan}
@@ -19,14 +19,14 @@ use Rattle.sas_outputs.specs.Output.{refusal, FileOut}
 
 -- the output about one file with the reasons of what was read, and behind a refusal why it is refused
 module _ {V I S : Type 0} (F : Format V I S)
-    (Tells : Kind → List (List ℕ) → List ℕ → List (List ℕ) → Type 0) (name : List ℕ)
+    (Tells : Kind → List (List ℕ) → List ℕ → List FileLine → Type 0) (name : List ℕ)
     (IsAnswer : V → Output → Type 0) where
   pub record FileOutWhy (bytes : List ℕ) (output : Option Output) : Type 0 where
     pub of_read : Option Output
-    pub reasons : List (List ℕ)
+    pub reasons : List FileLine
     pub is_out : FileOut F name IsAnswer bytes of_read
     pub are_reasons : FileReasons F Tells bytes reasons
-    pub whole : output ≡ option_map (with_reasons reasons) of_read
+    pub whole : output ≡ option_map (with_reasons (file_lines reasons)) of_read
 
 abbrev pub TaskOutWhy : (Parts → Output → Type 0) → List ℕ → Option Output → Type 0
 TaskOutWhy = FileOutWhy task_format TellsTask (codes "task")
@@ -34,15 +34,15 @@ TaskOutWhy = FileOutWhy task_format TellsTask (codes "task")
 abbrev pub PlanOutWhy : (PlanParts → Output → Type 0) → List ℕ → Option Output → Type 0
 PlanOutWhy = FileOutWhy plan_format TellsPlan (codes "plan")
 
--- the output refuses the file of this name for the fault, with these lines behind
-abbrev pub IsRefusedWith : List ℕ → Fault → List (List ℕ) → Output → Type 0
+-- the output refuses the file of this name for the fault, with these reasons behind
+abbrev pub IsRefusedWith : List ℕ → Fault → List FileLine → Output → Type 0
 IsRefusedWith name fault reasons output =
-    option_map (with_reasons reasons) (refusal name fault) ≡ Some output
+    option_map (with_reasons (file_lines reasons)) (refusal name fault) ≡ Some output
 
--- the lines that tell a refusal
-abbrev pub task_refusal_lines : TaskRefusal → List (List ℕ)
-task_refusal_lines r =
-    task_reason_lines r.mark r.word (r.fault).kind (bytes_of r.found) (r.found).more
+-- the reasons of a refusal
+abbrev pub task_refusal_reasons : TaskRefusal → List FileLine
+task_refusal_reasons r =
+    task_reasons (r.fault).kind r.mark r.word (bytes_of r.found) (r.found).more
 
-abbrev pub plan_refusal_lines : PlanRefusal → List (List ℕ)
-plan_refusal_lines r = plan_reason_lines (r.fault).kind (bytes_of r.found) (r.found).more
+abbrev pub plan_refusal_reasons : PlanRefusal → List FileLine
+plan_refusal_reasons r = plan_reasons (r.fault).kind (bytes_of r.found) (r.found).more

@@ -15,73 +15,73 @@ use Rattle.sas_task_format.specs.declared.marks.Mark.{Mark}
 use Rattle.sas_task_format.specs.declared.marks.WrongWord.{WrongWord}
 use Rattle.sas_task_format.specs.TaskFormat.{task_format}
 use Rattle.sas_task_format.specs.TaskReasons.{IsTaskReason}
-use Rattle.sas_file_reasons.specs.TaskDue.{task_reason_lines}
-use Rattle.sas_file_reasons.specs.PlanDue.{plan_reason_lines}
+use Rattle.sas_file_reasons.specs.FileLine.{FileLine}
+use Rattle.sas_file_reasons.specs.Reasons.{task_reasons, plan_reasons}
 use Rattle.sas_outputs.specs.declared.Request.{Request}
 use Rattle.sas_outputs.specs.declared.Request.TheVariants.{Show, Print, Steps, Check, Plan, Mutex}
 
 -- ---- one file
 
 -- `Tells` relates the kind of a fault, the lines that were accepted before it, and the text that
--- stood there, to the lines that tell why it may not stand there.
+-- stood there, to the reasons why it may not stand there.
 module _ {V I S : Type 0} (F : Format V I S)
-    (Tells : Kind → List (List ℕ) → List ℕ → List (List ℕ) → Type 0) where
+    (Tells : Kind → List (List ℕ) → List ℕ → List FileLine → Type 0) where
   -- the reasons why the bytes are refused for their fault: those of what it is about; a file that is
   -- too long is refused without a line
-  pub data FaultReasons (bytes : List ℕ) (fault : Fault) (reasons : List (List ℕ)) : Type 0 where
+  pub data FaultReasons (bytes : List ℕ) (fault : Fault) (reasons : List FileLine) : Type 0 where
     told : (begun : List (List ℕ)) → (found : List ℕ) → IsAbout F most_bytes bytes fault begun found
         → Tells fault.kind begun found reasons → FaultReasons bytes fault reasons
     past_limit : fault.kind ≡ TooLong → reasons ≡ [] → FaultReasons bytes fault reasons
 
   -- by what the bytes are read as: where they are a text there are none
-  abbrev pub ReadReasons : List ℕ → Result V Fault → List (List ℕ) → Type 0
+  abbrev pub ReadReasons : List ℕ → Result V Fault → List FileLine → Type 0
   ReadReasons bytes (Ok value) reasons = reasons ≡ []
   ReadReasons bytes (Err fault) reasons = FaultReasons bytes fault reasons
 
   -- the reasons why the bytes are refused
-  abbrev pub FileReasons : List ℕ → List (List ℕ) → Type 0
+  abbrev pub FileReasons : List ℕ → List FileLine → Type 0
   FileReasons bytes reasons = (read : Result V Fault) × ReadsAs F most_bytes bytes read
       × ReadReasons bytes read reasons
 
--- a task: where the line stands, what is due there, its first wrong word, and the first 64 bytes of
--- what was found
+-- a task: where the line stands, what is expected there, its first number that may not stand there,
+-- and the first 64 bytes of what was found
 pub record TellsTask (kind : Kind) (begun : List (List ℕ)) (found : List ℕ)
-    (reasons : List (List ℕ)) : Type 0 where
+    (reasons : List FileLine) : Type 0 where
   pub mark : Mark
   pub word : Option WrongWord
   pub reason : IsTaskReason kind begun found mark word
   pub lines : reasons
-      ≡ task_reason_lines mark word kind (take 64 found) (nat_lt 64 (length found))
+      ≡ task_reasons kind mark word (take 64 found) (nat_lt 64 (length found))
 
--- a plan: what is due, by the kind of the fault, and the first 64 bytes of what was found
-abbrev pub TellsPlan : Kind → List (List ℕ) → List ℕ → List (List ℕ) → Type 0
+-- a plan: what is expected, by the kind of the fault, and the first 64 bytes of what was found
+abbrev pub TellsPlan : Kind → List (List ℕ) → List ℕ → List FileLine → Type 0
 TellsPlan kind begun found reasons =
-    reasons ≡ plan_reason_lines kind (take 64 found) (nat_lt 64 (length found))
+    reasons ≡ plan_reasons kind (take 64 found) (nat_lt 64 (length found))
 
-abbrev pub TaskFileReasons : List ℕ → List (List ℕ) → Type 0
+abbrev pub TaskFileReasons : List ℕ → List FileLine → Type 0
 TaskFileReasons = FileReasons task_format TellsTask
 
-abbrev pub PlanFileReasons : List ℕ → List (List ℕ) → Type 0
+abbrev pub PlanFileReasons : List ℕ → List FileLine → Type 0
 PlanFileReasons = FileReasons plan_format TellsPlan
 
 -- ---- the files of a request
 
 -- of a task that was read, by the first fault of its layers if they have one: only for a layered one
 -- the plan is read
-abbrev pub LayersFileReasons : Option LayerFault → List ℕ → List (List ℕ) → Type 0
+abbrev pub LayersFileReasons : Option LayerFault → List ℕ → List FileLine → Type 0
 LayersFileReasons (Some fault) c reasons = reasons ≡ []
 LayersFileReasons None c reasons = PlanFileReasons c reasons
 
-abbrev pub JudgedFileReasons : List ℕ → Result Parts Fault → List ℕ → List (List ℕ) → Type 0
+abbrev pub JudgedFileReasons : List ℕ → Result Parts Fault → List ℕ → List FileLine → Type 0
 JudgedFileReasons b (Err fault) c reasons = FaultReasons task_format TellsTask b fault reasons
 JudgedFileReasons b (Ok p) c reasons = LayersFileReasons (first_fault (layer_checks p)) c reasons
 
-abbrev pub FilesReasons : List ℕ → List ℕ → List (List ℕ) → Type 0
+abbrev pub FilesReasons : List ℕ → List ℕ → List FileLine → Type 0
 FilesReasons b c reasons = (read : Result Parts Fault) × ReadsAs task_format most_bytes b read
     × JudgedFileReasons b read c reasons
 
 -- the reasons why a file of the request is refused, for the bytes b of the task and c of the plan
-abbrev pub RefusalReasons : Request → List ℕ → List ℕ → List (List ℕ) → Type 0
+abbrev pub RefusalReasons : Request → List ℕ → List ℕ → List FileLine → Type 0
 RefusalReasons Show b c reasons = TaskFileReasons b reasons
 RefusalReasons Print b c reasons = TaskFileReasons b reasons
 RefusalReasons Steps b c reasons = PlanFileReasons c reasons

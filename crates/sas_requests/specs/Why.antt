@@ -5,6 +5,8 @@ use Rattle.sas_output.specs.declared.ending.Status.TheVariants.{Yes, No}
 use Rattle.sas_output.specs.Ending.{Output}
 use Rattle.sas_reasons.specs.Lines.{begins}
 use Rattle.sas_task_format.specs.TaskFormat.{task_format}
+use Rattle.sas_file_reasons.specs.FileLine.{FileLine}
+use Rattle.sas_file_reasons.specs.Reasons.{file_lines}
 use Rattle.sas_task_reasons.specs.WhyLayers.{with_reasons, why_refusal, WhyCheckAnswer, WhyMutexAnswer}
 use Rattle.sas_explain.specs.Verdict.{WhyVerdict}
 use Rattle.sas_outputs.specs.declared.Request.{Request}
@@ -37,10 +39,10 @@ OutOfRead Mutex b c output = WhyMutexOut b output
 -- The output with reasons: this, and behind the refusal of a file why it is refused.
 pub record OutWhy (request : Request) (b c : List ℕ) (output : Option Output) : Type 0 where
   pub of_read : Option Output
-  pub reasons : List (List ℕ)
+  pub reasons : List FileLine
   pub is_out : OutOfRead request b c of_read
   pub are_reasons : RefusalReasons request b c reasons
-  pub whole : output ≡ option_map (with_reasons reasons) of_read
+  pub whole : output ≡ option_map (with_reasons (file_lines reasons)) of_read
 
 -- the answer has no reasons: it is the one without
 abbrev pub HasNoReasons : Request → List ℕ → List ℕ → Type 0

@@ -1,2 +1,5 @@
 pub mod Facts
+pub mod Laws
+pub mod Line
 pub mod Lines
+pub mod Wording

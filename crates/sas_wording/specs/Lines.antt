@@ -2,7 +2,7 @@
 use Rattle.std.specs.Prelude.{ℕ, List, ◌∷◌, decimal}
 use Rattle.sas_core.specs.declared.parts.Parts.{Parts}
 use Rattle.sas_output.specs.Words.{line, spaces_of}
-use Rattle.sas_wording.specs.declared.lines.Start.{Start}
+use Rattle.sas_wording.specs.declared.wording.Start.{Start}
 use Rattle.sas_wording.specs.declared.lines.Deed.{Deed}
 use Rattle.sas_wording.specs.Facts.{fact_words}
 

@@ -1,8 +1,16 @@
 //! How reasons are worded: lines of words, numbers and names of a task, as they go out. The task needn't be layered.
 #![tactic(auto)]
 
+mod laws;
+mod line;
 mod lines;
 mod names;
+mod pushing;
+mod wording;
 
-pub use lines::{Deed, Start, push_count, push_deed, push_fact, push_named, push_words};
-pub use names::{given_by, operator_name, set_by, value_name};
+pub use laws::line_laws;
+pub use line::Line;
+pub use lines::{Deed, push_count, push_deed, push_fact, push_named, push_words};
+pub use names::{Named, given_by, operator_name, set_by, value_name};
+pub use pushing::push_lines;
+pub use wording::Start;

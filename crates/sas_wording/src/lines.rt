@@ -5,40 +5,12 @@ ghost use Rattle.sas_wording.specs.Facts.{fact_words};
 ghost use Rattle.sas_wording.specs.Lines.{line_from, deed_line};
 
 use crate::names::value_name;
+use crate::wording::Start;
 use sas_core::Fact;
 use sas_flat::FlatTask;
 use sas_lines::{Short, Watched};
-use sas_output::{Indent, Pieces, Word, Words};
+use sas_output::{Pieces, Word, Words};
 use std::io::Write;
-
-/// How a line begins: the spaces in front, and the first words.
-#[derive(Clone, Copy, Debug)]
-pub struct Start {
-    pub indent: Indent,
-    pub words: &'static [u8],
-}
-
-impl Start {
-    /// Returns that a line begins with these words, behind two spaces.
-    pub fn two(words: &'static [u8]) -> Start
-        ensures { result ≡ record { indent = Indent.Two; words = words.entry } }
-    {
-        Start {
-            indent: Indent::Two,
-            words,
-        }
-    }
-
-    /// Returns that a line begins with these words, behind four spaces.
-    pub fn four(words: &'static [u8]) -> Start
-        ensures { result ≡ record { indent = Indent.Four; words = words.entry } }
-    {
-        Start {
-            indent: Indent::Four,
-            words,
-        }
-    }
-}
 
 /// What a part of a task does with a fact, as `rule 3 gives ..`: the word for the part, its number, and what it does.
 #[derive(Clone, Copy, Debug)]

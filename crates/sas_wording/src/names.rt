@@ -1,12 +1,44 @@
 // What the numbers of a line mean in a task: names and facts.
-ghost use Rattle.std.specs.Prelude.{◌≡◌, []};
+ghost use Rattle.std.specs.Prelude.{◌≡◌, ◌-◌, [], slice_index_or};
 ghost use Rattle.std.specs.Option.{unwrap_or};
 ghost use Rattle.sas_core.specs.Grounded.{operator_at, effect_at, rule_at};
 ghost use Rattle.sas_core.specs.Variables as spec;
 ghost use Rattle.sas_wording.specs.Facts.{fact_of_effect, fact_of_rule};
+ghost use Rattle.sas_wording.specs.Wording.{steps_of};
 
-use sas_core::{Fact, Grounded};
-use sas_flat::FlatTask;
+use sas_core::{Fact, Grounded, Stepwise};
+use sas_flat::{FlatPlan, FlatTask};
+
+/// Where the names in lines come from: a task, and a plan where the lines are about one.
+#[derive(Clone, Copy)]
+pub struct Named<'n> {
+    pub task: &'n FlatTask,
+    pub plan: Option<&'n FlatPlan>,
+}
+
+impl<'n> Named<'n> {
+    /// Returns the name of the plan's step, counted from 1; if there is no such step, no bytes.
+    pub(crate) fn step_name(&self, step: usize) -> &'n [u8]
+        ensures { result.now ≡ slice_index_or (steps_of self.now.plan) (step - 1) [] }
+    {
+        let before = step.saturating_sub(1);
+        match self.plan {
+            Some(plan) => name_of(plan, before),
+            None => b"",
+        }
+    }
+}
+
+/// Returns the name of the plan's step, counted from 0; behind the last step, no bytes.
+fn name_of(plan: &FlatPlan, before: usize) -> &[u8]
+    ensures { result.now ≡ slice_index_or plan.now.steps before [] }
+{
+    if before < plan.steps() {
+        plan.step(before)
+    } else {
+        b""
+    }
+}
 
 /// Returns the operator's name; behind the last operator, no bytes.
 pub fn operator_name(task: &FlatTask, operator: u32) -> &[u8]

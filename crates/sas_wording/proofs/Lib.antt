@@ -1,0 +1,3 @@
+mod LineTexts
+pub mod PlainLines
+pub mod RuleLines
