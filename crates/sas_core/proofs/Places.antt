@@ -1,6 +1,8 @@
 -- What holds of each item of a list, and what holds of the item at each place.
-use Rattle.std.proofs.Common.{ℕ, zero, suc, ◌<◌, List, [], ◌∷◌, length, slice_index_or, arith}
+use Rattle.std.proofs.Common.{ℕ, zero, suc, ◌+◌, ◌<◌, List, [], ◌∷◌, length, slice_index_or, sym, ap, subst, ◌∙◌, inl, inr, arith}
 use Rattle.std.specs.List.{AllByRecursion}
+use Rattle.std.proofs.lemmas.Bool.{cases_eq}
+use Rattle.std.proofs.lemmas.List.{get_or_default}
 
 module _ {A : Type 0} (P : A → Type 0) (otherwise : A) where
   -- each item has it, so that at a place within the list has it
@@ -16,8 +18,8 @@ module _ {A : Type 0} (P : A → Type 0) (otherwise : A) where
 
 -- what the items below a place have, and that at the place, those below the next have
 pub each_more : {A : Type 0} (P : A → Type 0) (items : List A) (n : ℕ) (otherwise : A) → n < length items
-    → ((k : ℕ) (d : A) → k < n → P (get_or items k d)) → P (get_or items n otherwise) → (k : ℕ) (d : A) → k < n + 1 → P (get_or items k d)
+    → ((k : ℕ) (d : A) → k < n → P (slice_index_or items k d)) → P (slice_index_or items n otherwise) → (k : ℕ) (d : A) → k < n + 1 → P (slice_index_or items k d)
 each_more P items n otherwise within before its k d below = elim (cases_eq k n) [
-  | inl e ↦ subst P (get_or_default items n otherwise d within ∙ ap (λ i. get_or items i d) (sym e)) its
+  | inl e ↦ subst P (get_or_default items n otherwise d within ∙ ap (λ i. slice_index_or items i d) (sym e)) its
   | inr ne ↦ before k d (omega arith)
 ]
