@@ -9,9 +9,8 @@
 # make clean  removes what was built and packed, and the inputs of `make bench`
 #
 # `rt`, the command of the toolchain, has to be on the PATH, and python3; `make lib`, `make dist` and `make test` want a C compiler, $CC or
-# cc, too.
-# The tests of the library use what is there of gcc, g++, clang, clang++, rustc, nm and valgrind. JOBS is how many processors `make` uses
-# to prove; each takes one to four GB.
+# cc, too. The tests of the library use what is there of gcc, g++, clang, clang++, rustc, cargo, cmake, pkg-config, pip, nm, readelf and
+# valgrind. JOBS is how many processors `make` uses to prove; each takes one to four GB.
 
 JOBS ?= $(shell nproc)
 

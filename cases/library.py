@@ -7,8 +7,8 @@ SAS is the program, and LIBRARY the folder that library/build.py made. Each func
 mistake they could show that no proof does: the proofs know neither the header nor the wrappers, and no pointer of a caller's.
 
 library.c, library.cpp and library.rs make calls from these languages, library_stub.c stands in for the library. The compilers are
-$CC or cc, and of gcc, clang, g++, clang++ and rustc those that are there; `valgrind` and `nm` are used where they are. What isn't
-there is told in a line that begins with `without`.
+$CC or cc, and of gcc, clang, g++, clang++, rustc and cargo those that are there; `valgrind`, `nm` and `readelf` are used where they are.
+What isn't there is told in a line that begins with `without`.
 
 Each test that fails has a line, and the last line is 'N passed, M failed'. The exit status is 0 where none failed.
 """
@@ -433,7 +433,8 @@ def process_tests(_, library, folder):
         path = os.path.join(folder, "program.py")
         with open(path, "w", encoding="utf-8") as file:
             file.write(code)
-        ran = ended(sys.executable, path, *files, env=env)
+        # later versions warn of each fork of a process with threads
+        ran = ended(sys.executable, "-W", "ignore", path, *files, env=env)
         yield f"Python, {name}", [] if (ran.returncode, ran.stdout, ran.stderr) == (0, b"", b"") else [f"{ran}"]
 
 
@@ -929,7 +930,8 @@ def page_tests(_, library, folder):
 
 
 def wrong_large(sas, judge):
-    """Returns what is wrong with what the program of a page says of a task of two million bytes, of which no plan of the page is one."""
+    """Returns what is wrong with what the program of a page prints of a task of two million bytes. Its first plan begins with a step that
+    no operator of the task is named after."""
     task = read("cases/tasks/minimal.sas").splitlines(keepends=True)
     operator = b"begin_operator\n" + b"a" * 1000 + b"\n0\n0\n1\nend_operator\n"
     count = LARGE // len(operator) + 1

@@ -37,16 +37,19 @@ SHARED = "libsas.so.1"
 
 
 def ended(*command, **more):
-    """Returns how a command ended: its status, and all that it printed."""
+    """Returns how a command ended: its status, and all that it printed; no status where it isn't there."""
     streams = {"stdin": subprocess.DEVNULL, "stdout": subprocess.PIPE, "stderr": subprocess.STDOUT}
-    ran = subprocess.run(command, check=False, timeout=600, **streams, **more)
+    try:
+        ran = subprocess.run(command, check=False, timeout=600, **streams, **more)
+    except OSError as fault:
+        return None, str(fault)
     return ran.returncode, ran.stdout.decode(errors="replace")
 
 
 def wrong(*command, **more):
     """Returns what is wrong with a command that has to end with status 0."""
     status, said = ended(*command, **more)
-    return [f"status {status}: {said[-1500:]}"] if status else []
+    return [] if status == 0 else [f"status {status}: {said[-1500:]}"]
 
 
 def wrong_held(top, *command, **more):
@@ -103,7 +106,7 @@ def pip_tests(top, place):
     """Yields what pip installs. It could show a module that doesn't find its library, and a package that another one has to build."""
     site = os.path.join(place, "site")
     pip = [sys.executable, "-m", "pip", "install", "-q", "--no-index", "--disable-pip-version-check"]
-    if ended(sys.executable, "-m", "pip", "--version")[0]:
+    if ended(sys.executable, "-m", "pip", "--version")[0] != 0:
         print("without pip")
         return
     yield "pip", wrong(*pip, "--target", site, os.path.join(top, "library/python"))

@@ -44,8 +44,11 @@ PACKED = (
     "docs/*.md",
     "examples/*",
     "library/examples/*",
-    "library/python/*",
-    "library/rust/**/*",
+    "library/python/*.*",
+    "library/rust/*.toml",
+    "library/rust/build.rs",
+    "library/rust/src/*",
+    "library/rust/tests/*",
     "library/out/*",
 )
 BUILT = "library/out/"
@@ -138,7 +141,7 @@ what must be believed. The program sas is linked statically; libsas.a and libsas
 def names():
     """Returns which files of the repository are packed: none that the repository doesn't know, but for what was built."""
     known = printed("git", "ls-files", "-z")
-    found = [it for pattern in PACKED for it in glob.glob(pattern, root_dir=TOP, recursive=True) if os.path.isfile(f"{TOP}/{it}")]
+    found = [it for pattern in PACKED for it in glob.glob(pattern, root_dir=TOP) if os.path.isfile(f"{TOP}/{it}")]
     found = [it for it in found if it not in [f"docs/{name}.md" for name in OF_SOURCE]]
     return [it for it in found if known is None or it.startswith(BUILT) or it in known.split("\0")]
 
