@@ -8,8 +8,8 @@ use Rattle.sas_meaning.specs.Layers.{default_of}
 use Rattle.sas_meaning.proofs.Forced.{fact_within, rule_new}
 use Rattle.sas_why.specs.RulesOf.{AreRulesOf}
 use Rattle.sas_why.proofs.RulesOf.{RulesTo, rules_none, rules_skip, rules_more, rules_index}
-use Rattle.sas_why.proofs.told.rules_of_variables.Goals as goal
-use Rattle.sas_why.proofs.told.rules_of_variables.Goals.{then-change-initial_value+in_ok-push, else-change-initial_value}
+use Rattle.sas_why.proofs.report.rules_of_variables.Goals as goal
+use Rattle.sas_why.proofs.report.rules_of_variables.Goals.{then-change-initial_value+in_ok-push, else-change-initial_value}
 
 pub loop-rule-init : goal.loop-rule-init
 loop-rule-init g c = subst (RulesTo c.args.task.now 0) (sym c.new-entries.ensures.items) (rules_none c.args.task.now)

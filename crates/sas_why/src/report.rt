@@ -1,35 +1,32 @@
-// What has been told of causes.
-ghost use Rattle.std.specs.Prelude.{◌≡◌, ◌<◌, ℕ, [], length, IfOk, slice_index_or};
-ghost use Rattle.sas_core.specs.PlanParts.{PlanParts};
+// The reasons that are reported.
+ghost use Rattle.std.specs.Prelude.{◌≡◌, [], IfOk};
 ghost use Rattle.sas_core.specs.Variables.{IsState};
 ghost use Rattle.sas_meaning.specs.Settled.{IsSettled};
-ghost use Rattle.sas_reasons.specs.Lines.{places};
-ghost use Rattle.sas_reasons.specs.Derivation.{can_give};
 ghost use Rattle.sas_why.specs.RulesOf.{AreRulesOf};
 
-use crate::line::Line;
 use crate::origins::Origins;
 use sas_core::{Grounded, Items};
 use sas_lists::{Entry, Lists};
 use sas_meaning::{Layered, State};
+use sas_wording::Line;
 use std::alloc::{AllocError, Global};
 
-/// What has been told of causes, and what has to be known to tell no line of a rule twice.
-pub struct Told {
+/// The lines of reasons so far, and what keeps a line of a rule from standing twice.
+pub struct Report {
     pub lines: Items<Line>,
-    /// Where derived variables have their values from. It notes which rules were told for that.
+    /// The rules that give derived variables their values, and for which of them there is a line.
     pub origins: Origins,
     /// The rules of each variable that can fire.
     pub rules: Lists<u32>,
-    /// For each variable, whether it was told what keeps its rules from firing.
+    /// For each variable, whether there are lines for its rules that don't fire.
     pub kept: Items<bool>,
-    /// The rules of one derivation that are told next.
+    /// The rules of one derivation whose lines come next.
     pub next: Vec<u32>,
 }
 
-impl Drop for Told {
+impl Drop for Report {
     fn drop(self) {
-        let Told {
+        let Report {
             lines,
             origins,
             rules,
@@ -44,20 +41,21 @@ impl Drop for Told {
     }
 }
 
-impl Told {
-    ghost use Rattle.sas_why.specs.Told.{IsTold};
+impl Report {
+    ghost use Rattle.sas_why.specs.Report.{IsReport};
 
-    /// Nothing has been told of this state.
+    /// Returns the report of this state without a line.
     pub fn new<T: Grounded>(
         alloc: Global,
         task: &Layered<T>,
         state: &State,
-    ) -> Result<Told, AllocError>
+    ) -> Result<Report, AllocError>
         requires state { IsState task.now.variables state.now }
         requires settled { IsSettled task.now state.now }
-        ensures { IfOk result (λ told. (plan : PlanParts) → IsTold task.now plan state.now told []) }
+        ensures report { IfOk result (λ report. IsReport task.now state.now report) }
+        ensures empty { IfOk result (λ report. report.lines ≡ []) }
     {
-        Ok(Told {
+        Ok(Report {
             lines: Items::new(alloc),
             origins: Origins::new(alloc, task, state)?,
             rules: rules_of_variables(alloc, task)?,
@@ -70,7 +68,7 @@ impl Told {
     pub fn into_lines(self) -> Items<Line>
         ensures { result ≡ self.lines }
     {
-        let Told {
+        let Report {
             lines,
             origins: _,
             rules: _,
