@@ -1,5 +1,5 @@
 -- What a reader says of a machine that follows a grammar, said of the format.
-use Rattle.std.proofs.Common.{◌≡◌, ℕ, ◌+◌, ◌≤◌, List, [], ◌∷◌, length, sym, subst, ◌∙◌, append_assoc, ◌⊎◌, inl, inr, Err, ◌++◌, take, drop, refl, arith, length-drop}
+use Rattle.std.proofs.Common.{◌≡◌, ℕ, ◌+◌, ◌≤◌, List, [], ◌∷◌, length, sym, subst, ◌∙◌, append_assoc, inl, inr, Err, ◌++◌, take, drop, refl, arith, length-drop}
 use Rattle.std.proofs.lemmas.List.{take-append-drop}
 use Rattle.sas_lines.specs.Lines.{without_return, lines, unfinished}
 use Rattle.sas_reader.specs.declared.fault.Fault.{Fault}
@@ -8,7 +8,9 @@ use Rattle.sas_reader.specs.declared.fault.Kind.TheVariants as kinds
 use Rattle.sas_reader.specs.Format.{Format, Reads, Live, FaultOf, EndOf, MoreIsDue, ReadsAs}
 use Rattle.sas_reader.specs.System.{Node, ended, Rejects, Leads, Grammar}
 use Rattle.sas_reader.specs.Limit.{most_bytes}
-use Rattle.sas_reader.specs.Reader.{Reached, LineIsDue, Stops, full, over, rejected, FaultIn, EndsEarly, ReadFails, unread, early, faulty}
+use Rattle.sas_reader.specs.Reader.{Reached, LineIsDue, Stops, full, over, rejected, FaultIn, EndsEarly, IsRefused, ReadFails, unread, early, faulty}
+use Rattle.sas_reader.specs.declared.found.Found.{Found}
+use Rattle.sas_reader.specs.declared.reader.Refused.{Refused}
 use Rattle.sas_reader.specs.Devices.{Refuses, unread_at, ended_at, faulty_at}
 use Rattle.sas_reader.proofs.Live.{one_more, live, reads_done, fault_long, fault_done, fault_rejected, fault_stays, end_open}
 use Rattle.sas_reader.proofs.Paths.{Path}
@@ -32,19 +34,12 @@ module _ {T V I S M : Type 0} (F : Format V I S) (Fits : I → Type 0) (node : T
   pub path_of : (m : M) (bytes : List ℕ) (h : Reached led_by Ended m bytes) → Path F Fits node start (at m bytes h).state bytes
   path_of m bytes h = let a = at m bytes h in record { leads = a.leads; ended = λ v d. h.rest (a.is_ended v d) }
 
-  stopped : (limit : ℕ) (m : M) (bytes : List ℕ) (byte : ℕ) (f : Fault) → Reached led_by Ended m bytes → f.line ≡ length (lines bytes) + 1 → Stops led_by Ended rejects limit m bytes byte f.kind → FaultOf F limit (one_more bytes byte) f
-  stopped limit m bytes byte f h n (full l k) = fault_long F Fits node start g limit (at m bytes h).state bytes byte f (path_of m bytes h) l n k
-  stopped limit m bytes byte f h n (over l d k) = let v = (at m bytes h).value d in fault_done F Fits node start g limit (at m bytes h).state v.0 bytes byte f v.1 (path_of m bytes h) l n k
-  stopped limit m bytes byte f h n (rejected l going b r) =
-      subst (λ (x : ℕ). FaultOf F limit (one_more bytes x) f) (sym b) (fault_rejected F Fits node start g limit (at m bytes h).state bytes f (path_of m bytes h) ((at m bytes h).refuses (without_return (unfinished bytes)) f.kind going r) l n)
+  -- a machine that hasn't ended stands where more is due
+  ends_at : (limit : ℕ) (m : M) (bytes : List ℕ) (f : Fault) → Reached led_by Ended m bytes → (Ended m → ⊥) → length bytes ≤ limit → f.line ≡ length (lines bytes) + 1 → f.kind ≡ kinds.End → EndOf F limit bytes f
+  ends_at limit m bytes f h going l n k = end_open F Fits node start g limit (at m bytes h).state bytes f (path_of m bytes h) (λ v d. going ((at m bytes h).is_ended v d)) l n k
 
-  pub fault_of_format : (limit : ℕ) (bytes : List ℕ) (f : Fault) → FaultIn led_by Ended rejects limit bytes f → FaultOf F limit bytes f
-  fault_of_format limit bytes f h =
-      subst (λ (b : List ℕ). FaultOf F limit b f) (append_assoc h.before (h.byte ∷ []) h.after ∙ sym h.whole) (fault_stays F limit (one_more h.before h.byte) h.after f (stopped limit h.machine h.before h.byte f h.reached h.line h.stops))
-
-  pub end_of_format : (limit : ℕ) (bytes : List ℕ) (f : Fault) → EndsEarly led_by Ended limit bytes f → EndOf F limit bytes f
-  end_of_format limit bytes f h =
-      end_open F Fits node start g limit (at h.machine bytes h.reached).state bytes f (path_of h.machine bytes h.reached) (λ v d. h.open_still ((at h.machine bytes h.reached).is_ended v d)) h.short h.line h.kind
+  pub end_of_format : (limit : ℕ) (bytes : List ℕ) (f : Fault) (now : M) (found : Found) → EndsEarly led_by Ended limit bytes f now found → EndOf F limit bytes f
+  end_of_format limit bytes f now found h = ends_at limit now bytes f h.reached h.open_still h.short h.line h.kind
 
   pub live_of_format : (limit : ℕ) (m : M) (bytes : List ℕ) → length bytes ≤ limit → Reached led_by Ended m bytes → Live F limit bytes
   live_of_format limit m bytes l h = live F Fits node start g limit (at m bytes h).state bytes l (path_of m bytes h)
@@ -56,25 +51,42 @@ module _ {T V I S M : Type 0} (F : Format V I S) (Fits : I → Type 0) (node : T
   pub some_read : (m : M) (bytes : List ℕ) → Reached led_by Ended m bytes → Ended m → (v : V) × Reads F bytes v
   some_read m bytes h d = let v = (at m bytes h).value d in (v.0, reads_of_format m v.0 bytes h v.1)
 
-  pub refusal : (limit : ℕ) (bytes : List ℕ) (f : Fault) → FaultIn led_by Ended rejects limit bytes f ⊎ EndsEarly led_by Ended limit bytes f → ReadsAs F limit bytes (Err f)
-  refusal limit bytes f (inl h) = inl (fault_of_format limit bytes f h)
-  refusal limit bytes f (inr h) = inr (end_of_format limit bytes f h)
-
-  pub device_refusal : (bytes : List ℕ) (End : Type 0) (f : Fault) → ReadFails led_by Ended rejects most_bytes bytes End f → Refuses F bytes End f
-  device_refusal bytes End f (unread m h l n k) = unread_at (live_of_format most_bytes m bytes l h) n k
-  device_refusal bytes End f (early e h) = ended_at e (end_of_format most_bytes bytes f h)
-  device_refusal bytes End f (faulty h ne) = faulty_at (fault_of_format most_bytes bytes f h) ne
-
   pub more_is_due : (limit : ℕ) (bytes piece : List ℕ) → LineIsDue led_by Ended limit bytes piece → MoreIsDue F limit bytes piece
   more_is_due limit bytes piece h =
       let came = bytes ++ take h.at piece in
-      let early : EndsEarly led_by Ended limit came (record { line = length (lines came) + 1; kind = kinds.End }) = record { machine = h.machine; reached = h.reached; open_still = h.open_still; short = omega (arith, h.room); line = refl; kind = refl } in
+      let end = ends_at limit h.machine came (record { line = length (lines came) + 1; kind = kinds.End }) h.reached h.open_still (omega (arith, h.room)) refl refl in
       record {
         front = take h.at piece;
         rest = drop h.at piece;
         whole = sym (take-append-drop h.at piece);
         some = omega (arith, h.within, length-drop h.at piece);
-        live = live_of_format limit h.machine came (omega (arith, h.room)) h.reached;
-        none = (end_of_format limit came (record { line = length (lines came) + 1; kind = kinds.End }) early).none;
+        live = end.live;
+        none = end.none;
         room = h.room;
       }
+
+module _ {T V I S M : Type 0} (F : Format V I S) (Fits : I → Type 0) (node : T → Node T V I S) (start : T) (g : Grammar F Fits node start) (led_by : List (List ℕ) → M → Type 0) (Ended : M → Type 0) (rejects : M → List ℕ → Kind → Type 0) (halted : M → List ℕ → Kind → M → Type 0) (follows : Follows F Fits node start led_by Ended rejects) where
+  abbrev go_on : (m : M) (bytes : List ℕ) → Reached led_by Ended m bytes → At F Fits node start Ended rejects (lines bytes) m
+  go_on m bytes h = at F Fits node start g led_by Ended rejects follows m bytes h
+
+  stopped : (limit : ℕ) (m : M) (bytes : List ℕ) (byte : ℕ) (f : Fault) (now : M) (found : Found) → Reached led_by Ended m bytes → f.line ≡ length (lines bytes) + 1 → Stops led_by Ended rejects halted limit m bytes byte f.kind now found → FaultOf F limit (one_more bytes byte) f
+  stopped limit m bytes byte f now found h n (full l k) = fault_long F Fits node start g limit (go_on m bytes h).state bytes byte f (path_of F Fits node start g led_by Ended rejects follows m bytes h) l n k
+  stopped limit m bytes byte f now found h n (over l d k stays is) =
+      let v = (go_on m bytes h).value d in
+      fault_done F Fits node start g limit (go_on m bytes h).state v.0 bytes byte f v.1 (path_of F Fits node start g led_by Ended rejects follows m bytes h) l n k
+  stopped limit m bytes byte f now found h n (rejected l going b r behind is) =
+      subst (λ (x : ℕ). FaultOf F limit (one_more bytes x) f) (sym b)
+      (fault_rejected F Fits node start g limit (go_on m bytes h).state bytes f (path_of F Fits node start g led_by Ended rejects follows m bytes h) ((go_on m bytes h).refuses (without_return (unfinished bytes)) f.kind going r) l n)
+
+  pub fault_of_format : (limit : ℕ) (bytes : List ℕ) (f : Fault) (now : M) (found : Found) → FaultIn led_by Ended rejects halted limit bytes f now found → FaultOf F limit bytes f
+  fault_of_format limit bytes f now found h =
+      subst (λ (b : List ℕ). FaultOf F limit b f) (append_assoc h.before (h.byte ∷ []) h.after ∙ sym h.whole) (fault_stays F limit (one_more h.before h.byte) h.after f (stopped limit h.machine h.before h.byte f now found h.reached h.line h.stops))
+
+  pub refusal : (limit : ℕ) (bytes : List ℕ) (r : Refused M) → IsRefused led_by Ended rejects halted limit bytes r → ReadsAs F limit bytes (Err r.fault)
+  refusal limit bytes r (inl h) = inl (fault_of_format limit bytes r.fault r.machine r.found h)
+  refusal limit bytes r (inr h) = inr (end_of_format F Fits node start g led_by Ended rejects follows limit bytes r.fault r.machine r.found h)
+
+  pub device_refusal : (bytes : List ℕ) (End : Type 0) (r : Refused M) → ReadFails led_by Ended rejects halted most_bytes bytes End r → Refuses F bytes End r.fault
+  device_refusal bytes End r (unread m h l n k) = unread_at (live_of_format F Fits node start g led_by Ended rejects follows most_bytes m bytes l h) n k
+  device_refusal bytes End r (early e h) = ended_at e (end_of_format F Fits node start g led_by Ended rejects follows most_bytes bytes r.fault r.machine r.found h)
+  device_refusal bytes End r (faulty h ne) = faulty_at (fault_of_format most_bytes bytes r.fault r.machine r.found h) ne

@@ -1,37 +1,41 @@
--- What a reader tells at the end, where nothing more comes.
-use Rattle.std.proofs.Common.{◌≡◌, ◌≢◌, ℕ, ◌+◌, List, refl, sym, ap, subst, ◌∙◌, arith, inl, inr, Option, Some, None}
+-- Why a reader is refused at the end, where nothing more comes.
+use Rattle.std.proofs.Common.{◌≡◌, ℕ, ◌+◌, List, refl, sym, ap, subst, ◌∙◌, arith, inl, inr, Option, Some, None}
 use Rattle.sas_reader.specs.declared.fault.Fault.{Fault}
 use Rattle.sas_reader.specs.declared.fault.Kind.{Kind}
 use Rattle.sas_reader.specs.declared.fault.Kind.TheVariants as kinds
 use Rattle.sas_reader.specs.declared.found.Found.{Found}
 use Rattle.sas_reader.specs.declared.reader.Reader.{Reader}
 use Rattle.sas_reader.specs.Found.{IsFoundOf}
-use Rattle.sas_reader.specs.Reader.{StandsTelling, FaultTold, ToldBy}
-use Rattle.sas_reader.proofs.Standing.{accepted_telling, told_of}
+use Rattle.sas_reader.specs.Reader.{FaultIn, RefusedAtEnd}
+use Rattle.sas_reader.proofs.Standing.{accepted_of, fault_of}
 
 module _ {M : Type 0} (led_by : List (List ℕ) → M → Type 0) (ended : M → Type 0) (rejects : M → List ℕ → Kind → Type 0) (halted : M → List ℕ → Kind → M → Type 0) where
   module _ (r : Reader M) (f : Fault) (found : Found) (kept : (g : Fault) → r.fault ≡ Some g → (f ≡ g) × (found ≡ r.found)) (early : r.fault ≡ None → (ended r.machine → ⊥) × (f.line ≡ r.lines + 1) × (f.kind ≡ kinds.End)) (rest : r.fault ≡ None → IsFoundOf r.pending.pending found) where
-    told_as : (o : Option Fault) → r.fault ≡ o → f.kind ≢ kinds.Memory → (bytes : List ℕ) → StandsTelling led_by ended rejects halted r bytes → ToldBy led_by ended rejects halted r.limit bytes (record { fault = f; machine = r.machine; found = found })
-    told_as (Some g) is ne bytes s =
+    refused_by : (o : Option Fault) → r.fault ≡ o → RefusedAtEnd led_by ended rejects halted r (record { fault = f; machine = r.machine; found = found })
+    refused_by (Some g) is =
         let k = kept g is in
-        let same : g ≡ f = sym k.0 in
-        let h : FaultTold led_by ended rejects halted r.limit bytes g r.machine r.found = told_of led_by ended rejects halted r g bytes is s (λ e. ne (ap (λ (x : Fault). x.kind) k.0 ∙ e)) in
-        inl (subst (λ (x : Found). FaultTold led_by ended rejects halted r.limit bytes f r.machine x) (sym k.1) (subst (λ (x : Fault). FaultTold led_by ended rejects halted r.limit bytes x r.machine r.found) same h))
-    told_as None is ne bytes s =
-        let h = accepted_telling led_by ended rejects halted r bytes is s in
-        let e = early is in
-        inr (record {
-          early = record {
-            machine = r.machine;
-            reached = h.reached;
-            open_still = e.0;
-            short = omega (arith, h.taken, r.within);
-            line = e.1 ∙ ap (λ (n : ℕ). n + 1) h.lines;
-            kind = e.2;
-          };
-          stays = refl;
-          rest = subst (λ (x : List ℕ). IsFoundOf x found) h.pending (rest is);
-        })
+        let there : r.fault ≡ Some f = is ∙ ap (λ (x : Fault). Some x) (sym k.0) in
+        record {
+          fault = λ ne bytes s. inl (subst (λ (x : Found). FaultIn led_by ended rejects halted r.limit bytes f r.machine x) (sym k.1) (fault_of led_by ended rejects halted r f bytes there s ne));
+          memory = λ _. there;
+          read = λ _. there;
+        }
+    refused_by None is =
+        let end = early is in
+        record {
+          fault = λ ne bytes s.
+              let h = accepted_of led_by ended rejects halted r bytes is s in
+              inr (record {
+                reached = h.reached;
+                open_still = end.0;
+                short = omega (arith, h.taken, r.within);
+                line = end.1 ∙ ap (λ (n : ℕ). n + 1) h.lines;
+                kind = end.2;
+                rest = subst (λ (x : List ℕ). IsFoundOf x found) h.pending (rest is);
+              });
+          memory = λ e. let x : kinds.End ≡ kinds.Memory = sym end.2 ∙ e in absurd cc;
+          read = λ e. let x : kinds.End ≡ kinds.Read = sym end.2 ∙ e in absurd cc;
+        }
 
-    pub told_at_end : f.kind ≢ kinds.Memory → (bytes : List ℕ) → StandsTelling led_by ended rejects halted r bytes → ToldBy led_by ended rejects halted r.limit bytes (record { fault = f; machine = r.machine; found = found })
-    told_at_end = told_as r.fault refl
+    pub refused_at_end : RefusedAtEnd led_by ended rejects halted r (record { fault = f; machine = r.machine; found = found })
+    refused_at_end = refused_by r.fault refl

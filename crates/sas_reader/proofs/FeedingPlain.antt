@@ -12,7 +12,7 @@ use Rattle.sas_reader.specs.declared.fault.Kind.{Kind}
 use Rattle.sas_reader.specs.declared.reader.Reader.{Reader}
 use Rattle.sas_reader.specs.declared.found.Found.{Found}
 use Rattle.sas_reader.specs.Found.{bytes_of, IsFoundOf, behind_ends}
-use Rattle.sas_reader.specs.Reader.{Reached, Accepted, LineIsDue, told_full, told_over, told_rejected, FaultBehind, TookFront, Stopped, Advances}
+use Rattle.sas_reader.specs.Reader.{Reached, Accepted, LineIsDue, full, over, rejected, FaultBehind, TookFront, Stopped, Advances}
 use Rattle.sas_reader.specs.Returns.{without_returns}
 use Rattle.sas_reader.proofs.BehindEnds.{behind_front, no_end-without, no_lf}
 use Rattle.sas_reader.proofs.WithLfAlone.{EachEnds, lines_behind, rest_behind, nothing, return, FrontOf, front_of}
@@ -131,8 +131,8 @@ module _ {M : Type 0} (led_by : List (List ℕ) → M → Type 0) (ended : M →
         let r = front_of bytes ends a byte h.after h.whole in
         let l = long bytes a byte r in
         elim h.stops [
-          | told_full at_limit k ↦ absurd (omega (arith, at_limit, room, length-append before a, ap length h.whole, length-append a (byte ∷ h.after), fewer bytes))
-          | told_over fits d k stays is ↦
+          | full at_limit k ↦ absurd (omega (arith, at_limit, room, length-append before a, ap length h.whole, length-append a (byte ∷ h.after), fewer bytes))
+          | over fits d k stays is ↦
               let next = goes_on bytes a byte r in
               let more_lines : lines (before ++ r.front) ≡ lines (before ++ a) = front_lines bytes a byte r before whole in
               let more_rest : unfinished (before ++ r.front) ≡ unfinished (before ++ a) = front_rest bytes a byte r before whole in
@@ -144,9 +144,9 @@ module _ {M : Type 0} (led_by : List (List ℕ) → M → Type 0) (ended : M →
                 whole = r.whole ∙ ap (λ (x : List ℕ). r.front ++ x) next.2;
                 reached = reached_same led_by ended h.machine (before ++ a) (before ++ r.front) more_lines more_rest h.reached;
                 line = h.line ∙ ap (λ (x : List (List ℕ)). length x + 1) (sym more_lines);
-                stops = told_over (omega (arith, l, room, length-append before r.front)) d k stays (byte_told a byte r next.0 next.1 next.2 next.3 (h.reached.rest d) h.line is);
+                stops = over (omega (arith, l, room, length-append before r.front)) d k stays (byte_told a byte r next.0 next.1 next.2 next.3 (h.reached.rest d) h.line is);
               }
-          | told_rejected fits going lf refused behind is ↦
+          | rejected fits going lf refused behind is ↦
               let front = r.front ++ r.between in
               let line = without_return (unfinished (before ++ a)) in
               let same = line_same bytes a byte r before whole lf in
@@ -161,7 +161,7 @@ module _ {M : Type 0} (led_by : List (List ℕ) → M → Type 0) (ended : M →
                 whole = r.whole ∙ sym (append_assoc r.front r.between (byte ∷ r.after));
                 reached = record { led = subst (λ (x : List (List ℕ)). led_by x h.machine) (sym more_lines) h.reached.led; rest = λ d. absurd (going d) };
                 line = h.line ∙ ap (λ (x : List (List ℕ)). length x + 1) (sym more_lines);
-                stops = told_rejected (omega (arith, l, room, length-append before front, length-append r.front r.between)) going lf (subst (λ (x : List ℕ). rejects h.machine x f.kind) (sym line_is) refused) (subst (λ (x : List ℕ). halted h.machine x f.kind now) (sym line_is) behind) (subst (λ (x : List ℕ). IsFoundOf x told) (sym line_is) (subst (IsFoundOf line) (sym (of_rest other)) is));
+                stops = rejected (omega (arith, l, room, length-append before front, length-append r.front r.between)) going lf (subst (λ (x : List ℕ). rejects h.machine x f.kind) (sym line_is) refused) (subst (λ (x : List ℕ). halted h.machine x f.kind now) (sym line_is) behind) (subst (λ (x : List ℕ). IsFoundOf x told) (sym line_is) (subst (IsFoundOf line) (sym (of_rest other)) is));
               }
         ]
 

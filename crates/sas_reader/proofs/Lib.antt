@@ -11,8 +11,9 @@ pub mod Advancing
 pub mod Conversion
 pub mod Reading
 pub mod Known
-pub mod Telling
-pub mod KnownTelling
+pub mod About
+pub mod Refusals
+pub mod KnownRefusals
 mod Tested
 mod Ending
 mod Keeping

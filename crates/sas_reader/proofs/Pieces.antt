@@ -11,7 +11,7 @@ use Rattle.sas_reader.specs.declared.fault.Kind.{Kind}
 use Rattle.sas_reader.specs.declared.fault.Kind.TheVariants as kinds
 use Rattle.sas_reader.specs.declared.found.Found.{Found}
 use Rattle.sas_reader.specs.Found.{IsFoundOf}
-use Rattle.sas_reader.specs.Reader.{Reached, LineIsDue, StopsTelling, told_full, told_over, told_rejected, FaultBehind}
+use Rattle.sas_reader.specs.Reader.{Reached, LineIsDue, Stops, full, over, rejected, FaultBehind}
 
 -- ---- the front of a piece
 
@@ -93,7 +93,7 @@ module _ {M : Type 0} (led_by : List (List ℕ) → M → Type 0) (ended : M →
 
 module _ {M : Type 0} (led_by : List (List ℕ) → M → Type 0) (ended : M → Type 0) (rejects : M → List ℕ → Kind → Type 0) (halted : M → List ℕ → Kind → M → Type 0) where
   -- the first byte of a piece is one too many
-  fault_first : (limit : ℕ) (m : M) (bytes piece : List ℕ) (f : Fault) (now : M) (found : Found) → 0 < length piece → Reached led_by ended m bytes → f.line ≡ length (lines bytes) + 1 → ((byte : ℕ) → take 1 piece ≡ byte ∷ [] → StopsTelling led_by ended rejects halted limit m bytes byte f.kind now found) → FaultBehind led_by ended rejects halted limit bytes piece f now found
+  fault_first : (limit : ℕ) (m : M) (bytes piece : List ℕ) (f : Fault) (now : M) (found : Found) → 0 < length piece → Reached led_by ended m bytes → f.line ≡ length (lines bytes) + 1 → ((byte : ℕ) → take 1 piece ≡ byte ∷ [] → Stops led_by ended rejects halted limit m bytes byte f.kind now found) → FaultBehind led_by ended rejects halted limit bytes piece f now found
   fault_first limit m bytes [] f now found some h line stops = absurd (omega arith)
   fault_first limit m bytes (byte ∷ after) f now found some h line stops =
       let same : bytes ≡ bytes ++ [] = sym (append-nil bytes) in
@@ -105,14 +105,14 @@ module _ {M : Type 0} (led_by : List (List ℕ) → M → Type 0) (ended : M →
         whole = refl;
         reached = subst (Reached led_by ended m) same h;
         line = subst (λ (x : List ℕ). f.line ≡ length (lines x) + 1) same line;
-        stops = subst (λ (x : List ℕ). StopsTelling led_by ended rejects halted limit m x byte f.kind now found) same (stops byte refl);
+        stops = subst (λ (x : List ℕ). Stops led_by ended rejects halted limit m x byte f.kind now found) same (stops byte refl);
       }
 
   pub fault_full : (limit : ℕ) (m : M) (bytes piece : List ℕ) (f : Fault) (now : M) (found : Found) → 0 < length piece → Reached led_by ended m bytes → f.line ≡ length (lines bytes) + 1 → length bytes ≡ limit → f.kind ≡ kinds.TooLong → FaultBehind led_by ended rejects halted limit bytes piece f now found
-  fault_full limit m bytes piece f now found some h line l k = fault_first limit m bytes piece f now found some h line (λ byte e. told_full l k)
+  fault_full limit m bytes piece f now found some h line l k = fault_first limit m bytes piece f now found some h line (λ byte e. full l k)
 
   pub fault_over : (limit : ℕ) (m : M) (bytes piece : List ℕ) (f : Fault) (now : M) (found : Found) → 0 < length piece → Reached led_by ended m bytes → f.line ≡ length (lines bytes) + 1 → length bytes + 1 ≤ limit → ended m → f.kind ≡ kinds.Trailing → now ≡ m → IsFoundOf (take 1 piece) found → FaultBehind led_by ended rejects halted limit bytes piece f now found
-  fault_over limit m bytes piece f now found some h line l d k stays is = fault_first limit m bytes piece f now found some h line (λ byte e. told_over l d k stays (subst (λ (x : List ℕ). IsFoundOf x found) e is))
+  fault_over limit m bytes piece f now found some h line l d k stays is = fault_first limit m bytes piece f now found some h line (λ byte e. over l d k stays (subst (λ (x : List ℕ). IsFoundOf x found) e is))
 
   -- its first line is rejected
   pub fault_line : (limit : ℕ) (m : M) (bytes piece pending line : List ℕ) (n : ℕ) (f : Fault) (now : M) (found : Found) → Reached led_by ended m bytes → (ended m → ⊥) → TakesLine piece n true → pending ≡ unfinished bytes → lines (pending ++ take n piece) ≡ line ∷ [] → length bytes + n ≤ limit → f.line ≡ length (lines bytes) + 1
@@ -130,7 +130,7 @@ module _ {M : Type 0} (led_by : List (List ℕ) → M → Type 0) (ended : M →
         whole = t.3;
         reached = record { led = subst (λ (l : List (List ℕ)). led_by l m) (sym same) h.led; rest = λ d. absurd (going d) };
         line = at_line ∙ ap (λ (l : List (List ℕ)). length l + 1) (sym same);
-        stops = told_rejected (omega (arith, length-append bytes front, room, t.4)) going refl (subst (λ (x : List ℕ). rejects m x f.kind) is r) (subst (λ (x : List ℕ). halted m x f.kind now) is behind) (subst (λ (x : List ℕ). IsFoundOf x found) is known);
+        stops = rejected (omega (arith, length-append bytes front, room, t.4)) going refl (subst (λ (x : List ℕ). rejects m x f.kind) is r) (subst (λ (x : List ℕ). halted m x f.kind now) is behind) (subst (λ (x : List ℕ). IsFoundOf x found) is known);
       }
 
   -- a fault in the front of a piece
@@ -158,5 +158,5 @@ module _ {M : Type 0} (led_by : List (List ℕ) → M → Type 0) (ended : M →
         whole = sym is ∙ ap (λ (x : List ℕ). front ++ x) h.whole ∙ sym (append_assoc front h.front (h.byte ∷ h.after));
         reached = subst (Reached led_by ended h.machine) same h.reached;
         line = subst (λ (x : List ℕ). f.line ≡ length (lines x) + 1) same h.line;
-        stops = subst (λ (x : List ℕ). StopsTelling led_by ended rejects halted limit h.machine x h.byte f.kind now found) same h.stops;
+        stops = subst (λ (x : List ℕ). Stops led_by ended rejects halted limit h.machine x h.byte f.kind now found) same h.stops;
       }

@@ -43,7 +43,7 @@ module _ {V I S : Type 0} (F : Format V I S) where
   AboutStays = (limit : ℕ) (bytes more : List ℕ) (f : Fault) (a : List (List ℕ)) (t : List ℕ)
       → FaultOf F limit bytes f → IsAbout limit bytes f a t → IsAbout limit (bytes ++ more) f a t
 
-  pub record TellingLaws : Type 0 where
+  pub record AboutLaws : Type 0 where
     pub one_about : OneAbout
     pub some_about : SomeAbout
     pub about_stays : AboutStays

@@ -9,5 +9,5 @@ pub mod Reader
 pub mod Reading
 pub mod Devices
 pub mod About
-pub mod Telling
+pub mod Refusals
 pub mod Returns

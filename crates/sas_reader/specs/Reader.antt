@@ -1,6 +1,6 @@
 -- What a reader that takes a text in pieces represents.
 use Rattle.std.specs.Prelude.{◌≡◌, ◌≢◌, ◌⊎◌, ◌↔◌, ℕ, ◌+◌, ◌<◌, ◌≤◌, List, [], ◌∷◌, ◌++◌, length, take}
-use Rattle.std.specs.Prelude.{Option, Some, None, Result, Ok, Err, IfOk, IfErr, OnOk, IsErrAnd, IsTrue}
+use Rattle.std.specs.Prelude.{Option, Some, None, Result, IfOk, IfErr, OnOk, IsErrAnd, IsTrue}
 use Rattle.std.specs.Io.KnownBytes.{Consumes, IsAtEnd}
 use Rattle.sas_lines.specs.Device.{Device}
 use Rattle.sas_lines.specs.Lines.{lines, unfinished, without_return}
@@ -12,11 +12,6 @@ use Rattle.sas_reader.specs.declared.reader.Reader.{Reader}
 use Rattle.sas_reader.specs.declared.reader.Refused.{Refused}
 use Rattle.sas_reader.specs.Faults.{IsOfBytes, answer}
 use Rattle.sas_reader.specs.Found.{IsFoundOf}
-
--- a result without what a refusal tells beside its fault
-abbrev pub fault_alone : {M : Type 0} → Result M (Refused M) → Result M Fault
-fault_alone (Ok m) = Ok m
-fault_alone (Err r) = Err r.fault
 
 -- A machine M is led somewhere by lines, may have ended there, and rejects lines that don't lead
 -- on.
@@ -35,14 +30,15 @@ module _ {M : Type 0} (led_by : List (List ℕ) → M → Type 0) (ended : M →
     pub lines : r.lines ≡ length (lines bytes)
     pub taken : r.taken ≡ length bytes
 
-  -- the bytes end where more was due
-  pub record EndsEarly (limit : ℕ) (bytes : List ℕ) (f : Fault) : Type 0 where
-    pub machine : M
+  -- the bytes end where more was due: there the machine stands, and this is their rest
+  pub record EndsEarly (limit : ℕ) (bytes : List ℕ) (f : Fault) (machine : M)
+      (found : Found) : Type 0 where
     pub reached : Reached machine bytes
     pub open_still : ended machine → ⊥
     pub short : length bytes ≤ limit
     pub line : f.line ≡ length (lines bytes) + 1
     pub kind : f.kind ≡ kinds.End
+    pub rest : IsFoundOf (unfinished bytes) found
 
   -- a line is due within the piece: the machine was led behind some front of it, and not behind
   -- all, has not ended, and the limit leaves room
@@ -54,18 +50,27 @@ module _ {M : Type 0} (led_by : List (List ℕ) → M → Type 0) (ended : M →
     pub open_still : ended machine → ⊥
     pub room : length (bytes ++ take at piece) < limit
 
+-- `halted` relates a machine, a line that it refused with this kind, and the machine behind that.
 module _ {M : Type 0} (led_by : List (List ℕ) → M → Type 0) (ended : M → Type 0)
-    (rejects : M → List ℕ → Kind → Type 0) where
-  -- why the byte may not follow these bytes, which led the machine here
-  pub data Stops (limit : ℕ) (machine : M) (bytes : List ℕ) (byte : ℕ) (k : Kind) : Type 0 where
-    full : length bytes ≡ limit → k ≡ kinds.TooLong → Stops limit machine bytes byte k
-    over : length bytes + 1 ≤ limit → ended machine → k ≡ kinds.Trailing
-        → Stops limit machine bytes byte k
+    (rejects : M → List ℕ → Kind → Type 0) (halted : M → List ℕ → Kind → M → Type 0) where
+  -- Why the byte may not follow these bytes, which led the machine here, what stood there, and
+  -- where the machine stands then: the byte behind a whole text, or the line that was refused. At
+  -- the limit neither is known.
+  pub data Stops (limit : ℕ) (machine : M) (bytes : List ℕ) (byte : ℕ) (k : Kind)
+      (now : M) (found : Found) : Type 0 where
+    full : length bytes ≡ limit → k ≡ kinds.TooLong
+        → Stops limit machine bytes byte k now found
+    over : length bytes + 1 ≤ limit → ended machine → k ≡ kinds.Trailing → now ≡ machine
+        → IsFoundOf (byte ∷ []) found → Stops limit machine bytes byte k now found
     rejected : length bytes + 1 ≤ limit → (ended machine → ⊥) → byte ≡ 10
-        → rejects machine (without_return (unfinished bytes)) k → Stops limit machine bytes byte k
+        → rejects machine (without_return (unfinished bytes)) k
+        → halted machine (without_return (unfinished bytes)) k now
+        → IsFoundOf (without_return (unfinished bytes)) found
+        → Stops limit machine bytes byte k now found
 
-  -- the bytes have this fault
-  pub record FaultIn (limit : ℕ) (bytes : List ℕ) (f : Fault) : Type 0 where
+  -- the bytes have this fault, this stood there, and there the machine stands now
+  pub record FaultIn (limit : ℕ) (bytes : List ℕ) (f : Fault) (now : M)
+      (found : Found) : Type 0 where
     pub machine : M
     pub before : List ℕ
     pub byte : ℕ
@@ -73,14 +78,14 @@ module _ {M : Type 0} (led_by : List (List ℕ) → M → Type 0) (ended : M →
     pub whole : bytes ≡ before ++ byte ∷ after
     pub reached : Reached led_by ended machine before
     pub line : f.line ≡ length (lines before) + 1
-    pub stops : Stops limit machine before byte f.kind
+    pub stops : Stops limit machine before byte f.kind now found
 
   abbrev pub StandsAt : Option Fault → Reader M → List ℕ → Type 0
   StandsAt None r bytes = Accepted led_by ended r bytes
-  StandsAt (Some f) r bytes = f.kind ≢ kinds.Memory → FaultIn r.limit bytes f
+  StandsAt (Some f) r bytes = f.kind ≢ kinds.Memory → FaultIn r.limit bytes f r.machine r.found
 
   -- A reader without a fault represents the bytes that it has taken. One with a fault, memory
-  -- aside, holds what is wrong with them.
+  -- aside, holds what is wrong with them, and what stood there.
   unfoldable pub Stands : Reader M → List ℕ → Type 0
   Stands r bytes = StandsAt r.fault r bytes
 
@@ -103,97 +108,6 @@ module _ {M : Type 0} (led_by : List (List ℕ) → M → Type 0) (ended : M →
     pub count : OnOk result (new.taken ≡ old.taken + length piece)
     pub limit : new.limit ≡ old.limit
 
-  -- the fault of a reader where nothing more comes; want of memory and a failed read are only
-  -- reported where they came before
-  pub record FaultAtEnd (r : Reader M) (f : Fault) : Type 0 where
-    pub fault : f.kind ≢ kinds.Memory → (bytes : List ℕ) → Stands r bytes
-        → FaultIn r.limit bytes f ⊎ EndsEarly led_by ended r.limit bytes f
-    pub memory : f.kind ≡ kinds.Memory → r.fault ≡ Some f
-    pub read : f.kind ≡ kinds.Read → r.fault ≡ Some f
-
-  -- what a reader promises at the end: where the lines led its machine, or its fault
-  pub record ReachesEnd (r : Reader M) (result : Result M Fault) : Type 0 where
-    pub at_end : IfOk result (λ m. ended m)
-    pub reached : IfOk result (λ m. (bytes : List ℕ) → Stands r bytes
-        → Reached led_by ended m bytes × (length bytes ≤ r.limit))
-    pub fault : IfErr result (λ f. FaultAtEnd r f)
-    pub kept : (f : Fault) → r.fault ≡ Some f → result ≡ Err f
-
-  -- ---- a device
-
-  -- Why a device was not read as a whole. A read failed behind these bytes; or they are all, and
-  -- more was due; or they have a fault.
-  pub data ReadFails (limit : ℕ) (bytes : List ℕ) (at_end : Type 0) (f : Fault) : Type 0 where
-    unread : (machine : M) → Reached led_by ended machine bytes → length bytes ≤ limit
-        → f.line ≡ length (lines bytes) + 1 → f.kind ≡ kinds.Read → ReadFails limit bytes at_end f
-    early : at_end → EndsEarly led_by ended limit bytes f → ReadFails limit bytes at_end f
-    faulty : FaultIn limit bytes f → f.kind ≢ kinds.Read → ReadFails limit bytes at_end f
-
-  module _ {D : Type 0} (left : D → Option (List ℕ)) where
-    -- What a call promises that feeds a machine from a device, to the device's end or to the first
-    -- fault. `left` maps a device to the bytes that it has left, where these are known.
-    pub record FeedsMachine (limit : ℕ) (old new : Device D)
-        (result : Result M Fault) : Type 0 where
-      pub at_end : IfOk result (λ m. ended m)
-      pub reached : IfOk result (λ m. (b : List ℕ)
-          × Consumes (left old.device) (left new.device) b
-          × IsAtEnd (left new.device)
-          × Reached led_by ended m b
-          × (length b ≤ limit))
-      pub fault : IfErr result (λ f. f.kind ≢ kinds.Memory → (b : List ℕ)
-          × Consumes (left old.device) (left new.device) b
-          × ReadFails limit b (IsAtEnd (left new.device)) f)
-      pub memory : IfErr result (λ f. f.kind ≡ kinds.Memory → (b piece : List ℕ)
-          × Consumes (left old.device) (left new.device) (b ++ piece)
-          × LineIsDue led_by ended limit b piece)
-      pub note : IsErrAnd result (λ f. f.kind ≡ kinds.Read) ↔ IsTrue new.failed
-
--- `halted` relates a machine, a line that it refused with this kind, and the machine behind that.
-module _ {M : Type 0} (led_by : List (List ℕ) → M → Type 0) (ended : M → Type 0)
-    (rejects : M → List ℕ → Kind → Type 0) (halted : M → List ℕ → Kind → M → Type 0) where
-  -- Why the byte may not follow these bytes, which led the machine here, what stood there, and
-  -- where the machine stands then: the byte behind a whole text, the line that was refused. At the
-  -- limit neither is told.
-  pub data StopsTelling (limit : ℕ) (machine : M) (bytes : List ℕ) (byte : ℕ) (k : Kind)
-      (now : M) (found : Found) : Type 0 where
-    told_full : length bytes ≡ limit → k ≡ kinds.TooLong
-        → StopsTelling limit machine bytes byte k now found
-    told_over : length bytes + 1 ≤ limit → ended machine → k ≡ kinds.Trailing → now ≡ machine
-        → IsFoundOf (byte ∷ []) found → StopsTelling limit machine bytes byte k now found
-    told_rejected : length bytes + 1 ≤ limit → (ended machine → ⊥) → byte ≡ 10
-        → rejects machine (without_return (unfinished bytes)) k
-        → halted machine (without_return (unfinished bytes)) k now
-        → IsFoundOf (without_return (unfinished bytes)) found
-        → StopsTelling limit machine bytes byte k now found
-
-  -- the bytes have this fault, this stood there, and there the machine stands now
-  pub record FaultTold (limit : ℕ) (bytes : List ℕ) (f : Fault) (now : M)
-      (found : Found) : Type 0 where
-    pub machine : M
-    pub before : List ℕ
-    pub byte : ℕ
-    pub after : List ℕ
-    pub whole : bytes ≡ before ++ byte ∷ after
-    pub reached : Reached led_by ended machine before
-    pub line : f.line ≡ length (lines before) + 1
-    pub stops : StopsTelling limit machine before byte f.kind now found
-
-  -- the bytes end where more was due, this is their rest, and there the machine stands
-  pub record EndTold (limit : ℕ) (bytes : List ℕ) (f : Fault) (now : M)
-      (found : Found) : Type 0 where
-    pub early : EndsEarly led_by ended limit bytes f
-    pub stays : now ≡ early.machine
-    pub rest : IsFoundOf (unfinished bytes) found
-
-  abbrev pub StandsTellingAt : Option Fault → Reader M → List ℕ → Type 0
-  StandsTellingAt None r bytes = Accepted led_by ended r bytes
-  StandsTellingAt (Some f) r bytes = f.kind ≢ kinds.Memory
-      → FaultTold r.limit bytes f r.machine r.found
-
-  -- as `Stands`, and with a fault the reader has what stood there
-  unfoldable pub StandsTelling : Reader M → List ℕ → Type 0
-  StandsTelling r bytes = StandsTellingAt r.fault r bytes
-
   -- ---- steps
 
   -- the reader took the first n bytes of the piece
@@ -203,7 +117,7 @@ module _ {M : Type 0} (led_by : List (List ℕ) → M → Type 0) (ended : M →
     pub accepted : (bytes : List ℕ) → Accepted led_by ended old bytes
         → Accepted led_by ended new (bytes ++ take n piece)
 
-  -- as `FaultTold`, of these bytes and a piece behind them that has the byte
+  -- as `FaultIn`, of these bytes and a piece behind them that has the byte
   pub record FaultBehind (limit : ℕ) (bytes piece : List ℕ) (f : Fault) (now : M)
       (found : Found) : Type 0 where
     pub machine : M
@@ -213,7 +127,7 @@ module _ {M : Type 0} (led_by : List (List ℕ) → M → Type 0) (ended : M →
     pub whole : piece ≡ front ++ byte ∷ after
     pub reached : Reached led_by ended machine (bytes ++ front)
     pub line : f.line ≡ length (lines (bytes ++ front)) + 1
-    pub stops : StopsTelling limit machine (bytes ++ front) byte f.kind now found
+    pub stops : Stops limit machine (bytes ++ front) byte f.kind now found
 
   -- the reader was stopped in the piece: a byte of it may not follow, or memory
   -- was refused where a line is due
@@ -235,33 +149,53 @@ module _ {M : Type 0} (led_by : List (List ℕ) → M → Type 0) (ended : M →
 
   -- ---- the end, and a device
 
-  -- the bytes have this fault, or end too early, and the refusal tells of it
-  abbrev pub ToldBy : ℕ → List ℕ → Refused M → Type 0
-  ToldBy limit bytes r = FaultTold limit bytes r.fault r.machine r.found
-      ⊎ EndTold limit bytes r.fault r.machine r.found
+  -- the bytes have the fault of the refusal, or end too early
+  abbrev pub IsRefused : ℕ → List ℕ → Refused M → Type 0
+  IsRefused limit bytes r = FaultIn limit bytes r.fault r.machine r.found
+      ⊎ EndsEarly led_by ended limit bytes r.fault r.machine r.found
 
-  -- what a reader promises at the end that tells of its fault
-  pub record ReachesEndTelling (r : Reader M) (result : Result M (Refused M)) : Type 0 where
-    pub plain : ReachesEnd led_by ended rejects r (fault_alone result)
-    pub told : IfErr result (λ e. e.fault.kind ≢ kinds.Memory → (bytes : List ℕ)
-        → StandsTelling r bytes → ToldBy r.limit bytes e)
+  -- why a reader is refused where nothing more comes; want of memory and a failed read are only
+  -- reported where they came before
+  pub record RefusedAtEnd (r : Reader M) (e : Refused M) : Type 0 where
+    pub fault : e.fault.kind ≢ kinds.Memory → (bytes : List ℕ) → Stands r bytes
+        → IsRefused r.limit bytes e
+    pub memory : e.fault.kind ≡ kinds.Memory → r.fault ≡ Some e.fault
+    pub read : e.fault.kind ≡ kinds.Read → r.fault ≡ Some e.fault
 
-  -- as `ReadFails`, where the refusal tells of it
-  pub data ReadFailsTelling (limit : ℕ) (bytes : List ℕ) (at_end : Type 0)
-      (r : Refused M) : Type 0 where
-    told_unread : (machine : M) → Reached led_by ended machine bytes → length bytes ≤ limit
+  -- what a reader promises at the end: where the lines led its machine, or why it is refused
+  pub record ReachesEnd (r : Reader M) (result : Result M (Refused M)) : Type 0 where
+    pub at_end : IfOk result (λ m. ended m)
+    pub reached : IfOk result (λ m. (bytes : List ℕ) → Stands r bytes
+        → Reached led_by ended m bytes × (length bytes ≤ r.limit))
+    pub refused : IfErr result (λ e. RefusedAtEnd r e)
+    pub kept : (f : Fault) → r.fault ≡ Some f → IsErrAnd result (λ e. e.fault ≡ f)
+
+  -- Why a device was not read as a whole. A read failed behind these bytes; or they are all, and
+  -- more was due; or they have a fault.
+  pub data ReadFails (limit : ℕ) (bytes : List ℕ) (at_end : Type 0) (r : Refused M) : Type 0 where
+    unread : (machine : M) → Reached led_by ended machine bytes → length bytes ≤ limit
         → r.fault.line ≡ length (lines bytes) + 1 → r.fault.kind ≡ kinds.Read
-        → ReadFailsTelling limit bytes at_end r
-    told_early : at_end → EndTold limit bytes r.fault r.machine r.found
-        → ReadFailsTelling limit bytes at_end r
-    told_faulty : FaultTold limit bytes r.fault r.machine r.found → r.fault.kind ≢ kinds.Read
-        → ReadFailsTelling limit bytes at_end r
+        → ReadFails limit bytes at_end r
+    early : at_end → EndsEarly led_by ended limit bytes r.fault r.machine r.found
+        → ReadFails limit bytes at_end r
+    faulty : FaultIn limit bytes r.fault r.machine r.found → r.fault.kind ≢ kinds.Read
+        → ReadFails limit bytes at_end r
 
   module _ {D : Type 0} (left : D → Option (List ℕ)) where
-    -- what a call promises that feeds a machine from a device, and tells of the fault
-    pub record FeedsMachineTelling (limit : ℕ) (old new : Device D)
+    -- What a call promises that feeds a machine from a device, to the device's end or to the first
+    -- fault. `left` maps a device to the bytes that it has left, where these are known.
+    pub record FeedsMachine (limit : ℕ) (old new : Device D)
         (result : Result M (Refused M)) : Type 0 where
-      pub plain : FeedsMachine led_by ended rejects left limit old new (fault_alone result)
-      pub told : IfErr result (λ r. r.fault.kind ≢ kinds.Memory → (b : List ℕ)
+      pub at_end : IfOk result (λ m. ended m)
+      pub reached : IfOk result (λ m. (b : List ℕ)
           × Consumes (left old.device) (left new.device) b
-          × ReadFailsTelling limit b (IsAtEnd (left new.device)) r)
+          × IsAtEnd (left new.device)
+          × Reached led_by ended m b
+          × (length b ≤ limit))
+      pub refused : IfErr result (λ r. r.fault.kind ≢ kinds.Memory → (b : List ℕ)
+          × Consumes (left old.device) (left new.device) b
+          × ReadFails limit b (IsAtEnd (left new.device)) r)
+      pub memory : IfErr result (λ r. r.fault.kind ≡ kinds.Memory → (b piece : List ℕ)
+          × Consumes (left old.device) (left new.device) (b ++ piece)
+          × LineIsDue led_by ended limit b piece)
+      pub note : IsErrAnd result (λ r. r.fault.kind ≡ kinds.Read) ↔ IsTrue new.failed

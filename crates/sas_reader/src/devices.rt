@@ -1,7 +1,7 @@
 // Reads a device to its end.
 ghost use Rattle.std.specs.Prelude.{◌≡◌, ◌<◌, ◌≤◌, [], None, false, length};
 ghost use Rattle.sas_reader.specs.Limit.{most_bytes};
-ghost use Rattle.sas_reader.specs.Reader.{FeedsMachine, FeedsMachineTelling, Stands, StandsTelling};
+ghost use Rattle.sas_reader.specs.Reader.{FeedsMachine, Stands};
 
 use crate::fault::{Fault, Kind};
 use crate::reader::{Machine, Reader, Refused};
@@ -13,47 +13,12 @@ use std::io::Read;
 const LARGE: usize = 65_536;
 
 /// Reads the device to its end or to the first fault, in pieces of at most 4,096 bytes. It feeds them to the machine,
-/// which no line has led anywhere yet.
+/// which no line has led anywhere yet, and returns the machine, led by all lines.
+///
+/// A refusal has the first fault, what stood there, and the machine as it stands behind it. The fault is of the kind
+/// `Read` where a read failed, `Memory` where memory was refused, `TooLong` where a byte follows the first `limit` bytes,
+/// and else what the machine finds wrong, `Trailing` or `End`.
 pub fn read_all<M: Machine, R: Read>(
-    alloc: Global,
-    machine: M,
-    limit: u64,
-    device: &mut Watched<R>,
-) -> Result<M, Fault>
-    requires note { device.old.failed ≡ false }
-    requires small { limit ≤ most_bytes }
-    requires start { M.led_by [] machine }
-    ensures { FeedsMachine M.led_by M.ended M.rejects R.remaining limit
-        device.old device.new result }
-{
-    match read_all_telling(alloc, machine, limit, device) {
-        Ok(machine) => Ok(machine),
-        Err(refused) => Err(refused.fault),
-    }
-}
-
-/// Reads as `read_all` does, in pieces of at most 65,536 bytes. Where memory for such a piece is refused, it reads in smaller
-/// ones, so it wants no memory for them.
-pub fn read_all_large<M: Machine, R: Read>(
-    alloc: Global,
-    machine: M,
-    limit: u64,
-    device: &mut Watched<R>,
-) -> Result<M, Fault>
-    requires note { device.old.failed ≡ false }
-    requires small { limit ≤ most_bytes }
-    requires start { M.led_by [] machine }
-    ensures { FeedsMachine M.led_by M.ended M.rejects R.remaining limit
-        device.old device.new result }
-{
-    match read_all_large_telling(alloc, machine, limit, device) {
-        Ok(machine) => Ok(machine),
-        Err(refused) => Err(refused.fault),
-    }
-}
-
-/// Reads as `read_all` does, and tells of a fault what stood there, and where the machine stands behind it.
-pub fn read_all_telling<M: Machine, R: Read>(
     alloc: Global,
     machine: M,
     limit: u64,
@@ -62,15 +27,16 @@ pub fn read_all_telling<M: Machine, R: Read>(
     requires note { device.old.failed ≡ false }
     requires small { limit ≤ most_bytes }
     requires start { M.led_by [] machine }
-    ensures { FeedsMachineTelling M.led_by M.ended M.rejects M.stopped R.remaining limit
+    ensures { FeedsMachine M.led_by M.ended M.rejects M.stopped R.remaining limit
         device.old device.new result }
 {
     let mut buffer = [0u8; 4096];
     feed_all(Reader::new(alloc, machine, limit), device, &mut buffer)
 }
 
-/// Reads as `read_all_large` does, and tells of a fault what stood there, and where the machine stands behind it.
-pub fn read_all_large_telling<M: Machine, R: Read>(
+/// Reads as `read_all` does, in pieces of at most 65,536 bytes. Where memory for such a piece is refused, it reads in
+/// pieces of at most 4,096 bytes, so it is never out of memory for them.
+pub fn read_all_large<M: Machine, R: Read>(
     alloc: Global,
     machine: M,
     limit: u64,
@@ -79,7 +45,7 @@ pub fn read_all_large_telling<M: Machine, R: Read>(
     requires note { device.old.failed ≡ false }
     requires small { limit ≤ most_bytes }
     requires start { M.led_by [] machine }
-    ensures { FeedsMachineTelling M.led_by M.ended M.rejects M.stopped R.remaining limit
+    ensures { FeedsMachine M.led_by M.ended M.rejects M.stopped R.remaining limit
         device.old device.new result }
 {
     match vec![in alloc; 0u8; LARGE] {
@@ -88,7 +54,7 @@ pub fn read_all_large_telling<M: Machine, R: Read>(
             device,
             buffer.as_mut_slice(),
         ),
-        Err(_) => read_all_telling(alloc, machine, limit, device),
+        Err(_) => read_all(alloc, machine, limit, device),
     }
 }
 
@@ -100,10 +66,9 @@ fn feed_all<M: Machine, R: Read>(
 ) -> Result<M, Refused<M>>
     requires note { device.old.failed ≡ false }
     requires room { 0 < length buffer.old }
-    requires stands { Stands M.led_by M.ended M.rejects reader [] }
-    requires telling { StandsTelling M.led_by M.ended M.rejects M.stopped reader [] }
+    requires stands { Stands M.led_by M.ended M.rejects M.stopped reader [] }
     requires fault { reader.fault ≡ None }
-    ensures { FeedsMachineTelling M.led_by M.ended M.rejects M.stopped R.remaining reader.limit
+    ensures { FeedsMachine M.led_by M.ended M.rejects M.stopped R.remaining reader.limit
         device.old device.new result }
 {
     loop {
@@ -118,7 +83,7 @@ fn feed_all<M: Machine, R: Read>(
             }
         };
         if taken == 0 {
-            return reader.finish_telling();
+            return reader.finish();
         }
         if let Err(fault) = reader.feed(&buffer[..taken]) {
             return Err(reader.refused(fault));

@@ -7,7 +7,7 @@ mod found;
 mod reader;
 mod returns;
 
-pub use devices::{read_all, read_all_large, read_all_large_telling, read_all_telling};
+pub use devices::{read_all, read_all_large};
 pub use fault::{Fault, Kind};
 pub use found::{FOUND, Found};
 pub use reader::{Front, LIMIT, Machine, Reader, Refused, limit_law};

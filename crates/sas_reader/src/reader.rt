@@ -96,6 +96,16 @@ pub struct Refused<M> {
     pub found: Found,
 }
 
+impl<M: Drop> Refused<M> {
+    /// Returns the fault, and drops the rest.
+    pub fn into_fault(self) -> Fault
+        ensures { result ≡ self.fault }
+    {
+        let Refused { fault, .. } = self;
+        fault
+    }
+}
+
 /// A text that comes in pieces: where its lines have led, the line that has begun, and the first fault.
 #[derive(Drop)]
 pub struct Reader<M> {
@@ -118,15 +128,13 @@ pub struct Reader<M> {
 
 impl<M: Machine> Reader<M> {
     ghost use Rattle.sas_reader.specs.Found.{IsFoundOf};
-    ghost use Rattle.sas_reader.specs.Reader.{Stands, StandsTelling, Advances, TakesPiece, FaultAtEnd};
-    ghost use Rattle.sas_reader.specs.Reader.{ReachesEnd, ReachesEndTelling};
+    ghost use Rattle.sas_reader.specs.Reader.{Stands, Advances, TakesPiece, ReachesEnd};
 
     /// Makes a reader that has taken nothing yet, and takes at most `limit` bytes.
     pub fn new(alloc: Global, machine: M, limit: u64) -> Self
         requires small { limit ≤ most_bytes }
         requires start { M.led_by [] machine }
-        ensures stands { Stands M.led_by M.ended M.rejects result [] }
-        ensures telling { StandsTelling M.led_by M.ended M.rejects M.stopped result [] }
+        ensures stands { Stands M.led_by M.ended M.rejects M.stopped result [] }
         ensures limit { result.limit ≡ limit }
         ensures fault { result.fault ≡ None }
     {
@@ -351,10 +359,8 @@ impl<M: Machine> Reader<M> {
 
     /// Takes the next piece. Once there is a fault, this call and each later one return the first fault.
     pub fn feed(&mut self, piece: &[u8]) -> Result<(), Fault>
-        ensures takes { TakesPiece M.led_by M.ended M.rejects self.old piece.now self.new result }
-        ensures telling { (bytes : List ℕ)
-            → StandsTelling M.led_by M.ended M.rejects M.stopped self.old bytes
-            → StandsTelling M.led_by M.ended M.rejects M.stopped self.new (bytes ++ piece.now) }
+        ensures { TakesPiece M.led_by M.ended M.rejects M.stopped
+            self.old piece.now self.new result }
     {
         if let Some(fault) = self.fault {
             return Err(fault);
@@ -375,7 +381,6 @@ impl<M: Machine> Reader<M> {
     /// Returns the fault if nothing more comes, or `None` if the text is whole.
     fn end_fault(&self) -> Option<Fault>
         ensures none { IfNone result (M.ended self.now.machine × (self.now.fault ≡ None)) }
-        ensures fault { IfSome result (λ f. FaultAtEnd M.led_by M.ended M.rejects self.now f) }
         ensures kept { (f : Fault) → self.now.fault ≡ Some f → result ≡ Some f }
         ensures early { self.now.fault ≡ None → IfSome result
             (λ f. (M.ended self.now.machine → ⊥) × (f.line ≡ self.now.lines + 1) × (f.kind ≡ Kind.End)) }
@@ -416,9 +421,10 @@ impl<M: Machine> Reader<M> {
         }
     }
 
-    /// Returns the machine, led by all lines, once the last one has come. Else returns the fault, with what stood there.
-    pub fn finish_telling(self) -> Result<M, Refused<M>>
-        ensures { ReachesEndTelling M.led_by M.ended M.rejects M.stopped self result }
+    /// Returns the machine, led by all lines, once the last one has come. Else returns the first fault, or `End` where more
+    /// was due, with the machine and with what stood there.
+    pub fn finish(self) -> Result<M, Refused<M>>
+        ensures { ReachesEnd M.led_by M.ended M.rejects M.stopped self result }
     {
         match self.end_fault() {
             Some(fault) => {
@@ -434,16 +440,6 @@ impl<M: Machine> Reader<M> {
                 let Reader { machine, .. } = self;
                 Ok(machine)
             }
-        }
-    }
-
-    /// Returns the machine, led by all lines, once the last one has come. Else returns the fault.
-    pub fn finish(self) -> Result<M, Fault>
-        ensures { ReachesEnd M.led_by M.ended M.rejects self result }
-    {
-        match self.finish_telling() {
-            Ok(machine) => Ok(machine),
-            Err(refused) => Err(refused.fault),
         }
     }
 }

@@ -1,6 +1,5 @@
 -- What is due behind the first lines of a task, by a tracker over them.
-use Rattle.std.proofs.Common.{◌≡◌, ℕ, zero, suc, ◌<◌, ◌^◌, ◌+◌, List, [], ◌∷◌, ◌++◌, length, map, refl, sym, ap, subst, ◌∙◌, arith, slice_get, Some, None}
-use Rattle.std.specs.List.{AllByRecursion}
+use Rattle.std.proofs.Common.{◌≡◌, ℕ, zero, suc, List, [], ◌∷◌, ◌++◌, length, map, refl, sym, ap, subst, ◌∙◌, slice_get, Some, None}
 use Rattle.std.proofs.lemmas.List.{append-nil, map-append, length-map}
 use Rattle.sas_core.specs.declared.parts.Parts.{Parts}
 use Rattle.sas_core.specs.WellRanged.{WellRanged}
@@ -9,14 +8,13 @@ use Rattle.sas_task_format.specs.declared.places.Place.TheVariants as place
 use Rattle.sas_task_format.specs.declared.marks.Due.{Due}
 use Rattle.sas_task_format.specs.declared.marks.Due.TheVariants as due
 use Rattle.sas_task_format.specs.declared.marks.FixedWord.TheVariants as fixed
-use Rattle.sas_task_format.specs.declared.marks.Location.{Location}
 use Rattle.sas_task_format.specs.declared.marks.Location.TheVariants as at
 use Rattle.sas_task_format.specs.declared.marks.Mark.{Mark}
 use Rattle.sas_task_format.specs.TaskFormat.{TaskLine, task_slot, task_line_bytes, task_layout}
-use Rattle.sas_task_format.specs.Marks.{any_number, positive_number, version_dues, metric_dues, variable_dues, group_dues, state_dues, goal_dues, operator_dues, rule_dues, there, numbered, slot_of_due, task_marks, IsDue}
+use Rattle.sas_task_format.specs.Marks.{any_number, slot_of_due, task_marks, IsDue}
 use Rattle.sas_task_format.specs.TaskReasons.{end_mark}
 pub use Rattle.sas_task_format.specs.WrongWords.{SpeaksOfFacts}
-use Rattle.sas_task_format.specs.Tracker.{Tracker, tracker_start, by_count, step, track, mark, mark_at, mark_in}
+use Rattle.sas_task_format.specs.Tracker.{Tracker, tracker_start, by_count, step, track, mark, mark_at, mark_in, next_number}
 use Rattle.sas_reader.proofs.Paths.{cut_at}
 use Rattle.sas_task_format.proofs.Tracking.{track_marks, IsBehindVariables, Known, Along}
 use Rattle.sas_task_format.proofs.TrackedTask.{ranges_in, behind_all, task_scan}
@@ -103,7 +101,7 @@ facts_behind_variables place.MetricBegin t h = h
 facts_behind_variables place.MetricNumber t h = h
 facts_behind_variables place.MetricEnd t h = h
 facts_behind_variables place.VariableCount t h = h
-facts_behind_variables place.Variables t h = no_facts t.left (mark at.Groups any_number) (mark (at.Variable t.variables) (due.Word fixed.BeginVariable)) (λ x. x) (λ x. x) h
+facts_behind_variables place.Variables t h = no_facts t.left (mark at.Groups any_number) (mark (at.Variable (next_number t)) (due.Word fixed.BeginVariable)) (λ x. x) (λ x. x) h
 facts_behind_variables place.VariableName t h = h
 facts_behind_variables place.VariableLayer t h = h
 facts_behind_variables place.VariableRange t h = h
@@ -145,66 +143,3 @@ standing begun m d =
     let c = cut_at task_line_bytes begun d.more (task_layout d.task) d.lines in
     let long : length begun ≡ length c.before = ap length (sym c.front_is) ∙ length-map c.before task_line_bytes in
     standing_at begun m d.task d.good c.before c.after c.whole c.front_is (ap (slice_get (task_marks d.task)) (sym long) ∙ d.marked)
-
--- ---- the numbers are small
-
--- the number of a variable, a group, an operator or a rule
-abbrev pub IsSmallAt : Location → Type 0
-IsSmallAt (at.Variable n) = n < 2 ^ 31
-IsSmallAt (at.Group n) = n < 2 ^ 31
-IsSmallAt (at.Operator n) = n < 2 ^ 31
-IsSmallAt (at.Rule n) = n < 2 ^ 31
-IsSmallAt _ = Unit {0}
-
-abbrev IsSmall : Mark → Type 0
-IsSmall m = IsSmallAt m.at
-
-record AllSmall (marks : List Mark) : Type 0 where
-  all : AllByRecursion IsSmall marks
-
-both_all : (a b : List Mark) → AllByRecursion IsSmall a → AllByRecursion IsSmall b → AllByRecursion IsSmall (a ++ b)
-both_all [] b h g = g
-both_all (m ∷ a) b h g = (h.0, both_all a b h.1 g)
-
-also : {a b : List Mark} → AllSmall a → AllSmall b → AllSmall (a ++ b)
-also {a = a} {b = b} h g = record { all = both_all a b h.all g.all }
-
-all_there : (l : Location) (dues : List Due) → IsSmallAt l → AllByRecursion IsSmall (there l dues)
-all_there l [] h = tt
-all_there l (d ∷ dues) h = (h, all_there l dues h)
-
-small_there : (l : Location) (dues : List Due) → IsSmallAt l → AllSmall (there l dues)
-small_there l dues h = record { all = all_there l dues h }
-
-small_numbered : {A : Type 0} (l : ℕ → Location) (dues : A → List Due) (n : ℕ) (xs : List A) → ((k : ℕ) → k < n + length xs → IsSmallAt (l k)) → AllSmall (numbered l dues n xs)
-small_numbered l dues n [] h = record { all = tt }
-small_numbered l dues n (x ∷ xs) h = also (small_there (l n) (dues x) (h n (omega arith))) (small_numbered l dues (n + 1) xs (λ k b. h k (omega arith)))
-
-got : (xs : List Mark) (k : ℕ) (m : Mark) → AllByRecursion IsSmall xs → slice_get xs k ≡ Some m → IsSmall m
-got [] k m h e = absurd cc
-got (x ∷ xs) zero m h e = let same : x ≡ m = cc in subst IsSmall same h.0
-got (x ∷ xs) (suc k) m h e = got xs k m h.1 e
-
-module _ (p : Parts) (good : WellRanged p) where
-  marks_small : AllSmall (task_marks p)
-  marks_small =
-      let variables : length p.variables < 2 ^ 31 = good.variables.count in
-      let groups : length p.groups < 2 ^ 31 = good.groups.count in
-      let operators : length p.operators < 2 ^ 31 = good.operators.count in
-      let rules : length p.rules < 2 ^ 31 = good.rules.count in
-      also (small_there at.Version version_dues tt)
-      (also (small_there at.Metric metric_dues tt)
-      (also (small_there at.Variables (positive_number ∷ []) tt)
-      (also (small_numbered at.Variable variable_dues 0 p.variables (λ k b. omega arith))
-      (also (small_there at.Groups (any_number ∷ []) tt)
-      (also (small_numbered at.Group group_dues 0 p.groups (λ k b. omega arith))
-      (also (small_there at.State (state_dues p.variables) tt)
-      (also (small_there at.Goal (goal_dues p.goal) tt)
-      (also (small_there at.Operators (any_number ∷ []) tt)
-      (also (small_numbered at.Operator operator_dues 0 p.operators (λ k b. omega arith))
-      (also (small_there at.Rules (any_number ∷ []) tt)
-      (small_numbered at.Rule rule_dues 0 p.rules (λ k b. omega arith))))))))))))
-
--- each is a number that a file can say
-pub small_due : (begun : List (List ℕ)) (m : Mark) → IsDue begun m → IsSmallAt m.at
-small_due begun m d = got (task_marks d.task) (length begun) m (marks_small d.task d.good).all d.marked

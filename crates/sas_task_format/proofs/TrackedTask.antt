@@ -75,45 +75,51 @@ module _ (ranges : List ℕ) (t : Tracker) where
 -- ---- the task
 
 module _ (p : Parts) where
-  -- behind the variables, the state, and all lines
+  -- behind the variables, the groups, the state, and all lines
   abbrev behind_variables : Tracker
-  behind_variables = record tracker_start { place = place.Variables; left = 0; ranges = ranges_in p.variables; variables = 0 + length p.variables }
+  behind_variables = record tracker_start { place = place.Variables; total = length p.variables; ranges = ranges_in p.variables }
+
+  abbrev behind_groups : Tracker
+  behind_groups = record behind_variables { place = place.Groups; total = length p.groups }
 
   abbrev behind_state : Tracker
-  behind_state = record behind_variables { place = place.GoalBegin; groups = 0 + length p.groups; valued = length (ranges_in p.variables) }
+  behind_state = record behind_groups { place = place.GoalBegin; valued = length (ranges_in p.variables) }
+
+  abbrev behind_operators : Tracker
+  behind_operators = record behind_state { place = place.Operators; total = length p.operators }
 
   abbrev pub behind_all : Tracker
-  behind_all = record behind_state { place = place.Rules; operators = 0 + length p.operators; rules = 0 + length p.rules }
+  behind_all = record behind_operators { place = place.Rules; total = length p.rules }
 
   abbrev Scans : Tracker → List TaskLine → List Mark → Tracker → Type 0
   Scans = Scan (ranges_in p.variables)
 
   variables_part : Scans (record tracker_start { place = place.VariableCount }) (counted variable_lines p.variables) (mark at.Variables positive_number ∷ numbered at.Variable variable_dues 0 p.variables) behind_variables
   variables_part =
-      let count : Scans (record tracker_start { place = place.VariableCount }) (number (length p.variables) ∷ []) (mark at.Variables positive_number ∷ []) (record tracker_start { place = place.Variables; left = length p.variables }) = record { marks = refl; ends = refl; along = (λ h. absurd h, refl, λ h. absurd h) } in
-      ◌then◌ (ranges_in p.variables) count (variables_scan (ranges_in p.variables) tracker_start p.variables)
+      let n = length p.variables in
+      let count : Scans (record tracker_start { place = place.VariableCount }) (number n ∷ []) (mark at.Variables positive_number ∷ []) (record tracker_start { place = place.Variables; total = n; left = n }) = record { marks = refl; ends = refl; along = (λ h. absurd h, refl, λ h. absurd h) } in
+      ◌then◌ (ranges_in p.variables) count (variables_scan (ranges_in p.variables) (record tracker_start { total = n }) 0 p.variables (omega arith))
 
-  groups_part : Scans behind_variables (counted group_lines p.groups) (mark at.Groups any_number ∷ numbered at.Group group_dues 0 p.groups) (record behind_variables { place = place.Groups; groups = 0 + length p.groups })
+  groups_part : Scans behind_variables (counted group_lines p.groups) (mark at.Groups any_number ∷ numbered at.Group group_dues 0 p.groups) behind_groups
   groups_part =
-      let count : Scans behind_variables (number (length p.groups) ∷ []) (mark at.Groups any_number ∷ []) (record behind_variables { place = place.Groups; left = length p.groups }) = record { marks = refl; ends = refl; along = (λ h. absurd h, refl, λ h. refl) } in
-      ◌then◌ (ranges_in p.variables) count (groups_scan (ranges_in p.variables) behind_variables refl 0 p.groups)
+      let count : Scans behind_variables (number (length p.groups) ∷ []) (mark at.Groups any_number ∷ []) (record behind_groups { left = length p.groups }) = record { marks = refl; ends = refl; along = (λ h. absurd h, refl, λ h. refl) } in
+      ◌then◌ (ranges_in p.variables) count (groups_scan (ranges_in p.variables) behind_groups refl p.groups (omega arith))
 
-  operators_part : Scans (record behind_state { place = place.OperatorCount }) (counted operator_lines p.operators) (mark at.Operators any_number ∷ numbered at.Operator operator_dues 0 p.operators) (record behind_state { place = place.Operators; operators = 0 + length p.operators })
+  operators_part : Scans (record behind_state { place = place.OperatorCount }) (counted operator_lines p.operators) (mark at.Operators any_number ∷ numbered at.Operator operator_dues 0 p.operators) behind_operators
   operators_part =
-      let count : Scans (record behind_state { place = place.OperatorCount }) (number (length p.operators) ∷ []) (mark at.Operators any_number ∷ []) (record behind_state { place = place.Operators; left = length p.operators }) = record { marks = refl; ends = refl; along = (λ h. refl, refl, λ h. refl) } in
-      ◌then◌ (ranges_in p.variables) count (operators_scan (ranges_in p.variables) behind_state refl 0 p.operators)
+      let count : Scans (record behind_state { place = place.OperatorCount }) (number (length p.operators) ∷ []) (mark at.Operators any_number ∷ []) (record behind_operators { left = length p.operators }) = record { marks = refl; ends = refl; along = (λ h. refl, refl, λ h. refl) } in
+      ◌then◌ (ranges_in p.variables) count (operators_scan (ranges_in p.variables) behind_operators refl p.operators (omega arith))
 
-  rules_part : Scans (record behind_state { place = place.Operators; operators = 0 + length p.operators }) (counted rule_lines p.rules) (mark at.Rules any_number ∷ numbered at.Rule rule_dues 0 p.rules) behind_all
+  rules_part : Scans behind_operators (counted rule_lines p.rules) (mark at.Rules any_number ∷ numbered at.Rule rule_dues 0 p.rules) behind_all
   rules_part =
-      let t : Tracker = record behind_state { place = place.Operators; operators = 0 + length p.operators } in
-      let count : Scans t (number (length p.rules) ∷ []) (mark at.Rules any_number ∷ []) (record t { place = place.Rules; left = length p.rules }) = record { marks = refl; ends = refl; along = (λ h. refl, refl, λ h. refl) } in
-      ◌then◌ (ranges_in p.variables) count (rules_scan (ranges_in p.variables) t refl 0 p.rules)
+      let count : Scans behind_operators (number (length p.rules) ∷ []) (mark at.Rules any_number ∷ []) (record behind_all { left = length p.rules }) = record { marks = refl; ends = refl; along = (λ h. refl, refl, λ h. refl) } in
+      ◌then◌ (ranges_in p.variables) count (rules_scan (ranges_in p.variables) behind_all refl p.rules (omega arith))
 
   -- a tracker says the marks of a task, line by line
   pub task_scan : WellRanged p → Scan (ranges_in p.variables) tracker_start (task_layout p) (task_marks p) behind_all
   task_scan good =
       let r = ranges_in p.variables in
-      let state = state_scan r (record behind_variables { groups = 0 + length p.groups }) p.variables p.init (state_paired p.variables p.init good.init) refl in
+      let state = state_scan r behind_groups p.variables p.init (state_paired p.variables p.init good.init) refl in
       let goal = goal_scan r behind_state refl p.goal in
       spelled r (◌then◌ r (version_scan r) (◌then◌ r (metric_scan r p.metric) (◌then◌ r variables_part (◌then◌ r groups_part (◌then◌ r state (◌then◌ r goal (◌then◌ r operators_part rules_part)))))))
       (sym (eight version_lines (metric_lines p.metric) (counted variable_lines p.variables) (counted group_lines p.groups) (state_lines p.init) (goal_lines p.goal) (counted operator_lines p.operators) (counted rule_lines p.rules)))

@@ -14,40 +14,36 @@ use Rattle.sas_task_format.specs.Marks.{any_number, positive_number}
 use Rattle.sas_task_format.specs.TaskFormat.{TaskLine}
 use Rattle.sas_task_format.specs.TaskProcess.{number_in}
 
--- the place behind some lines; how many variables, groups, operators or rules are left, and how many
--- values, facts or effects; and what has come
+-- the place behind some lines, and what is still to come of the lists that have begun
 pub record Tracker : Type 0 where
   pub place : Place
+  -- how many variables, groups, operators or rules there are, by the last line that said so, and how
+  -- many of them are left
+  pub total : ℕ
   pub left : ℕ
+  -- how many values, facts or effects are left
   pub more : ℕ
   -- the number of values of each variable, with that of a variable that has begun once it is known
   pub ranges : List ℕ
-  -- how many variables, values of the initial state, groups, operators and rules have come
-  pub variables : ℕ
+  -- how many values of the initial state have come
   pub valued : ℕ
-  pub groups : ℕ
-  pub operators : ℕ
-  pub rules : ℕ
 
 abbrev pub tracker_start : Tracker
 tracker_start = record {
   place = place.VersionBegin;
+  total = 0;
   left = 0;
   more = 0;
   ranges = [];
-  variables = 0;
   valued = 0;
-  groups = 0;
-  operators = 0;
-  rules = 0;
 }
 
--- to another place; with so many left; with so many more
+-- to another place; before a list of so many; with so many more
 abbrev pub goes_to : Place → Tracker → Tracker
 goes_to p t = record t { place = p }
 
-abbrev pub goes_with_left : Place → ℕ → Tracker → Tracker
-goes_with_left p n t = record t { place = p; left = n }
+abbrev pub goes_before : Place → ℕ → Tracker → Tracker
+goes_before p n t = record t { place = p; total = n; left = n }
 
 abbrev pub goes_with_more : Place → ℕ → Tracker → Tracker
 goes_with_more p n t = record t { place = p; more = n }
@@ -72,8 +68,8 @@ step_at place.VersionEnd t i = goes_to place.MetricBegin t
 step_at place.MetricBegin t i = goes_to place.MetricNumber t
 step_at place.MetricNumber t i = goes_to place.MetricEnd t
 step_at place.MetricEnd t i = goes_to place.VariableCount t
-step_at place.VariableCount t i = goes_with_left place.Variables (number_in i) t
-step_at place.Variables t i = by_count t.left (goes_with_left place.Groups (number_in i) t)
+step_at place.VariableCount t i = goes_before place.Variables (number_in i) t
+step_at place.Variables t i = by_count t.left (goes_before place.Groups (number_in i) t)
     (begins_one place.VariableName t)
 step_at place.VariableName t i = goes_to place.VariableLayer t
 step_at place.VariableLayer t i = goes_to place.VariableRange t
@@ -81,31 +77,27 @@ step_at place.VariableRange t i =
     record (goes_with_more place.VariableValues (number_in i) t) {
       ranges = t.ranges ++ number_in i ∷ [];
     }
-step_at place.VariableValues t i =
-    by_count t.more (record (goes_to place.Variables t) { variables = t.variables + 1 }) (one_less t)
+step_at place.VariableValues t i = by_count t.more (goes_to place.Variables t) (one_less t)
 step_at place.Groups t i = by_count t.left (goes_to place.StateValues t) (begins_one place.GroupSize t)
 step_at place.GroupSize t i = goes_with_more place.GroupFacts (number_in i) t
-step_at place.GroupFacts t i =
-    by_count t.more (record (goes_to place.Groups t) { groups = t.groups + 1 }) (one_less t)
+step_at place.GroupFacts t i = by_count t.more (goes_to place.Groups t) (one_less t)
 step_at place.StateValues t i = if nat_lt t.valued (length t.ranges)
     then record t { valued = t.valued + 1 }
     else goes_to place.GoalBegin t
 step_at place.GoalBegin t i = goes_to place.GoalSize t
 step_at place.GoalSize t i = goes_with_more place.GoalFacts (number_in i) t
 step_at place.GoalFacts t i = by_count t.more (goes_to place.OperatorCount t) (one_less t)
-step_at place.OperatorCount t i = goes_with_left place.Operators (number_in i) t
-step_at place.Operators t i = by_count t.left (goes_with_left place.Rules (number_in i) t)
+step_at place.OperatorCount t i = goes_before place.Operators (number_in i) t
+step_at place.Operators t i = by_count t.left (goes_before place.Rules (number_in i) t)
     (begins_one place.OperatorName t)
 step_at place.OperatorName t i = goes_to place.PrevailCount t
 step_at place.PrevailCount t i = goes_with_more place.Prevail (number_in i) t
 step_at place.Prevail t i = by_count t.more (goes_with_more place.Effects (number_in i) t) (one_less t)
-step_at place.Effects t i =
-    by_count t.more (record (goes_to place.OperatorEnd t) { operators = t.operators + 1 }) (one_less t)
+step_at place.Effects t i = by_count t.more (goes_to place.OperatorEnd t) (one_less t)
 step_at place.OperatorEnd t i = goes_to place.Operators t
 step_at place.Rules t i = begins_one place.RuleSize t
 step_at place.RuleSize t i = goes_with_more place.RuleConditions (number_in i) t
-step_at place.RuleConditions t i =
-    by_count t.more (record (goes_to place.RuleEnd t) { rules = t.rules + 1 }) (one_less t)
+step_at place.RuleConditions t i = by_count t.more (goes_to place.RuleEnd t) (one_less t)
 step_at place.RuleEnd t i = goes_to place.Rules t
 
 abbrev pub step : Tracker → TaskLine → Tracker
@@ -121,6 +113,13 @@ track t (i ∷ items) = track (step t i) items
 abbrev pub mark : Location → Due → Mark
 mark where_it_stands what = record { at = where_it_stands; due = what }
 
+-- the number of the variable, group, operator or rule that comes next, and of the one that has begun
+abbrev pub next_number : Tracker → ℕ
+next_number t = t.total - t.left
+
+abbrev pub this_number : Tracker → ℕ
+this_number t = t.total - t.left - 1
+
 -- the value of the next variable in the initial state
 abbrev pub next_value : Tracker → Due
 next_value t = due.Number 0 (slice_index_or t.ranges t.valued 0 - 1)
@@ -134,16 +133,16 @@ mark_at place.MetricNumber t = mark at.Metric (due.Number 0 1)
 mark_at place.MetricEnd t = mark at.Metric (due.Word fixed.EndMetric)
 mark_at place.VariableCount t = mark at.Variables positive_number
 mark_at place.Variables t = by_count t.left (mark at.Groups any_number)
-    (mark (at.Variable t.variables) (due.Word fixed.BeginVariable))
-mark_at place.VariableName t = mark (at.Variable t.variables) due.Name
-mark_at place.VariableLayer t = mark (at.Variable t.variables) due.Layer
-mark_at place.VariableRange t = mark (at.Variable t.variables) positive_number
-mark_at place.VariableValues t = mark (at.Variable t.variables)
+    (mark (at.Variable (next_number t)) (due.Word fixed.BeginVariable))
+mark_at place.VariableName t = mark (at.Variable (this_number t)) due.Name
+mark_at place.VariableLayer t = mark (at.Variable (this_number t)) due.Layer
+mark_at place.VariableRange t = mark (at.Variable (this_number t)) positive_number
+mark_at place.VariableValues t = mark (at.Variable (this_number t))
     (by_count t.more (due.Word fixed.EndVariable) due.Name)
 mark_at place.Groups t = by_count t.left (mark at.State (due.Word fixed.BeginState))
-    (mark (at.Group t.groups) (due.Word fixed.BeginMutexGroup))
-mark_at place.GroupSize t = mark (at.Group t.groups) any_number
-mark_at place.GroupFacts t = mark (at.Group t.groups)
+    (mark (at.Group (next_number t)) (due.Word fixed.BeginMutexGroup))
+mark_at place.GroupSize t = mark (at.Group (this_number t)) any_number
+mark_at place.GroupFacts t = mark (at.Group (this_number t))
     (by_count t.more (due.Word fixed.EndMutexGroup) due.Fact)
 mark_at place.StateValues t = mark at.State
     (if nat_lt t.valued (length t.ranges) then next_value t else due.Word fixed.EndState)
@@ -152,18 +151,17 @@ mark_at place.GoalSize t = mark at.Goal any_number
 mark_at place.GoalFacts t = mark at.Goal (by_count t.more (due.Word fixed.EndGoal) due.Fact)
 mark_at place.OperatorCount t = mark at.Operators any_number
 mark_at place.Operators t = by_count t.left (mark at.Rules any_number)
-    (mark (at.Operator t.operators) (due.Word fixed.BeginOperator))
-mark_at place.OperatorName t = mark (at.Operator t.operators) due.Name
-mark_at place.PrevailCount t = mark (at.Operator t.operators) any_number
-mark_at place.Prevail t = mark (at.Operator t.operators) (by_count t.more any_number due.Fact)
-mark_at place.Effects t = mark (at.Operator t.operators) (by_count t.more any_number due.Effect)
--- the operator and the rule of the last line have been counted
-mark_at place.OperatorEnd t = mark (at.Operator (t.operators - 1)) (due.Word fixed.EndOperator)
+    (mark (at.Operator (next_number t)) (due.Word fixed.BeginOperator))
+mark_at place.OperatorName t = mark (at.Operator (this_number t)) due.Name
+mark_at place.PrevailCount t = mark (at.Operator (this_number t)) any_number
+mark_at place.Prevail t = mark (at.Operator (this_number t)) (by_count t.more any_number due.Fact)
+mark_at place.Effects t = mark (at.Operator (this_number t)) (by_count t.more any_number due.Effect)
+mark_at place.OperatorEnd t = mark (at.Operator (this_number t)) (due.Word fixed.EndOperator)
 mark_at place.Rules t = by_count t.left (mark at.End due.Nothing)
-    (mark (at.Rule t.rules) (due.Word fixed.BeginRule))
-mark_at place.RuleSize t = mark (at.Rule t.rules) any_number
-mark_at place.RuleConditions t = mark (at.Rule t.rules) (by_count t.more due.Head due.Fact)
-mark_at place.RuleEnd t = mark (at.Rule (t.rules - 1)) (due.Word fixed.EndRule)
+    (mark (at.Rule (next_number t)) (due.Word fixed.BeginRule))
+mark_at place.RuleSize t = mark (at.Rule (this_number t)) any_number
+mark_at place.RuleConditions t = mark (at.Rule (this_number t)) (by_count t.more due.Head due.Fact)
+mark_at place.RuleEnd t = mark (at.Rule (this_number t)) (due.Word fixed.EndRule)
 
 abbrev pub mark_in : Tracker → Mark
 mark_in t = mark_at t.place t

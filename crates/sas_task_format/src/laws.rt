@@ -1,6 +1,6 @@
 // Laws of task files.
 ghost use Rattle.std.specs.Prelude.{Option};
-ghost use Rattle.sas_reader.specs.About.{TellingLaws};
+ghost use Rattle.sas_reader.specs.About.{AboutLaws};
 ghost use Rattle.sas_reader.specs.Laws.{Laws};
 ghost use Rattle.sas_reader.specs.System.{Grammar};
 ghost use Rattle.sas_task_format.specs.Process.{process_node};
@@ -37,7 +37,7 @@ pub fn mark_laws()
     ensures some_due { SomeDue }
     ensures one_wrong_word { OneWrongWord }
     ensures some_wrong_word { SomeWrongWord }
-    ensures about { TellingLaws task_format }
+    ensures about { AboutLaws task_format }
     ensures one_reason { OneTaskReason }
     ensures some_reason { SomeTaskReason }
     ensures word_is_named { WrongWordIsNamed }

@@ -6,5 +6,5 @@ mod marks;
 mod places;
 
 pub use laws::{mark_laws, task_laws};
-pub use marks::{Counts, Due, FixedWord, Location, Mark, WrongWord};
+pub use marks::{Due, FixedWord, Location, Mark, WrongWord};
 pub use places::Place;

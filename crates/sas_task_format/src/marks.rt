@@ -97,14 +97,6 @@ pub struct Mark {
     pub due: Due,
 }
 
-/// How many groups, operators and rules have come.
-#[derive(Clone, Copy, Debug, PartialEq, Eq)]
-pub struct Counts {
-    pub groups: u32,
-    pub operators: u32,
-    pub rules: u32,
-}
-
 /// The first word of a line whose number may not stand there, and the numbers that may: from 0, or from -1 where that stands for
 /// no value, to `most`.
 #[derive(Clone, Copy, Debug, PartialEq, Eq)]

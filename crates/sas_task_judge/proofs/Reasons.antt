@@ -13,12 +13,12 @@ use Rattle.sas_task_format.specs.declared.places.Place.{Place}
 use Rattle.sas_task_format.specs.declared.places.Place.TheVariants as at
 use Rattle.sas_task_format.specs.Marks.{slot_of_due, IsDue}
 use Rattle.sas_task_format.specs.Process.{process_node}
-use Rattle.sas_task_format.specs.TaskFormat.{TaskLine, TaskSlot, task_line_bytes, task_layout, task_format, TaskLineFits}
+use Rattle.sas_task_format.specs.TaskFormat.{TaskLine, task_line_bytes, task_layout, task_format, TaskLineFits}
 use Rattle.sas_task_format.specs.TaskProcess.{task_start}
 use Rattle.sas_task_format.specs.TaskReasons.{end_mark, IsTaskReason}
 use Rattle.sas_task_format.specs.Tracker.{Tracker, tracker_start, track, mark_in, mark_at}
 use Rattle.sas_task_format.specs.WrongWords.{IsWrongBehind}
-use Rattle.sas_task_format.proofs.DueBehind.{ranges_behind, is_due, small_due, speaks_behind_variables, SpeaksOfFacts}
+use Rattle.sas_task_format.proofs.DueBehind.{ranges_behind, is_due, speaks_behind_variables, SpeaksOfFacts}
 use Rattle.sas_task_format.proofs.MarkLaws.{same_items, one_due}
 use Rattle.sas_task_format.proofs.TaskGrammar.{task_grammar}
 use Rattle.sas_task_format.proofs.Tracking.{IsBehindVariables}
@@ -29,10 +29,10 @@ use Rattle.sas_task_line.specs.TaskRanges.{ranges_of}
 use Rattle.sas_task_line.proofs.WrongWords.{wrong_word_is, wrong_word_back}
 use Rattle.sas_task_judge.specs.declared.task_judge.TaskJudge.{TaskJudge}
 use Rattle.sas_task_judge.specs.declared.task_machine.TaskMachine.{TaskMachine}
-use Rattle.sas_task_judge.specs.Marks.{capped, counts_within, mark_of, due_slot, WrongWordIn}
-use Rattle.sas_task_judge.specs.TaskJudge.{state_of, counts_of, tracker_at, tracker_of, ranges_in, HasEnded}
+use Rattle.sas_task_judge.specs.Marks.{mark_of, due_slot, WrongWordIn}
+use Rattle.sas_task_judge.specs.TaskJudge.{state_of, tracker_at, tracker_of, ranges_in, HasEnded}
 use Rattle.sas_task_judge.specs.TaskMachine.{LedBy, Stopped}
-use Rattle.sas_task_judge.proofs.Marking.{due_same, exact_mark, speaks_of_facts}
+use Rattle.sas_task_judge.proofs.Marking.{speaks_of_facts}
 use Rattle.sas_task_judge.proofs.TaskEnds.{done_is, ended_if_done}
 
 -- ---- a task that begins with the lines
@@ -91,25 +91,17 @@ ranges_there at.RuleConditions ranges range h = refl
 ranges_there at.RuleEnd ranges range h = refl
 
 module _ {K : Type 0} (keeps : List (List ℕ) → SoFar → K → Type 0) (lines : List (List ℕ)) (m : TaskMachine K) (h : LedBy keeps lines m) where
-  -- the tracker over the lines
-  abbrev tracker : Tracker
-  tracker = track tracker_start h.leads.items
-
   -- the mark where the machine is
   abbrev pub mark_there : Mark
-  mark_there = mark_of m.judge (capped (length m.judge.ranges)) (counts_within h.so_far)
-
-  abbrev mark_tracked : Mark
-  mark_tracked = mark_in (tracker_of m.judge h.so_far)
+  mark_there = mark_of m.judge
 
   -- ---- where all has come
 
   pub mark_at_end : HasEnded m.judge → mark_there ≡ end_mark
   mark_at_end e =
       let j = m.judge in
-      let cs = counts_within h.so_far in
-      ap (λ (p : Place). mark_at p (tracker_at p j.left j.more j (capped (length j.ranges)) cs)) e.0
-      ∙ ap (λ (n : ℕ). mark_at at.Rules (tracker_at at.Rules n j.more j (capped (length j.ranges)) cs)) e.1
+      ap (λ (p : Place). mark_at p (tracker_at p j.left j.more j)) e.0
+      ∙ ap (λ (n : ℕ). mark_at at.Rules (tracker_at at.Rules n j.more j)) e.1
 
   module _ (going_on : HasEnded m.judge → ⊥) where
     -- ---- what is due
@@ -123,27 +115,18 @@ module _ {K : Type 0} (keeps : List (List ℕ) → SoFar → K → Type 0) (line
     completed : Completed h.leads.items
     completed = let f = task_grammar.fillable h.leads.items (state_of m.judge h.so_far) h.leads.after in completed_by f.0 f.1 f.2
 
-    due_tracked : IsDue lines mark_tracked
-    due_tracked =
+    pub due_there : IsDue lines mark_there
+    due_there =
         let c = completed in
         subst (λ (t : Tracker). IsDue lines (mark_in t)) h.tracked (is_due c.task c.good lines h.leads.items c.item c.more h.leads.spells c.layout)
 
-    mark_exact : mark_there ≡ mark_tracked
-    mark_exact = exact_mark m.judge h.so_far (small_due lines mark_tracked due_tracked)
-
-    pub due_there : IsDue lines mark_there
-    due_there = subst (IsDue lines) (sym mark_exact) due_tracked
-
     -- ---- the wrong word
 
-    slot_tracked : due_slot m.judge ≡ slot_of_due mark_tracked.due
-    slot_tracked = ap slot_of_due (due_same m.judge 0 (length m.judge.ranges) (record { groups = 0; operators = 0; rules = 0 }) (counts_of h.so_far))
-
     -- the judge's ranges are those of the variables of a task with these lines, where facts are due
-    ranges_are : (v : Parts) → WellRanged v → (items more : List TaskLine) → task_layout v ≡ items ++ more → items ≡ h.leads.items → SpeaksOfFacts mark_tracked.due → m.judge.ranges ≡ ranges_of v.variables
+    ranges_are : (v : Parts) → WellRanged v → (items more : List TaskLine) → task_layout v ≡ items ++ more → items ≡ h.leads.items → SpeaksOfFacts mark_there.due → m.judge.ranges ≡ ranges_of v.variables
     ranges_are v good items more layout same speaks =
-        let behind : IsBehindVariables m.judge.place = speaks_behind_variables (tracker_of m.judge h.so_far) speaks in
-        let is : track tracker_start items ≡ tracker_of m.judge h.so_far = ap (track tracker_start) same ∙ h.tracked in
+        let behind : IsBehindVariables m.judge.place = speaks_behind_variables (tracker_of m.judge) speaks in
+        let is : track tracker_start items ≡ tracker_of m.judge = ap (track tracker_start) same ∙ h.tracked in
         let there : IsBehindVariables (track tracker_start items).place = subst (λ (t : Tracker). IsBehindVariables t.place) (sym is) behind in
         sym (ranges_there m.judge.place m.judge.ranges m.judge.range behind)
         ∙ sym (ap (λ (t : Tracker). t.ranges) is)
@@ -153,29 +136,27 @@ module _ {K : Type 0} (keeps : List (List ℕ) → SoFar → K → Type 0) (line
       wrong_behind : IsFirstWrong m.judge.ranges (due_slot m.judge) line w → IsWrongBehind lines line w
       wrong_behind f =
           let c = completed in
-          let at_slot : IsFirstWrong m.judge.ranges (slot_of_due mark_tracked.due) line w = subst (λ (s : TaskSlot). IsFirstWrong m.judge.ranges s line w) slot_tracked f in
-          let ranges = ranges_are c.task c.good h.leads.items (c.item ∷ c.more) c.layout refl (speaks_of_facts m.judge.ranges mark_tracked.due line w at_slot) in
+          let ranges = ranges_are c.task c.good h.leads.items (c.item ∷ c.more) c.layout refl (speaks_of_facts m.judge.ranges mark_there.due line w f) in
           record {
             task = c.task;
             more = map task_line_bytes (c.item ∷ c.more);
             good = c.good;
             lines = ap (map task_line_bytes) c.layout ∙ map-append task_line_bytes h.leads.items (c.item ∷ c.more) ∙ ap (λ (ls : List (List ℕ)). ls ++ map task_line_bytes (c.item ∷ c.more)) h.leads.spells;
-            mark = mark_tracked;
-            due = due_tracked;
-            wrong = wrong_word_is c.task.variables (slot_of_due mark_tracked.due) line w (subst (λ (rs : List ℕ). IsFirstWrong rs (slot_of_due mark_tracked.due) line w) ranges at_slot);
+            mark = mark_there;
+            due = due_there;
+            wrong = wrong_word_is c.task.variables (slot_of_due mark_there.due) line w (subst (λ (rs : List ℕ). IsFirstWrong rs (slot_of_due mark_there.due) line w) ranges f);
           }
 
       wrong_in_judge : IsWrongBehind lines line w → IsFirstWrong m.judge.ranges (due_slot m.judge) line w
       wrong_in_judge b =
           let c = completed in
-          let marks : b.mark ≡ mark_tracked = one_due lines b.mark mark_tracked b.due due_tracked in
+          let marks : b.mark ≡ mark_there = one_due lines b.mark mark_there b.due due_there in
           let cut = cut_at task_line_bytes lines b.more (task_layout b.task) b.lines in
           let same : cut.before ≡ h.leads.items = same_items b.task c.task b.good c.good cut.before cut.after h.leads.items (c.item ∷ c.more) cut.whole c.layout (cut.front_is ∙ sym h.leads.spells) in
-          let there : IsFirstWrong (ranges_of b.task.variables) (slot_of_due mark_tracked.due) line w =
+          let there : IsFirstWrong (ranges_of b.task.variables) (slot_of_due mark_there.due) line w =
           subst (λ (k : Mark). IsFirstWrong (ranges_of b.task.variables) (slot_of_due k.due) line w) marks (wrong_word_back b.task.variables (slot_of_due b.mark.due) line w b.wrong) in
-          let ranges = ranges_are b.task b.good cut.before cut.after cut.whole same (speaks_of_facts (ranges_of b.task.variables) mark_tracked.due line w there) in
-          subst (λ (s : TaskSlot). IsFirstWrong m.judge.ranges s line w) (sym slot_tracked)
-          (subst (λ (rs : List ℕ). IsFirstWrong rs (slot_of_due mark_tracked.due) line w) (sym ranges) there)
+          let ranges = ranges_are b.task b.good cut.before cut.after cut.whole same (speaks_of_facts (ranges_of b.task.variables) mark_there.due line w there) in
+          subst (λ (rs : List ℕ). IsFirstWrong rs (slot_of_due mark_there.due) line w) (sym ranges) there
 
     -- ---- the reason
 

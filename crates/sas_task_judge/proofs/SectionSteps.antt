@@ -39,7 +39,7 @@ before_section j s place here left = ap (λ (p : Place). state_at p j.left j.mor
 pub record SectionLeads (j k : TaskJudge) (s : SoFar) (items : List TaskLine) (t : SoFar) : Type 0 where
   pub known : KnownTo t k
   pub on : GoesOn (state_of j s) items (state_of k t)
-  pub tracked : track (tracker_of j s) items ≡ tracker_of k t
+  pub tracked : track (tracker_of j) items ≡ tracker_of k
 
 -- what the judge knows stays, where the place is that of a section
 known_behind : (j : TaskJudge) (s t : SoFar) → t.parts.variables ≡ s.parts.variables → t.parts.init ≡ s.parts.init → (j.place ≡ at.VariableValues → ⊥) → KnownTo s j → KnownTo t (behind_section j)
@@ -66,7 +66,7 @@ variable_leads j s v range due f good many fits = record {
   };
   on = at_place j s (behind_variable s v) at.Variables (variable_lines v) (variable_lines v) due.0 due.1 refl
       (variable_on (λ a. state_at at.Variables (j.left - 1) j.more (behind_variable s a)) v good fits);
-  tracked = variable_tracked j s v range due.0 due.1 many;
+  tracked = variable_tracked j v range due.0 due.1 many;
 }
 
 pub group_leads : (j : TaskJudge) (s : SoFar) (facts : List Fact) → SectionDue j section.Group → KnownTo s j → IsTrue (list_all (fact_in_ranges j.ranges) facts) → AllFit (group_lines facts) → SectionLeads j (behind_section j) s (group_lines facts) (behind_group s facts)
@@ -74,7 +74,7 @@ group_leads j s facts due f good fits = record {
   known = known_behind j s (behind_group s facts) refl refl (λ h. let other = sym due.0 ∙ h in cc) f;
   on = at_place j s (behind_group s facts) at.Groups (group_lines facts) (group_lines facts) due.0 due.1 refl
       (group_on s.parts.variables (λ a. state_at at.Groups (j.left - 1) j.more (behind_group s a)) facts (subst (λ (rs : List ℕ). IsTrue (list_all (fact_in_ranges rs) facts)) f.ranges good) fits);
-  tracked = group_tracked j s facts due.0 due.1;
+  tracked = group_tracked j facts due.0 due.1;
 }
 
 pub operator_leads : (j : TaskJudge) (s : SoFar) (o : Operator) → SectionDue j section.Operator → KnownTo s j → OperatorInRanges j.ranges o → AllFit (operator_lines o) → SectionLeads j (behind_section j) s (operator_lines o) (behind_operator s o)
@@ -82,7 +82,7 @@ operator_leads j s o due f good fits = record {
   known = known_behind j s (behind_operator s o) refl refl (λ h. let other = sym due.0 ∙ h in cc) f;
   on = at_place j s (behind_operator s o) at.Operators (operator_items o) (operator_lines o) due.0 due.1 (operator_lines_are o)
       (operator_on s.parts.variables (λ a. state_at at.Operators (j.left - 1) j.more (behind_operator s a)) o (subst (λ (rs : List ℕ). OperatorInRanges rs o) f.ranges good) (subst AllFit (operator_lines_are o) fits));
-  tracked = ap (λ (l : List TaskLine). track (tracker_of j s) l) (operator_lines_are o) ∙ operator_tracked j s o due.0 due.1;
+  tracked = ap (λ (l : List TaskLine). track (tracker_of j) l) (operator_lines_are o) ∙ operator_tracked j o due.0 due.1;
 }
 
 pub rule_leads : (j : TaskJudge) (s : SoFar) (r : Rule) → SectionDue j section.Rule → KnownTo s j → RuleInRanges j.ranges r → AllFit (rule_lines r) → SectionLeads j (behind_section j) s (rule_lines r) (behind_rule s r)
@@ -90,7 +90,7 @@ rule_leads j s r due f good fits = record {
   known = known_behind j s (behind_rule s r) refl refl (λ h. let other = sym due.0 ∙ h in cc) f;
   on = at_place j s (behind_rule s r) at.Rules (rule_items r) (rule_lines r) due.0 due.1 (rule_lines_are r)
       (rule_on s.parts.variables (λ a. state_at at.Rules (j.left - 1) j.more (behind_rule s a)) r (subst (λ (rs : List ℕ). RuleInRanges rs r) f.ranges good) (subst AllFit (rule_lines_are r) fits));
-  tracked = ap (λ (l : List TaskLine). track (tracker_of j s) l) (rule_lines_are r) ∙ rule_tracked j s r due.0 due.1;
+  tracked = ap (λ (l : List TaskLine). track (tracker_of j) l) (rule_lines_are r) ∙ rule_tracked j r due.0 due.1;
 }
 
 -- ---- the machine

@@ -34,7 +34,7 @@ use Rattle.sas_task_format.specs.TaskProcess.{TaskProcess, a_word, a_number, num
 
 -- a line that may stand leads on
 pub on : (j k : TaskJudge) (s t : SoFar) (slot : TaskSlot) (test : TaskLine → Bool) (next : TaskLine → TaskProcess) (i : TaskLine) (line : List ℕ)
-    → state_of j s ≡ read slot test next → Takes task_format TaskLineFits slot test i × (task_line_bytes i ≡ line) → next i ≡ state_of k t → step (tracker_of j s) i ≡ tracker_of k t → LeadsOn j s line k t
+    → state_of j s ≡ read slot test next → Takes task_format TaskLineFits slot test i × (task_line_bytes i ≡ line) → next i ≡ state_of k t → step (tracker_of j) i ≡ tracker_of k → LeadsOn j s line k t
 on j k s t slot test next i line at says n steps = record {
   item = i;
   leads = subst (λ (p : TaskProcess). OneLine task_format TaskLineFits (process_node p) i (λ r. r ≡ state_of k t)) (sym at) (says.0, n);

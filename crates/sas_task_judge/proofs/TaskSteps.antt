@@ -23,10 +23,10 @@ TaskLed lines p = Leads task_format TaskLineFits process_node task_start lines p
 -- so do they, and the tracker is where the judge is
 pub record Tracked (lines : List (List ℕ)) (k : TaskJudge) (t : SoFar) : Type 0 where
   pub leads : TaskLed lines (state_of k t)
-  pub tracked : track tracker_start leads.items ≡ tracker_of k t
+  pub tracked : track tracker_start leads.items ≡ tracker_of k
 
 -- a line that leads on
-pub line_led : (before : List (List ℕ)) (j k : TaskJudge) (s t : SoFar) (line : List ℕ) (h : TaskLed before (state_of j s)) → LeadsOn j s line k t → track tracker_start h.items ≡ tracker_of j s → Tracked (before ++ line ∷ []) k t
+pub line_led : (before : List (List ℕ)) (j k : TaskJudge) (s t : SoFar) (line : List ℕ) (h : TaskLed before (state_of j s)) → LeadsOn j s line k t → track tracker_start h.items ≡ tracker_of j → Tracked (before ++ line ∷ []) k t
 line_led before j k s t line h on tracked = record {
   leads = record {
     items = h.items ++ on.item ∷ [];

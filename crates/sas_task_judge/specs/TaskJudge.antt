@@ -14,7 +14,6 @@ use Rattle.sas_task_judge.specs.declared.task_judge.TaskJudge.{TaskJudge}
 use Rattle.sas_reader.specs.Faults.{IsOfBytes}
 use Rattle.sas_task_format.specs.Process.{process_node, ◌>>◌}
 use Rattle.sas_reader.specs.System.{OneLine, Rejects, Takes}
-use Rattle.sas_task_format.specs.declared.marks.Counts.{Counts}
 use Rattle.sas_task_format.specs.Tracker.{Tracker, step}
 use Rattle.sas_task_line.specs.TaskEvents.{after}
 use Rattle.sas_task_format.specs.TaskFormat.{TaskLine, task_slot, task_line_bytes, task_format, TaskLineFits}
@@ -80,32 +79,20 @@ abbrev pub ranges_in : Place → List ℕ → ℕ → List ℕ
 ranges_in at.VariableValues ranges range = ranges ++ range ∷ []
 ranges_in _ ranges range = ranges
 
--- how many groups, operators and rules have come
-abbrev pub counts_of : SoFar → Counts
-counts_of s = record {
-  groups = length s.parts.groups;
-  operators = length s.parts.operators;
-  rules = length s.parts.rules;
-}
-
--- the tracker at a place, with so many left and so many more, of what the judge holds and of these
--- counts
-abbrev pub tracker_at : Place → ℕ → ℕ → TaskJudge → ℕ → Counts → Tracker
-tracker_at place left more j variables counts = record {
+-- the tracker at a place, with so many left and so many more, of what the judge holds
+abbrev pub tracker_at : Place → ℕ → ℕ → TaskJudge → Tracker
+tracker_at place left more j = record {
   place = place;
+  total = j.total;
   left = left;
   more = more_in place more;
   ranges = ranges_in place j.ranges j.range;
-  variables = variables;
   valued = j.valued;
-  groups = counts.groups;
-  operators = counts.operators;
-  rules = counts.rules;
 }
 
--- the tracker where the judge is, behind what has come
-abbrev pub tracker_of : TaskJudge → SoFar → Tracker
-tracker_of j s = tracker_at j.place j.left j.more j (length j.ranges) (counts_of s)
+-- the tracker where the judge is
+abbrev pub tracker_of : TaskJudge → Tracker
+tracker_of j = tracker_at j.place j.left j.more j
 
 -- all has come
 abbrev pub HasEnded : TaskJudge → Type 0
@@ -153,7 +140,7 @@ abbrev pub Due : {A : Type 0} → TaskJudge → (List Variable → TaskPart A) �
     → Type 0
 Due {A} j part says next adds = (s : SoFar) → KnownTo s j
     → (state_of j s ≡ part s.parts.variables (λ a. state_of (next a) (adds a s)))
-    × ((a : A) → step (tracker_of j s) (says a) ≡ tracker_of (next a) (adds a s))
+    × ((a : A) → step (tracker_of j) (says a) ≡ tracker_of (next a))
 
 -- the line leads from the state of a judge behind what has come to that of another, and so does it
 -- the tracker
@@ -163,7 +150,7 @@ pub record LeadsOn (j : TaskJudge) (s : SoFar) (line : List ℕ) (k : TaskJudge)
   pub leads : OneLine task_format TaskLineFits (process_node (state_of j s)) item
       (λ r. r ≡ state_of k t)
   pub spells : task_line_bytes item ≡ line
-  pub steps : step (tracker_of j s) item ≡ tracker_of k t
+  pub steps : step (tracker_of j) item ≡ tracker_of k
 
 -- the line may not follow, and the kind of its fault
 abbrev pub RejectsLine : TaskJudge → List ℕ → Kind → Type 0

@@ -21,7 +21,7 @@ module _ {K : Type 0} (keeps : List (List ℕ) → SoFar → K → Type 0) where
     pub leads : Leads task_format TaskLineFits process_node task_start lines
         (state_of m.judge so_far)
     pub known : KnownTo so_far m.judge
-    pub tracked : track tracker_start leads.items ≡ tracker_of m.judge so_far
+    pub tracked : track tracker_start leads.items ≡ tracker_of m.judge
     pub kept : keeps lines so_far m.kept
 
   -- it keeps what is asked for where nothing has come

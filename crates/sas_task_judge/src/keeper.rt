@@ -3,7 +3,6 @@ ghost use Rattle.std.specs.Prelude.{◌≡◌, ◌++◌, ◌∷◌, [], List, �
 
 use sas_core::Items;
 use sas_reader::{Front, Kind};
-use sas_task_format::Counts;
 use sas_task_line::{Event, Said, SoFar};
 
 /// What a keeper reports of a variable that it kept: how many lines and bytes it takes up, and how many values it has.
@@ -63,17 +62,6 @@ pub trait Keeper: Drop {
     {
         Ok(Front::EMPTY)
     }
-}
-
-/// A keeper that knows how many mutex groups, operators and rules have come. A refusal tells by that where it stands.
-pub trait Counting: Keeper {
-    ghost use Rattle.sas_task_line.specs.declared.so_far.SoFar.{SoFar};
-    ghost use Rattle.sas_task_judge.specs.Marks.{counts_within};
-
-    /// Returns how many mutex groups, operators and rules have come, as far as 32 bits count.
-    fn counts(&self) -> Counts
-        ensures { (lines : List (List ℕ)) (s : SoFar) → Self.keeps lines s self.now
-            → result ≡ counts_within s };
 }
 
 impl Keeper for SoFar {

@@ -6,7 +6,7 @@ mod keeper;
 mod task_judge;
 mod task_machine;
 
-pub use keeper::{Counting, Keeper, VariableKept};
+pub use keeper::{Keeper, VariableKept};
 pub use sas_task_format::Place;
-pub use task_judge::{Section, TaskJudge, counted};
+pub use task_judge::{Section, TaskJudge};
 pub use task_machine::TaskMachine;

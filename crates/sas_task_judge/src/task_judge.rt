@@ -10,7 +10,6 @@ mod ahead;
 mod marks;
 mod sections;
 
-pub use marks::counted;
 use sas_core::{Change, Fact, Items};
 use sas_reader::Kind;
 use sas_task_format::Place;
@@ -25,7 +24,9 @@ use std::alloc::Global;
 #[derive(Drop)]
 pub struct TaskJudge {
     place: Place,
-    /// How many variables, groups, operators or rules are left.
+    /// How many variables, groups, operators or rules there are, by the last line that said so.
+    total: u32,
+    /// How many of them are left.
     left: u32,
     /// How many values, facts or effects are left in the list that has begun.
     more: u32,
@@ -43,12 +44,14 @@ impl TaskJudge {
     /// Makes a judge that has taken no line.
     pub fn new(alloc: Global) -> Self
         ensures place { result.place ≡ Place.VersionBegin }
+        ensures total { result.total ≡ 0 }
         ensures left { result.left ≡ 0 }
         ensures ranges { result.ranges ≡ [] }
         ensures valued { result.valued ≡ 0 }
     {
         TaskJudge {
             place: Place::VersionBegin,
+            total: 0,
             left: 0,
             more: 0,
             range: 0,
@@ -95,10 +98,12 @@ impl TaskJudge {
     fn count(&mut self, line: &[u8], next: Place) -> Result<Event, Kind>
         requires apart { next ≢ Place.VariableValues }
         requires due { Due self.old (λ _. a_number any) format.number
-            (λ n. record self.old { left = n; place = next }) (λ _ s. s) }
+            (λ n. record self.old { total = n; left = n; place = next }) (λ _ s. s) }
         ensures { Moves self.old line.now self.new result }
     {
-        self.left = number_at(line)?;
+        let count = number_at(line)?;
+        self.total = count;
+        self.left = count;
         self.place = next;
         Ok(Event::Nothing)
     }
@@ -126,7 +131,9 @@ impl TaskJudge {
         requires place { self.old.place ≡ Place.VariableCount }
         ensures { Moves self.old line.now self.new result }
     {
-        self.left = positive_at(line)?;
+        let count = positive_at(line)?;
+        self.total = count;
+        self.left = count;
         self.place = Place::Variables;
         Ok(Event::Nothing)
     }

@@ -1,10 +1,10 @@
 // Takes the lines of a task file: it judges each, and keeps what is asked for of what they hold.
-ghost use Rattle.std.specs.Prelude.{◌≡◌, ◌≢◌, ℕ, List, length};
+ghost use Rattle.std.specs.Prelude.{◌≡◌, ◌≢◌};
 
-use crate::keeper::{Counting, Keeper};
+use crate::keeper::Keeper;
 use crate::task_judge::{Section, TaskJudge};
 use sas_reader::{Front, Kind, Machine};
-use sas_task_format::{Mark, WrongWord};
+use sas_task_format::WrongWord;
 use std::alloc::Global;
 
 /// The judge of the lines, and what is kept of them.
@@ -147,21 +147,6 @@ impl<K: Keeper> TaskMachine<K> {
             lines: 1,
             bytes: ahead.taken,
         })
-    }
-}
-
-impl<K: Counting> TaskMachine<K> {
-    ghost use Rattle.sas_task_judge.specs.Marks.{capped, mark_of, counts_within};
-    ghost use Rattle.sas_task_judge.specs.TaskMachine.{LedBy};
-
-    /// Returns where the next line stands and what is due there.
-    #[cold]
-    pub fn mark(&self) -> Mark
-        ensures { (lines : List (List ℕ)) (led : LedBy K.keeps lines self.now)
-            → result ≡ mark_of self.now.judge (capped (length self.now.judge.ranges))
-            (counts_within led.so_far) }
-    {
-        self.judge.mark(self.kept.counts())
     }
 }
 

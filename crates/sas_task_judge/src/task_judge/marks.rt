@@ -1,12 +1,12 @@
 // Where the judge stands and what is due there. It is asked for where a line is refused, and only then.
-ghost use Rattle.std.specs.Prelude.{◌≡◌, ◌-◌, length, IfOk};
+ghost use Rattle.std.specs.Prelude.{◌≡◌, ◌-◌, IfOk};
 ghost use Rattle.std.specs.Prelude.{slice_index_or};
 ghost use Rattle.sas_task_line.specs.FirstWrong.{FirstWrong};
 ghost use Rattle.sas_task_judge.specs.TaskJudge.{IsBehindGroups, StandsAsBefore};
-ghost use Rattle.sas_task_judge.specs.Marks.{capped, mark_of, due_slot, LocationIs, DueIs};
+ghost use Rattle.sas_task_judge.specs.Marks.{mark_of, due_slot, LocationIs, DueIs};
 
 use super::TaskJudge;
-use sas_task_format::{Counts, Due, FixedWord, Location, Mark, Place, WrongWord};
+use sas_task_format::{Due, FixedWord, Location, Mark, Place, WrongWord};
 use sas_task_line::{wrong_in_effect, wrong_in_fact, wrong_in_head};
 use std::alloc::AllocError;
 
@@ -25,17 +25,6 @@ const POSITIVE_NUMBER: Due = Due::Number {
     most: MOST,
 };
 
-/// Returns the number as far as 32 bits count.
-pub fn counted(n: usize) -> u32
-    ensures { result ≡ capped n }
-{
-    if n < u32::MAX as usize {
-        n as u32
-    } else {
-        u32::MAX
-    }
-}
-
 impl TaskJudge {
     /// Returns the greatest value of the variable whose value in the state comes next.
     fn next_most(&self) -> u32
@@ -47,9 +36,23 @@ impl TaskJudge {
         }
     }
 
+    /// Returns the number of the variable, group, operator or rule that comes next.
+    fn next_number(&self) -> u32
+        ensures { result ≡ self.now.total - self.now.left }
+    {
+        self.total.saturating_sub(self.left)
+    }
+
+    /// Returns the number of the variable, group, operator or rule that has begun.
+    fn this_number(&self) -> u32
+        ensures { result ≡ self.now.total - self.now.left - 1 }
+    {
+        self.next_number().saturating_sub(1)
+    }
+
     /// Returns where the next line stands.
-    fn location(&self, counts: Counts) -> Location
-        ensures { LocationIs self.now counts result }
+    fn location(&self) -> Location
+        ensures { LocationIs self.now result }
     {
         match self.place {
             Place::VersionBegin => Location::Version,
@@ -60,23 +63,23 @@ impl TaskJudge {
             Place::MetricEnd => Location::Metric,
             Place::VariableCount => Location::Variables,
             Place::Variables if self.left == 0 => Location::Groups,
-            Place::Variables => Location::Variable(counted(self.ranges.len())),
-            Place::VariableName => Location::Variable(counted(self.ranges.len())),
-            Place::VariableLayer => Location::Variable(counted(self.ranges.len())),
-            Place::VariableRange => Location::Variable(counted(self.ranges.len())),
-            Place::VariableValues => Location::Variable(counted(self.ranges.len())),
+            Place::Variables => Location::Variable(self.next_number()),
+            Place::VariableName => Location::Variable(self.this_number()),
+            Place::VariableLayer => Location::Variable(self.this_number()),
+            Place::VariableRange => Location::Variable(self.this_number()),
+            Place::VariableValues => Location::Variable(self.this_number()),
             Place::Groups if self.left == 0 => Location::State,
-            Place::Groups => Location::Group(counts.groups),
-            Place::GroupSize => Location::Group(counts.groups),
-            Place::GroupFacts => Location::Group(counts.groups),
-            _ => self.location_behind_groups(counts),
+            Place::Groups => Location::Group(self.next_number()),
+            Place::GroupSize => Location::Group(self.this_number()),
+            Place::GroupFacts => Location::Group(self.this_number()),
+            _ => self.location_behind_groups(),
         }
     }
 
     /// Returns where the next line stands, where the mutex groups have come.
-    fn location_behind_groups(&self, counts: Counts) -> Location
+    fn location_behind_groups(&self) -> Location
         requires { IsBehindGroups self.now.place }
-        ensures { LocationIs self.now counts result }
+        ensures { LocationIs self.now result }
     {
         match self.place {
             Place::StateValues => Location::State,
@@ -85,17 +88,17 @@ impl TaskJudge {
             Place::GoalFacts => Location::Goal,
             Place::OperatorCount => Location::Operators,
             Place::Operators if self.left == 0 => Location::Rules,
-            Place::Operators => Location::Operator(counts.operators),
-            Place::OperatorName => Location::Operator(counts.operators),
-            Place::PrevailCount => Location::Operator(counts.operators),
-            Place::Prevail => Location::Operator(counts.operators),
-            Place::Effects => Location::Operator(counts.operators),
-            Place::OperatorEnd => Location::Operator(counts.operators.saturating_sub(1)),
+            Place::Operators => Location::Operator(self.next_number()),
+            Place::OperatorName => Location::Operator(self.this_number()),
+            Place::PrevailCount => Location::Operator(self.this_number()),
+            Place::Prevail => Location::Operator(self.this_number()),
+            Place::Effects => Location::Operator(self.this_number()),
+            Place::OperatorEnd => Location::Operator(self.this_number()),
             Place::Rules if self.left == 0 => Location::End,
-            Place::Rules => Location::Rule(counts.rules),
-            Place::RuleSize => Location::Rule(counts.rules),
-            Place::RuleConditions => Location::Rule(counts.rules),
-            Place::RuleEnd => Location::Rule(counts.rules.saturating_sub(1)),
+            Place::Rules => Location::Rule(self.next_number()),
+            Place::RuleSize => Location::Rule(self.this_number()),
+            Place::RuleConditions => Location::Rule(self.this_number()),
+            Place::RuleEnd => Location::Rule(self.this_number()),
             _ => unreachable!(),
         }
     }
@@ -163,13 +166,13 @@ impl TaskJudge {
         }
     }
 
-    /// Returns where the next line stands and what is due there, where so many groups, operators and rules have come.
+    /// Returns where the next line stands and what is due there.
     #[cold]
-    pub fn mark(&self, counts: Counts) -> Mark
-        ensures { result ≡ mark_of self.now (capped (length self.now.ranges)) counts }
+    pub fn mark(&self) -> Mark
+        ensures { result ≡ mark_of self.now }
     {
         Mark {
-            at: self.location(counts),
+            at: self.location(),
             due: self.due(),
         }
     }

@@ -11,55 +11,37 @@ use Rattle.sas_reader.specs.declared.fault.Kind.TheVariants as kinds
 use Rattle.sas_reader.specs.declared.reader.Reader.{Reader}
 use Rattle.sas_reader.specs.declared.reader.Refused.{Refused}
 use Rattle.sas_reader.specs.Faults.{answer}
-use Rattle.sas_reader.specs.Reader.{LineIsDue, FaultTold, ToldBy, Stands, StandsTelling, ReadFails, unread, early, faulty, ReachesEndTelling, ReadFailsTelling, told_unread, told_early, told_faulty, FeedsMachineTelling}
-use Rattle.sas_reader.proofs.Standing.{accepted_of, told_of, fault_is}
+use Rattle.sas_reader.specs.Reader.{LineIsDue, FaultIn, IsRefused, Stands, ReadFails, unread, early, faulty, ReachesEnd, FeedsMachine}
+use Rattle.sas_reader.proofs.Standing.{accepted_of, fault_of}
 use Rattle.sas_reader.proofs.devices.feed_all.Goals as goal
 
 module _ {M D : Type 0} (led_by : List (List ℕ) → M → Type 0) (ended : M → Type 0) (rejects : M → List ℕ → Kind → Type 0) (halted : M → List ℕ → Kind → M → Type 0) (left : D → Option (List ℕ)) where
-  -- what is told is so
-  fails : (limit : ℕ) (b : List ℕ) (End : Type 0) (r : Refused M) → ReadFailsTelling led_by ended rejects halted limit b End r → ReadFails led_by ended rejects limit b End r.fault
-  fails limit b End r (told_unread m h l n k) = unread m h l n k
-  fails limit b End r (told_early e h) = early e h.early
-  fails limit b End r (told_faulty h ne) = faulty (fault_is led_by ended rejects halted limit b r.fault r.machine r.found h) ne
-
-  -- a refusal by what it tells, want of memory aside
-  pub refused_as : (limit : ℕ) (old new : Device D) (x r : Refused M) → x ≡ r → (r.fault.kind ≢ kinds.Memory → (b : List ℕ) × Consumes (left old.device) (left new.device) b × ReadFailsTelling led_by ended rejects halted limit b (IsAtEnd (left new.device)) r)
+  -- a refusal by why it is one, want of memory aside
+  pub refused_as : (limit : ℕ) (old new : Device D) (x r : Refused M) → x ≡ r → (r.fault.kind ≢ kinds.Memory → (b : List ℕ) × Consumes (left old.device) (left new.device) b × ReadFails led_by ended rejects halted limit b (IsAtEnd (left new.device)) r)
       → (r.fault.kind ≡ kinds.Memory → (b piece : List ℕ) × Consumes (left old.device) (left new.device) (b ++ piece) × LineIsDue led_by ended limit b piece) → (r.fault.kind ≡ kinds.Read → IsTrue new.failed) → (IsTrue new.failed → r.fault.kind ≡ kinds.Read)
-      → FeedsMachineTelling led_by ended rejects halted left limit old new (Err x)
-  refused_as limit old new x r is told memory read note = subst (λ (y : Refused M). FeedsMachineTelling led_by ended rejects halted left limit old new (Err y)) (sym is) (record {
-    plain = record {
-      at_end = tt;
-      reached = tt;
-      fault = λ ne. let t = told ne in (t.0, t.1, fails limit t.0 (IsAtEnd (left new.device)) r t.2);
-      memory = memory;
-      note = (read, note);
-    };
-    told = told;
-  })
+      → FeedsMachine led_by ended rejects halted left limit old new (Err x)
+  refused_as limit old new x r is refused memory read note = subst (λ (y : Refused M). FeedsMachine led_by ended rejects halted left limit old new (Err y)) (sym is) (record { at_end = tt; reached = tt; refused = refused; memory = memory; note = (read, note) })
 
   -- what a reader at the end of its device finds wrong
-  at_end : (limit : ℕ) (b : List ℕ) (End : Type 0) (r : Refused M) → End → r.fault.kind ≢ kinds.Read → ToldBy led_by ended rejects halted limit b r → ReadFailsTelling led_by ended rejects halted limit b End r
-  at_end limit b End r e ne (inl h) = told_faulty h ne
-  at_end limit b End r e ne (inr h) = told_early e h
+  at_end : (limit : ℕ) (b : List ℕ) (End : Type 0) (r : Refused M) → End → r.fault.kind ≢ kinds.Read → IsRefused led_by ended rejects halted limit b r → ReadFails led_by ended rejects halted limit b End r
+  at_end limit b End r e ne (inl h) = faulty h ne
+  at_end limit b End r e ne (inr h) = early e h
 
   -- a device is read to its end with a reader that has no fault
-  ended_so : (limit : ℕ) (old new : Device D) (b : List ℕ) (r : Reader M) (result : Result M (Refused M)) → ReachesEndTelling led_by ended rejects halted r result → Stands led_by ended rejects r b → StandsTelling led_by ended rejects halted r b → r.fault ≡ None → r.limit ≡ limit
-      → Consumes (left old.device) (left new.device) b → IsAtEnd (left new.device) → (IsTrue new.failed → ⊥) → FeedsMachineTelling led_by ended rejects halted left limit old new result
-  ended_so limit old new b r (Ok m) h s t none same took over well = record {
-    plain = record {
-      at_end = h.plain.at_end;
-      reached = let reached = h.plain.reached b s in (b, took, over, reached.0, subst (λ (l : ℕ). length b ≤ l) same reached.1);
-      fault = tt;
-      memory = tt;
-      note = (λ e. absurd e, λ t. absurd (well t));
-    };
-    told = tt;
+  ended_so : (limit : ℕ) (old new : Device D) (b : List ℕ) (r : Reader M) (result : Result M (Refused M)) → ReachesEnd led_by ended rejects halted r result → Stands led_by ended rejects halted r b → r.fault ≡ None → r.limit ≡ limit
+      → Consumes (left old.device) (left new.device) b → IsAtEnd (left new.device) → (IsTrue new.failed → ⊥) → FeedsMachine led_by ended rejects halted left limit old new result
+  ended_so limit old new b r (Ok m) h s none same took over well = record {
+    at_end = h.at_end;
+    reached = let reached = h.reached b s in (b, took, over, reached.0, subst (λ (l : ℕ). length b ≤ l) same reached.1);
+    refused = tt;
+    memory = tt;
+    note = (λ e. absurd e, λ t. absurd (well t));
   }
-  ended_so limit old new b r (Err e) h s t none same took over well =
-      let not_read : e.fault.kind ≢ kinds.Read = λ is. (let x = h.plain.fault.read is in let y : None ≡ Some e.fault = sym none ∙ x in cc) in
+  ended_so limit old new b r (Err e) h s none same took over well =
+      let not_read : e.fault.kind ≢ kinds.Read = λ is. (let x = h.refused.read is in let y : None ≡ Some e.fault = sym none ∙ x in cc) in
       refused_as limit old new e e refl
-      (λ ne. (b, took, subst (λ (l : ℕ). ReadFailsTelling led_by ended rejects halted l b (IsAtEnd (left new.device)) e) same (at_end r.limit b (IsAtEnd (left new.device)) e over not_read (h.told ne b t))))
-      (λ is. let x = h.plain.fault.memory is in let y : None ≡ Some e.fault = sym none ∙ x in absurd cc)
+      (λ ne. (b, took, subst (λ (l : ℕ). ReadFails led_by ended rejects halted l b (IsAtEnd (left new.device)) e) same (at_end r.limit b (IsAtEnd (left new.device)) e over not_read (h.refused.fault ne b s))))
+      (λ is. let x = h.refused.memory is in let y : None ≡ Some e.fault = sym none ∙ x in absurd cc)
       (λ is. absurd (not_read is))
       (λ t. absurd (well t))
 
@@ -88,10 +70,10 @@ returns-in-Err g c =
     let v = c.loop-n.invariant in
     let b = v.read.0 in
     let r = c.loop-n.reader in
-    let h = accepted_of g.M.Machine.led_by g.M.Machine.ended g.M.Machine.rejects r b v.fault v.read.2 in
+    let h = accepted_of g.M.Machine.led_by g.M.Machine.ended g.M.Machine.rejects g.M.Machine.stopped r b v.fault v.read.2 in
     let e : Refused _ = record { fault = record { line = r.lines + 1; kind = kinds.Read }; machine = r.machine; found = r.found } in
     refused_as g.M.Machine.led_by g.M.Machine.ended g.M.Machine.rejects g.M.Machine.stopped g.R.Read.remaining c.args.reader.limit _ _ _ e c.refused.ensures
-    (λ ne. (b, Consumes-kept _ _ _ b v.read.1 c.in-Err.ensures.bytes, told_unread r.machine h.reached (omega (arith, h.taken, r.within, v.limit)) (ap (λ (n : ℕ). n + 1) h.lines) refl))
+    (λ ne. (b, Consumes-kept _ _ _ b v.read.1 c.in-Err.ensures.bytes, unread r.machine h.reached (omega (arith, h.taken, r.within, v.limit)) (ap (λ (n : ℕ). n + 1) h.lines) refl))
     (λ is. absurd {0} (apart is))
     (λ is. c.in-Err.ensures.note.0 refl)
     (λ t. refl)
@@ -101,7 +83,7 @@ returns-then-taken-eq0 g c =
     let v = c.loop-n.invariant in
     let b = v.read.0 in
     let whole : Consumes _ _ b = subst (Consumes _ _) (ap (λ (n : ℕ). b ++ take n c.take.new.buffer) c.if-taken-eq0.true ∙ append-nil b) (Consumes-trans _ _ _ b _ v.read.1 c.in-Ok.ensures.bytes.0) in
-    ended_so g.M.Machine.led_by g.M.Machine.ended g.M.Machine.rejects g.M.Machine.stopped g.R.Read.remaining c.args.reader.limit _ _ b c.loop-n.reader c.finish_telling.result c.finish_telling.ensures v.read.2 v.read.3 v.fault v.limit whole (c.in-Ok.ensures.bytes.1 c.if-taken-eq0.true (some_still c.loop-n.buffer _ v.room c.take.auto.buffer)) (λ t. false≢true (c.in-Ok.ensures.note.1 t))
+    ended_so g.M.Machine.led_by g.M.Machine.ended g.M.Machine.rejects g.M.Machine.stopped g.R.Read.remaining c.args.reader.limit _ _ b c.loop-n.reader c.finish.result c.finish.ensures v.read.2 v.fault v.limit whole (c.in-Ok.ensures.bytes.1 c.if-taken-eq0.true (some_still c.loop-n.buffer _ v.room c.take.auto.buffer)) (λ t. false≢true (c.in-Ok.ensures.note.1 t))
 
 pub returns-in-Err-feed : goal.returns-in-Err-feed
 returns-in-Err-feed g c =
@@ -110,12 +92,12 @@ returns-in-Err-feed g c =
     let f = c.in-Err-feed.fault in
     let next = c.feed.new.self in
     let piece = take c.in-Ok.n c.take.new.buffer in
-    let takes = c.in-Err-feed.ensures.takes in
-    let s = c.in-Err-feed.ensures.telling b v.read.3 in
+    let takes = c.in-Err-feed.ensures in
+    let s = takes.stands b v.read.2 in
     let not_read : f.kind ≢ kinds.Read = λ e. (takes.kind v.fault).1 e in
     let e : Refused _ = record { fault = f; machine = next.machine; found = next.found } in
     refused_as g.M.Machine.led_by g.M.Machine.ended g.M.Machine.rejects g.M.Machine.stopped g.R.Read.remaining c.args.reader.limit _ _ _ e c.refused-in-Err-feed.ensures
-    (λ ne. (b ++ piece, Consumes-trans _ _ _ b piece v.read.1 c.in-Ok.ensures.bytes.0, told_faulty (subst (λ (l : ℕ). FaultTold g.M.Machine.led_by g.M.Machine.ended g.M.Machine.rejects g.M.Machine.stopped l (b ++ piece) f next.machine next.found) (takes.limit ∙ v.limit) (told_of g.M.Machine.led_by g.M.Machine.ended g.M.Machine.rejects g.M.Machine.stopped next f (b ++ piece) (answer_err next.fault f (sym takes.answer)) s ne)) not_read))
+    (λ ne. (b ++ piece, Consumes-trans _ _ _ b piece v.read.1 c.in-Ok.ensures.bytes.0, faulty (subst (λ (l : ℕ). FaultIn g.M.Machine.led_by g.M.Machine.ended g.M.Machine.rejects g.M.Machine.stopped l (b ++ piece) f next.machine next.found) (takes.limit ∙ v.limit) (fault_of g.M.Machine.led_by g.M.Machine.ended g.M.Machine.rejects g.M.Machine.stopped next f (b ++ piece) (answer_err next.fault f (sym takes.answer)) s ne)) not_read))
     (λ is. (b, piece, Consumes-trans _ _ _ b piece v.read.1 c.in-Ok.ensures.bytes.0, subst (λ (l : ℕ). LineIsDue g.M.Machine.led_by g.M.Machine.ended l b piece) v.limit (takes.memory v.fault is b v.read.2)))
     (λ is. absurd (not_read is))
     (λ t. absurd {0} (false≢true (c.in-Ok.ensures.note.1 t)))
@@ -126,7 +108,7 @@ loop-n-init g c = record {
   room = c.requires.room;
   fault = c.requires.fault;
   limit = refl;
-  read = ([], Consumes-nil _, c.requires.stands, c.requires.telling);
+  read = ([], Consumes-nil _, c.requires.stands);
 }
 
 pub slice_bounds-feed-end : goal.slice_bounds-feed-end
@@ -137,7 +119,7 @@ slice_bounds-feed-end-in-loop-n g c = sym (length-take-le c.in-Ok.n c.take.new.b
 
 pub loop-n-smaller : goal.loop-n-smaller
 loop-n-smaller g c =
-    let takes = c.in_default.ensures.takes in
+    let takes = c.in_default.ensures in
     let next = c.feed.new.self in
     omega (arith, takes.count, takes.limit, next.within, length-take-le c.in-Ok.n c.take.new.buffer c.in-Ok.ensures.bound, c.if-taken-eq0.false)
 
@@ -146,13 +128,13 @@ loop-n-preserved g c =
     let v = c.loop-n.invariant in
     let b = v.read.0 in
     let next = c.feed.new.self in
-    let takes = c.in_default.ensures.takes in
+    let takes = c.in_default.ensures in
     record {
       note = not_failed _ c.in-Ok.ensures.note.1;
       room = some_still c.loop-n.buffer _ v.room c.take.auto.buffer;
       fault = answer_ok next.fault _ takes.answer;
       limit = takes.limit ∙ v.limit;
-      read = (b ++ take c.in-Ok.n c.take.new.buffer, Consumes-trans _ _ _ b _ v.read.1 c.in-Ok.ensures.bytes.0, takes.stands b v.read.2, c.in_default.ensures.telling b v.read.3);
+      read = (b ++ take c.in-Ok.n c.take.new.buffer, Consumes-trans _ _ _ b _ v.read.1 c.in-Ok.ensures.bytes.0, takes.stands b v.read.2);
     }
 
 pub overflow_add-line : goal.overflow_add-line

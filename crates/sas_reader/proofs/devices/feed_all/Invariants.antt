@@ -1,6 +1,6 @@
 use Rattle.std.proofs.Common.{◌≡◌, ◌-◌, ◌<◌, ℕ, List, length, None, false}
 use Rattle.std.specs.Io.KnownBytes.{Consumes}
-use Rattle.sas_reader.specs.Reader.{Stands, StandsTelling}
+use Rattle.sas_reader.specs.Reader.{Stands}
 use Rattle.sas_reader.proofs.devices.feed_all.Given as goal
 
 -- what was read is what the reader stands for
@@ -11,8 +11,7 @@ invariant-loop-n g l =
       room : 0 < length l.buffer;
       fault : l.reader.fault ≡ None;
       limit : l.reader.limit ≡ l.fn.reader.limit;
-      read : (b : List ℕ) × Consumes (g.R.Read.remaining l.initial.device.device) (g.R.Read.remaining l.device.device) b × Stands g.M.Machine.led_by g.M.Machine.ended g.M.Machine.rejects l.reader b
-          × StandsTelling g.M.Machine.led_by g.M.Machine.ended g.M.Machine.rejects g.M.Machine.stopped l.reader b;
+      read : (b : List ℕ) × Consumes (g.R.Read.remaining l.initial.device.device) (g.R.Read.remaining l.device.device) b × Stands g.M.Machine.led_by g.M.Machine.ended g.M.Machine.rejects g.M.Machine.stopped l.reader b;
     }
 
 abbrev pub decreases-loop-n : goal.decreases-loop-n

@@ -1,4 +1,4 @@
-use Rattle.sas_reader.proofs.Telling.{telling_laws_of}
+use Rattle.sas_reader.proofs.About.{about_laws_of}
 use Rattle.sas_task_format.specs.Process.{process_node}
 use Rattle.sas_task_format.specs.TaskFormat.{TaskLineFits, task_format}
 use Rattle.sas_task_format.specs.TaskProcess.{task_start}
@@ -21,7 +21,7 @@ pub returns-clause-some_wrong_word : goal.returns-clause-some_wrong_word
 returns-clause-some_wrong_word c = some_wrong_word
 
 pub returns-clause-about : goal.returns-clause-about
-returns-clause-about c = telling_laws_of task_format TaskLineFits process_node task_start task_grammar
+returns-clause-about c = about_laws_of task_format TaskLineFits process_node task_start task_grammar
 
 pub returns-clause-one_reason : goal.returns-clause-one_reason
 returns-clause-one_reason c = one_task_reason

@@ -1,21 +1,20 @@
-use Rattle.std.proofs.Common.{◌≡◌, List, ℕ, ap, ◌∙◌, sym, subst, rules, Err}
+use Rattle.std.proofs.Common.{◌≡◌, List, ℕ, ap, ◌∙◌}
 use Rattle.sas_task_reader.specs.declared.task_outline.Seen.{Seen}
-use Rattle.sas_task_reader.specs.Outline.{OutlineOf}
 use Rattle.sas_task_reader.specs.TaskOutline.{outline_in, kept_of}
-use Rattle.sas_reader.specs.Devices.{ReadsAll}
 use Rattle.sas_reader.specs.declared.fault.Kind.{Kind}
 use Rattle.sas_task_line.specs.declared.so_far.SoFar.{SoFar}
 use Rattle.sas_task_judge.specs.declared.task_machine.TaskMachine.{TaskMachine}
 use Rattle.sas_task_judge.specs.TaskJudge.{HasEnded, RejectsLine}
-use Rattle.sas_task_judge.specs.TaskMachine.{LedBy}
+use Rattle.sas_task_judge.specs.TaskMachine.{LedBy, Stopped}
 use Rattle.sas_task_reader.proofs.Outlines.{outline_is}
 use Rattle.sas_task_reader.proofs.TaskStanding.{machine_follows, reads_so_far}
 use Rattle.sas_task_format.specs.Process.{process_node}
 use Rattle.sas_task_format.specs.TaskFormat.{task_format, TaskLineFits}
 use Rattle.sas_task_format.specs.TaskProcess.{task_start}
 use Rattle.sas_task_format.proofs.TaskGrammar.{task_grammar}
-use Rattle.sas_reader.proofs.Reading.{reads_all, refuses_all}
-use Rattle.sas_task_reader.proofs.outline.read_outline.Goals as goal
+use Rattle.sas_reader.proofs.Telling.{reads_all_telling, refuses_all_telling}
+use Rattle.sas_task_reader.specs.Telling.{fault_in, found_in, TellsReason}
+use Rattle.sas_task_reader.proofs.telling.read_outline_telling.Goals as goal
 
 -- what the machine keeps
 abbrev Keeps : List (List ℕ) → SoFar → Seen → Type 0
@@ -30,14 +29,13 @@ Refused m line kind = RejectsLine m.judge line kind
 pub new-start-requires : goal.new-start-requires
 new-start-requires g c = (c.args.alloc, c.new.ensures)
 
-pub returns : goal.returns
-returns g c =
-    reads_all task_format TaskLineFits process_node task_start task_grammar (LedBy Keeps) Ended Refused (machine_follows Keeps) g.R.Read.remaining _ _ _ _ _ c.in_ok-machine.ensures (λ b reached short.
-    let reads = reads_so_far Keeps c.in_ok-machine.machine b reached c.in_ok-machine.ensures.at_end in
+pub returns-in-Ok : goal.returns-in-Ok
+returns-in-Ok g c =
+    reads_all_telling task_format TaskLineFits process_node task_start task_grammar (LedBy Keeps) Ended Refused Stopped (machine_follows Keeps) fault_in found_in TellsReason g.R.Read.remaining _ _ _ c.in-Ok.machine _ c.in-Ok.ensures (λ b reached short.
+    let reads = reads_so_far Keeps c.in-Ok.machine b reached c.in-Ok.ensures.plain.at_end in
     (reached.led.so_far.parts, (reads, short), c.into_outline.ensures ∙ ap outline_in (c.into_kept.ensures ∙ reached.led.kept) ∙ outline_is reached.led.so_far reads.good))
 
-pub returns-in_err-machine : goal.returns-in_err-machine
-returns-in_err-machine g c =
-    let same : c.from_residual.result ≡ Err c.in_err-machine.field-0.0 = search rules in
-    subst (ReadsAll g.R.Read.remaining task_format OutlineOf c.args.reader.now _) (sym same)
-    (refuses_all task_format TaskLineFits process_node task_start task_grammar (LedBy Keeps) Ended Refused (machine_follows Keeps) g.R.Read.remaining _ _ _ c.in_err-machine.field-0.0 c.in_err-machine.ensures)
+pub returns-in-Err : goal.returns-in-Err
+returns-in-Err g c =
+    refuses_all_telling task_format TaskLineFits process_node task_start task_grammar (LedBy Keeps) Ended Refused Stopped (machine_follows Keeps) fault_in found_in TellsReason g.R.Read.remaining _ _ _
+    c.in-Err.refused _ c.refusal_of.ensures.fault c.refusal_of.ensures.found c.refusal_of.ensures.reason c.in-Err.ensures

@@ -3,26 +3,23 @@ use Rattle.std.proofs.lemmas.List.{take_all}
 use Rattle.std.specs.Prelude.{Some, None}
 use Rattle.sas_reader.specs.declared.fault.Fault.{Fault}
 use Rattle.sas_reader.specs.Faults.{answer}
-use Rattle.sas_reader.specs.Reader.{Accepted, FaultIn, FaultTold}
-use Rattle.sas_reader.proofs.Standing.{accepted_of, stands_accepted, stands_fault, stands_more, fault_is, told_behind, accepted_telling, telling_accepted, telling_fault, telling_more}
+use Rattle.sas_reader.specs.Reader.{Accepted, FaultIn}
+use Rattle.sas_reader.proofs.Standing.{accepted_of, stands_accepted, stands_fault, stands_more, fault_in_piece}
 use Rattle.sas_reader.proofs.reader.Reader.feed.Goals as goal
 
-pub returns-in-Some-clause-takes : goal.returns-in-Some-clause-takes
-returns-in-Some-clause-takes g c = record {
+pub returns-in-Some : goal.returns-in-Some
+returns-in-Some g c = record {
   answer = sym (ap answer c.in-Some.is);
   kept = λ f e. e;
   kind = λ none. let x : None ≡ Some c.in-Some.fault = sym none ∙ c.in-Some.is in absurd cc;
   memory = λ none. let x : None ≡ Some c.in-Some.fault = sym none ∙ c.in-Some.is in absurd cc;
   count = tt;
   limit = refl;
-  stands = λ bytes s. stands_more g.M.Machine.led_by g.M.Machine.ended g.M.Machine.rejects c.args.self.now c.in-Some.fault bytes c.args.piece.now c.in-Some.is s;
+  stands = λ bytes s. stands_more g.M.Machine.led_by g.M.Machine.ended g.M.Machine.rejects g.M.Machine.stopped c.args.self.now c.in-Some.fault bytes c.args.piece.now c.in-Some.is s;
 }
 
-pub returns-in-Some-clause-telling : goal.returns-in-Some-clause-telling
-returns-in-Some-clause-telling g c = λ bytes s. telling_more g.M.Machine.led_by g.M.Machine.ended g.M.Machine.rejects g.M.Machine.stopped c.args.self.now c.in-Some.fault bytes c.args.piece.now c.in-Some.is s
-
-pub returns-in-Err-clause-takes : goal.returns-in-Err-clause-takes
-returns-in-Err-clause-takes g c =
+pub returns-in-Err : goal.returns-in-Err
+returns-in-Err g c =
     let step = c.in-Err.ensures.advances in
     let none : c.args.self.now.fault ≡ None = c.in_default.is in
     let next = c.take_piece.new.self in
@@ -31,30 +28,18 @@ returns-in-Err-clause-takes g c =
       answer = refl;
       kept = λ g e. let x : None ≡ Some g = sym none ∙ e in absurd cc;
       kind = λ e. step.stopped.kind;
-      memory = λ e is bytes s. step.stopped.memory is bytes (accepted_of g.M.Machine.led_by g.M.Machine.ended g.M.Machine.rejects c.args.self.now bytes none s);
+      memory = λ e is bytes s. step.stopped.memory is bytes (accepted_of g.M.Machine.led_by g.M.Machine.ended g.M.Machine.rejects g.M.Machine.stopped c.args.self.now bytes none s);
       count = tt;
       limit = step.limit;
       stands = λ bytes s.
-          stands_fault g.M.Machine.led_by g.M.Machine.ended g.M.Machine.rejects _ _ (bytes ++ c.args.piece.now) refl (λ ne.
-          subst (λ (l : ℕ). FaultIn g.M.Machine.led_by g.M.Machine.ended g.M.Machine.rejects l (bytes ++ c.args.piece.now) f) (sym step.limit)
-          (fault_is g.M.Machine.led_by g.M.Machine.ended g.M.Machine.rejects g.M.Machine.stopped c.args.self.now.limit (bytes ++ c.args.piece.now) f next.machine next.found
-          (told_behind g.M.Machine.led_by g.M.Machine.ended g.M.Machine.rejects g.M.Machine.stopped c.args.self.now.limit bytes c.args.piece.now f next.machine next.found
-          (step.stopped.fault ne bytes (accepted_of g.M.Machine.led_by g.M.Machine.ended g.M.Machine.rejects c.args.self.now bytes none s)))));
+          stands_fault g.M.Machine.led_by g.M.Machine.ended g.M.Machine.rejects g.M.Machine.stopped _ _ (bytes ++ c.args.piece.now) refl (λ ne.
+          subst (λ (l : ℕ). FaultIn g.M.Machine.led_by g.M.Machine.ended g.M.Machine.rejects g.M.Machine.stopped l (bytes ++ c.args.piece.now) f next.machine next.found) (sym step.limit)
+          (fault_in_piece g.M.Machine.led_by g.M.Machine.ended g.M.Machine.rejects g.M.Machine.stopped c.args.self.now.limit bytes c.args.piece.now f next.machine next.found
+          (step.stopped.fault ne bytes (accepted_of g.M.Machine.led_by g.M.Machine.ended g.M.Machine.rejects g.M.Machine.stopped c.args.self.now bytes none s))));
     }
 
-pub returns-in-Err-clause-telling : goal.returns-in-Err-clause-telling
-returns-in-Err-clause-telling g c =
-    let step = c.in-Err.ensures.advances in
-    let none : c.args.self.now.fault ≡ None = c.in_default.is in
-    let next = c.take_piece.new.self in
-    let f : Fault = record { line = next.lines + 1; kind = c.in-Err.kind } in
-    λ bytes s. telling_fault g.M.Machine.led_by g.M.Machine.ended g.M.Machine.rejects g.M.Machine.stopped _ _ (bytes ++ c.args.piece.now) refl (λ ne.
-    subst (λ (l : ℕ). FaultTold g.M.Machine.led_by g.M.Machine.ended g.M.Machine.rejects g.M.Machine.stopped l (bytes ++ c.args.piece.now) f next.machine next.found) (sym step.limit)
-    (told_behind g.M.Machine.led_by g.M.Machine.ended g.M.Machine.rejects g.M.Machine.stopped c.args.self.now.limit bytes c.args.piece.now f next.machine next.found
-    (step.stopped.fault ne bytes (accepted_telling g.M.Machine.led_by g.M.Machine.ended g.M.Machine.rejects g.M.Machine.stopped c.args.self.now bytes none s))))
-
-pub returns-in-Ok-clause-takes : goal.returns-in-Ok-clause-takes
-returns-in-Ok-clause-takes g c =
+pub returns-in-Ok : goal.returns-in-Ok
+returns-in-Ok g c =
     let step = c.in-Ok.ensures.advances in
     let all = c.in-Ok.ensures.all in
     let none : c.args.self.now.fault ≡ None = c.in_default.is in
@@ -67,17 +52,7 @@ returns-in-Ok-clause-takes g c =
       count = omega (arith, step.took.count, all);
       limit = step.limit;
       stands = λ bytes s.
-          stands_accepted g.M.Machine.led_by g.M.Machine.ended g.M.Machine.rejects c.take_piece.new.self (bytes ++ c.args.piece.now) still
+          stands_accepted g.M.Machine.led_by g.M.Machine.ended g.M.Machine.rejects g.M.Machine.stopped c.take_piece.new.self (bytes ++ c.args.piece.now) still
           (subst (λ (x : List ℕ). Accepted g.M.Machine.led_by g.M.Machine.ended c.take_piece.new.self (bytes ++ x)) (take_all _ c.args.piece.now (omega (arith, all)))
-          (step.took.accepted bytes (accepted_of g.M.Machine.led_by g.M.Machine.ended g.M.Machine.rejects c.args.self.now bytes none s)));
+          (step.took.accepted bytes (accepted_of g.M.Machine.led_by g.M.Machine.ended g.M.Machine.rejects g.M.Machine.stopped c.args.self.now bytes none s)));
     }
-
-pub returns-in-Ok-clause-telling : goal.returns-in-Ok-clause-telling
-returns-in-Ok-clause-telling g c =
-    let step = c.in-Ok.ensures.advances in
-    let all = c.in-Ok.ensures.all in
-    let none : c.args.self.now.fault ≡ None = c.in_default.is in
-    let still : c.take_piece.new.self.fault ≡ None = step.fault ∙ none in
-    λ bytes s. telling_accepted g.M.Machine.led_by g.M.Machine.ended g.M.Machine.rejects g.M.Machine.stopped c.take_piece.new.self (bytes ++ c.args.piece.now) still
-    (subst (λ (x : List ℕ). Accepted g.M.Machine.led_by g.M.Machine.ended c.take_piece.new.self (bytes ++ x)) (take_all _ c.args.piece.now (omega (arith, all)))
-    (step.took.accepted bytes (accepted_telling g.M.Machine.led_by g.M.Machine.ended g.M.Machine.rejects g.M.Machine.stopped c.args.self.now bytes none s)))

@@ -1,21 +1,12 @@
 use Rattle.std.proofs.Common.{[], refl, sym, ap, ◌∙◌, length}
 use Rattle.sas_lines.proofs.Splitting.{lines-none, unfinished-none}
-use Rattle.sas_reader.proofs.Standing.{stands_accepted, telling_accepted}
+use Rattle.sas_reader.proofs.Standing.{stands_accepted}
 use Rattle.sas_reader.proofs.Pieces.{reached_start}
 use Rattle.sas_reader.proofs.reader.Reader.new.Goals as goal
 
 pub returns-clause-stands : goal.returns-clause-stands
 returns-clause-stands g c =
-    stands_accepted g.M.Machine.led_by g.M.Machine.ended g.M.Machine.rejects _ [] refl (record {
-      reached = reached_start g.M.Machine.led_by g.M.Machine.ended c.args.machine c.requires.start;
-      pending = c.new.ensures.pending ∙ sym unfinished-none;
-      lines = ap length (sym lines-none);
-      taken = refl;
-    })
-
-pub returns-clause-telling : goal.returns-clause-telling
-returns-clause-telling g c =
-    telling_accepted g.M.Machine.led_by g.M.Machine.ended g.M.Machine.rejects g.M.Machine.stopped _ [] refl (record {
+    stands_accepted g.M.Machine.led_by g.M.Machine.ended g.M.Machine.rejects g.M.Machine.stopped _ [] refl (record {
       reached = reached_start g.M.Machine.led_by g.M.Machine.ended c.args.machine c.requires.start;
       pending = c.new.ensures.pending ∙ sym unfinished-none;
       lines = ap length (sym lines-none);

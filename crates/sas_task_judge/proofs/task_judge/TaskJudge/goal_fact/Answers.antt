@@ -16,5 +16,5 @@ returns-in_err-self c =
 pub returns : goal.returns
 returns c = λ s f. (
   record { ranges = f.ranges; valued = f.valued; range = λ h. absurd (let other = sym c.requires.place ∙ h in cc) },
-  on _ _ _ _ _ _ _ _ _ ((ap (λ place. state_at place c.args.self.now.left c.args.self.now.more s) c.requires.place) ∙ ap (λ more. goal_facts more s.parts) (next_of _ c.requires.more)) (takes_as _ _ _ (fact_same s c.args.self.now f) _ c.in_ok-self.ensures.0, c.in_ok-self.ensures.1) (ap (λ place. state_at place c.args.self.now.left (c.args.self.now.more - 1) (record s { parts = record s.parts { goal = s.parts.goal ++ c.in_ok-self.field-0 ∷ [] } })) (sym c.requires.place)) (list_steps _ goal_counts (λ n. refl) c.args.self.now s _ c.requires.place c.requires.more),
+  on _ _ _ _ _ _ _ _ _ ((ap (λ place. state_at place c.args.self.now.left c.args.self.now.more s) c.requires.place) ∙ ap (λ more. goal_facts more s.parts) (next_of _ c.requires.more)) (takes_as _ _ _ (fact_same s c.args.self.now f) _ c.in_ok-self.ensures.0, c.in_ok-self.ensures.1) (ap (λ place. state_at place c.args.self.now.left (c.args.self.now.more - 1) (record s { parts = record s.parts { goal = s.parts.goal ++ c.in_ok-self.field-0 ∷ [] } })) (sym c.requires.place)) (list_steps _ goal_counts (λ n. refl) c.args.self.now _ c.requires.place c.requires.more),
 )

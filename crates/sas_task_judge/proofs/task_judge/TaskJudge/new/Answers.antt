@@ -9,3 +9,6 @@ returns-clause-ranges c = search rules
 
 pub returns-clause-left : goal.returns-clause-left
 returns-clause-left c = search rules
+
+pub returns-clause-total : goal.returns-clause-total
+returns-clause-total c = search rules

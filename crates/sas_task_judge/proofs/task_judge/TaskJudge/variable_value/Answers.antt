@@ -15,5 +15,5 @@ returns-in_err-name_at c =
 pub returns : goal.returns
 returns c = λ s f. (
   record { ranges = f.ranges; valued = f.valued; range = λ h. omega (arith, f.range c.requires.place, c.requires.more, length-append s.values (c.args.line.now ∷ [])) },
-  on _ _ _ _ _ _ _ _ _ ((ap (λ place. state_at place c.args.self.now.left c.args.self.now.more s) c.requires.place) ∙ ap (λ more. variable_values c.args.self.now.left s.parts s.name s.layer more s.values) (next_of _ c.requires.more)) c.in_ok-name_at.ensures (ap (λ place. state_at place c.args.self.now.left (c.args.self.now.more - 1) (record s { values = s.values ++ c.args.line.now ∷ [] })) (sym c.requires.place)) (list_steps _ values_count (λ n. refl) c.args.self.now s _ c.requires.place c.requires.more),
+  on _ _ _ _ _ _ _ _ _ ((ap (λ place. state_at place c.args.self.now.left c.args.self.now.more s) c.requires.place) ∙ ap (λ more. variable_values c.args.self.now.left s.parts s.name s.layer more s.values) (next_of _ c.requires.more)) c.in_ok-name_at.ensures (ap (λ place. state_at place c.args.self.now.left (c.args.self.now.more - 1) (record s { values = s.values ++ c.args.line.now ∷ [] })) (sym c.requires.place)) (list_steps _ values_count (λ n. refl) c.args.self.now _ c.requires.place c.requires.more),
 )

@@ -11,7 +11,7 @@ returns g c =
       led = record {
         so_far = so_far;
         leads = record { items = []; after = sym (ap (λ place. state_at place c.new.result.left c.new.result.more so_far) c.new.ensures.place); spells = refl };
-        tracked = sym (starts c.new.result so_far c.new.ensures.place c.new.ensures.left c.new.ensures.ranges c.new.ensures.valued refl);
+        tracked = sym (starts c.new.result c.new.ensures.place c.new.ensures.total c.new.ensures.left c.new.ensures.ranges c.new.ensures.valued);
         known = record { ranges = c.new.ensures.ranges; valued = c.new.ensures.valued; range = λ h. absurd (let other = sym c.new.ensures.place ∙ h in cc) };
         kept = c.requires.1;
       };

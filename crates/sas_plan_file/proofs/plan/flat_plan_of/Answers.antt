@@ -1,0 +1,48 @@
+-- What was fed is all of the bytes.
+use Rattle.std.proofs.Common.{[], Ok, Err, sym, ap, subst, ◌∙◌}
+use Rattle.sas_reader.specs.declared.fault.Fault.{Fault}
+use Rattle.sas_reader.specs.About.{IsTold}
+use Rattle.sas_reader.specs.Format.{ReadsAs}
+use Rattle.sas_reader.specs.Limit.{most_bytes}
+use Rattle.sas_reader.specs.Reader.{IsRefused}
+use Rattle.sas_reader.proofs.Reading.{end_fault}
+use Rattle.sas_reader.proofs.Refusals.{told_by, explains}
+use Rattle.sas_plan_file.specs.PlanFormat.{plan_format, PlanLineFits}
+use Rattle.sas_plan_file.specs.PlanMachine.{plan_node, plan_start, HasCost, plan_stays}
+use Rattle.sas_plan_file.specs.PlanReader.{plan_led, plan_rejects}
+use Rattle.sas_plan_file.specs.PlanRefusal.{fault_of, found_of, nothing_else}
+use Rattle.sas_plan_file.proofs.PlanGrammar.{plan_grammar}
+use Rattle.sas_plan_file.proofs.PlanStanding.{plan_follows, read_plan_parts}
+use Rattle.sas_plan_file.proofs.plan.flat_plan_of.Goals as goal
+
+pub returns-in-Ok-clause-read : goal.returns-in-Ok-clause-read
+returns-in-Ok-clause-read c =
+    let bytes = c.args.bytes.now in
+    let stands = c.feed.ensures.stands [] c.new-reader.ensures.stands in
+    let limit = c.feed.ensures.limit ∙ c.new-reader.ensures.limit in
+    subst (λ n. ReadsAs plan_format n bytes (Ok c.into_flat_plan.result)) limit
+    (read_plan_parts c.feed.new.self.limit c.in-Ok.machine c.into_flat_plan.result bytes c.into_flat_plan.ensures (c.in-Ok.ensures.reached bytes stands))
+
+pub returns-in-Err-clause-fault : goal.returns-in-Err-clause-fault
+returns-in-Err-clause-fault c =
+    let bytes = c.args.bytes.now in
+    let stands = c.feed.ensures.stands [] c.new-reader.ensures.stands in
+    let limit = c.feed.ensures.limit ∙ c.new-reader.ensures.limit in
+    let r = c.in-Err.refused in
+    let same = c.of.ensures.fault in
+    λ ne. subst (λ (f : Fault). ReadsAs plan_format most_bytes bytes (Err f)) (sym same)
+    (subst (λ n. ReadsAs plan_format n bytes (Err r.fault)) limit
+    (end_fault plan_format PlanLineFits plan_node plan_start plan_grammar plan_led HasCost plan_rejects plan_stays plan_follows c.feed.new.self r c.in-Err.ensures.refused (λ e. ne (ap (λ (f : Fault). f.kind) same ∙ e)) bytes stands))
+
+pub returns-in-Err-clause-explained : goal.returns-in-Err-clause-explained
+returns-in-Err-clause-explained c =
+    let bytes = c.args.bytes.now in
+    let stands = c.feed.ensures.stands [] c.new-reader.ensures.stands in
+    let limit = c.feed.ensures.limit ∙ c.new-reader.ensures.limit in
+    let r = c.in-Err.refused in
+    let same = c.of.ensures.fault in
+    λ is_told.
+        let told = subst (λ (f : Fault). IsTold f.kind) same is_told in
+        explains plan_format PlanLineFits plan_node plan_start plan_grammar plan_led HasCost plan_rejects plan_stays plan_follows fault_of found_of nothing_else r _ same c.of.ensures.found (λ a t s. tt) bytes
+        (told_by plan_format PlanLineFits plan_node plan_start plan_grammar plan_led HasCost plan_rejects plan_stays plan_follows most_bytes bytes r told
+        (subst (λ n. IsRefused plan_led HasCost plan_rejects plan_stays n bytes r) limit (c.in-Err.ensures.refused.fault told.2 bytes stands)))

@@ -1,0 +1,116 @@
+-- What a refusal explains, where a machine follows a grammar.
+use Rattle.std.proofs.Common.{◌≡◌, ℕ, ◌≤◌, List, [], ◌∷◌, ◌++◌, length, refl, sym, ap, subst, ◌∙◌, arith, inl, inr, Option, Ok, Err}
+use Rattle.std.specs.Io.KnownBytes.{IsAtEnd}
+use Rattle.sas_lines.specs.Device.{Device}
+use Rattle.sas_lines.specs.Lines.{without_return, lines, unfinished}
+use Rattle.sas_lines.proofs.Splitting.{lines-end}
+use Rattle.sas_reader.specs.declared.fault.Fault.{Fault}
+use Rattle.sas_reader.specs.declared.fault.Kind.{Kind}
+use Rattle.sas_reader.specs.declared.found.Found.{Found}
+use Rattle.sas_reader.specs.declared.reader.Refused.{Refused}
+use Rattle.sas_reader.specs.About.{IsTold, IsAbout, of_line, of_byte, of_end}
+use Rattle.sas_reader.specs.Devices.{Refuses, ReadsAll}
+use Rattle.sas_reader.specs.Format.{Format, Live, trailing, wrong, FaultOf}
+use Rattle.sas_reader.specs.Found.{IsFoundOf}
+use Rattle.sas_reader.specs.Limit.{most_bytes}
+use Rattle.sas_reader.specs.Reader.{Reached, Stops, full, over, rejected, FaultIn, EndsEarly, IsRefused, ReadFails, unread, early, faulty, FeedsMachine}
+use Rattle.sas_reader.specs.Refusals.{Explains, ReadsOrExplains, StandsBehind, behind_line, behind_text, at_end}
+use Rattle.sas_reader.specs.System.{Node, Grammar}
+use Rattle.sas_reader.proofs.Conversion.{Follows, At, at, path_of, end_of_format, device_refusal}
+use Rattle.sas_reader.proofs.Live.{live, done_dead, line_dead, rejected_as, next_slot, reads_done}
+use Rattle.sas_reader.proofs.Reading.{reads_all, refuses_all}
+
+module _ {T V I S M : Type 0} (F : Format V I S) (Fits : I → Type 0) (node : T → Node T V I S) (start : T) (g : Grammar F Fits node start) (led_by : List (List ℕ) → M → Type 0) (Ended : M → Type 0) (rejects : M → List ℕ → Kind → Type 0) (halted : M → List ℕ → Kind → M → Type 0) (follows : Follows F Fits node start led_by Ended rejects) where
+  -- what the fault is about, what is kept of it, and where the machine stands behind it
+  pub record Told (limit : ℕ) (bytes : List ℕ) (f : Fault) (now : M) (found : Found) : Type 0 where
+    pub accepted : List (List ℕ)
+    pub text : List ℕ
+    pub about : IsAbout F limit bytes f accepted text
+    pub kept : IsFoundOf text found
+    pub stands : StandsBehind led_by Ended rejects halted accepted text f.kind now
+
+  abbrev go_on : (m : M) (bytes : List ℕ) → Reached led_by Ended m bytes → At F Fits node start Ended rejects (lines bytes) m
+  go_on m bytes h = at F Fits node start g led_by Ended rejects follows m bytes h
+
+  fault_told : (limit : ℕ) (bytes : List ℕ) (f : Fault) (now : M) (found : Found) → IsTold f.kind → (h : FaultIn led_by Ended rejects halted limit bytes f now found) → Stops led_by Ended rejects halted limit h.machine h.before h.byte f.kind now found → Told limit bytes f now found
+  fault_told limit bytes f now found told h (full l k) = absurd (told.1 k)
+  fault_told limit bytes f now found told h (over l d k stays is) =
+      let a = go_on h.machine h.before h.reached in
+      let path = path_of F Fits node start g led_by Ended rejects follows h.machine h.before h.reached in
+      let v = a.value d in
+      let reads = reads_done F Fits node start g a.state v.0 h.before v.1 path in
+      let fault : FaultOf F limit bytes f = record { before = h.before; byte = h.byte; after = h.after; whole = h.whole; live = live F Fits node start g limit a.state h.before (omega (arith, l)) path; dead = done_dead F Fits node start g limit a.state v.0 h.before h.byte v.1 path; line = h.line; kind = trailing l v.0 reads k } in
+      record {
+        accepted = lines h.before;
+        text = h.byte ∷ [];
+        about = of_byte fault refl refl v.0 reads k;
+        kept = is;
+        stands = behind_text (subst (λ (m : M). led_by (lines h.before) m) (sym stays) h.reached.led) (subst Ended (sym stays) d) k;
+      }
+  fault_told limit bytes f now found told h (rejected l going b r behind is) =
+      let line = without_return (unfinished h.before) in
+      let a = go_on h.machine h.before h.reached in
+      let path = path_of F Fits node start g led_by Ended rejects follows h.machine h.before h.reached in
+      let refused = a.refuses line f.kind going r in
+      let j = rejected_as F Fits node start g (node a.state) line f.kind refused in
+      let ended : lines (h.before ++ h.byte ∷ []) ≡ lines h.before ++ line ∷ [] = ap (λ (y : ℕ). lines (h.before ++ y ∷ [])) b ∙ lines-end h.before in
+      let next = next_slot F Fits node start g a.state j.0 j.1 j.2 (lines h.before) j.3 a.leads in
+      let dead = line_dead F Fits node start g limit a.state j.0 j.1 j.2 h.before f.kind j.3 path j.4 in
+      let fault : FaultOf F limit bytes f = record { before = h.before; byte = h.byte; after = h.after; whole = h.whole; live = live F Fits node start g limit a.state h.before (omega (arith, l)) path; dead = subst (λ (y : ℕ). Live F limit (h.before ++ y ∷ []) → ⊥) (sym b) dead; line = h.line; kind = wrong l line ended j.0 next j.4.kind } in
+      record {
+        accepted = lines h.before;
+        text = line;
+        about = of_line fault refl ended j.0 next j.4.kind;
+        kept = is;
+        stands = behind_line h.machine h.reached.led going r behind;
+      }
+
+  end_told : (limit : ℕ) (bytes : List ℕ) (f : Fault) (now : M) (found : Found) → EndsEarly led_by Ended limit bytes f now found → Told limit bytes f now found
+  end_told limit bytes f now found h = record {
+    accepted = lines bytes;
+    text = unfinished bytes;
+    about = of_end (end_of_format F Fits node start g led_by Ended rejects follows limit bytes f now found h) refl refl;
+    kept = h.rest;
+    stands = at_end h.reached.led h.open_still h.kind;
+  }
+
+  pub told_by : (limit : ℕ) (bytes : List ℕ) (r : Refused M) → IsTold r.fault.kind → IsRefused led_by Ended rejects halted limit bytes r → Told limit bytes r.fault r.machine r.found
+  told_by limit bytes r told (inl h) = fault_told limit bytes r.fault r.machine r.found told h h.stops
+  told_by limit bytes r told (inr h) = end_told limit bytes r.fault r.machine r.found h
+
+  device_told : (bytes : List ℕ) (End : Type 0) (r : Refused M) → IsTold r.fault.kind → ReadFails led_by Ended rejects halted most_bytes bytes End r → Told most_bytes bytes r.fault r.machine r.found
+  device_told bytes End r told (unread m h l n k) = absurd (told.0 k)
+  device_told bytes End r told (early e h) = told_by most_bytes bytes r told (inr h)
+  device_told bytes End r told (faulty h ne) = told_by most_bytes bytes r told (inl h)
+
+  -- ---- a refusal X that is made of that of the machine
+
+  module _ {X : Type 0} (fault : X → Fault) (found : X → Found) (Why : List (List ℕ) → List ℕ → X → Type 0) (r : Refused M) (x : X) (same : fault x ≡ r.fault) (same_found : found x ≡ r.found)
+      (why : (a : List (List ℕ)) (t : List ℕ) → StandsBehind led_by Ended rejects halted a t r.fault.kind r.machine → Why a t x) where
+    pub explains : (bytes : List ℕ) → Told most_bytes bytes r.fault r.machine r.found → Explains F fault found Why bytes x
+    explains bytes w = record {
+      accepted = w.accepted;
+      text = w.text;
+      about = subst (λ (f : Fault). IsAbout F most_bytes bytes f w.accepted w.text) (sym same) w.about;
+      kept = subst (IsFoundOf w.text) (sym same_found) w.kept;
+      why = why w.accepted w.text w.stands;
+    }
+
+    pub refuses_explained : {D A : Type 0} (left : D → Option (List ℕ)) (Gives : List ℕ → A → Type 0) (old new : Device D) → FeedsMachine led_by Ended rejects halted left most_bytes old new (Err r) → ReadsOrExplains F fault found Why left Gives old new (Err x)
+    refuses_explained left Gives old new h = record {
+      plain = subst (λ (f : Fault). ReadsAll left F Gives old new (Err f)) (sym same) (refuses_all F Fits node start g led_by Ended rejects halted follows left Gives old new r h);
+      explained = λ is_told.
+          let told : IsTold r.fault.kind = subst (λ (f : Fault). IsTold f.kind) same is_told in
+          let t = h.refused told.2 in
+          let End = IsAtEnd (left new.device) in (
+            t.0,
+            t.1,
+            subst (λ (f : Fault). Refuses F t.0 End f) (sym same) (device_refusal F Fits node start g led_by Ended rejects halted follows t.0 End r t.2),
+            explains t.0 (device_told t.0 End r told t.2),
+          );
+    }
+
+  -- and what was read
+  pub reads_explained : {D A X : Type 0} (fault : X → Fault) (found : X → Found) (Why : List (List ℕ) → List ℕ → X → Type 0) (left : D → Option (List ℕ)) (Gives : List ℕ → A → Type 0) (old new : Device D) (m : M) (a : A) → FeedsMachine led_by Ended rejects halted left most_bytes old new (Ok m)
+      → ((b : List ℕ) → Reached led_by Ended m b → length b ≤ most_bytes → Gives b a) → ReadsOrExplains F fault found Why left Gives old new (Ok a)
+  reads_explained fault found Why left Gives old new m a h gives = record { plain = reads_all F Fits node start g led_by Ended rejects halted follows left Gives old new m a h gives; explained = tt }

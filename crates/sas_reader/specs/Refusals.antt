@@ -1,0 +1,56 @@
+-- What a refusal has beside its fault: what stood there, where the machine stands behind it, and what
+-- follows from that.
+use Rattle.std.specs.Prelude.{◌≡◌, ℕ, List}
+use Rattle.std.specs.Prelude.{Option, Result, Ok, Err, IfErr}
+use Rattle.std.specs.Io.KnownBytes.{IsAtEnd}
+use Rattle.sas_lines.specs.Device.{Device}
+use Rattle.sas_reader.specs.declared.fault.Fault.{Fault}
+use Rattle.sas_reader.specs.declared.fault.Kind.{Kind}
+use Rattle.sas_reader.specs.declared.fault.Kind.TheVariants as kinds
+use Rattle.sas_reader.specs.declared.found.Found.{Found}
+use Rattle.sas_reader.specs.About.{IsTold, IsAbout}
+use Rattle.sas_reader.specs.Devices.{Refuses, WasRead, ReadsAll}
+use Rattle.sas_reader.specs.Format.{Format}
+use Rattle.sas_reader.specs.Found.{IsFoundOf}
+use Rattle.sas_reader.specs.Limit.{most_bytes}
+
+-- the result with the fault of a refusal R alone
+abbrev pub by_fault : {A R : Type 0} → (R → Fault) → Result A R → Result A Fault
+by_fault fault (Ok a) = Ok a
+by_fault fault (Err r) = Err (fault r)
+
+-- A refusal R has a fault and what was found there. `Why` relates the lines that were accepted
+-- before the fault, and the text that stood there, to what else the refusal has.
+module _ {V I S R : Type 0} (F : Format V I S) (fault : R → Fault) (found : R → Found)
+    (Why : List (List ℕ) → List ℕ → R → Type 0) where
+  -- the refusal has what stood at its fault of these bytes, and what follows from that
+  pub record Explains (bytes : List ℕ) (r : R) : Type 0 where
+    pub accepted : List (List ℕ)
+    pub text : List ℕ
+    pub about : IsAbout F most_bytes bytes (fault r) accepted text
+    pub kept : IsFoundOf text (found r)
+    pub why : Why accepted text r
+
+  module _ {D A : Type 0} (left : D → Option (List ℕ)) (Gives : List ℕ → A → Type 0) where
+    -- What a call promises that reads a device, as `ReadsAll` has it, and explains why it refuses
+    -- the bytes that were read, unless a read failed, they are too long, or memory was refused.
+    pub record ReadsOrExplains (old new : Device D) (result : Result A R) : Type 0 where
+      pub plain : ReadsAll left F Gives old new (by_fault fault result)
+      pub explained : IfErr result (λ r. IsTold (fault r).kind → (bytes : List ℕ)
+          × WasRead left old new bytes
+          × Refuses F bytes (IsAtEnd (left new.device)) (fault r)
+          × Explains bytes r)
+
+-- A machine M is led somewhere by lines, may have ended there, rejects lines, and stands somewhere
+-- behind one that it refused.
+module _ {M : Type 0} (led_by : List (List ℕ) → M → Type 0) (ended : M → Type 0)
+    (rejects : M → List ℕ → Kind → Type 0) (halted : M → List ℕ → Kind → M → Type 0) where
+  -- where a machine stands behind a fault that is about these lines and this text
+  pub data StandsBehind (accepted : List (List ℕ)) (text : List ℕ) (k : Kind) (now : M)
+      : Type 0 where
+    behind_line : (machine : M) → led_by accepted machine → (ended machine → ⊥)
+        → rejects machine text k → halted machine text k now → StandsBehind accepted text k now
+    behind_text : led_by accepted now → ended now → k ≡ kinds.Trailing
+        → StandsBehind accepted text k now
+    at_end : led_by accepted now → (ended now → ⊥) → k ≡ kinds.End
+        → StandsBehind accepted text k now
