@@ -7,9 +7,9 @@ represents `VARIABLE VALUE NAME`, with the name of the value.
                                   first of these
     not shown: operator I         operator I NAME, effect E sets FACT, and how the operator fails to keep the group:
         effect F sets FACT        the two effects may fire together, and set facts of the group on different variables
-        may stay FACT             the fact of the group may hold before a step in which effect E fires, and behind it
+        may remain FACT             the fact of the group may hold before a step in which effect E fires, and behind it
 
-Told is the first such effect E, with the first effect F; where there is none, with the first fact of the group that may stay. Facts
+Told is the first such effect E, with the first effect F; where there is none, with the first fact of the group that may remain. Facts
 contradict each other as in families.py, in the family of the groups that are exclusive and the group itself.
 """
 from axioms import task_of
@@ -32,7 +32,7 @@ def two_setters(operator, first, group, family):
 
 
 def staying(operator, first, group, family):
-    """Returns the first fact of the group on another variable that may stay where this effect fires; None where none may."""
+    """Returns the first fact of the group on another variable that may remain where this effect fires; None where none may."""
     others = (fact for fact in group if fact[0] != first[1])
     return next((fact for fact in others if not gone(operator, fact, first, family)), None)
 
@@ -49,7 +49,7 @@ def broken_reasons(task, place, group, family):
             return [*said, f"  effect {other} sets {fact_said(task, *sets(operator[2][other]))}"]
         fact = staying(operator, effect, group, family)
         if fact is not None:
-            return [*said, f"  may stay {fact_said(task, *fact)}"]
+            return [*said, f"  may remain {fact_said(task, *fact)}"]
     raise AssertionError("the operator keeps the group")
 
 
@@ -58,7 +58,7 @@ def group_reasons(task, group, verdict, family):
     if verdict == "exclusive":
         return []
     if verdict == "derived":
-        return [f"  fact {fact_said(task, *next(fact for fact in group if task['layers'][fact[0]] is not None))}"]
+        return [f"  derived {fact_said(task, *next(fact for fact in group if task['layers'][fact[0]] is not None))}"]
     if verdict == "not shown: initial state":
         held = [fact for fact in group if holds(task["defaults"], [fact])]
         pair = next((f, g) for at, f in enumerate(held) for g in held[at + 1 :] if f != g)

@@ -3,11 +3,11 @@ each. Why a file isn't well formed is computed in refusals.py. A task here is as
 `VARIABLE VALUE NAME`, with the name of the value.
 
     effect on derived variable    operator I NAME, effect E sets fact, on layer L: E is the operator's first such effect
-    not on a derived variable     rule I gives fact
-    old value                     rule I gives fact, from fact, default fact
-    two values                    rule I gives fact, rule J gives fact: J is the first rule that gives the variable another value
+    not on a derived variable     rule I derives fact
+    old value                     rule I derives fact, old value fact, default value fact
+    two values                    rule I derives fact, rule J derives fact: J is the first rule that gives the variable another value
                                   which isn't its default
-    layer order                   rule I gives fact, on layer L, condition C asks fact, on layer M: C is the first condition that isn't
+    layer order                   rule I derives fact, on layer L, condition C requires fact, on layer M: C is the first condition that isn't
                                   on a lower layer, or on the same one and no default
 """
 import re
@@ -34,7 +34,7 @@ def fact_said(task, var, value):
 def rule_said(task, place):
     """Returns the line of a rule."""
     _, var, _, new = task["rules"][place]
-    return f"  rule {place} gives {fact_said(task, var, new)}"
+    return f"  rule {place} derives {fact_said(task, var, new)}"
 
 
 def looks_down(task, var, on, value):
@@ -57,7 +57,7 @@ def rule_reasons(task, place, what):
     if what == "not on a derived variable":
         return [said]
     if what == "old value":
-        return [said, f"  from {fact_said(task, var, old)}", f"  default {fact_said(task, var, default)}"]
+        return [said, f"  old value {fact_said(task, var, old)}", f"  default value {fact_said(task, var, default)}"]
     if what == "two values":
         given = (at for at, (_, its, _, other) in enumerate(task["rules"]) if its == var and other not in (default, new))
         return [said, rule_said(task, next(given))]
@@ -65,7 +65,7 @@ def rule_reasons(task, place, what):
     return [
         said,
         f"  on layer {task['layers'][var]}",
-        f"  condition {condition} asks {fact_said(task, on, value)}",
+        f"  condition {condition} requires {fact_said(task, on, value)}",
         f"  on layer {task['layers'][on]}",
     ]
 

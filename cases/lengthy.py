@@ -23,20 +23,20 @@ NAME, TIMES, RULES, MEMORY = 20_000, 15_000, 5_000, 40_000_000
 MODEST, MODEST_TREE = 20_000, 2**14 - 1
 
 
-def asks(var, value, other, when="the start"):
+def requires(var, value, other, when="the initial state"):
     """The first lines of a cause."""
     names = (f"{var} {its} {value_name({}, var, its)}" for its in (value, other))
-    return [f"    {word} {name}" for word, name in zip(("asks", "has"), names)] + [f"    since {when}"]
+    return [f"    {word} {name}" for word, name in zip(("requires", "actual"), names)] + [f"    since {when}"]
 
 
-def gives(rule, var):
-    """The line of a rule that gives a variable value 1."""
-    return f"    rule {rule} gives {var} 1 {value_name({}, var, 1)}"
+def derives(rule, var):
+    """The line of a rule that derives value 1 of a variable."""
+    return f"    rule {rule} derives {var} 1 {value_name({}, var, 1)}"
 
 
 def held(rule, var, value):
     """The line of a rule that this fact holds back."""
-    return f"    rule {rule} asks {var} {value} {value_name({}, var, value)}"
+    return f"    rule {rule} requires {var} {value} {value_name({}, var, value)}"
 
 
 def blocked(step, name):
@@ -61,22 +61,22 @@ def long_blocked(size):
     operators = [("set", [], [([], 1, -1, 1)], 1), turning("turn", 0), stay, ("turn", [(2, 1)], [], 1)]
     turns = size - size % 2
     names = ["set", *["turn"] * turns, "stay"]
-    first = [*asks(0, 1, 0, f"step {turns + 1} turn"), *asks(1, 0, 1, "step 1 set"), *asks(2, 1, 0)]
+    first = [*requires(0, 1, 0, f"step {turns + 1} turn"), *requires(1, 0, 1, "step 1 set"), *requires(2, 1, 0)]
     return task_with([2] * 3, operators=operators), names, 0, [*blocked(turns + 2, "stay"), "  operator 2", *first]
 
 
 def long_missed(size):
-    """So many steps, of which only the last may mean another operator."""
+    """So many steps, of which only the last could also be another operator."""
     operators = [("wait", [], [], 1), ("set", [], [([], 0, -1, 1)], 1), ("wait", [(1, 1)], [], 1), ("wait", [(0, 1)], [], 1)]
     names = [*["wait"] * size, "set", "wait"]
-    lines = [*missed(asks(1, 1, 0)), f"  step {size + 2} may mean operator 3"]
+    lines = [*missed(requires(1, 1, 0)), f"  step {size + 2} could also be operator 3"]
     return task_with([2, 2], goal=[(1, 1)], operators=operators), names, 0, lines
 
 
 def long_unknown(size):
     """So many steps, and one of another name."""
     operators = [turning("turn", 0), turning("Turn  ", 0)]
-    lines = [f"plan invalid: step {size + 1}: no operator of that name", f"  step {size + 1} Turn", "  like operator 0 turn"]
+    lines = [f"plan invalid: step {size + 1}: no operator of that name", f"  step {size + 1} Turn", "  similar operator 0 turn"]
     return task_with([2], operators=operators), [*["turn"] * size, "Turn"], 0, lines
 
 
@@ -88,8 +88,8 @@ def long_settled(size):
     operators = [turning("idle", 0), turning("main", 1), ("dark", [(depth + 1, 0)], [], 1)]
     task = task_with([2] * (depth + 2), layers=layers, rules=rules, defaults=[0, 1, *[0] * depth], operators=operators)
     names = [*["idle"] * size, "main", "dark", "idle", "main", "idle", "dark"]
-    given = [gives(rule, rule + 2) for rule in range(depth)]
-    cause = asks(depth + 1, 0, 1, f"step {size + 4} main")
+    given = [derives(rule, rule + 2) for rule in range(depth)]
+    cause = requires(depth + 1, 0, 1, f"step {size + 4} main")
     return task, names, 0, [*blocked(size + 6, "dark"), "  operator 2", *cause, *given]
 
 
@@ -97,7 +97,7 @@ def long_changed(size):
     """So many steps, each of which changes another variable; then the goal fails on all of them."""
     operators = [(f"go {var}", [], [([], var, -1, 1)], 1) for var in range(size)]
     names = [f"go {size - place}" for place in range(1, size + 1)]
-    causes = [asks(var, 0, 1, f"step {size - var} go {var}") for var in range(size)]
+    causes = [requires(var, 0, 1, f"step {size - var} go {var}") for var in range(size)]
     return task_with([2] * size, goal=[(var, 0) for var in range(size)], operators=operators), names, 0, missed(*causes)
 
 
@@ -109,7 +109,7 @@ def derived_task(size, rules, goal, **parts):
 def beside(size):
     """A goal of so many derived variables beside one another."""
     rules = [([(0, 0)], var, -1, 1) for var in range(1, size + 1)]
-    causes = [[*asks(var, 0, 1), gives(var - 1, var)] for var in range(1, size + 1)]
+    causes = [[*requires(var, 0, 1), derives(var - 1, var)] for var in range(1, size + 1)]
     return derived_task(size, rules, [(var, 0) for var in range(1, size + 1)]), [], 0, missed(*causes)
 
 
@@ -120,21 +120,21 @@ def chain_rules(size):
 
 def chain_up(size):
     """A goal of so many variables, each given by the one before it."""
-    causes = [[*asks(var, 0, 1), gives(size - var, var)] for var in range(1, size + 1)]
+    causes = [[*requires(var, 0, 1), derives(size - var, var)] for var in range(1, size + 1)]
     return derived_task(size, chain_rules(size), [(var, 0) for var in range(1, size + 1)]), [], 0, missed(*causes)
 
 
 def chain_down(size):
     """The same goal the other way round, so that the first fact has all rules."""
-    given = [gives(size - var, var) for var in range(1, size + 1)]
-    causes = [[*asks(var, 0, 1), *(given if var == size else [])] for var in range(size, 0, -1)]
+    given = [derives(size - var, var) for var in range(1, size + 1)]
+    causes = [[*requires(var, 0, 1), *(given if var == size else [])] for var in range(size, 0, -1)]
     return derived_task(size, chain_rules(size), [(var, 0) for var in range(size, 0, -1)]), [], 0, missed(*causes)
 
 
 def chain_again(size):
     """A goal that has the last variable of a chain so many times."""
-    given = [gives(size - var, var) for var in range(1, size + 1)]
-    causes = [[*asks(size, 0, 1), *given], *[asks(size, 0, 1)] * (size - 1)]
+    given = [derives(size - var, var) for var in range(1, size + 1)]
+    causes = [[*requires(size, 0, 1), *given], *[requires(size, 0, 1)] * (size - 1)]
     return derived_task(size, chain_rules(size), [(size, 0)] * size), [], 0, missed(*causes)
 
 
@@ -153,41 +153,41 @@ def tree_rules(size):
 def tree_down(size):
     """A goal of a tree of so many variables, from its top: the first fact has all rules, the lowest ones first."""
     order = sorted(range(1, size + 1), key=lambda var: (-var.bit_length(), var))
-    causes = [[*asks(var, 0, 1), *([gives(its - 1, its) for its in order] if var == 1 else [])] for var in range(1, size + 1)]
+    causes = [[*requires(var, 0, 1), *([derives(its - 1, its) for its in order] if var == 1 else [])] for var in range(1, size + 1)]
     return derived_task(size, tree_rules(size), [(var, 0) for var in range(1, size + 1)]), [], 0, missed(*causes)
 
 
 def tree_up(size):
     """The same goal the other way round."""
-    causes = [[*asks(var, 0, 1), gives(var - 1, var)] for var in range(size, 0, -1)]
+    causes = [[*requires(var, 0, 1), derives(var - 1, var)] for var in range(size, 0, -1)]
     return derived_task(size, tree_rules(size), [(var, 0) for var in range(size, 0, -1)]), [], 0, missed(*causes)
 
 
 def chain_dark(size):
     """A goal of a chain that the switch holds back: each rule asks for the variable before."""
     goal = [(var, 1) for var in range(size, 0, -1)]
-    causes = [[*asks(var, 1, 0), held(size - var, var - 1, 1 if var > 1 else 0)] for var in range(size, 0, -1)]
+    causes = [[*requires(var, 1, 0), held(size - var, var - 1, 1 if var > 1 else 0)] for var in range(size, 0, -1)]
     return derived_task(size, chain_rules(size), goal, defaults=[1, *[0] * size]), [], 0, missed(*causes)
 
 
 def rules_again(size):
     """A goal that has so many times a variable that so many rules would give."""
     rules = [([(0, 0), (1, 1)], 1, -1, 1)] * size
-    causes = [[*asks(1, 1, 0), *(held(rule, 0, 0) for rule in range(size))], *[asks(1, 1, 0)] * (size - 1)]
+    causes = [[*requires(1, 1, 0), *(held(rule, 0, 0) for rule in range(size))], *[requires(1, 1, 0)] * (size - 1)]
     return derived_task(1, rules, [(1, 1)] * size, defaults=[1, 0]), [], 0, missed(*causes)
 
 
 def no_rules_again(size):
     """A goal that has so many times a value that none of so many rules gives."""
     task = derived_task(1, [([], 1, -1, 1)] * size, [(1, 2)] * size, ranges=[2, 3])
-    causes = [[*asks(1, 2, 1), *([gives(0, 1)] if place == 0 else []), "    no rule gives it"] for place in range(size)]
+    causes = [[*requires(1, 2, 1), *([derives(0, 1)] if place == 0 else []), "    no rule derives it"] for place in range(size)]
     return task, [], 0, missed(*causes)
 
 
 def many_blocked(size):
     """A name that so many operators have, of which each asks for two facts. None is applicable."""
     operators = [("go", [(var, 1), (0, 1)], [], 1) for var in range(1, size + 1)]
-    named = [(f"  operator {place}", *asks(place + 1, 1, 0), *asks(0, 1, 0)) for place in range(size)]
+    named = [(f"  operator {place}", *requires(place + 1, 1, 0), *requires(0, 1, 0)) for place in range(size)]
     lines = [*blocked(1, "go"), *(line for its in named for line in its)]
     return task_with([2] * (size + 1), operators=operators), ["go"], 0, lines
 
@@ -195,19 +195,19 @@ def many_blocked(size):
 def many_blocked_derived(size):
     """A name that so many operators have, of which each asks for a variable of a chain, the first for the last one."""
     operators = [("go", [(var, 0)], [], 1) for var in range(size, 0, -1)]
-    given = [gives(size - var, var) for var in range(1, size + 1)]
+    given = [derives(size - var, var) for var in range(1, size + 1)]
     lines = blocked(1, "go")
     for place in range(size):
-        lines += [f"  operator {place}", *asks(size - place, 0, 1), *(given if place == 0 else [])]
+        lines += [f"  operator {place}", *requires(size - place, 0, 1), *(given if place == 0 else [])]
     return derived_task(size, chain_rules(size), [], operators=operators), ["go"], 0, lines
 
 
 def many_preconditions(size):
     """An operator that asks for the last variable of a chain so many times, and for it again by the old values of its effects."""
     operators = [("go", [(size, 0)] * size, [([(0, 1)], 0, 1, 0)] * size, 1)]
-    given = [gives(size - var, var) for var in range(1, size + 1)]
-    again = [line for _ in range(size - 1) for line in asks(size, 0, 1)] + [line for _ in range(size) for line in asks(0, 1, 0)]
-    lines = [*blocked(1, "go"), "  operator 0", *asks(size, 0, 1), *given, *again]
+    given = [derives(size - var, var) for var in range(1, size + 1)]
+    again = [line for _ in range(size - 1) for line in requires(size, 0, 1)] + [line for _ in range(size) for line in requires(0, 1, 0)]
+    lines = [*blocked(1, "go"), "  operator 0", *requires(size, 0, 1), *given, *again]
     return derived_task(size, chain_rules(size), [], operators=operators), ["go"], 0, lines
 
 
@@ -221,10 +221,10 @@ def many_effects(size):
 
 
 def many_named(size):
-    """A name that so many operators have, of which the last is applicable, too. It isn't what an earlier step may mean."""
+    """A name that so many operators have, of which the last is applicable, too. No earlier step could also be it."""
     operators = [("go", [], [], 1), *[("go", [(0, 1)], [], 1)] * size, ("turn", [], [([], 1, -1, 1)], 1), ("go", [(1, 1)], [], 2)]
-    lines = ["plan invalid: cost is 13, not 0", "  metric 0", "  steps 13", "  cost lines 13"]
-    lines.append(f"  step 12 may mean operator {size + 2}")
+    lines = ["plan invalid: cost is 13, not 0", "  metric 0", "  steps 13", "  sum of cost lines 13"]
+    lines.append(f"  step 12 could also be operator {size + 2}")
     return task_with([2, 2], operators=operators), [*["go"] * 10, "turn", "go", "go"], 0, lines
 
 
@@ -233,7 +233,7 @@ def many_alike(size):
     spaces = " " * 40
     operators = [(f"Go {place}{spaces}", [], [], 1) for place in range(1, size + 1)]
     operators += [(f"GO 0{spaces}", [], [], 1), ("go 0 ", [], [], 1)]
-    lines = ["plan invalid: step 1: no operator of that name", "  step 1 go 0", f"  like operator {size} GO 0{spaces}"]
+    lines = ["plan invalid: step 1: no operator of that name", "  step 1 go 0", f"  similar operator {size} GO 0{spaces}"]
     return task_with([2], operators=operators), ["go 0"], 0, lines
 
 
@@ -259,15 +259,15 @@ def long_texts():
     which another one is there. They could show a text that is made before it is written, and lines that are kept so that they
     aren't told again."""
     name, goal = "a" * NAME, [(0, 1)] * TIMES
-    facts = [f"  goal fact {place}\n    asks 0 1 " for place in range(TIMES)]
-    told = [[fact, name, "\n    has 0 0 no\n    since the start\n"] for fact in facts]
+    facts = [f"  goal fact {place}\n    requires 0 1 " for place in range(TIMES)]
+    told = [[fact, name, "\n    actual 0 0 no\n    since the initial state\n"] for fact in facts]
     yield long_text("the name of a value", task_with([2], goal=goal, names=[["no", name]]), [], told)
     operators, names = [(name, [], [([], 0, -1, 2)], 1)], [["no", "yes", "so"]]
-    told = [[f"{fact}yes\n    has 0 2 so\n    since step 1 ", name, "\n"] for fact in facts]
+    told = [[f"{fact}yes\n    actual 0 2 so\n    since step 1 ", name, "\n"] for fact in facts]
     yield long_text("the name of a step", task_with([3], goal=goal, operators=operators, names=names), [name], told)
     task = derived_task(1, [([(0, 1)], 1, -1, 1)] * RULES, [(1, 1)] * 2, names=[["no", name], ["off", "on"]])
-    cause = "    asks 1 1 on\n    has 1 0 off\n    since the start\n"
-    rules = [[f"    rule {rule} asks 0 1 ", name, "\n"] for rule in range(RULES)]
+    cause = "    requires 1 1 on\n    actual 1 0 off\n    since the initial state\n"
+    rules = [[f"    rule {rule} requires 0 1 ", name, "\n"] for rule in range(RULES)]
     told = [f"  goal fact 0\n{cause}", *rules, f"  goal fact 1\n{cause}"]
     yield long_text("the name of a value that rules ask for", task, [], told)
 

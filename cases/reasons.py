@@ -5,21 +5,21 @@ stand in front of each, four where it belongs to the line above. A task here is 
 A run is the task, the names of a plan's steps, the operators of those steps that go through, and the states: the initial one, and
 the one behind each of these steps. A fact fails that doesn't hold in the last of them.
 
-    no operator of that name    step S NAME, and `like operator I NAME` of the first operator whose name is the same but for
+    no operator of that name    step S NAME, and `similar operator I NAME` of the first operator whose name is the same but for
                                 spaces at the end and capitals, if there is one
     not applicable              step S NAME, then each operator of the name, with the cause of each precondition that fails
     conflicting effects         step S NAME, operator I, and two of its effects that fire: E is the first that contradicts one
                                 before it, D the first that it contradicts
     goal fact not reached       each goal fact that fails, with its cause
-    cost differs                metric M, steps S, and the sum of the cost lines, also where the metric doesn't count them
+    cost differs                metric M, steps S, sum of cost lines N, also where the metric doesn't count them
 
-Behind each of these comes the first step that went through and might as well mean an operator behind the one that it meant, as
+Behind each of these comes the first step that went through and could also be an operator behind the one that it meant, as
 that has the name too and was applicable, with the first such operator.
 
-The cause of a fact that fails: what is asked, what the variable has instead, and since which step. That is the last one behind
+The cause of a fact that fails: the value that is required, the actual one, and since which step. That is the last one behind
 which it had another value than before; a step that sets the value that is there changes nothing. Where the variable is derived
-and isn't at its default, the rules of its derivation follow. Where it is derived and what is asked isn't the default, there
-follows for each rule that would give that the first of its conditions that fails, or that there is no such rule. A line of a rule
+and isn't at its default, the rules of its derivation follow. Where it is derived and the required value isn't the default, there
+follows for each rule that would derive that the first of its conditions that fails, or that there is no such rule. A line of a rule
 that stands further up already isn't said again.
 
 Variables of a layer rise in rounds: in each round all whose rules hold in what has risen in the rounds before. The rule that
@@ -151,14 +151,14 @@ def assert_explains(run, var, ordered):
 def since(run, var):
     """Returns since when a variable has the value of the last state."""
     steps = [step for step in range(1, len(run.states)) if run.states[step - 1][var] != run.states[step][var]]
-    return f"since step {steps[-1]} {run.names[steps[-1] - 1]}" if steps else "since the start"
+    return f"since step {steps[-1]} {run.names[steps[-1] - 1]}" if steps else "since the initial state"
 
 
 def given_by(run, var):
     """Returns the rules of a variable's derivation, as they are said."""
     if not is_risen(run.task, run.last, var):
         return []
-    return [f"rule {run.rising[its][1]} gives {fact_said(run.task, its, run.last[its])}" for its in derivation(run, var)]
+    return [f"rule {run.rising[its][1]} derives {fact_said(run.task, its, run.last[its])}" for its in derivation(run, var)]
 
 
 def held_back(run, var, value):
@@ -168,15 +168,15 @@ def held_back(run, var, value):
         return []
     rules = [rule for rule in rules_of(task, var) if task["rules"][rule][3] == value]
     if not rules:
-        return ["no rule gives it"]
+        return ["no rule derives it"]
     asked = [next(fact for fact in task["rules"][rule][0] if not holds(run.last, [fact])) for rule in rules]
-    return [f"rule {rule} asks {fact_said(task, *fact)}" for rule, fact in zip(rules, asked)]
+    return [f"rule {rule} requires {fact_said(task, *fact)}" for rule, fact in zip(rules, asked)]
 
 
 def cause(run, fact):
     """Returns the lines of the cause of a fact that fails in the last state."""
     var, value = fact
-    said = [f"asks {fact_said(run.task, var, value)}", f"has {fact_said(run.task, var, run.last[var])}", since(run, var)]
+    said = [f"requires {fact_said(run.task, var, value)}", f"actual {fact_said(run.task, var, run.last[var])}", since(run, var)]
     return [f"    {line}" for line in [*said, *given_by(run, var), *held_back(run, var, value)]]
 
 
@@ -194,7 +194,7 @@ def clash(state, effects):
 def name_reasons(task, name):
     """Returns the line of the operator whose name is like this one, if there is one."""
     operator = like(task, name)
-    return [] if operator is None else [f"  like operator {operator} {task['operators'][operator][0]}"]
+    return [] if operator is None else [f"  similar operator {operator} {task['operators'][operator][0]}"]
 
 
 def blocked_reasons(run, operator):
@@ -236,16 +236,16 @@ def goal_reasons(run):
 def cost_reasons(run):
     """Returns what the cost of a plan is made of."""
     lines = sum(run.task["operators"][operator][3] for operator in run.operators)
-    return [f"  metric {run.task['metric']}", f"  steps {len(run.names)}", f"  cost lines {lines}"]
+    return [f"  metric {run.task['metric']}", f"  steps {len(run.names)}", f"  sum of cost lines {lines}"]
 
 
-def may_mean(run):
-    """Returns the line of the first step that may mean a later operator, if there is one."""
+def could_also_be(run):
+    """Returns the line of the first step that could also be a later operator, if there is one."""
     for step, (operator, state) in enumerate(zip(run.operators, run.states), 1):
         named = operators_named(run.task, run.names[step - 1])
         later = [its for its in named if its > operator and holds(state, preconditions(run.task["operators"][its]))]
         if later:
-            return [f"  step {step} may mean operator {later[0]}"]
+            return [f"  step {step} could also be operator {later[0]}"]
     return []
 
 
@@ -260,7 +260,7 @@ def reasons_of(run):
         said = step_reasons(run)
     else:
         said = goal_reasons(run) or cost_reasons(run)
-    return said_once([*said, *may_mean(run)])
+    return said_once([*said, *could_also_be(run)])
 
 
 def reasons(task, names, cost):

@@ -251,6 +251,7 @@ counted_down t layer s stack counters left k within counts j on = elim (eqb_tell
       ∙ (let n : get_or counters j 0 ≡ open_conditions (value_seen t s stack) (rule_at t j).conditions + (0 + occurrences j left) = rw w.0 at (counts j on) in omega arith)
 ]
 
+-- a rule that waits has an open condition
 pub waits : (t : Parts) (layer : ℕ) (s stack counters left : List ℕ) (k : ℕ) → IsRuleOn t layer k → AreCounted t layer s stack counters (k ∷ left) → 1 ≤ get_or counters k 0
 waits t layer s stack counters left k on counts =
     let n : get_or counters k 0 ≡ open_conditions (value_seen t s stack) (rule_at t k).conditions + (1 + occurrences k left) = rw (eq-eqb k k refl) at (counts k on) in omega arith
@@ -353,12 +354,6 @@ at_work_fired t s w s' w' counters left k within work is f = record {
   fired = rw (f.goes_on.layer, f.counters, is)
       (fired_set t w.layer s' w.counters k (get_or w.counters k 0 - 1) within (λ _. f.fired) (fired_kept t w.layer s s' w.counters f.kept work.fired));
 }
-
--- a rule that waits has an open condition
-pub counted_some : (t : Parts) (layer : ℕ) (s stack counters left : List ℕ) (k : ℕ) → IsRuleOn t layer k → AreCounted t layer s stack counters (k ∷ left) → 1 ≤ get_or counters k 0
-counted_some t layer s stack counters left k on counts =
-    let n : get_or counters k 0 ≡ open_conditions (value_seen t s stack) (rule_at t k).conditions + (1 + occurrences k left) = rw (eq-eqb k k refl) at (counts k on) in
-    omega arith
 
 -- a counter of the layer is set
 pub goes_on_counted : (t : Parts) (s : List ℕ) (w : Work) (k n : ℕ) (counters : List ℕ) → IsRuleOn t w.layer k → counters ≡ set w.counters k n

@@ -1,4 +1,4 @@
--- What is said of each item of a list, said of the item at a place.
+-- What holds of each item of a list, and what holds of the item at each place.
 use Rattle.std.proofs.Common.{ℕ, zero, suc, ◌<◌, List, [], ◌∷◌, length, slice_index_or, arith}
 use Rattle.std.specs.List.{AllByRecursion}
 
@@ -13,3 +13,11 @@ module _ {A : Type 0} (P : A → Type 0) (otherwise : A) where
   pub holds_everywhere : (items : List A) → ((place : ℕ) → place < length items → P (slice_index_or items place otherwise)) → AllByRecursion P items
   holds_everywhere [] at = tt
   holds_everywhere (item ∷ items) at = (at 0 (omega arith), holds_everywhere items (λ place below. at (suc place) (omega arith)))
+
+-- what the items below a place have, and that at the place, those below the next have
+pub each_more : {A : Type 0} (P : A → Type 0) (items : List A) (n : ℕ) (otherwise : A) → n < length items
+    → ((k : ℕ) (d : A) → k < n → P (get_or items k d)) → P (get_or items n otherwise) → (k : ℕ) (d : A) → k < n + 1 → P (get_or items k d)
+each_more P items n otherwise within before its k d below = elim (cases_eq k n) [
+  | inl e ↦ subst P (get_or_default items n otherwise d within ∙ ap (λ i. get_or items i d) (sym e)) its
+  | inr ne ↦ before k d (omega arith)
+]

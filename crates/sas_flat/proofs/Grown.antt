@@ -40,17 +40,6 @@ kept_long n old new e k = omega (arith, e, ap length k.is, length-append old k.m
 pub kept_front : {X : Type 0} (n : ℕ) (old mid new : List X) → n ≡ length old → Kept old mid → new ≡ take n mid → new ≡ old
 kept_front n old mid new e k is = is ∙ ap (λ i. take i mid) e ∙ ap (take (length old)) k.is ∙ take-append_seam old k.more
 
--- ---- results
-
--- an error says nothing of a value
-pub not_ok : {T E : Type 0} (P : Type 0) (r : Result T E) → IsErr r → OnOk r P
-not_ok P (Ok x) h = absurd (false≢true h)
-not_ok P (Err e) h = tt
-
-pub on_ok : {T E P Q : Type 0} (r : Result T E) → (P → Q) → OnOk r P → OnOk r Q
-on_ok (Ok x) f p = f p
-on_ok (Err e) f p = tt
-
 -- ---- variables
 
 -- with one variable more they are aligned

@@ -53,11 +53,3 @@ is_among (x ∷ xs) n = elim (cases_eq x n) [
     ])
   ]
 ]
-
--- what the items below a place have, and that at the place, those below the next have
-pub each_more : {A : Type 0} (P : A → Type 0) (items : List A) (n : ℕ) (otherwise : A) → n < length items
-    → ((k : ℕ) (d : A) → k < n → P (get_or items k d)) → P (get_or items n otherwise) → (k : ℕ) (d : A) → k < n + 1 → P (get_or items k d)
-each_more P items n otherwise within before its k d below = elim (cases_eq k n) [
-  | inl e ↦ subst P (get_or_default items n otherwise d within ∙ ap (λ i. get_or items i d) (sym e)) its
-  | inr ne ↦ before k d (omega arith)
-]

@@ -11,7 +11,7 @@ use Rattle.sas_groups.specs.Verdicts.{IsJointVerdict}
 use Rattle.sas_groups.proofs.GreatestFamily.{keeps_more, all_keep_more, group_of_larger}
 use Rattle.sas_group_index.specs.Kept.{family_of}
 use Rattle.sas_groups.specs.Joint.{verdict_at, AreJointVerdicts}
-use Rattle.sas_group_reasons.proofs.GroupReasons.{counts_too}
+use Rattle.sas_groups.proofs.JointVerdicts.{same_or_itself}
 
 module _ (p : Parts) (verdicts : List Verdict) (kept : List Bool) (joint : AreJointVerdicts p verdicts)
     (exclusive : (place : ℕ) → place < length p.groups → IsTrue (family_of kept place) ↔ (verdict_at verdicts place ≡ Exclusive)) where
@@ -49,4 +49,4 @@ pub breaks_under : (p : Parts) (family : ℕ → Bool) (place operator : ℕ) �
     → Keeps (IsGroupOfOr p family (group_at p place)) (operator_at p operator) (group_at p place) → ⊥
 breaks_under p family place operator greatest (other, greatest', outside, basic, initial, first) keeps =
     first.breaks (keeps_more (IsGroupOfOr p family (group_at p place)) (IsGroupOfOr p other (group_at p place)) (operator_at p operator) (group_at p place)
-    (counts_too p family other (group_at p place) greatest greatest') keeps)
+    (same_or_itself p family other (group_at p place) greatest greatest') keeps)

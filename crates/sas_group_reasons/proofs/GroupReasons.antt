@@ -15,7 +15,7 @@ use Rattle.sas_groups.specs.declared.verdict.Verdict.TheVariants.{Exclusive, Der
 use Rattle.sas_groups.specs.Groups.{IsExclusiveIn}
 use Rattle.sas_groups.specs.Families.{IsGreatest, IsGroupOfOr}
 use Rattle.sas_groups.specs.Verdicts.{IsJointVerdict}
-use Rattle.sas_groups.proofs.GreatestFamily.{group_of_larger, greatest_is_one}
+use Rattle.sas_groups.proofs.JointVerdicts.{same_or_itself}
 use Rattle.sas_group_reasons.specs.declared.reason.Failure.{Failure}
 use Rattle.sas_group_reasons.specs.declared.reason.Reason.{Reason}
 use Rattle.sas_group_reasons.specs.declared.reason.Reason.TheVariants.{OnDerived, HoldsTwo, Breaks}
@@ -180,13 +180,6 @@ module _ (s : List ℕ) (group : List Fact) where
 
 -- ---- under two greatest families the same groups count, also with one group beside them
 
-pub counts_too : (p : Parts) (a b : ℕ → Bool) (itself : List Fact) → IsGreatest p a → IsGreatest p b
-    → (group : List Fact) → IsGroupOfOr p a itself group → IsGroupOfOr p b itself group
-counts_too p a b itself ga gb group counts = elim counts [
-  | inl w ↦ inl (group_of_larger p a b (greatest_is_one p a b ga gb) group w)
-  | inr is ↦ inr is
-]
-
 -- ---- failures
 
 pub not_kept_if_fails : NotKeptIfFails
@@ -222,8 +215,8 @@ one_says p place (Breaks operator failure) (OnDerived h) same says says' = absur
 one_says p place (Breaks operator failure) (HoldsTwo g h) same says says' = absurd cc
 one_says p place (Breaks operator failure) (Breaks operator' failure') same (family, greatest, first) (family', greatest', first') =
     same_breaks operator operator' failure failure' is (one_first (IsGroupOfOr p family' itself) (operator_at p operator') itself failure failure'
-    (first_too (IsGroupOfOr p family itself) (IsGroupOfOr p family' itself) (operator_at p operator') itself (counts_too p family family' itself greatest greatest')
-    (counts_too p family' family itself greatest' greatest) failure
+    (first_too (IsGroupOfOr p family itself) (IsGroupOfOr p family' itself) (operator_at p operator') itself (same_or_itself p family family' itself greatest greatest')
+    (same_or_itself p family' family itself greatest' greatest) failure
     (subst (λ n. IsFirstFailure (IsGroupOfOr p family itself) (operator_at p n) itself failure) is first)) first')
   where
     itself : List Fact

@@ -1,9 +1,9 @@
 // The reasons of all groups.
-ghost use Rattle.std.specs.Prelude.{◌≡◌, ◌<◌, ◌↔◌, ℕ, Bool, List, length, All, IfOk, IsTrue, IsFalse};
+ghost use Rattle.std.specs.Prelude.{◌≡◌, ◌<◌, ℕ, Bool, List, length, All, IfOk, IsTrue, IsFalse};
 ghost use Rattle.sas_groups.specs.declared.verdict.Verdict.{Verdict};
-ghost use Rattle.sas_groups.specs.declared.verdict.Verdict.TheVariants.{Exclusive, Broken};
+ghost use Rattle.sas_groups.specs.declared.verdict.Verdict.TheVariants.{Broken};
 ghost use Rattle.sas_group_index.specs.Kept.{family_of};
-ghost use Rattle.sas_groups.specs.Joint.{verdict_at, AreJointVerdicts};
+ghost use Rattle.sas_groups.specs.Joint.{AreJointVerdicts};
 ghost use Rattle.sas_group_reasons.specs.Reasons.{AreReasons};
 ghost use Rattle.sas_group_reasons.specs.Telling.{AreReasonsSoFar, IsBroken, AreMarked};
 
@@ -14,7 +14,7 @@ use sas_core::{Grounded, Items};
 use sas_group_index::{Index, IndexedTask};
 use sas_groups::Verdict;
 use sas_meaning::Layered;
-use sas_mutex::Marks;
+use sas_mutex::{Marks, exclusive_of};
 use std::alloc::{AllocError, Global};
 
 /// Returns, for each group of the task, in their order, the reason for the joint verdict on it, or none if it is exclusive. All
@@ -58,7 +58,7 @@ fn tell_breaking<T: Grounded>(
     ensures { IfOk result (λ _. AreReasons indexed.now verdicts.now reasons.new) }
 {
     let marked = breaking_operators(alloc, indexed.task.operators(), verdicts)?;
-    let kept = exclusive_groups(alloc, verdicts)?;
+    let kept = exclusive_of(alloc, verdicts)?;
     let marks = Marks::new(alloc, indexed.task, indexed.index)?;
     let mut greatest = Greatest { kept, marks };
     tell_failures(indexed, verdicts, marked.as_slice(), &mut greatest, reasons);
@@ -115,24 +115,4 @@ fn mark(verdict: Verdict, marked: &mut Items<bool>)
             marked.set(operator as usize, true);
         }
     }
-}
-
-/// Returns, for each verdict, whether it is that the group is exclusive.
-fn exclusive_groups(alloc: Global, verdicts: &[Verdict]) -> Result<Items<bool>, AllocError>
-    ensures one_each { IfOk result (λ kept. length kept ≡ length verdicts.now) }
-    ensures exclusive { IfOk result (λ kept. (place : ℕ) → place < length verdicts.now
-        → IsTrue (family_of kept place) ↔ (verdict_at verdicts.now place ≡ Exclusive)) }
-{
-    let mut kept = Items::from_vec(Vec::with_capacity(alloc, verdicts.len())?);
-    for verdict in verdicts {
-        kept.push(is_exclusive(*verdict))?;
-    }
-    Ok(kept)
-}
-
-/// Whether the verdict is that the group is exclusive.
-fn is_exclusive(verdict: Verdict) -> bool
-    ensures { IsTrue result ↔ (verdict ≡ Exclusive) }
-{
-    matches!(verdict, Verdict::Exclusive)
 }

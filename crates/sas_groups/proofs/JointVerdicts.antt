@@ -107,7 +107,7 @@ first_breaking_is_one p Counts More group a b more fewer first first' = elim (ca
 -- ---- verdicts
 
 -- under two greatest families the same groups count, also with one group beside them
-same_or_itself : (p : Parts) (a b : ℕ → Bool) (itself : List Fact) → IsGreatest p a → IsGreatest p b
+pub same_or_itself : (p : Parts) (a b : ℕ → Bool) (itself : List Fact) → IsGreatest p a → IsGreatest p b
     → (group : List Fact) → IsGroupOfOr p a itself group → IsGroupOfOr p b itself group
 same_or_itself p a b itself ga gb group counts = elim counts [
   | inl w ↦ inl (group_of_larger p a b (greatest_is_one p a b ga gb) group w)

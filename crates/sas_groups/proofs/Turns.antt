@@ -22,11 +22,3 @@ module _ {A : Type 0} (all before left : List A) (is : all ≡ before ++ left) w
 -- one more came
 pub turn_more : {A : Type 0} (P : A → Type 0) (before : List A) (x : A) → All P before → P x → All P (before ++ x ∷ [])
 turn_more P before x came its = All-append P before (x ∷ []) came (All-cons P x [] its (All-nil P))
-
--- what the items below a place have, and that at the place, those below the next have
-pub each_more : {A : Type 0} (P : A → Type 0) (items : List A) (n : ℕ) (otherwise : A) → n < length items
-    → ((k : ℕ) (d : A) → k < n → P (get_or items k d)) → P (get_or items n otherwise) → (k : ℕ) (d : A) → k < n + 1 → P (get_or items k d)
-each_more P items n otherwise within before its k d below = elim (cases_eq k n) [
-  | inl e ↦ subst P (get_or_default items n otherwise d within ∙ ap (λ i. get_or items i d) (sym e)) its
-  | inr ne ↦ before k d (omega arith)
-]

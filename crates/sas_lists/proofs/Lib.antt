@@ -1,5 +1,5 @@
 pub mod Tables
 pub mod Blocks
 pub mod ByKey
-mod Kept
+pub mod Kept
 mod Placing

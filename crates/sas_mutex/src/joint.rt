@@ -129,8 +129,8 @@ fn candidates(alloc: Global, verdicts: &[Verdict]) -> Result<Family, AllocError>
     })
 }
 
-/// Returns, for each of the verdicts, whether nothing speaks against the group.
-fn exclusive_of(alloc: Global, verdicts: &[Verdict]) -> Result<Items<bool>, AllocError>
+/// Returns, for each verdict, whether it is `Exclusive`.
+pub fn exclusive_of(alloc: Global, verdicts: &[Verdict]) -> Result<Items<bool>, AllocError>
     ensures one_each { IfOk result (λ kept. length kept ≡ length verdicts.now) }
     ensures exclusive { IfOk result (λ kept. (place : ℕ) → place < length verdicts.now
         → IsTrue (family_of kept place) ↔ (verdict_at verdicts.now place ≡ Exclusive)) }

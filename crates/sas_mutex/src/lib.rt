@@ -12,6 +12,6 @@ mod marks;
 mod watches;
 
 pub use effects::Firing;
-pub use joint::check_groups;
+pub use joint::{check_groups, exclusive_of};
 pub use marks::{Marks, forget_known, note_known};
 pub use sas_groups::{Facts, Verdict, check_group, group_laws};

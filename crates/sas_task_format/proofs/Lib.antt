@@ -1,10 +1,8 @@
 pub mod Sections
-pub mod SectionsExample
 pub mod TaskSections
 pub mod TaskLines
 pub mod TaskPlain
 pub mod TaskGrammar
-pub mod TaskExample
 pub mod TaskFilling
 pub mod TaskLaws
 pub mod Tracking

@@ -129,10 +129,6 @@ pub record IsDue (begun : List (List ℕ)) (mark : Mark) : Type 0 where
   pub lines : lines_of task_format task ≡ begun ++ more
   pub marked : slice_get (task_marks task) (length begun) ≡ Some mark
 
--- Behind these lines all lines of a task have come.
-abbrev pub IsWhole : List (List ℕ) → Type 0
-IsWhole begun = (task : Parts) × WellRanged task × (lines_of task_format task ≡ begun)
-
 -- where lines that are due belong
 abbrev pub slot_of_due : Due → TaskSlot
 slot_of_due (due.Word w) = word_slot (word_bytes w)

@@ -14,19 +14,11 @@ use Rattle.sas_task_format.specs.TaskFormat.{TaskLine, TaskSlot, task_format, Ta
 use Rattle.sas_task_judge.specs.TaskJudge.{KnownTo}
 use Rattle.sas_task_format.specs.TaskProcess.{may_change, effect_may_stand, head_may_stand, fact_in, effect_in, head_in}
 use Rattle.sas_task_line.specs.TaskRanges.{ranges_of, range_in, value_in, fact_in_ranges, change_in, effect_in_ranges}
-
-pub range_is : (vs : List Variable) (var : ℕ) → range_in (ranges_of vs) var ≡ range_of vs var
-range_is [] var = refl
-range_is (v ∷ vs) zero = refl
-range_is (v ∷ vs) (suc var) = range_is vs var
+use Rattle.sas_task_line.proofs.WrongWords.{range_is, ranges_many}
 
 pub ranges_push : (vs : List Variable) (v : Variable) → ranges_of (vs ++ v ∷ []) ≡ ranges_of vs ++ length v.values ∷ []
 ranges_push [] v = refl
 ranges_push (w ∷ vs) v = ap (λ (rs : List ℕ). length w.values ∷ rs) (ranges_push vs v)
-
-pub ranges_many : (vs : List Variable) → length (ranges_of vs) ≡ length vs
-ranges_many [] = refl
-ranges_many (v ∷ vs) = ap suc (ranges_many vs)
 
 value_is : (vs : List Variable) (var value : ℕ) → value_in (ranges_of vs) var value ≡ has_value vs var value
 value_is vs var value = ap (nat_lt value) (range_is vs var)

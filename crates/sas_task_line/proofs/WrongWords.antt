@@ -84,11 +84,11 @@ module _ (ranges : List ℕ) (e : Effect) where
 
 -- ---- by the variables
 
-ranges_many : (vs : List Variable) → length (ranges_of vs) ≡ length vs
+pub ranges_many : (vs : List Variable) → length (ranges_of vs) ≡ length vs
 ranges_many [] = refl
 ranges_many (v ∷ vs) = ap suc (ranges_many vs)
 
-range_is : (vs : List Variable) (var : ℕ) → range_in (ranges_of vs) var ≡ range_of vs var
+pub range_is : (vs : List Variable) (var : ℕ) → range_in (ranges_of vs) var ≡ range_of vs var
 range_is [] var = refl
 range_is (v ∷ vs) zero = refl
 range_is (v ∷ vs) (suc var) = range_is vs var

@@ -1,7 +1,7 @@
 -- The rule that was counted down.
 use Rattle.std.proofs.Common.{◌≡◌, ℕ, ◌-◌, ◌<◌, List, length, get_or, set, sym, ap, ◌∙◌, arith}
 use Rattle.std.proofs.lemmas.List.{get_or-set_same, length-set}
-use Rattle.sas_axioms.proofs.Counters.{ready, counted_down, counted_some, goes_on_counted, goes_on_more, at_work_fired, at_work_counted}
+use Rattle.sas_axioms.proofs.Counters.{ready, counted_down, waits, goes_on_counted, goes_on_more, at_work_fired, at_work_counted}
 use Rattle.sas_axioms.proofs.firing.count_down.Goals as goal
 
 pub fire-requires-clause-hold : goal.fire-requires-clause-hold
@@ -34,7 +34,7 @@ overflow_sub-open g c =
     let w = c.args.work.now in
     omega (
       arith,
-      counted_some c.args.task.now w.layer c.args.state.now w.stack.items w.counters c.requires.waits.0 c.args.rule c.requires.rule c.requires.waits.1.counts,
+      waits c.args.task.now w.layer c.args.state.now w.stack.items w.counters c.requires.waits.0 c.args.rule c.requires.rule c.requires.waits.1.counts,
       ap (λ (xs : List ℕ). get_or xs c.args.rule 0) c.as_slice.ensures,
     )
 

@@ -3,7 +3,7 @@ use Rattle.std.proofs.Common.{length, get_or, refl, subst, arith}
 use Rattle.sas_core.specs.declared.parts.Fact.{Fact}
 use Rattle.sas_core.specs.declared.parts.Parts.{Parts}
 use Rattle.sas_group_index.specs.Index.{IsIndexOf}
-use Rattle.sas_group_index.proofs.Lists.{each_more}
+use Rattle.sas_core.proofs.Places.{each_more}
 use Rattle.sas_group_index.specs.Noting.{IsForgotten}
 use Rattle.sas_group_index.proofs.Existing.{groups_below}
 use Rattle.sas_group_index.proofs.NotesOfFacts.{noted_less, forgotten_now, forgotten_still, blank_in_the_end}

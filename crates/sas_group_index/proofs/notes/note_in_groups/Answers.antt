@@ -2,7 +2,7 @@
 use Rattle.std.proofs.Common.{◌≢◌, ◌<◌, List, length, get_or, IsTrue, subst, sym, ◌∙◌, arith}
 use Rattle.std.proofs.lemmas.Bool.{both_ways}
 use Rattle.std.proofs.lemmas.List.Elements.{Contains-get_or}
-use Rattle.sas_group_index.proofs.Lists.{each_more}
+use Rattle.sas_core.proofs.Places.{each_more}
 use Rattle.sas_group_index.specs.declared.notes.Noted.{Noted}
 use Rattle.sas_group_index.specs.declared.notes.Noted.TheVariants.{Several}
 use Rattle.sas_group_index.specs.Kept.{family_of}

@@ -4,7 +4,7 @@ use Rattle.std.specs.Prelude.{slice_index}
 use Rattle.std.proofs.lemmas.Bool.{true≢false}
 use Rattle.std.proofs.lemmas.Option.{slice_get-get_or, get_or_from_slice_get}
 use Rattle.sas_core.specs.declared.parts.Fact.{Fact}
-use Rattle.sas_groups.proofs.Turns.{each_more}
+use Rattle.sas_core.proofs.Places.{each_more}
 use Rattle.sas_meaning.specs.States.{Holds}
 use Rattle.sas_group_reasons.proofs.before_operators.first_holding.Goals as goal
 

@@ -4,7 +4,7 @@ use Rattle.std.specs.List.{All, Contains}
 use Rattle.sas_core.specs.declared.parts.Fact.{Fact}
 use Rattle.sas_core.specs.Grounded.{group_at}
 use Rattle.sas_core.specs.Variables.{FactExists}
-use Rattle.sas_groups.proofs.Turns.{each_more}
+use Rattle.sas_core.proofs.Places.{each_more}
 use Rattle.sas_mutex.specs.Firing.{EffectPlace}
 use Rattle.sas_mutex.proofs.TaskFacts.{group_facts}
 use Rattle.sas_mutex.specs.ByNotes.{IsGoneAt}

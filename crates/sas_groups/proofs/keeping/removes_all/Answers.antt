@@ -4,7 +4,7 @@ use Rattle.std.specs.List.{Contains}
 use Rattle.sas_core.specs.Grounded.{operator_at, effect_at}
 use Rattle.sas_groups.specs.Checks.{Alone, IsGone}
 use Rattle.sas_groups.proofs.Effects.{set_is}
-use Rattle.sas_groups.proofs.Turns.{each_more}
+use Rattle.sas_core.proofs.Places.{each_more}
 use Rattle.sas_groups.proofs.keeping.removes_all.Goals as goal
 
 pub loop-fact-preserved : goal.loop-fact-preserved

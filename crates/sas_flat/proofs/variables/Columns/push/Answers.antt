@@ -1,5 +1,7 @@
 use Rattle.std.proofs.Common.{◌≡◌, ◌+◌, ◌++◌, ◌∷◌, [], length, refl, ap, ◌∙◌, arith, length-append}
-use Rattle.sas_flat.proofs.Grown.{kept_all, kept_more, kept_by, not_ok, on_ok}
+use Rattle.sas_lists.proofs.Kept.{not_ok}
+use Rattle.std.proofs.lemmas.Result.{on_ok_weaker}
+use Rattle.sas_flat.proofs.Grown.{kept_all, kept_more, kept_by}
 use Rattle.sas_flat.proofs.variables.Columns.push.Goals as goal
 
 pub returns-in_err-push-clause-names : goal.returns-in_err-push-clause-names
@@ -67,6 +69,6 @@ returns-clause-ends c = kept_by c.args.self.now.ends c.push-3.new.self (c.len.re
 pub returns-clause-ok : goal.returns-clause-ok
 returns-clause-ok c =
     let many : c.len.result ≡ length c.args.self.now.values + length c.args.values.now = c.len.ensures ∙ ap length c.in_ok-append.ensures.ok ∙ length-append c.args.self.now.values c.args.values.now in
-    on_ok c.push-3.result
+    on_ok_weaker c.push-3.result
     (λ e. record { names = c.in_ok-push.ensures.ok; layers = c.in_ok-push-2.ensures.items; values = c.in_ok-append.ensures.ok; ends = e ∙ ap (λ n. c.args.self.now.ends ++ n ∷ []) many })
     c.push-3.ensures.ok

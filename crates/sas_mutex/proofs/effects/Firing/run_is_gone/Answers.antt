@@ -3,7 +3,7 @@ use Rattle.std.proofs.Common.{◌<◌, get_or, sym, subst, arith}
 use Rattle.std.proofs.lemmas.Bool.{true≢false}
 use Rattle.sas_core.specs.Grounded.{operator_at, effect_at}
 use Rattle.sas_groups.specs.Checks.{IsGone}
-use Rattle.sas_groups.proofs.Turns.{each_more}
+use Rattle.sas_core.proofs.Places.{each_more}
 use Rattle.sas_mutex.specs.Firing.{EffectPlace}
 use Rattle.sas_group_index.specs.Index.{IsIndexOf}
 use Rattle.sas_group_index.proofs.Existing.{variable_below}

@@ -1,11 +1,6 @@
-use Rattle.std.proofs.Common.{Result, Ok, Err}
-use Rattle.std.specs.Result.{OnOk}
+use Rattle.std.proofs.lemmas.Result.{on_ok_weaker}
 use Rattle.sas_plan_file.proofs.PlanSteps.{step_led, cost_led}
 use Rattle.sas_plan_file.proofs.plan_machine.PlanMachineMachine.accept.Goals as goal
-
-on_ok : {X E : Type 0} (r : Result X E) (P Q : Type 0) → OnOk r P → (P → Q) → OnOk r Q
-on_ok (Ok x) P Q h f = f h
-on_ok (Err e) P Q h f = tt
 
 pub returns-in-Cost-clause-led : goal.returns-in-Cost-clause-led
 returns-in-Cost-clause-led g c = λ before h.
@@ -15,4 +10,4 @@ returns-in-Cost-clause-led g c = λ before h.
 pub returns-in-Step-clause-led : goal.returns-in-Step-clause-led
 returns-in-Step-clause-led g c =
     let said = rw c.in-Step.is at c.in_ok-cost.ensures in
-    on_ok c.add_step.result _ _ c.add_step.ensures.ok (λ n before h. step_led before c.args.self.now c.add_step.new.self c.in-Step.name.now c.args.line.now h said.0 said.1 n)
+    on_ok_weaker c.add_step.result (λ n before h. step_led before c.args.self.now c.add_step.new.self c.in-Step.name.now c.args.line.now h said.0 said.1 n) c.add_step.ensures.ok

@@ -1,6 +1,0 @@
-use Rattle.std.proofs.Common.{arith}
-use Rattle.std.proofs.lemmas.Grind.{common_steps}
-use Rattle.sas_group_reasons.proofs.reasons.exclusive_groups.Goals as goal
-
-pub loop-verdict-preserved : goal.loop-verdict-preserved
-loop-verdict-preserved c = grind (arith, common_steps)
