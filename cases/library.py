@@ -886,7 +886,8 @@ def shown(section):
     text = read(PAGE).decode().partition(f"\n## {section}\n")[2].partition("\n## ")[0]
     programs = re.findall(rf"```{SECTIONS[section][0]}\n(.*?)```", text, re.DOTALL)
     blocks = re.findall(r"```console\n(.*?)```", text, re.DOTALL)
-    return "".join(programs[:1]), [part.partition("\n")[::2] for block in blocks for part in re.split(r"^\$ ", block, flags=re.MULTILINE)[1:]]
+    commands = [part for block in blocks for part in re.split(r"^\$ ", block, flags=re.MULTILINE)[1:]]
+    return "".join(programs[:1]), [part.partition("\n")[::2] for part in commands]
 
 
 def page_folder(library, place):
