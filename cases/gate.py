@@ -2,11 +2,11 @@
 """Runs every check of the repository: the gate of the toolchain, then the cases over what it built.
 
 `rt ci` proves and builds everything from nothing and tries each edit that must fail. Then docs/READING.md is held against the
-definitions, pages and completions against the program, the commands that documents show are run, each allocation is refused in turn,
-the calls of the crates are made, the program is run, the library is built, called, and used by way of CMake, pkg-config, cargo and pip,
-and a release is packed and tried. The last line is 'N passed, M failed' of all together, and the exit status is 0 exactly if M is 0. A
-command that doesn't end as its own last line says counts as one failure. gate.log keeps the last line for releases, with the commit and
-the toolchain.
+definitions, docs/PROMISES.md against contracts and edits, pages and completions against the program, the commands that documents show
+are run, each allocation is refused in turn, the calls of the crates are made, the program is run, the library is built, called, and
+used by way of CMake, pkg-config, cargo and pip, and a release is packed and tried. The last line is 'N passed, M failed' of all
+together, and the exit status is 0 exactly if M is 0. A command that doesn't end as its own last line says counts as one failure.
+gate.log keeps the last line for releases, with the commit and the toolchain.
 """
 import os
 import re
@@ -19,6 +19,7 @@ TOP = os.path.dirname(os.path.dirname(os.path.abspath(__file__)))
 PROGRAMS = [f"crates/{name}/out/{name}" for name in ("test_core", "test_files", "test_verdicts", "test_requests")]
 CASES = [
     ["cases/reading.py"],
+    ["cases/promises.py"],
     ["cases/pages.py", "sas"],
     ["cases/shown.py", "sas"],
     ["cases/patterns.py"],

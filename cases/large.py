@@ -25,7 +25,7 @@ LIMIT, NAME = 4_294_967_296, 65_536
 PIECE = 65_536
 # names that end in the factor of the hasher
 ALIKE, FACTOR = 100_000, (0x9E3779B97F4A7C15).to_bytes(8, "little").decode("latin-1")
-# the stack that README promises to serve; with 48 kB some runs fail, as the place of the stack varies
+# the stack that docs/GUIDE.md promises to be enough; with 48 kB some runs fail, as the place of the stack varies
 STACK = 65_536
 MINIMAL = "cases/tasks/minimal.sas"
 # the summary of that task, before the name of its value

@@ -890,43 +890,44 @@ def builder_tests(_, __, ___):
         yield f"built with {compiler}", [] if said and before == after else [f"{ran}"]
 
 
-# the pages about languages: what their programs are marked as, and what runs or compiles them
-PAGES = {"C": ("c", "cc"), "CPP": ("cpp", "g++"), "PYTHON": ("python", "python3"), "RUST": ("rust", "cargo")}
-# the ends of the names of their programs
-SUFFIXES = {"c": ".c", "cpp": ".cpp", "python": ".py", "rust": ".rs"}
+# the page of the library, and its sections about languages: how their programs are marked, the end of their files' names, and what
+# compiles or runs them
+PAGE = "docs/LIBRARY.md"
+SECTIONS = {"C": ("c", ".c", "cc"), "C++": ("cpp", ".cpp", "g++"), "Python": ("python", ".py", "python3"), "Rust": ("rust", ".rs", "cargo")}
 
 
-def shown(page):
-    """Returns the program that a page about a language shows, and its commands, each with what it prints."""
-    with open(os.path.join(TOP, "docs", f"{page}.md"), encoding="utf-8") as file:
-        text = file.read()
-    language = PAGES[page][0]
-    program = re.search(rf"```{language}\n(.*?)```", text, re.DOTALL)[1]
+def shown(section):
+    """Returns the program that a section of the page shows, and its commands, each with what it prints."""
+    text = read(PAGE).decode().partition(f"\n## {section}\n")[2].partition("\n## ")[0]
+    programs = re.findall(rf"```{SECTIONS[section][0]}\n(.*?)```", text, re.DOTALL)
     blocks = re.findall(r"```console\n(.*?)```", text, re.DOTALL)
-    return program, [part.partition("\n")[::2] for block in blocks for part in re.split(r"^\$ ", block, flags=re.MULTILINE)[1:]]
+    commands = [part for block in blocks for part in re.split(r"^\$ ", block, flags=re.MULTILINE)[1:]]
+    return "".join(programs[:1]), [part.partition("\n")[::2] for part in commands]
+
+
+def page_folder(library, place):
+    """Makes a folder with what the commands of the page use."""
+    for name in ("examples", "library/examples", "library/rust"):
+        shutil.copytree(os.path.join(TOP, name), os.path.join(place, name), ignore=shutil.ignore_patterns("target"))
+    shutil.copytree(library.folder, os.path.join(place, "library/out"))
 
 
 def page_tests(_, library, folder):
-    """Yields the commands of the pages about languages, over the programs that they show. They could show a page that is wrong."""
-    place = os.path.join(folder, "pages")
-    os.mkdir(place)
-    shutil.copytree(os.path.join(TOP, "examples"), os.path.join(place, "examples"))
-    shutil.copytree(library.folder, os.path.join(place, "library/out"))
-    shutil.copytree(os.path.join(TOP, "library/examples"), os.path.join(place, "library/examples"))
-    shutil.copytree(os.path.join(TOP, "library/rust"), os.path.join(place, "library/rust"), ignore=shutil.ignore_patterns("target"))
-    for page, (language, compiler) in PAGES.items():
+    """Yields the commands of the sections about languages, over the programs that they show. They could show a page that is wrong."""
+    for section, (_, suffix, compiler) in SECTIONS.items():
         if not compilers(compiler):
             continue
-        program, commands = shown(page)
-        with open(os.path.join(place, f"judge{SUFFIXES[language]}"), "w", encoding="utf-8") as file:
+        place = os.path.join(folder, section)
+        page_folder(library, place)
+        program, commands = shown(section)
+        with open(os.path.join(place, f"judge{suffix}"), "w", encoding="utf-8") as file:
             file.write(program)
-        yield f"docs/{page}.md", [] if program and commands else ["no program, or no command"]
+        yield f"{PAGE}, {section}", [] if program and commands else ["no program, or no command"]
         for command, output in commands:
             ran = ended("bash", "-c", command, cwd=place)
-            yield f"docs/{page}.md: {command}", [] if (ran.stdout.decode(), ran.stderr) == (output, b"") else [f"{ran}"]
-        if page in ("C", "CPP"):
-            yield f"docs/{page}.md: a large task", wrong_large(library.sas, os.path.join(place, "judge"))
-            os.remove(os.path.join(place, "judge"))
+            yield f"{PAGE}, {section}: {command}", [] if (ran.stdout.decode(), ran.stderr) == (output, b"") else [f"{ran}"]
+        if section in ("C", "C++"):
+            yield f"{PAGE}, {section}: a large task", wrong_large(library.sas, os.path.join(place, "judge"))
 
 
 def wrong_large(sas, judge):

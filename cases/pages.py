@@ -4,8 +4,8 @@
     python3 cases/pages.py SAS
 
 Each request and each flag that `sas --help` names stands in README.md, in the manual page and in each completion, and none stands there
-that it doesn't name. Each line that the program may print on standard error stands in README.md and in the manual page. The version is
-one: that of the program, of the first entry of CHANGELOG.md, of the packages of the library and of the manual page. Links of documents
+that it doesn't name. Each line that the program may print on standard error stands in docs/GUIDE.md and in the manual page. The version
+is one: that of the program, of the first entry of CHANGELOG.md, of the packages of the library and of the manual page. Links of documents
 lead to files. The completions are tried in bash and in fish and read by zsh, and the manual page by mandoc, where these are there; what
 isn't there is told in a line that begins with `without`.
 
@@ -21,7 +21,7 @@ import report
 from shown import documents
 from texts import TOP, text_of
 
-PAGE, README = "man/sas.1", "README.md"
+PAGE, README, GUIDE = "man/sas.1", "README.md", "docs/GUIDE.md"
 COMPLETIONS = {"bash": "completions/sas.bash", "zsh": "completions/_sas", "fish": "completions/sas.fish"}
 # what is typed behind requests and flags, and what bash and fish offer for it
 PLAN, DOORWAY = "examples/doorway.p", {"examples/doorway.plan"}
@@ -99,10 +99,10 @@ def diagnostic_cases():
     """Yields the lines on standard error, as the code has them."""
     code = text_of(f"{TOP}/crates/sas_tool/src/program.rt") + text_of(f"{TOP}/crates/sas_tool/src/plan_files.rt")
     told = set(re.findall(r'"(sas: [^"]*[^": ])', code))
-    page, readme = text_of(f"{TOP}/{PAGE}"), text_of(f"{TOP}/{README}")
+    page, guide = text_of(f"{TOP}/{PAGE}"), text_of(f"{TOP}/{GUIDE}")
     named = set(re.findall(r'^\.It "(sas: .*)"$', page, re.MULTILINE))
     yield f"standard error, {PAGE}", sorted(told ^ named) if told else ["no line was found in the code"]
-    yield f"standard error, {README}", [it for it in sorted(told) if it not in readme]
+    yield f"standard error, {GUIDE}", [it for it in sorted(told) if it not in guide]
 
 
 def completion_cases(requests):

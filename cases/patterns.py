@@ -1,5 +1,5 @@
 #!/usr/bin/env python3
-"""Tries the patterns of docs/PARSING.md over the answers that the cases of the program say.
+"""Tries the patterns of docs/GUIDE.md over the answers that the cases of the program say.
 
     python3 cases/patterns.py
 
@@ -16,7 +16,7 @@ import types
 import report
 from texts import TOP, as_bytes, table, text_of
 
-PAGE = "docs/PARSING.md"
+PAGE = "docs/GUIDE.md"
 # how a line looks whose fields were found
 FORMS = {
     "VALID": "plan valid: {steps} steps, cost {cost}",

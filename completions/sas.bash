@@ -1,4 +1,4 @@
-# Completion for bash of the words of `sas`: requests, flags and files.
+# Completion of `sas` for bash: requests, flags and files.
 
 _sas() {
     local word=${COMP_WORDS[COMP_CWORD]} request=${COMP_WORDS[1]} flags="-h --help" files=0 most=0 place
