@@ -3,7 +3,7 @@ use Rattle.std.specs.Prelude.{ℕ, List, Option, Result}
 use Rattle.sas_lines.specs.Device.{Device}
 use Rattle.sas_reader.specs.declared.fault.Fault.{Fault}
 use Rattle.sas_reader.specs.declared.found.Found.{Found}
-use Rattle.sas_reader.specs.Telling.{TellsAbout, ReadsAllTelling}
+use Rattle.sas_reader.specs.Refusals.{Explains, ReadsOrExplains}
 use Rattle.sas_plan_file.specs.declared.plan_refusal.PlanRefusal.{PlanRefusal}
 use Rattle.sas_plan_file.specs.PlanFormat.{plan_format}
 
@@ -13,16 +13,16 @@ fault_of r = r.fault
 abbrev pub found_of : PlanRefusal → Found
 found_of r = r.found
 
--- nothing else is told
+-- a plan's refusal has nothing else
 abbrev pub nothing_else : List (List ℕ) → List ℕ → PlanRefusal → Type 0
 nothing_else accepted text r = Unit {0}
 
--- what a call promises that reads a plan of a device, or tells what stood at its fault
+-- what a call promises that reads a plan of a device, or refuses it with what stood at its fault
 abbrev pub ReadsPlan : {D A : Type 0} → (D → Option (List ℕ)) → (List ℕ → A → Type 0) → Device D
     → Device D → Result A PlanRefusal → Type 0
 ReadsPlan left Gives old new result =
-    ReadsAllTelling plan_format fault_of found_of nothing_else left Gives old new result
+    ReadsOrExplains plan_format fault_of found_of nothing_else left Gives old new result
 
--- the refusal tells what the fault of these bytes is about
-abbrev pub TellsOfPlan : List ℕ → PlanRefusal → Type 0
-TellsOfPlan bytes r = TellsAbout plan_format fault_of found_of nothing_else bytes r
+-- the refusal has what stood at the fault of these bytes
+abbrev pub ExplainsPlan : List ℕ → PlanRefusal → Type 0
+ExplainsPlan bytes r = Explains plan_format fault_of found_of nothing_else bytes r

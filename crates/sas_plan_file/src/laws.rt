@@ -1,7 +1,7 @@
 // Laws of plan files.
 ghost use Rattle.sas_reader.specs.Laws.{Laws};
 ghost use Rattle.sas_reader.specs.System.{Grammar};
-ghost use Rattle.sas_reader.specs.About.{TellingLaws};
+ghost use Rattle.sas_reader.specs.About.{AboutLaws};
 ghost use Rattle.sas_plan_file.specs.PlanFormat.{plan_format, PlanLineFits};
 ghost use Rattle.sas_plan_file.specs.PlanLaws.{PlanIsFilled};
 ghost use Rattle.sas_plan_file.specs.PlanMachine.{plan_node, plan_start};
@@ -17,6 +17,6 @@ pub fn plan_laws()
 
 /// States what holds of the text that stood at a fault of a plan: a fault is about one thing, and about something, unless a
 /// read failed, the bytes are too long, or memory was refused. It stays so, however the bytes go on.
-pub fn plan_telling_laws()
-    ensures { TellingLaws plan_format }
+pub fn plan_fault_laws()
+    ensures { AboutLaws plan_format }
 {}

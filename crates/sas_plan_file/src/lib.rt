@@ -11,11 +11,8 @@ mod plan_text;
 mod plan_writer;
 mod step_names;
 
-pub use laws::{plan_laws, plan_telling_laws};
-pub use plan::{
-    flat_plan_of, flat_plan_of_telling, read_flat_plan, read_flat_plan_telling, read_plan,
-    read_plan_text, read_plan_text_telling,
-};
+pub use laws::{plan_fault_laws, plan_laws};
+pub use plan::{flat_plan_of, read_flat_plan, read_plan, read_plan_text};
 pub use plan_machine::PlanMachine;
 pub use plan_reader::PlanReader;
 pub use plan_refusal::PlanRefusal;

@@ -5,7 +5,7 @@ ghost use Rattle.sas_reader.specs.Format.{ReadsAs};
 ghost use Rattle.sas_reader.specs.Limit.{most_bytes};
 ghost use Rattle.sas_reader.specs.About.{IsTold};
 ghost use Rattle.sas_plan_file.specs.PlanFormat.{plan_format};
-ghost use Rattle.sas_plan_file.specs.PlanRefusal.{ReadsPlan, TellsOfPlan};
+ghost use Rattle.sas_plan_file.specs.PlanRefusal.{ReadsPlan, ExplainsPlan};
 
 use crate::plan_machine::PlanMachine;
 use crate::plan_refusal::PlanRefusal;
@@ -13,7 +13,7 @@ use crate::plan_text::PlanText;
 use sas_core::Plan;
 use sas_flat::FlatPlan;
 use sas_lines::Watched;
-use sas_reader::{Fault, Kind, LIMIT, Reader, read_all, read_all_large, read_all_large_telling};
+use sas_reader::{Fault, Kind, LIMIT, Reader, read_all, read_all_large};
 use std::alloc::Global;
 use std::io::Read;
 
@@ -26,80 +26,47 @@ pub fn read_plan<R: Read>(alloc: Global, reader: &mut Watched<R>) -> Result<Plan
     requires { reader.old.failed ≡ false }
     ensures { ReadsAll R.remaining plan_format (ValueOf plan_format) reader.old reader.new result }
 {
-    let machine = read_all(alloc, PlanMachine::new(alloc), LIMIT, reader)?;
-    Ok(machine.into_plan())
+    match read_all(alloc, PlanMachine::new(alloc), LIMIT, reader) {
+        Ok(machine) => Ok(machine.into_plan()),
+        Err(refused) => Err(refused.into_fault()),
+    }
 }
 
 /// Reads a plan from a device as `read_plan` does, in pieces of at most 65,536 bytes, into one block of memory for all names.
-pub fn read_flat_plan<R: Read>(alloc: Global, reader: &mut Watched<R>) -> Result<FlatPlan, Fault>
-    requires { reader.old.failed ≡ false }
-    ensures { ReadsAll R.remaining plan_format (ValueOf plan_format) reader.old reader.new result }
-{
-    let machine = read_all_large(alloc, PlanMachine::new_flat(alloc), LIMIT, reader)?;
-    Ok(machine.into_flat_plan())
-}
-
-/// Reads as `read_flat_plan` does, and tells of a fault what stood there.
-pub fn read_flat_plan_telling<R: Read>(
+/// A refusal has the fault of `read_plan`, and the first bytes of what stood there: of the line that may not stand there, of
+/// the byte behind a whole plan, or of the rest at an early end.
+pub fn read_flat_plan<R: Read>(
     alloc: Global,
     reader: &mut Watched<R>,
 ) -> Result<FlatPlan, PlanRefusal>
     requires { reader.old.failed ≡ false }
     ensures { ReadsPlan R.remaining (ValueOf plan_format) reader.old reader.new result }
 {
-    match read_all_large_telling(alloc, PlanMachine::new_flat(alloc), LIMIT, reader) {
+    match read_all_large(alloc, PlanMachine::new_flat(alloc), LIMIT, reader) {
         Ok(machine) => Ok(machine.into_flat_plan()),
-        Err(refused) => Err(PlanRefusal {
-            fault: refused.fault,
-            found: refused.found,
-        }),
+        Err(refused) => Err(PlanRefusal::of(refused)),
     }
 }
 
 /// Reads a plan from bytes that are all at hand, as `read_flat_plan` does from a device. It takes no memory for pieces of them.
-pub fn flat_plan_of(alloc: Global, bytes: &[u8]) -> Result<FlatPlan, Fault>
-    ensures read { IfOk result (λ plan. ReadsAs plan_format most_bytes bytes.now (Ok plan)) }
-    ensures fault { IfErr result (λ f. f.kind ≢ Kind.Memory
-        → ReadsAs plan_format most_bytes bytes.now (Err f)) }
-{
-    match flat_plan_of_telling(alloc, bytes) {
-        Ok(plan) => Ok(plan),
-        Err(refusal) => Err(refusal.fault),
-    }
-}
-
-/// Reads as `flat_plan_of` does, and tells of a fault what stood there.
-pub fn flat_plan_of_telling(alloc: Global, bytes: &[u8]) -> Result<FlatPlan, PlanRefusal>
+pub fn flat_plan_of(alloc: Global, bytes: &[u8]) -> Result<FlatPlan, PlanRefusal>
     ensures read { IfOk result (λ plan. ReadsAs plan_format most_bytes bytes.now (Ok plan)) }
     ensures fault { IfErr result (λ r. r.fault.kind ≢ Kind.Memory
         → ReadsAs plan_format most_bytes bytes.now (Err r.fault)) }
-    ensures about { IfErr result (λ r. IsTold r.fault.kind → TellsOfPlan bytes.now r) }
+    ensures explained { IfErr result (λ r. IsTold r.fault.kind → ExplainsPlan bytes.now r) }
 {
     let mut reader = Reader::new(alloc, PlanMachine::new_flat(alloc), LIMIT);
-    // A fault is kept, and told at the end.
+    // The reader keeps a fault, and returns it at the end.
     let _ = reader.feed(bytes);
-    match reader.finish_telling() {
+    match reader.finish() {
         Ok(machine) => Ok(machine.into_flat_plan()),
-        Err(refused) => Err(PlanRefusal {
-            fault: refused.fault,
-            found: refused.found,
-        }),
+        Err(refused) => Err(PlanRefusal::of(refused)),
     }
 }
 
-/// Reads a plan from a device as `read_plan` does, in pieces of at most 65,536 bytes, and returns its text: its lines, each
-/// ended by LF. It keeps no plan. The faults are those of `read_plan`.
-pub fn read_plan_text<R: Read>(alloc: Global, reader: &mut Watched<R>) -> Result<Vec<u8>, Fault>
-    requires { reader.old.failed ≡ false }
-    ensures { ReadsAll R.remaining plan_format (λ b t. TextOf plan_format b t.items)
-        reader.old reader.new result }
-{
-    let machine = read_all_large(alloc, PlanText::new(alloc), LIMIT, reader)?;
-    Ok(machine.into_text())
-}
-
-/// Reads as `read_plan_text` does, and tells of a fault what stood there.
-pub fn read_plan_text_telling<R: Read>(
+/// Reads a plan from a device as `read_flat_plan` does, and returns its text: its lines, each ended by LF. It keeps no plan.
+/// The refusals are those of `read_flat_plan`.
+pub fn read_plan_text<R: Read>(
     alloc: Global,
     reader: &mut Watched<R>,
 ) -> Result<Vec<u8>, PlanRefusal>
@@ -107,11 +74,8 @@ pub fn read_plan_text_telling<R: Read>(
     ensures { ReadsPlan R.remaining (λ b t. TextOf plan_format b t.items)
         reader.old reader.new result }
 {
-    match read_all_large_telling(alloc, PlanText::new(alloc), LIMIT, reader) {
+    match read_all_large(alloc, PlanText::new(alloc), LIMIT, reader) {
         Ok(machine) => Ok(machine.into_text()),
-        Err(refused) => Err(PlanRefusal {
-            fault: refused.fault,
-            found: refused.found,
-        }),
+        Err(refused) => Err(PlanRefusal::of(refused)),
     }
 }

@@ -48,6 +48,9 @@ impl PlanReader {
         ensures { Finishes plan_view self result }
     {
         let PlanReader { reader } = self;
-        Ok(reader.finish()?.into_plan())
+        match reader.finish() {
+            Ok(machine) => Ok(machine.into_plan()),
+            Err(refused) => Err(refused.into_fault()),
+        }
     }
 }

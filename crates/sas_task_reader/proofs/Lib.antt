@@ -1,4 +1,3 @@
 mod TaskStanding
 mod Outlines
-mod CountsStay
 mod Reasons

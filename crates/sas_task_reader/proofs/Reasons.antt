@@ -1,10 +1,10 @@
 -- A task file is refused for the reason that its machine knows.
-use Rattle.std.proofs.Common.{◌≡◌, ◌≢◌, ℕ, length, List, Option, None, sym, subst, ◌∙◌}
+use Rattle.std.proofs.Common.{◌≡◌, ◌≢◌, ℕ, List, Option, None, sym, subst, ◌∙◌}
 use Rattle.sas_core.specs.declared.parts.Parts.{Parts}
 use Rattle.sas_reader.specs.declared.fault.Kind.{Kind}
 use Rattle.sas_reader.specs.declared.fault.Kind.TheVariants as kinds
 use Rattle.sas_reader.specs.System.{Node, ended, before, Rejects}
-use Rattle.sas_reader.specs.Telling.{behind_line, behind_text, at_end}
+use Rattle.sas_reader.specs.Refusals.{behind_line, behind_text, at_end}
 use Rattle.sas_task_format.specs.declared.marks.Mark.{Mark}
 use Rattle.sas_task_format.specs.declared.marks.WrongWord.{WrongWord}
 use Rattle.sas_task_format.specs.Process.{process_node}
@@ -14,11 +14,11 @@ use Rattle.sas_task_format.specs.TaskReasons.{IsTaskReason}
 use Rattle.sas_task_line.specs.declared.so_far.SoFar.{SoFar}
 use Rattle.sas_task_line.specs.FirstWrong.{FirstWrong}
 use Rattle.sas_task_judge.specs.declared.task_machine.TaskMachine.{TaskMachine}
-use Rattle.sas_task_judge.specs.Marks.{capped, counts_within, mark_of, due_slot, WrongWordIn}
+use Rattle.sas_task_judge.specs.Marks.{mark_of, due_slot, WrongWordIn}
 use Rattle.sas_task_judge.specs.TaskJudge.{state_of}
 use Rattle.sas_task_judge.specs.TaskMachine.{LedBy}
 use Rattle.sas_task_judge.proofs.Reasons.{task_reason, trailing_reason, led_still, ended_still, wrong_still}
-use Rattle.sas_task_reader.specs.Telling.{StandsRefused}
+use Rattle.sas_task_reader.specs.TaskRefusal.{StandsRefused}
 
 -- ---- a line that may not stand isn't behind the last one
 
@@ -42,24 +42,24 @@ rejects_apart (before s ok next) line k r = kind_apart s line k r.kind
 -- ---- the reason
 
 module _ {K : Type 0} (keeps : List (List ℕ) → SoFar → K → Type 0) (lines : List (List ℕ)) (text : List ℕ) (kind : Kind) (m : TaskMachine K) (mark : Mark) (word : Option WrongWord)
-    (marks : (ls : List (List ℕ)) (led : LedBy keeps ls m) → mark ≡ mark_of m.judge (capped (length m.judge.ranges)) (counts_within led.so_far)) (of_value : kind ≡ kinds.Value → word ≡ m.wrong) (of_another : kind ≢ kinds.Value → word ≡ None) where
+    (marks : mark ≡ mark_of m.judge) (of_value : kind ≡ kinds.Value → word ≡ m.wrong) (of_another : kind ≢ kinds.Value → word ≡ None) where
   -- the mark that was read off the machine
-  with_mark : (led : LedBy keeps lines m) → IsTaskReason kind lines text (mark_of m.judge (capped (length m.judge.ranges)) (counts_within led.so_far)) word → IsTaskReason kind lines text mark word
-  with_mark led h = subst (λ (k : Mark). IsTaskReason kind lines text k word) (sym (marks lines led)) h
+  with_mark : IsTaskReason kind lines text (mark_of m.judge) word → IsTaskReason kind lines text mark word
+  with_mark h = subst (λ (k : Mark). IsTaskReason kind lines text k word) (sym marks) h
 
   pub told_reason : StandsRefused keeps lines text kind m → IsTaskReason kind lines text mark word
   told_reason (behind_line old led going_on rejects stopped) =
       let still = led_still keeps lines old m text kind stopped led in
       let known = wrong_still keeps lines old m text kind stopped in
       let is : WrongWordIn m.judge text kind word = record { of_value = λ v. subst (FirstWrong m.judge.ranges (due_slot m.judge) text) (sym (of_value v)) (known.of_value v); of_another = of_another } in
-      with_mark still (task_reason keeps lines m still (λ e. going_on (ended_still keeps lines old m text kind stopped e)) text kind word (rejects_apart (process_node (state_of old.judge led.so_far)) text kind (rejects led.so_far led.known)) is)
+      with_mark (task_reason keeps lines m still (λ e. going_on (ended_still keeps lines old m text kind stopped e)) text kind word (rejects_apart (process_node (state_of old.judge led.so_far)) text kind (rejects led.so_far led.known)) is)
   told_reason (behind_text led ends trailing) =
       let none : word ≡ None = of_another (λ v. let other : kinds.Trailing ≡ kinds.Value = sym trailing ∙ v in cc) in
-      with_mark led
-      (subst (λ (w : Option WrongWord). IsTaskReason kind lines text (mark_of m.judge (capped (length m.judge.ranges)) (counts_within led.so_far)) w) (sym none)
-      (subst (λ (k : Kind). IsTaskReason k lines text (mark_of m.judge (capped (length m.judge.ranges)) (counts_within led.so_far)) None) (sym trailing)
+      with_mark
+      (subst (λ (w : Option WrongWord). IsTaskReason kind lines text (mark_of m.judge) w) (sym none)
+      (subst (λ (k : Kind). IsTaskReason k lines text (mark_of m.judge) None) (sym trailing)
       (trailing_reason keeps lines m led text ends)))
   told_reason (at_end led goes_on is_end) =
       let apart : kind ≢ kinds.Value = λ v. let other : kinds.End ≡ kinds.Value = sym is_end ∙ v in cc in
       let is : WrongWordIn m.judge text kind word = record { of_value = λ v. absurd (apart v); of_another = of_another } in
-      with_mark led (task_reason keeps lines m led goes_on text kind word (λ t. let other : kinds.End ≡ kinds.Trailing = sym is_end ∙ t in cc) is)
+      with_mark (task_reason keeps lines m led goes_on text kind word (λ t. let other : kinds.End ≡ kinds.Trailing = sym is_end ∙ t in cc) is)

@@ -1,4 +1,4 @@
 pub mod Outline
 pub mod TaskOutline
 pub mod TaskReader
-pub mod Telling
+pub mod TaskRefusal

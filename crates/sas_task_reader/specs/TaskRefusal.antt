@@ -1,15 +1,17 @@
--- What is told of a task file that is refused.
-use Rattle.std.specs.Prelude.{ℕ, List}
+-- A task file that is read, or is refused with its reason.
+use Rattle.std.specs.Prelude.{ℕ, List, Option, Result}
+use Rattle.sas_lines.specs.Device.{Device}
 use Rattle.sas_reader.specs.declared.fault.Fault.{Fault}
 use Rattle.sas_reader.specs.declared.fault.Kind.{Kind}
 use Rattle.sas_reader.specs.declared.found.Found.{Found}
-use Rattle.sas_reader.specs.Telling.{StandsBehind}
+use Rattle.sas_reader.specs.Refusals.{StandsBehind, ReadsOrExplains}
+use Rattle.sas_task_format.specs.TaskFormat.{task_format}
 use Rattle.sas_task_format.specs.TaskReasons.{IsTaskReason}
 use Rattle.sas_task_line.specs.declared.so_far.SoFar.{SoFar}
 use Rattle.sas_task_judge.specs.declared.task_machine.TaskMachine.{TaskMachine}
 use Rattle.sas_task_judge.specs.TaskJudge.{HasEnded, RejectsLine}
 use Rattle.sas_task_judge.specs.TaskMachine.{LedBy, Stopped}
-use Rattle.sas_task_reader.specs.declared.telling.TaskRefusal.{TaskRefusal}
+use Rattle.sas_task_reader.specs.declared.task_refusal.TaskRefusal.{TaskRefusal}
 
 -- the fault, and what was found there
 abbrev pub fault_in : TaskRefusal → Fault
@@ -18,9 +20,15 @@ fault_in r = r.fault
 abbrev pub found_in : TaskRefusal → Found
 found_in r = r.found
 
--- behind the lines that were accepted, this text is refused for a reason, which the refusal tells
-abbrev pub TellsReason : List (List ℕ) → List ℕ → TaskRefusal → Type 0
-TellsReason accepted text r = IsTaskReason r.fault.kind accepted text r.mark r.word
+-- behind the lines that were accepted, this text is refused for the reason that the refusal has
+abbrev pub HasReason : List (List ℕ) → List ℕ → TaskRefusal → Type 0
+HasReason accepted text r = IsTaskReason r.fault.kind accepted text r.mark r.word
+
+-- what a call promises that reads a task of a device, or refuses it with the reason
+abbrev pub ReadsTask : {D A : Type 0} → (D → Option (List ℕ)) → (List ℕ → A → Type 0) → Device D
+    → Device D → Result A TaskRefusal → Type 0
+ReadsTask left Gives old new result =
+    ReadsOrExplains task_format fault_in found_in HasReason left Gives old new result
 
 -- the machine stands behind a fault that is about these lines and this text
 abbrev pub StandsRefused : {K : Type 0} → (List (List ℕ) → SoFar → K → Type 0)

@@ -18,8 +18,7 @@ use sas_core::{Change, Fact, Items};
 use sas_flat::{Effects, FlatTask, Operators, Outline, Rules, TaskColumns, Variables};
 use sas_lists::Lists;
 use sas_reader::{Front, Kind};
-use sas_task_format::Counts;
-use sas_task_judge::{Counting, Keeper, VariableKept, counted};
+use sas_task_judge::{Keeper, VariableKept};
 use sas_task_line::{
     Event, Gathered, Said, group_found, operator_found, rule_found, variable_found,
 };
@@ -340,15 +339,5 @@ impl Keeper for FlatSoFar {
 
     fn keep_rule(&mut self, ranges: &Items<u32>, bytes: &[u8]) -> Result<Front, Kind> {
         Ok(self.rule_ahead(ranges, bytes)?)
-    }
-}
-
-impl Counting for FlatSoFar {
-    fn counts(&self) -> Counts {
-        Counts {
-            groups: counted(self.columns.groups.len()),
-            operators: counted(self.columns.operators.len()),
-            rules: counted(self.columns.rules.len()),
-        }
     }
 }

@@ -1,7 +1,6 @@
 //! The task file, read in pieces. Each fault is reported at its exact place.
 #![tactic(auto)]
 
-mod counting;
 mod flat_so_far;
 mod flat_task;
 mod fronts;
@@ -9,13 +8,11 @@ mod outline;
 mod task;
 mod task_outline;
 mod task_reader;
+mod task_refusal;
 mod task_text;
-mod telling;
 
 pub use flat_task::read_flat_task;
 pub use outline::read_outline;
 pub use task::{read_task, read_task_text};
 pub use task_reader::TaskReader;
-pub use telling::{
-    TaskRefusal, read_flat_task_telling, read_outline_telling, read_task_text_telling,
-};
+pub use task_refusal::TaskRefusal;

@@ -2,7 +2,9 @@
 ghost use Rattle.std.specs.Prelude.{◌≡◌, false};
 ghost use Rattle.sas_reader.specs.Devices.{ReadsAll, ValueOf, TextOf};
 ghost use Rattle.sas_task_format.specs.TaskFormat.{task_format};
+ghost use Rattle.sas_task_reader.specs.TaskRefusal.{ReadsTask};
 
+use crate::task_refusal::TaskRefusal;
 use crate::task_text::TaskText;
 use sas_core::Task;
 use sas_lines::Watched;
@@ -22,18 +24,25 @@ pub fn read_task<R: Read>(alloc: Global, reader: &mut Watched<R>) -> Result<Task
     ensures { ReadsAll R.remaining task_format (ValueOf task_format) reader.old reader.new result }
 {
     let start = TaskMachine::new(alloc, SoFar::new(alloc));
-    let machine = read_all(alloc, start, LIMIT, reader)?;
-    Ok(Task::of_parts(machine.into_kept().into_parts()))
+    match read_all(alloc, start, LIMIT, reader) {
+        Ok(machine) => Ok(Task::of_parts(machine.into_kept().into_parts())),
+        Err(refused) => Err(refused.into_fault()),
+    }
 }
 
-/// Reads a task from a device as `read_task` does, in pieces of at most 65,536 bytes, and returns its text: its lines, each
-/// ended by LF. It keeps no task. The faults are those of `read_task`.
-pub fn read_task_text<R: Read>(alloc: Global, reader: &mut Watched<R>) -> Result<Vec<u8>, Fault>
+/// Reads a task from a device as `read_flat_task` does, and returns its text: its lines, each ended by LF. It keeps no task.
+/// The refusals are those of `read_flat_task`.
+pub fn read_task_text<R: Read>(
+    alloc: Global,
+    reader: &mut Watched<R>,
+) -> Result<Vec<u8>, TaskRefusal>
     requires { reader.old.failed ≡ false }
-    ensures { ReadsAll R.remaining task_format (λ b t. TextOf task_format b t.items)
+    ensures { ReadsTask R.remaining (λ b t. TextOf task_format b t.items)
         reader.old reader.new result }
 {
     let start = TaskMachine::new(alloc, TaskText::new(alloc));
-    let machine = read_all_large(alloc, start, LIMIT, reader)?;
-    Ok(machine.into_kept().into_text())
+    match read_all_large(alloc, start, LIMIT, reader) {
+        Ok(machine) => Ok(machine.into_kept().into_text()),
+        Err(refused) => Err(TaskRefusal::of(refused)),
+    }
 }

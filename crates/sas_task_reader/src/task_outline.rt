@@ -13,8 +13,7 @@ use crate::fronts::{group_front, operator_front, rule_front};
 use sas_core::Items;
 use sas_flat::Outline;
 use sas_reader::{Front, Kind};
-use sas_task_format::Counts;
-use sas_task_judge::{Counting, Keeper, VariableKept};
+use sas_task_judge::{Keeper, VariableKept};
 use sas_task_line::{Event, Gathered, Said};
 use std::alloc::Global;
 use std::marker::Model;
@@ -145,15 +144,5 @@ impl Keeper for TaskOutline {
         };
         self.seen.rule();
         Ok(front)
-    }
-}
-
-impl Counting for TaskOutline {
-    fn counts(&self) -> Counts {
-        Counts {
-            groups: self.seen.groups,
-            operators: self.seen.operators,
-            rules: self.seen.rules,
-        }
     }
 }

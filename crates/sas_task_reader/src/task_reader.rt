@@ -3,7 +3,7 @@ ghost use Rattle.std.specs.Prelude.{◌≤◌, ℕ, List};
 ghost use Rattle.sas_reader.specs.Limit.{most_bytes};
 ghost use Rattle.sas_reader.specs.Reader as reading;
 ghost use Rattle.sas_reader.specs.Reading.{Starts, Feeds, Finishes};
-ghost use Rattle.sas_task_judge.specs.TaskMachine.{LedTo, EndedAt, RejectsAt};
+ghost use Rattle.sas_task_judge.specs.TaskMachine.{LedTo, EndedAt, RejectsAt, Stopped};
 
 use sas_core::Task;
 use sas_reader::{Fault, LIMIT, Reader};
@@ -16,7 +16,8 @@ use std::alloc::Global;
 pub struct TaskReader {
     reader: Reader<TaskMachine<SoFar>>,
     // It represents some bytes: those that it has taken.
-    ghost some: { ∥ ((bytes : List ℕ) × reading.Stands LedTo EndedAt RejectsAt reader bytes) ∥₁ },
+    ghost some: { ∥ ((bytes : List ℕ)
+        × reading.Stands LedTo EndedAt RejectsAt Stopped reader bytes) ∥₁ },
 }
 
 impl TaskReader {
@@ -53,7 +54,9 @@ impl TaskReader {
         ensures { Finishes task_view self result }
     {
         let TaskReader { reader } = self;
-        let machine = reader.finish()?;
-        Ok(Task::of_parts(machine.into_kept().into_parts()))
+        match reader.finish() {
+            Ok(machine) => Ok(Task::of_parts(machine.into_kept().into_parts())),
+            Err(refused) => Err(refused.into_fault()),
+        }
     }
 }

@@ -42,7 +42,7 @@ returns-in-Err-clause-explained c =
     let r = c.in-Err.refused in
     let same = c.of.ensures.fault in
     λ is_told.
-        let told = subst (λ (f : Fault). IsTold f.kind) same is_told in
-        explains plan_format PlanLineFits plan_node plan_start plan_grammar plan_led HasCost plan_rejects plan_stays plan_follows fault_of found_of nothing_else r _ same c.of.ensures.found (λ a t s. tt) bytes
-        (told_by plan_format PlanLineFits plan_node plan_start plan_grammar plan_led HasCost plan_rejects plan_stays plan_follows most_bytes bytes r told
-        (subst (λ n. IsRefused plan_led HasCost plan_rejects plan_stays n bytes r) limit (c.in-Err.ensures.refused.fault told.2 bytes stands)))
+    let told = subst (λ (f : Fault). IsTold f.kind) same is_told in
+    explains plan_format PlanLineFits plan_node plan_start plan_grammar plan_led HasCost plan_rejects plan_stays plan_follows fault_of found_of nothing_else r _ same c.of.ensures.found (λ a t s. tt) bytes
+    (told_by plan_format PlanLineFits plan_node plan_start plan_grammar plan_led HasCost plan_rejects plan_stays plan_follows most_bytes bytes r told
+    (subst (λ n. IsRefused plan_led HasCost plan_rejects plan_stays n bytes r) limit (c.in-Err.ensures.refused.fault told.2 bytes stands)))

@@ -1,19 +1,16 @@
-use Rattle.std.proofs.Common.{◌≡◌, sym, subst, rules, Err}
+use Rattle.sas_reader.proofs.Refusals.{reads_explained, refuses_explained}
 use Rattle.sas_plan_file.specs.PlanFormat.{plan_format, PlanLineFits}
-use Rattle.sas_plan_file.specs.PlanMachine.{plan_node, plan_start, HasCost}
+use Rattle.sas_plan_file.specs.PlanMachine.{plan_node, plan_start, HasCost, plan_stays}
 use Rattle.sas_plan_file.specs.PlanReader.{plan_led, plan_rejects}
+use Rattle.sas_plan_file.specs.PlanRefusal.{fault_of, found_of, nothing_else}
 use Rattle.sas_plan_file.proofs.PlanGrammar.{plan_grammar}
 use Rattle.sas_plan_file.proofs.PlanStanding.{plan_follows, read_plan_parts}
-use Rattle.sas_reader.specs.Devices.{ReadsAll, ValueOf}
-use Rattle.sas_reader.proofs.Reading.{reads_all, refuses_all}
 use Rattle.sas_plan_file.proofs.plan.read_flat_plan.Goals as goal
 
-pub returns : goal.returns
-returns g c =
-    reads_all plan_format PlanLineFits plan_node plan_start plan_grammar plan_led HasCost plan_rejects plan_follows g.R.Read.remaining _ _ _ _ _ c.in_ok-machine.ensures (λ b reached short. read_plan_parts _ c.in_ok-machine.machine c.into_flat_plan.result b c.into_flat_plan.ensures (reached, short))
+pub returns-in-Ok : goal.returns-in-Ok
+returns-in-Ok g c =
+    reads_explained plan_format PlanLineFits plan_node plan_start plan_grammar plan_led HasCost plan_rejects plan_stays plan_follows fault_of found_of nothing_else g.R.Read.remaining _ _ _ _ _ c.in-Ok.ensures (λ b reached short. read_plan_parts _ c.in-Ok.machine c.into_flat_plan.result b c.into_flat_plan.ensures (reached, short))
 
-pub returns-in_err-machine : goal.returns-in_err-machine
-returns-in_err-machine g c =
-    let same : c.from_residual.result ≡ Err c.in_err-machine.field-0.0 = search rules in
-    subst (ReadsAll g.R.Read.remaining plan_format (ValueOf plan_format) c.args.reader.now _) (sym same)
-    (refuses_all plan_format PlanLineFits plan_node plan_start plan_grammar plan_led HasCost plan_rejects plan_follows g.R.Read.remaining _ _ _ c.in_err-machine.field-0.0 c.in_err-machine.ensures)
+pub returns-in-Err : goal.returns-in-Err
+returns-in-Err g c =
+    refuses_explained plan_format PlanLineFits plan_node plan_start plan_grammar plan_led HasCost plan_rejects plan_stays plan_follows fault_of found_of nothing_else c.in-Err.refused _ c.of.ensures.fault c.of.ensures.found (λ a t s. tt) g.R.Read.remaining _ _ _ c.in-Err.ensures

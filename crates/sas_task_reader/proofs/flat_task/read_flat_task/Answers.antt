@@ -5,25 +5,25 @@ use Rattle.sas_reader.specs.Devices.{ValueOf}
 use Rattle.sas_task_line.specs.declared.so_far.SoFar.{SoFar}
 use Rattle.sas_task_judge.specs.TaskMachine.{LedTo, EndedAt, RejectsAt, Stopped}
 use Rattle.sas_task_reader.proofs.TaskStanding.{reader_follows, read_task_parts, well_ranged}
-use Rattle.sas_reader.proofs.Telling.{reads_all_telling, refuses_all_telling}
+use Rattle.sas_reader.proofs.Refusals.{reads_explained, refuses_explained}
 use Rattle.sas_task_format.specs.Process.{process_node}
 use Rattle.sas_task_format.specs.TaskFormat.{task_format, TaskLineFits}
 use Rattle.sas_task_format.specs.TaskProcess.{task_start}
 use Rattle.sas_task_format.proofs.TaskGrammar.{task_grammar}
-use Rattle.sas_task_reader.specs.Telling.{fault_in, found_in, TellsReason}
-use Rattle.sas_task_reader.proofs.telling.read_flat_task_telling.Goals as goal
+use Rattle.sas_task_reader.specs.TaskRefusal.{fault_in, found_in, HasReason}
+use Rattle.sas_task_reader.proofs.flat_task.read_flat_task.Goals as goal
 
 pub into_task-requires : goal.into_task-requires
 into_task-requires g c =
-    let r = c.in-Ok.ensures.plain.reached in
-    subst WellRanged (sym (ap (λ (s : SoFar). s.parts) c.into_kept.ensures)) (well_ranged c.in-Ok.machine r.0 r.3 c.in-Ok.ensures.plain.at_end)
+    let r = c.in-Ok.ensures.reached in
+    subst WellRanged (sym (ap (λ (s : SoFar). s.parts) c.into_kept.ensures)) (well_ranged c.in-Ok.machine r.0 r.3 c.in-Ok.ensures.at_end)
 
 pub returns-in-Ok : goal.returns-in-Ok
 returns-in-Ok g c =
-    reads_all_telling task_format TaskLineFits process_node task_start task_grammar LedTo EndedAt RejectsAt Stopped reader_follows fault_in found_in TellsReason g.R.Read.remaining _ _ _ c.in-Ok.machine _ c.in-Ok.ensures (λ b reached short.
-    subst (λ (p : Parts). ValueOf task_format b p) (sym (c.into_task.ensures ∙ ap (λ (s : SoFar). s.parts) c.into_kept.ensures)) (read_task_parts _ c.in-Ok.machine b c.in-Ok.ensures.plain.at_end (reached, short)))
+    reads_explained task_format TaskLineFits process_node task_start task_grammar LedTo EndedAt RejectsAt Stopped reader_follows fault_in found_in HasReason g.R.Read.remaining _ _ _ c.in-Ok.machine _ c.in-Ok.ensures (λ b reached short.
+    subst (λ (p : Parts). ValueOf task_format b p) (sym (c.into_task.ensures ∙ ap (λ (s : SoFar). s.parts) c.into_kept.ensures)) (read_task_parts _ c.in-Ok.machine b c.in-Ok.ensures.at_end (reached, short)))
 
 pub returns-in-Err : goal.returns-in-Err
 returns-in-Err g c =
-    refuses_all_telling task_format TaskLineFits process_node task_start task_grammar LedTo EndedAt RejectsAt Stopped reader_follows fault_in found_in TellsReason g.R.Read.remaining _ _ _
-    c.in-Err.refused _ c.refusal_of.ensures.fault c.refusal_of.ensures.found c.refusal_of.ensures.reason c.in-Err.ensures
+    refuses_explained task_format TaskLineFits process_node task_start task_grammar LedTo EndedAt RejectsAt Stopped reader_follows fault_in found_in HasReason
+    c.in-Err.refused _ c.of.ensures.fault c.of.ensures.found c.of.ensures.reason g.R.Read.remaining _ _ _ c.in-Err.ensures

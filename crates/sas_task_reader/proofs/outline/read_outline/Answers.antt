@@ -12,9 +12,9 @@ use Rattle.sas_task_format.specs.Process.{process_node}
 use Rattle.sas_task_format.specs.TaskFormat.{task_format, TaskLineFits}
 use Rattle.sas_task_format.specs.TaskProcess.{task_start}
 use Rattle.sas_task_format.proofs.TaskGrammar.{task_grammar}
-use Rattle.sas_reader.proofs.Telling.{reads_all_telling, refuses_all_telling}
-use Rattle.sas_task_reader.specs.Telling.{fault_in, found_in, TellsReason}
-use Rattle.sas_task_reader.proofs.telling.read_outline_telling.Goals as goal
+use Rattle.sas_reader.proofs.Refusals.{reads_explained, refuses_explained}
+use Rattle.sas_task_reader.specs.TaskRefusal.{fault_in, found_in, HasReason}
+use Rattle.sas_task_reader.proofs.outline.read_outline.Goals as goal
 
 -- what the machine keeps
 abbrev Keeps : List (List ℕ) → SoFar → Seen → Type 0
@@ -31,11 +31,11 @@ new-start-requires g c = (c.args.alloc, c.new.ensures)
 
 pub returns-in-Ok : goal.returns-in-Ok
 returns-in-Ok g c =
-    reads_all_telling task_format TaskLineFits process_node task_start task_grammar (LedBy Keeps) Ended Refused Stopped (machine_follows Keeps) fault_in found_in TellsReason g.R.Read.remaining _ _ _ c.in-Ok.machine _ c.in-Ok.ensures (λ b reached short.
-    let reads = reads_so_far Keeps c.in-Ok.machine b reached c.in-Ok.ensures.plain.at_end in
+    reads_explained task_format TaskLineFits process_node task_start task_grammar (LedBy Keeps) Ended Refused Stopped (machine_follows Keeps) fault_in found_in HasReason g.R.Read.remaining _ _ _ c.in-Ok.machine _ c.in-Ok.ensures (λ b reached short.
+    let reads = reads_so_far Keeps c.in-Ok.machine b reached c.in-Ok.ensures.at_end in
     (reached.led.so_far.parts, (reads, short), c.into_outline.ensures ∙ ap outline_in (c.into_kept.ensures ∙ reached.led.kept) ∙ outline_is reached.led.so_far reads.good))
 
 pub returns-in-Err : goal.returns-in-Err
 returns-in-Err g c =
-    refuses_all_telling task_format TaskLineFits process_node task_start task_grammar (LedBy Keeps) Ended Refused Stopped (machine_follows Keeps) fault_in found_in TellsReason g.R.Read.remaining _ _ _
-    c.in-Err.refused _ c.refusal_of.ensures.fault c.refusal_of.ensures.found c.refusal_of.ensures.reason c.in-Err.ensures
+    refuses_explained task_format TaskLineFits process_node task_start task_grammar (LedBy Keeps) Ended Refused Stopped (machine_follows Keeps) fault_in found_in HasReason
+    c.in-Err.refused _ c.of.ensures.fault c.of.ensures.found c.of.ensures.reason g.R.Read.remaining _ _ _ c.in-Err.ensures

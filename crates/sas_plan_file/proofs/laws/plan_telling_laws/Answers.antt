@@ -1,8 +1,0 @@
-use Rattle.sas_reader.proofs.Telling.{telling_laws_of}
-use Rattle.sas_plan_file.specs.PlanFormat.{plan_format, PlanLineFits}
-use Rattle.sas_plan_file.specs.PlanMachine.{plan_node, plan_start}
-use Rattle.sas_plan_file.proofs.PlanGrammar.{plan_grammar}
-use Rattle.sas_plan_file.proofs.laws.plan_telling_laws.Goals as goal
-
-pub returns : goal.returns
-returns c = telling_laws_of plan_format PlanLineFits plan_node plan_start plan_grammar
