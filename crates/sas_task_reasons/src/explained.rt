@@ -5,13 +5,12 @@ ghost use Rattle.std.specs.Prelude.{IfErr, IsErr, IsErrAnd, IsTrue, OnOk};
 ghost use Rattle.std.specs.Io.KnownBytes.{Appends};
 ghost use Rattle.sas_output.specs.Ending.{EndsCounting, IsWrite};
 ghost use Rattle.sas_output.specs.Pieces.{PutsOrBreaks};
-ghost use Rattle.sas_task_reasons.specs.ReasonsText.{reasons_text};
+ghost use Rattle.sas_wording.specs.Line.{reasons_text};
 
-use crate::line::Line;
-use crate::lines::push_reason;
 use sas_flat::FlatTask;
 use sas_lines::{Short, Watched};
 use sas_output::{Pieces, Status, ToolFault};
+use sas_wording::{Line, Named, push_lines};
 use std::alloc::Global;
 use std::io::Write;
 use std::marker::Model;
@@ -37,18 +36,18 @@ impl Drop for ExplainedTask {
 }
 
 impl Model for ExplainedTask {
-    ghost use Rattle.std.specs.Prelude.{ℕ, List, ◌++◌};
-    ghost use Rattle.sas_task_reasons.specs.ReasonsText.{reasons_text};
+    ghost use Rattle.std.specs.Prelude.{ℕ, List, [], ◌++◌};
+    ghost use Rattle.sas_wording.specs.Line.{reasons_text};
 
     ghost Value = { List ℕ };
 
-    ghost view = { λ e. e.refusal.items ++ reasons_text e.task e.reasons.items };
+    ghost view = { λ e. e.refusal.items ++ reasons_text e.task [] e.reasons.items };
 }
 
 impl ExplainedTask {
     /// Returns the answer with this refusal, a line with its end, and these reasons.
     pub(crate) fn new(refusal: Vec<u8>, reasons: Vec<Line>, task: FlatTask) -> ExplainedTask
-        ensures { result ≡ refusal.items ++ reasons_text task reasons.items }
+        ensures { result ≡ refusal.items ++ reasons_text task [] reasons.items }
     {
         ExplainedTask {
             refusal,
@@ -97,30 +96,11 @@ fn push_explained<W: Write>(
     requires { out.old.failed ≡ false }
     ensures puts { PutsOrBreaks (W.contents out.old.device) (W.contents out.new.device)
         pieces.old pieces.new
-        (refusal.now ++ reasons_text task.now reasons.now) result }
+        (refusal.now ++ reasons_text task.now [] reasons.now) result }
     ensures empty { OnOk result (pieces.new.held ≡ []) }
     ensures note { IsErr result ↔ IsTrue out.new.failed }
 {
     pieces.push(out, refusal)?;
-    push_reasons(pieces, out, task, reasons)?;
+    push_lines(pieces, out, &Named { task, plan: None }, reasons)?;
     pieces.flush(out)
-}
-
-/// Adds the lines, each with its end, to the text. Not to be called after a failure.
-pub fn push_reasons<W: Write>(
-    pieces: &mut Pieces,
-    out: &mut Watched<W>,
-    task: &FlatTask,
-    reasons: &[Line],
-) -> Result<(), Short>
-    requires { out.old.failed ≡ false }
-    ensures puts { PutsOrBreaks (W.contents out.old.device) (W.contents out.new.device)
-        pieces.old pieces.new
-        (reasons_text task.now reasons.now) result }
-    ensures note { IsErr result ↔ IsTrue out.new.failed }
-{
-    for line in reasons {
-        push_reason(pieces, out, task, *line)?;
-    }
-    Ok(())
 }
