@@ -1,6 +1,6 @@
 -- What rules have to do with a fact that fails, and that a fact has one cause.
 use Rattle.std.proofs.Common.{◌≡◌, ℕ, ◌<◌, Bool, true, false, List, [], ◌∷◌, ◌++◌, length, get_or, slice_index, Some, refl, sym, ◌∙◌, ap, subst, inl, inr}
-use Rattle.std.specs.Prelude.{◌==◌, ◌&&◌, is_some, find}
+use Rattle.std.specs.Prelude.{◌==◌, ◌&&◌, is_some, find, map}
 use Rattle.std.specs.List.{Contains}
 use Rattle.std.proofs.lemmas.Bool.{false≢true, and_parts, eqb-true, not-true, eqb-false}
 use Rattle.std.proofs.lemmas.Bool.Decides.{eqb_tells, Decides-eqb, Decides-not}
@@ -18,9 +18,11 @@ use Rattle.sas_meaning.proofs.Layers.{layer_cases}
 use Rattle.sas_meaning.proofs.Rules.{new_value_is}
 use Rattle.sas_meaning.proofs.Unique.{differs_tells}
 use Rattle.sas_meaning.proofs.Forced.{differs_not}
+use Rattle.sas_wording.specs.declared.line.Line.{Line}
+use Rattle.sas_wording.specs.declared.line.Line.TheVariants as line
 use Rattle.sas_reasons.specs.Runs.{Run, last_state}
 use Rattle.sas_reasons.specs.Derivation.{can_give}
-use Rattle.sas_reasons.specs.Cause.{fails, is_derived, is_given, TellsGivers, gives_line, asks_line, has_line, since_line, missing_lines, IsCause}
+use Rattle.sas_reasons.specs.Cause.{fails, is_derived, is_given, TellsGivers, actual_fact, since_line, missing_lines, IsCause}
 use Rattle.sas_reasons.specs.Laws.{DefaultIfNotGiven, EachRuleFails}
 use Rattle.sas_reasons.proofs.Derivation.{value_is}
 use Rattle.sas_reasons.proofs.Listing.{some_derivation}
@@ -80,31 +82,31 @@ each_rule_fails p s rule layered settled exists can default = elim (hold_or_not 
 
 -- ---- one cause
 
-givers_one : (b : Bool) (p : Parts) (s : List ℕ) (var : ℕ) (x y : List (List ℕ)) → TellsGivers b p s var x → TellsGivers b p s var y → x ≡ y
+givers_one : (b : Bool) (p : Parts) (s : List ℕ) (var : ℕ) (x y : List Line) → TellsGivers b p s var x → TellsGivers b p s var y → x ≡ y
 givers_one false p s var x y f g = f ∙ sym g
-givers_one true p s var x y f g = f.2 ∙ (ap (λ (rules : List ℕ). Rattle.std.specs.Prelude.map (gives_line p) rules) (one_derivation p s var f.0 g.0 f.1 g.1) ∙ sym g.2)
+givers_one true p s var x y f g = f.2 ∙ (ap (λ (rules : List ℕ). map line.RuleDerives rules) (one_derivation p s var f.0 g.0 f.1 g.1) ∙ sym g.2)
 
 -- the lines of a cause
-abbrev lines_of : Parts → Run → Fact → ℕ → List (List ℕ) → List (List ℕ)
+abbrev lines_of : Parts → Run → Fact → ℕ → List Line → List Line
 lines_of p run fact since givers =
-    asks_line p fact ∷ has_line p (last_state run) fact.var ∷ since_line run.steps since ∷ givers ++ missing_lines p (last_state run) fact
+    line.Requires fact ∷ line.Actual (actual_fact (last_state run) fact.var) ∷ since_line since ∷ givers ++ missing_lines p (last_state run) fact
 
-pub one_cause : (p : Parts) (run : Run) (fact : Fact) (a b : List (List ℕ)) → IsCause p run fact a → IsCause p run fact b → a ≡ b
+pub one_cause : (p : Parts) (run : Run) (fact : Fact) (a b : List Line) → IsCause p run fact a → IsCause p run fact b → a ≡ b
 one_cause p run fact a b x y = x.whole
     ∙ (ap (λ since. lines_of p run fact since x.givers) (one_since run fact.var x.since y.since x.last_change y.last_change)
     ∙ (ap (λ givers. lines_of p run fact y.since givers)
     (givers_one (is_given p (last_state run) fact.var) p (last_state run) fact.var x.givers y.givers x.given y.given) ∙ sym y.whole))
 
 some_givers : (b : Bool) (p : Parts) (s : List ℕ) (var : ℕ) → IsLayered p → IsSettled p s → (b ≡ true → is_given p s var ≡ true)
-    → (lines : List (List ℕ)) × TellsGivers b p s var lines
+    → (lines : List Line) × TellsGivers b p s var lines
 some_givers false p s var layered settled is = ([], refl)
 some_givers true p s var layered settled is =
     let both = and_parts (is_derived p var) (differs p s var) (is refl) in
     let on = on_some_layer p var both.0 in
     let w = some_derivation p s on.0 var layered settled on.1 both.1 in
-    (Rattle.std.specs.Prelude.map (gives_line p) w.0, (w.0, w.1, refl))
+    (map line.RuleDerives w.0, (w.0, w.1, refl))
 
-pub some_cause : (p : Parts) (run : Run) (fact : Fact) → IsLayered p → IsSettled p (last_state run) → 0 < length run.states → (lines : List (List ℕ)) × IsCause p run fact lines
+pub some_cause : (p : Parts) (run : Run) (fact : Fact) → IsLayered p → IsSettled p (last_state run) → 0 < length run.states → (lines : List Line) × IsCause p run fact lines
 some_cause p run fact layered settled some =
     let since = some_since run fact.var some in
     let givers = some_givers (is_given p (last_state run) fact.var) p (last_state run) fact.var layered settled (λ e. e) in

@@ -1,110 +1,116 @@
--- Lines that are told once: none is lost, and no line of a rule stands twice.
-use Rattle.std.proofs.Common.{◌≡◌, ◌≢◌, ℕ, zero, suc, ◌<◌, ◌⊎◌, Bool, true, false, List, [], ◌∷◌, get_or, bytes_eq, sym, ◌∙◌, ap, subst, inl, inr, arith}
-use Rattle.std.specs.Prelude.{◌&&◌, if◌then◌else◌}
+-- Lines with each line of a rule once: none is lost, and no line of a rule stands twice.
+use Rattle.std.proofs.Common.{◌≡◌, ◌≢◌, ℕ, suc, ◌<◌, ◌⊎◌, Bool, true, false, List, [], ◌∷◌, ◌++◌, get_or, sym, ◌∙◌, ap, subst, inl, inr, arith}
+use Rattle.std.specs.Prelude.{if◌then◌else◌}
 use Rattle.std.specs.List.{Contains, AllPairs, list_any}
-use Rattle.std.proofs.lemmas.Bool.{cases_Bool, false≢true, and_parts, and_from}
-use Rattle.std.proofs.lemmas.List.Elements.{Contains-get_or}
+use Rattle.std.proofs.lemmas.Bool.{cases_Bool, false≢true}
+use Rattle.std.proofs.lemmas.List.Elements.{Contains-append_left, Contains-append_right, Contains-append_cases, Contains-get_or, All-contains}
+use Rattle.std.proofs.lemmas.List.Kept.{AllPairs-cons}
 use Rattle.std.proofs.lemmas.List.Folds.{Any-from_list_any, list_any_at}
-use Rattle.std.proofs.lemmas.Slice.Eq.{bytes_eq-Decides}
-use Rattle.sas_reasons.specs.Lines.{is_rule_line, told_once}
+use Rattle.sas_wording.specs.declared.line.Line.{Line}
+use Rattle.sas_wording.specs.Line.{is_rule_line, is_same_rule_line}
+use Rattle.sas_wording.proofs.RuleLines.{same_is, is_same}
+use Rattle.sas_reasons.specs.Lines.{with_line, with_lines}
 use Rattle.sas_reasons.specs.Laws.{NoneIsLost, RulesToldOnce}
 use Rattle.sas_reasons.proofs.Sorting.{contains_head, contains_tail, contains_cases, contains_none}
 
--- the test tells whether a line came
-pub came_when : (next : List ℕ) (came : List (List ℕ)) → list_any (bytes_eq next) came ≡ true → Contains came next
-came_when next came is =
-    let w = Any-from_list_any (bytes_eq next) came is in
-    let same : next ≡ w.1 = (bytes_eq-Decides next w.1).0 w.4 in
-    subst (Contains came) (sym same) (w.0, w.2, w.3)
+-- whether the next line is left out
+abbrev pub is_among : List Line → Line → Bool
+is_among lines next = list_any (is_same_rule_line next) lines
 
-pub when_came : (next : List ℕ) (came : List (List ℕ)) → Contains came next → list_any (bytes_eq next) came ≡ true
-when_came next came h = list_any_at (bytes_eq next) came h.0 next h.1 ((bytes_eq-Decides next (get_or came h.0 next)).1 (sym h.2))
+-- then it is among the lines; and a line of a rule that is among them is left out
+pub among_is : (lines : List Line) (next : Line) → is_among lines next ≡ true → Contains lines next
+among_is lines next is =
+    let w = Any-from_list_any (is_same_rule_line next) lines is in
+    subst (Contains lines) (sym (same_is next w.1 w.4)) (w.0, w.2, w.3)
 
--- whether a line is left out
-abbrev pub left_out : List (List ℕ) → List ℕ → Bool
-left_out came next = is_rule_line next && list_any (bytes_eq next) came
+pub is_among_when : (lines : List Line) (next : Line) → is_rule_line next ≡ true → Contains lines next → is_among lines next ≡ true
+is_among_when lines next rule h =
+    list_any_at (is_same_rule_line next) lines h.0 next h.1 (subst (λ l. is_same_rule_line next l ≡ true) (sym h.2) (is_same next rule))
 
-pub told_then : (came : List (List ℕ)) (next : List ℕ) (lines : List (List ℕ)) → left_out came next ≡ true → told_once came (next ∷ lines) ≡ told_once came lines
-told_then came next lines is = ap (λ b. if b then told_once came lines else next ∷ told_once (next ∷ came) lines) is
+pub line_then : (lines : List Line) (next : Line) → is_among lines next ≡ true → with_line lines next ≡ lines
+line_then lines next is = ap (λ b. if b then lines else lines ++ next ∷ []) is
 
-pub told_else : (came : List (List ℕ)) (next : List ℕ) (lines : List (List ℕ)) → left_out came next ≡ false → told_once came (next ∷ lines) ≡ next ∷ told_once (next ∷ came) lines
-told_else came next lines is = ap (λ b. if b then told_once came lines else next ∷ told_once (next ∷ came) lines) is
+pub line_else : (lines : List Line) (next : Line) → is_among lines next ≡ false → with_line lines next ≡ lines ++ next ∷ []
+line_else lines next is = ap (λ b. if b then lines else lines ++ next ∷ []) is
 
--- a line is told, or came before
-kept : (came lines : List (List ℕ)) (z : List ℕ) → Contains lines z → Contains came z ⊎ Contains (told_once came lines) z
-kept came [] z h = absurd (contains_none z h)
-kept came (next ∷ lines) z h = elim (cases_Bool (left_out came next)) [
-  | inl out ↦ elim (contains_cases next lines z h) [
-    | inl e ↦ inl (subst (Contains came) e (came_when next came (and_parts (is_rule_line next) (list_any (bytes_eq next) came) out).1))
-    | inr behind ↦ elim (kept came lines z behind) [
-      | inl before ↦ inl before
-      | inr told ↦ inr (subst (λ x. Contains x z) (sym (told_then came next lines out)) told)
-    ]
-  ]
-  | inr stays ↦ elim (contains_cases next lines z h) [
-    | inl e ↦ inr (subst (λ x. Contains x z) (sym (told_else came next lines stays))
-        (subst (Contains (next ∷ told_once (next ∷ came) lines)) e (contains_head next (told_once (next ∷ came) lines))))
-    | inr behind ↦ elim (kept (next ∷ came) lines z behind) [
-      | inr told ↦ inr (subst (λ x. Contains x z) (sym (told_else came next lines stays)) (contains_tail next (told_once (next ∷ came) lines) z told))
-      | inl before ↦ elim (contains_cases next came z before) [
-        | inr w ↦ inl w
-        | inl e ↦ inr (subst (λ x. Contains x z) (sym (told_else came next lines stays))
-            (subst (Contains (next ∷ told_once (next ∷ came) lines)) e (contains_head next (told_once (next ∷ came) lines))))
-      ]
-    ]
+-- ---- which lines there are
+
+-- with the next line there are those before, and it
+line_is : (lines : List Line) (next z : Line) → Contains (with_line lines next) z → Contains lines z ⊎ (next ≡ z)
+line_is lines next z h = elim (cases_Bool (is_among lines next)) [
+  | inl among ↦ inl (subst (λ (l : List Line). Contains l z) (line_then lines next among) h)
+  | inr new ↦ elim (Contains-append_cases lines (next ∷ []) z (subst (λ (l : List Line). Contains l z) (line_else lines next new) h)) [
+    | inl before ↦ inl before
+    | inr now ↦ elim (contains_cases next [] z now) [ inl e ↦ inr e | inr none ↦ absurd (contains_none z none) ]
   ]
 ]
 
--- what is told is one of the lines
-only : (came lines : List (List ℕ)) (z : List ℕ) → Contains (told_once came lines) z → Contains lines z
-only came [] z h = absurd (contains_none z h)
-only came (next ∷ lines) z h = elim (cases_Bool (left_out came next)) [
-  | inl out ↦ contains_tail next lines z (only came lines z (subst (λ x. Contains x z) (told_then came next lines out) h))
-  | inr stays ↦ elim (contains_cases next (told_once (next ∷ came) lines) z (subst (λ x. Contains x z) (told_else came next lines stays) h)) [
-    | inl e ↦ subst (Contains (next ∷ lines)) e (contains_head next lines)
-    | inr behind ↦ contains_tail next lines z (only (next ∷ came) lines z behind)
+is_line : (lines : List Line) (next : Line) → Contains (with_line lines next) next
+is_line lines next = elim (cases_Bool (is_among lines next)) [
+  | inl among ↦ subst (λ (l : List Line). Contains l next) (sym (line_then lines next among)) (among_is lines next among)
+  | inr new ↦ subst (λ (l : List Line). Contains l next) (sym (line_else lines next new)) (Contains-append_right lines (next ∷ []) next (contains_head next []))
+]
+
+was_line : (lines : List Line) (next z : Line) → Contains lines z → Contains (with_line lines next) z
+was_line lines next z h = elim (cases_Bool (is_among lines next)) [
+  | inl among ↦ subst (λ (l : List Line). Contains l z) (sym (line_then lines next among)) h
+  | inr new ↦ subst (λ (l : List Line). Contains l z) (sym (line_else lines next new)) (Contains-append_left lines (next ∷ []) z h)
+]
+
+lines_are : (lines more : List Line) (z : Line) → Contains (with_lines lines more) z → Contains lines z ⊎ Contains more z
+lines_are lines [] z h = inl h
+lines_are lines (next ∷ more) z h = elim (lines_are (with_line lines next) more z h) [
+  | inr later ↦ inr (contains_tail next more z later)
+  | inl before ↦ elim (line_is lines next z before) [
+    | inl h ↦ inl h
+    | inr e ↦ inr (subst (Contains (next ∷ more)) e (contains_head next more))
   ]
+]
+
+were_lines : (lines more : List Line) (z : Line) → Contains lines z → Contains (with_lines lines more) z
+were_lines lines [] z h = h
+were_lines lines (next ∷ more) z h = were_lines (with_line lines next) more z (was_line lines next z h)
+
+are_lines : (lines more : List Line) (z : Line) → Contains more z → Contains (with_lines lines more) z
+are_lines lines [] z h = absurd (contains_none z h)
+are_lines lines (next ∷ more) z h = elim (contains_cases next more z h) [
+  | inl e ↦ were_lines (with_line lines next) more z (subst (Contains (with_line lines next)) e (is_line lines next))
+  | inr later ↦ are_lines (with_line lines next) more z later
 ]
 
 pub none_is_lost : NoneIsLost
 none_is_lost lines z = (
-  (λ h. only [] lines z h),
-  (λ h. elim (kept [] lines z h) [
-    | inl none ↦ absurd (contains_none z none)
-    | inr told ↦ told
-  ]),
+  (λ h. elim (lines_are [] lines z h) [ inl none ↦ absurd (contains_none z none) | inr there ↦ there ]),
+  (λ h. are_lines [] lines z h),
 )
 
--- a line of a rule that came isn't told
-not_again : (came lines : List (List ℕ)) (z : List ℕ) → is_rule_line z ≡ true → Contains came z → Contains (told_once came lines) z → ⊥
-not_again came [] z rule before h = contains_none z h
-not_again came (next ∷ lines) z rule before h = elim (cases_Bool (left_out came next)) [
-  | inl out ↦ not_again came lines z rule before (subst (λ x. Contains x z) (told_then came next lines out) h)
-  | inr stays ↦ elim (contains_cases next (told_once (next ∷ came) lines) z (subst (λ x. Contains x z) (told_else came next lines stays) h)) [
-    | inl e ↦ false≢true (sym stays ∙ and_from (is_rule_line next) (list_any (bytes_eq next) came)
-        (ap is_rule_line e ∙ rule) (when_came next came (subst (Contains came) (sym e) before)))
-    | inr behind ↦ not_again (next ∷ came) lines z rule (contains_tail next came z before) behind
-  ]
-]
+-- ---- no line of a rule stands twice
 
--- two lines of a list that are different where the first is of a rule
-abbrev Differ : List ℕ → List ℕ → Type 0
+abbrev Differ : Line → Line → Type 0
 Differ a b = is_rule_line a ≡ true → a ≢ b
 
-told_apart : (came lines : List (List ℕ)) → AllPairs Differ (told_once came lines)
-told_apart came [] = λ i j d lt within. absurd (let h : j < 0 = within in omega arith)
-told_apart came (next ∷ lines) = elim (cases_Bool (left_out came next)) [
-  | inl out ↦ subst (AllPairs Differ) (sym (told_then came next lines out)) (told_apart came lines)
-  | inr stays ↦ subst (AllPairs Differ) (sym (told_else came next lines stays)) (more (told_apart (next ∷ came) lines))
+pairs_push : (lines : List Line) (next : Line) → AllPairs Differ lines → ((z : Line) → Contains lines z → Differ z next) → AllPairs Differ (lines ++ next ∷ [])
+pairs_push [] next pairs new = λ i j d lt within. absurd (let h : j < 1 = within in omega arith)
+pairs_push (first ∷ lines) next pairs new = AllPairs-cons Differ first (lines ++ next ∷ [])
+    (λ k d lt. elim (Contains-append_cases lines (next ∷ []) (get_or (lines ++ next ∷ []) k d) (Contains-get_or (lines ++ next ∷ []) k d lt)) [
+      | inl before ↦ All-contains (Differ first) lines (get_or (lines ++ next ∷ []) k d) (λ i e lt'. pairs 0 (suc i) e (omega arith) (omega arith)) before
+      | inr now ↦ elim (contains_cases next [] (get_or (lines ++ next ∷ []) k d) now) [
+        | inl e ↦ subst (Differ first) e (new first (contains_head first lines))
+        | inr none ↦ absurd (contains_none _ none)
+      ]
+    ])
+    (pairs_push lines next (λ i j d lt within. pairs (suc i) (suc j) d (omega arith) (omega arith)) (λ z h. new z (contains_tail first lines z h)))
+
+apart_line : (lines : List Line) (next : Line) → AllPairs Differ lines → AllPairs Differ (with_line lines next)
+apart_line lines next pairs = elim (cases_Bool (is_among lines next)) [
+  | inl among ↦ subst (AllPairs Differ) (sym (line_then lines next among)) pairs
+  | inr new ↦ subst (AllPairs Differ) (sym (line_else lines next new)) (pairs_push lines next pairs (λ z h rule same.
+      false≢true (sym new ∙ is_among_when lines next (ap is_rule_line (sym same) ∙ rule) (subst (Contains lines) same h))))
 ]
-  where
-    more : AllPairs Differ (told_once (next ∷ came) lines) → AllPairs Differ (next ∷ told_once (next ∷ came) lines)
-    more pairs zero zero d lt within = absurd (omega arith)
-    more pairs zero (suc j) d lt within = λ rule same.
-        not_again (next ∷ came) lines next rule (contains_head next came)
-        (subst (Contains (told_once (next ∷ came) lines)) (sym same) (Contains-get_or (told_once (next ∷ came) lines) j d (omega arith)))
-    more pairs (suc i) zero d lt within = absurd (omega arith)
-    more pairs (suc i) (suc j) d lt within = pairs i j d (omega arith) (omega arith)
+
+apart_lines : (lines more : List Line) → AllPairs Differ lines → AllPairs Differ (with_lines lines more)
+apart_lines lines [] pairs = pairs
+apart_lines lines (next ∷ more) pairs = apart_lines (with_line lines next) more (apart_line lines next pairs)
 
 pub rules_told_once : RulesToldOnce
-rules_told_once lines = told_apart [] lines
+rules_told_once lines = apart_lines [] lines (λ i j d lt within. absurd (let h : j < 0 = within in omega arith))

@@ -13,10 +13,12 @@ use Rattle.sas_run.specs.declared.plan_check.PlanFault.{PlanFault}
 use Rattle.sas_run.specs.declared.plan_check.PlanFault.TheVariants.{Memory, NoOperator, NotApplicable, Conflict, GoalMissed, CostDiffers}
 use Rattle.sas_run.specs.Plans.{GoThrough, LeadsTo}
 use Rattle.sas_run.specs.Verdicts.{ComesTo, IsFaultOf}
-use Rattle.sas_reasons.specs.Lines.{told_once, TellsEach, places}
+use Rattle.sas_wording.specs.declared.line.Line.{Line}
+use Rattle.sas_wording.specs.declared.line.Line.TheVariants as line
+use Rattle.sas_reasons.specs.Lines.{with_lines, TellsBehind, TellsEach, places}
 use Rattle.sas_reasons.specs.Runs.{Run, last_state, GoesThrough}
 use Rattle.sas_reasons.specs.Cause.{fails, IsCause}
-use Rattle.sas_reasons.specs.WhyPlan.{step_line, operator_line, like_line, TellsLike, failing, operators_of, TellsInapplicable, effect_line, TellsConflict, goal_fact_at, goal_line, TellsGoalFact, cost_lines, other_line, TellsOther, steps_before, TellsFault, IsWhy}
+use Rattle.sas_reasons.specs.WhyPlan.{TellsLike, failing, operators_of, TellsInapplicable, TellsConflict, goal_fact_at, TellsGoalFact, cost_lines, TellsOther, steps_before, TellsFault, IsWhy}
 use Rattle.sas_reasons.specs.Laws.{SomeWhy, OneWhy}
 use Rattle.sas_reasons.proofs.Runs.{some_run, one_run}
 use Rattle.sas_reasons.proofs.Likeness.{some_like, one_like}
@@ -26,15 +28,15 @@ use Rattle.sas_reasons.proofs.Conflicts.{some_conflict, one_conflict}
 
 -- ---- the lines of each item
 
-each_one : {A : Type 0} (Tells : A → List (List ℕ) → Type 0) → ((item : A) (a b : List (List ℕ)) → Tells item a → Tells item b → a ≡ b)
-    → (items : List A) (a b : List (List ℕ)) → TellsEach Tells items a → TellsEach Tells items b → a ≡ b
+each_one : {A : Type 0} (Tells : A → List Line → Type 0) → ((item : A) (a b : List Line) → Tells item a → Tells item b → a ≡ b)
+    → (items : List A) (a b : List Line) → TellsEach Tells items a → TellsEach Tells items b → a ≡ b
 each_one Tells one [] a b x y = x ∙ sym y
 each_one Tells one (item ∷ items) a b x y = x.4
-    ∙ (ap (λ (its : List (List ℕ)). its ++ x.1) (one item x.0 y.0 x.2 y.2)
-    ∙ (ap (λ (others : List (List ℕ)). y.0 ++ others) (each_one Tells one items x.1 y.1 x.3 y.3) ∙ sym y.4))
+    ∙ (ap (λ (its : List Line). its ++ x.1) (one item x.0 y.0 x.2 y.2)
+    ∙ (ap (λ (others : List Line). y.0 ++ others) (each_one Tells one items x.1 y.1 x.3 y.3) ∙ sym y.4))
 
-some_each : {A : Type 0} (Tells : A → List (List ℕ) → Type 0) → ((item : A) → (lines : List (List ℕ)) × Tells item lines)
-    → (items : List A) → (lines : List (List ℕ)) × TellsEach Tells items lines
+some_each : {A : Type 0} (Tells : A → List Line → Type 0) → ((item : A) → (lines : List Line) × Tells item lines)
+    → (items : List A) → (lines : List Line) × TellsEach Tells items lines
 some_each Tells some [] = ([], refl)
 some_each Tells some (item ∷ items) =
     let its = some item in
@@ -43,55 +45,51 @@ some_each Tells some (item ∷ items) =
 
 -- ---- one way
 
+behind_one : (first : Line) (Tells : List Line → Type 0) → ((a b : List Line) → Tells a → Tells b → a ≡ b) → (a b : List Line)
+    → TellsBehind first Tells a → TellsBehind first Tells b → a ≡ b
+behind_one first Tells one a b x y = x.2 ∙ (ap (λ (behind : List Line). first ∷ behind) (one x.0 y.0 x.1 y.1) ∙ sym y.2)
+
 module _ (p : Parts) (run : Run) where
-  inapplicable_one : (operator : ℕ) (a b : List (List ℕ)) → TellsInapplicable p run operator a → TellsInapplicable p run operator b → a ≡ b
-  inapplicable_one operator a b x y = x.2
-      ∙ (ap (λ (causes : List (List ℕ)). operator_line operator ∷ causes)
-      (each_one (IsCause p run) (one_cause p run) (failing (last_state run) (operator_at p operator)) x.0 y.0 x.1 y.1) ∙ sym y.2)
+  inapplicable_one : (operator : ℕ) (a b : List Line) → TellsInapplicable p run operator a → TellsInapplicable p run operator b → a ≡ b
+  inapplicable_one operator = behind_one (line.Operator operator) _ (each_one (IsCause p run) (one_cause p run) (failing (last_state run) (operator_at p operator)))
 
-  goal_fact_one : (index : ℕ) (a b : List (List ℕ)) → TellsGoalFact p run index a → TellsGoalFact p run index b → a ≡ b
-  goal_fact_one index a b x y = x.2
-      ∙ (ap (λ (cause : List (List ℕ)). goal_line index ∷ cause)
-      (one_cause p run (goal_fact_at p index) x.0 y.0 x.1 y.1) ∙ sym y.2)
+  goal_fact_one : (index : ℕ) (a b : List Line) → TellsGoalFact p run index a → TellsGoalFact p run index b → a ≡ b
+  goal_fact_one index = behind_one (line.GoalFact index) _ (one_cause p run (goal_fact_at p index))
 
-  other_one : (a b : List (List ℕ)) → TellsOther p run a → TellsOther p run b → a ≡ b
+  other_one : (a b : List Line) → TellsOther p run a → TellsOther p run b → a ≡ b
   other_one a b (inl x) (inl y) =
       let same = one_may_mean p run x.0 x.1 y.0 y.1 x.2 y.2 in
-      x.3 ∙ (ap (λ (step : ℕ). other_line step x.1 ∷ []) same.0
-      ∙ (ap (λ (operator : ℕ). other_line y.0 operator ∷ []) same.1 ∙ sym y.3))
+      x.3 ∙ (ap (λ (step : ℕ). line.CouldBe step x.1 ∷ []) same.0
+      ∙ (ap (λ (operator : ℕ). line.CouldBe y.0 operator ∷ []) same.1 ∙ sym y.3))
   other_one a b (inl x) (inr y) = absurd (let w = x.2 in y.0 w.before w.first.has)
   other_one a b (inr x) (inl y) = absurd (let w = y.2 in x.0 w.before w.first.has)
   other_one a b (inr x) (inr y) = x.1 ∙ sym y.1
 
-like_one : (p : Parts) (name : List ℕ) (a b : List (List ℕ)) → TellsLike p name a → TellsLike p name b → a ≡ b
+like_one : (p : Parts) (name : List ℕ) (a b : List Line) → TellsLike p name a → TellsLike p name b → a ≡ b
 like_one p name a b x y = x.2
-    ∙ (ap (λ (like : Option ℕ). option_map_or (λ operator. like_line p operator ∷ []) like [])
+    ∙ (ap (λ (like : Option ℕ). option_map_or (λ operator. line.SimilarOperator operator ∷ []) like [])
     (one_like p name x.0 y.0 x.1 y.1) ∙ sym y.2)
 
-conflict_one : (p : Parts) (s : List ℕ) (operator : ℕ) (a b : List (List ℕ)) → TellsConflict p s operator a → TellsConflict p s operator b → a ≡ b
+conflict_one : (p : Parts) (s : List ℕ) (operator : ℕ) (a b : List Line) → TellsConflict p s operator a → TellsConflict p s operator b → a ≡ b
 conflict_one p s operator a b x y =
     let same = one_conflict s (operator_at p operator) x.0 x.1 y.0 y.1 x.2 y.2 in
-    x.3 ∙ (ap (λ d. operator_line operator ∷ effect_line p (operator_at p operator) d ∷ effect_line p (operator_at p operator) x.1 ∷ []) same.0
-    ∙ (ap (λ e. operator_line operator ∷ effect_line p (operator_at p operator) y.0 ∷ effect_line p (operator_at p operator) e ∷ []) same.1 ∙ sym y.3))
+    x.3 ∙ (ap (λ d. line.Operator operator ∷ line.ConflictingEffect operator d ∷ line.ConflictingEffect operator x.1 ∷ []) same.0
+    ∙ (ap (λ e. line.Operator operator ∷ line.ConflictingEffect operator y.0 ∷ line.ConflictingEffect operator e ∷ []) same.1 ∙ sym y.3))
 
--- the same lines behind the line of a step
-behind_step : (plan : PlanParts) (step : ℕ) (a b x y : List (List ℕ)) → a ≡ step_line plan step ∷ x → b ≡ step_line plan step ∷ y → x ≡ y → a ≡ b
-behind_step plan step a b x y f g same = f ∙ (ap (λ lines. step_line plan step ∷ lines) same ∙ sym g)
-
-fault_told_one : (p : Parts) (plan : PlanParts) (run : Run) (fault : PlanFault) (a b : List (List ℕ))
+fault_told_one : (p : Parts) (plan : PlanParts) (run : Run) (fault : PlanFault) (a b : List Line)
     → TellsFault p plan run fault a → TellsFault p plan run fault b → a ≡ b
-fault_told_one p plan run (NoOperator step) a b x y = behind_step plan step a b x.0 y.0 x.2 y.2 (like_one p (step_at plan (step - 1)) x.0 y.0 x.1 y.1)
-fault_told_one p plan run (NotApplicable step) a b x y = behind_step plan step a b x.0 y.0 x.2 y.2
-    (each_one (TellsInapplicable p run) (inapplicable_one p run) (operators_of p (step_at plan (step - 1))) x.0 y.0 x.1 y.1)
-fault_told_one p plan run (Conflict step operator) a b x y = behind_step plan step a b x.0 y.0 x.2 y.2 (conflict_one p (last_state run) operator x.0 y.0 x.1 y.1)
+fault_told_one p plan run (NoOperator step) a b x y = behind_one (line.Step step) _ (like_one p (step_at plan (step - 1))) a b x y
+fault_told_one p plan run (NotApplicable step) a b x y =
+    behind_one (line.Step step) _ (each_one (TellsInapplicable p run) (inapplicable_one p run) (operators_of p (step_at plan (step - 1)))) a b x y
+fault_told_one p plan run (Conflict step operator) a b x y = behind_one (line.Step step) _ (conflict_one p (last_state run) operator) a b x y
 fault_told_one p plan run (GoalMissed index) a b x y = each_one (TellsGoalFact p run) (goal_fact_one p run) (places (fails (last_state run)) p.goal) a b x y
 fault_told_one p plan run (CostDiffers sum) a b x y = x ∙ sym y
 fault_told_one p plan run Memory a b x y = absurd x
 
 pub one_why : OneWhy
 one_why p plan fault a b layered x y = x.whole
-    ∙ (ap (λ (reasons : List (List ℕ)). told_once [] (reasons ++ x.others)) (fault_told_one p plan y.run fault x.reasons y.reasons told y.told)
-    ∙ (ap (λ (others : List (List ℕ)). told_once [] (y.reasons ++ others)) (other_one p y.run x.others y.others may y.may) ∙ sym y.whole))
+    ∙ (ap (λ (reasons : List Line). with_lines [] reasons ++ x.others) (fault_told_one p plan y.run fault x.reasons y.reasons told y.told)
+    ∙ (ap (λ (others : List Line). with_lines [] y.reasons ++ others) (other_one p y.run x.others y.others may y.may) ∙ sym y.whole))
   where
     same : x.run ≡ y.run
     same = one_run p x.run y.run layered x.through y.through (x.went ∙ sym y.went)
@@ -111,19 +109,19 @@ goes_settled p s [] (o ∷ os) last settled g = absurd g
 goes_settled p s (n ∷ ns) [] last settled g = absurd g
 goes_settled p s (n ∷ ns) (o ∷ os) last settled g = let step = g.2 in goes_settled p g.0 ns os last step.settled g.3
 
-some_other : (p : Parts) (run : Run) → (lines : List (List ℕ)) × TellsOther p run lines
+some_other : (p : Parts) (run : Run) → (lines : List Line) × TellsOther p run lines
 some_other p run = elim (some_may_mean p run) [
-  | inl w ↦ (other_line w.0 w.1 ∷ [], inl (w.0, w.1, w.2, refl))
+  | inl w ↦ (line.CouldBe w.0 w.1 ∷ [], inl (w.0, w.1, w.2, refl))
   | inr none ↦ ([], inr (none, refl))
 ]
 
 module _ (p : Parts) (plan : PlanParts) (layered : IsLayered p) where
   -- what is told of a run that leads to the fault
   from_run : (fault : PlanFault) (run : Run) → run.steps ≡ steps_before plan fault → GoesThrough p run
-      → ((lines : List (List ℕ)) × TellsFault p plan run fault lines) → (lines : List (List ℕ)) × IsWhy p plan fault lines
+      → ((lines : List Line) × TellsFault p plan run fault lines) → (lines : List Line) × IsWhy p plan fault lines
   from_run fault run went through told =
       let other = some_other p run in (
-        told_once [] (told.0 ++ other.0),
+        with_lines [] told.0 ++ other.0,
         record { run = run; went = went; through = through; reasons = told.0; told = told.1; others = other.0; may = other.1; whole = refl },
       )
 
@@ -156,17 +154,17 @@ module _ (p : Parts) (plan : PlanParts) (layered : IsLayered p) where
       is = ap (λ n. take n plan.steps) (let place = comes.place in let e : step - 1 ≡ length comes.before = omega arith in e)
           ∙ (ap (λ (steps : List (List ℕ)). take (length comes.before) steps) comes.whole ∙ take-append_seam comes.before (name ∷ comes.behind))
 
-  some_inapplicable : (run : Run) → IsSettled p (last_state run) → 0 < length run.states → (operator : ℕ) → (lines : List (List ℕ)) × TellsInapplicable p run operator lines
+  some_inapplicable : (run : Run) → IsSettled p (last_state run) → 0 < length run.states → (operator : ℕ) → (lines : List Line) × TellsInapplicable p run operator lines
   some_inapplicable run settled some operator =
       let causes = some_each (IsCause p run) (λ fact. some_cause p run fact layered settled some) (failing (last_state run) (operator_at p operator)) in
-      (operator_line operator ∷ causes.0, (causes.0, causes.1, refl))
+      (line.Operator operator ∷ causes.0, (causes.0, causes.1, refl))
 
-  some_goal_fact : (run : Run) → IsSettled p (last_state run) → 0 < length run.states → (index : ℕ) → (lines : List (List ℕ)) × TellsGoalFact p run index lines
+  some_goal_fact : (run : Run) → IsSettled p (last_state run) → 0 < length run.states → (index : ℕ) → (lines : List Line) × TellsGoalFact p run index lines
   some_goal_fact run settled some index =
       let cause = some_cause p run (goal_fact_at p index) layered settled some in
-      (goal_line index ∷ cause.0, (cause.0, cause.1, refl))
+      (line.GoalFact index ∷ cause.0, (cause.0, cause.1, refl))
 
-  why_told : (fault : PlanFault) → IsFaultOf p plan fault → (lines : List (List ℕ)) × IsWhy p plan fault lines
+  why_told : (fault : PlanFault) → IsFaultOf p plan fault → (lines : List Line) × IsWhy p plan fault lines
   why_told Memory f = absurd f
   why_told (NoOperator step) f =
       let l = led_to_step step f.0 f.1 f.2 in
@@ -175,7 +173,7 @@ module _ (p : Parts) (plan : PlanParts) (layered : IsLayered p) where
   why_told (NotApplicable step) f =
       let l = led_to_step step f.0 f.1 f.2 in
       let w = some_each (TellsInapplicable p l.run) (some_inapplicable l.run l.settled l.some) (operators_of p (step_at plan (step - 1))) in
-      from_run (NotApplicable step) l.run l.went l.through (step_line plan step ∷ w.0, (w.0, w.1, refl))
+      from_run (NotApplicable step) l.run l.went l.through (line.Step step ∷ w.0, (w.0, w.1, refl))
   why_told (Conflict step operator) f =
       let l = led_to_step step f.0 f.1 f.2 in
       let w = some_conflict (last_state l.run) (operator_at p operator) (λ agree. f.4 (subst (λ s. Rattle.sas_meaning.specs.Steps.Agree s (operator_at p operator).effects) l.ends agree)) in

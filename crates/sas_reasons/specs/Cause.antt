@@ -1,8 +1,6 @@
--- The cause of a fact that fails in the last state of a run: what was asked, what the state has
--- instead and since when, and what the rules have to do with it.
+-- The cause of a fact that fails in the last state of a run.
 use Rattle.std.specs.Prelude.{◌≡◌, ℕ, zero, suc, ◌==◌, ◌&&◌, Bool, true, false, not, if◌then◌else◌, is_some}
-use Rattle.std.specs.Prelude.{List, [], ◌∷◌, ◌++◌, map, flat_map, find, slice_index, slice_index_or}
-use Rattle.std.specs.Prelude.{codes, decimal}
+use Rattle.std.specs.Prelude.{List, [], ◌∷◌, ◌++◌, map, flat_map, find, slice_index}
 use Rattle.std.specs.List.{list_any}
 use Rattle.std.specs.Option.{option_map_or}
 use Rattle.sas_core.specs.declared.parts.Fact.{Fact}
@@ -12,8 +10,8 @@ use Rattle.sas_core.specs.Variables.{layer_of}
 use Rattle.sas_core.specs.Grounded.{rule_at}
 use Rattle.sas_meaning.specs.Layers.{default_of}
 use Rattle.sas_meaning.specs.Settled.{differs}
-use Rattle.sas_output.specs.Words.{line}
-use Rattle.sas_wording.specs.Facts.{fact_words}
+use Rattle.sas_wording.specs.declared.line.Line.{Line}
+use Rattle.sas_wording.specs.declared.line.Line.TheVariants as line
 use Rattle.sas_reasons.specs.Lines.{places}
 use Rattle.sas_reasons.specs.Runs.{Run, last_state}
 use Rattle.sas_reasons.specs.Since.{IsSince}
@@ -27,64 +25,47 @@ fails s fact = not (slice_index s fact.var == fact.value)
 abbrev pub is_derived : Parts → ℕ → Bool
 is_derived p var = is_some (layer_of p.variables var)
 
--- ---- what is asked, what there is, and since when
+-- the fact that the variable has its value in a state
+abbrev pub actual_fact : List ℕ → ℕ → Fact
+actual_fact s var = record { var = var; value = slice_index s var }
 
--- `asks VAR VALUE NAME`
-abbrev pub asks_line : Parts → Fact → List ℕ
-asks_line p fact = line 4 (codes "asks" ∷ fact_words p fact.var fact.value)
-
--- `has VAR VALUE NAME`, with the value that the variable has in the state
-abbrev pub has_line : Parts → List ℕ → ℕ → List ℕ
-has_line p s var = line 4 (codes "has" ∷ fact_words p var (slice_index s var))
-
--- `since step K NAME`, with the name of step K; step 0 is the start
-abbrev pub since_line : List (List ℕ) → ℕ → List ℕ
-since_line steps zero = line 4 (codes "since the start" ∷ [])
-since_line steps (suc before) =
-    line 4 (codes "since step" ∷ decimal (suc before) ∷ slice_index_or steps before [] ∷ [])
+-- since which step it has been so, where 0 is the initial state
+abbrev pub since_line : ℕ → Line
+since_line zero = line.SinceInitialState
+since_line (suc before) = line.SinceStep (suc before)
 
 -- ---- the rules that give a derived variable its value
-
--- `rule R gives VAR VALUE NAME`
-abbrev pub gives_line : Parts → ℕ → List ℕ
-gives_line p rule = line 4 (codes "rule" ∷ decimal rule ∷ codes "gives"
-    ∷ fact_words p (rule_at p rule).var (rule_at p rule).new)
 
 -- whether the variable is derived and hasn't its default
 abbrev pub is_given : Parts → List ℕ → ℕ → Bool
 is_given p s var = is_derived p var && differs p s var
 
--- a line for each rule of the variable's derivation, if it is given its value
-abbrev pub TellsGivers : Bool → Parts → List ℕ → ℕ → List (List ℕ) → Type 0
+-- if it is so, a line for each rule of the variable's derivation
+abbrev pub TellsGivers : Bool → Parts → List ℕ → ℕ → List Line → Type 0
 TellsGivers false p s var lines = lines ≡ []
 TellsGivers true p s var lines =
-    (rules : List ℕ) × IsDerivation p s var rules × (lines ≡ map (gives_line p) rules)
+    (rules : List ℕ) × IsDerivation p s var rules × (lines ≡ map line.RuleDerives rules)
 
--- ---- the rules that don't give it the value that is asked for
+-- ---- the rules that don't derive the required value
 
--- `rule R asks VAR VALUE NAME`
-abbrev pub rule_asks_line : Parts → ℕ → Fact → List ℕ
-rule_asks_line p rule c =
-    line 4 (codes "rule" ∷ decimal rule ∷ codes "asks" ∷ fact_words p c.var c.value)
-
--- this line for the first condition of the rule that fails
-abbrev pub failing_lines : Parts → List ℕ → ℕ → List (List ℕ)
-failing_lines p s rule = option_map_or (λ c. rule_asks_line p rule c ∷ [])
+-- a line for the first condition of the rule that fails
+abbrev pub failing_lines : Parts → List ℕ → ℕ → List Line
+failing_lines p s rule = option_map_or (λ condition. line.RuleRequires rule condition ∷ [])
     (find (fails s) (rule_at p rule).conditions) []
 
--- whether a rule of the variable that can fire gives the variable the value that is asked for
+-- whether a rule of the fact's variable that can fire derives the fact's value
 abbrev pub can_be_given : Parts → Fact → Bool
 can_be_given p fact =
     list_any (λ (rule : Rule). can_give p fact.var rule && (rule.new == fact.value)) p.rules
 
--- what keeps each of these rules from firing; or `no rule gives it`, where none gives the value
-abbrev pub keeping_lines : Parts → List ℕ → Fact → List (List ℕ)
+-- a line for each rule of the variable that can fire, or that none of them derives the value
+abbrev pub keeping_lines : Parts → List ℕ → Fact → List Line
 keeping_lines p s fact = if can_be_given p fact
     then flat_map (failing_lines p s) (places (can_give p fact.var) p.rules)
-    else line 4 (codes "no rule gives it" ∷ []) ∷ []
+    else line.NoRuleDerives ∷ []
 
--- so where a derived variable is asked for another value than its default
-abbrev pub missing_lines : Parts → List ℕ → Fact → List (List ℕ)
+-- these lines, where another value than the default of a derived variable is required
+abbrev pub missing_lines : Parts → List ℕ → Fact → List Line
 missing_lines p s fact = if is_derived p fact.var && not (fact.value == default_of p fact.var)
     then keeping_lines p s fact
     else []
@@ -92,14 +73,14 @@ missing_lines p s fact = if is_derived p fact.var && not (fact.value == default_
 -- ---- the cause
 
 -- the lines of the cause of a fact that fails in the last state of the run
-pub record IsCause (p : Parts) (run : Run) (fact : Fact) (lines : List (List ℕ)) : Type 0 where
+pub record IsCause (p : Parts) (run : Run) (fact : Fact) (lines : List Line) : Type 0 where
   pub since : ℕ
   pub last_change : IsSince run fact.var since
-  pub givers : List (List ℕ)
+  pub givers : List Line
   pub given : TellsGivers (is_given p (last_state run) fact.var) p (last_state run) fact.var givers
   pub whole : lines
-      ≡ asks_line p fact
-      ∷ has_line p (last_state run) fact.var
-      ∷ since_line run.steps since
+      ≡ line.Requires fact
+      ∷ line.Actual (actual_fact (last_state run) fact.var)
+      ∷ since_line since
       ∷ givers
       ++ missing_lines p (last_state run) fact

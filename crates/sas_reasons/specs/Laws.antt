@@ -20,7 +20,9 @@ use Rattle.sas_reasons.specs.Since.{value_at, IsSince}
 use Rattle.sas_reasons.specs.Likeness.{folded, IsLike}
 use Rattle.sas_reasons.specs.MayMean.{HasOther, MayMean}
 use Rattle.sas_reasons.specs.Derivation.{IsRank, IsGivenBy, InDerivation, ComesBefore, IsDerivation}
-use Rattle.sas_reasons.specs.Lines.{is_rule_line, told_once, places}
+use Rattle.sas_wording.specs.declared.line.Line.{Line}
+use Rattle.sas_wording.specs.Line.{is_rule_line}
+use Rattle.sas_reasons.specs.Lines.{with_lines, places}
 use Rattle.sas_reasons.specs.Cause.{fails, can_be_given}
 use Rattle.sas_reasons.specs.Conflicts.{IsConflict}
 use Rattle.sas_reasons.specs.WhyPlan.{failing, operators_of, IsWhy}
@@ -205,26 +207,26 @@ abbrev pub OneConflict : Type 0
 OneConflict = (s : List ℕ) (o : Operator) (d e d' e' : ℕ) → IsConflict s o d e
     → IsConflict s o d' e' → (d ≡ d') × (e ≡ e')
 
--- ---- lines that are told once
+-- ---- lines of rules
 
 -- no line is lost, and none is made up
 abbrev pub NoneIsLost : Type 0
-NoneIsLost = (lines : List (List ℕ)) (line : List ℕ)
-    → Contains (told_once [] lines) line ↔ Contains lines line
+NoneIsLost = (lines : List Line) (line : Line)
+    → Contains (with_lines [] lines) line ↔ Contains lines line
 
 -- and no line of a rule stands twice
 abbrev pub RulesToldOnce : Type 0
-RulesToldOnce = (lines : List (List ℕ))
-    → AllPairs (λ a b. IsTrue (is_rule_line a) → a ≢ b) (told_once [] lines)
+RulesToldOnce = (lines : List Line)
+    → AllPairs (λ a b. IsTrue (is_rule_line a) → a ≢ b) (with_lines [] lines)
 
 -- ---- why a plan isn't valid
 
 -- the fault of a plan of a layered task is told
 abbrev pub SomeWhy : Type 0
 SomeWhy = (p : Parts) (plan : PlanParts) (fault : PlanFault) → IsLayered p
-    → IsFaultOf p plan fault → (lines : List (List ℕ)) × IsWhy p plan fault lines
+    → IsFaultOf p plan fault → (lines : List Line) × IsWhy p plan fault lines
 
 -- in one way
 abbrev pub OneWhy : Type 0
-OneWhy = (p : Parts) (plan : PlanParts) (fault : PlanFault) (a b : List (List ℕ)) → IsLayered p
+OneWhy = (p : Parts) (plan : PlanParts) (fault : PlanFault) (a b : List Line) → IsLayered p
     → IsWhy p plan fault a → IsWhy p plan fault b → a ≡ b

@@ -1,39 +1,38 @@
--- The lines that tell reasons.
-use Rattle.std.specs.Prelude.{◌≡◌, ℕ, ◌+◌, ◌&&◌, Bool, if◌then◌else◌, List, [], ◌∷◌, ◌++◌, length, take}
-use Rattle.std.specs.Prelude.{bytes_eq, codes}
+-- Lists of lines of reasons.
+use Rattle.std.specs.Prelude.{◌≡◌, ℕ, ◌+◌, Bool, if◌then◌else◌, List, [], ◌∷◌, ◌++◌}
 use Rattle.std.specs.List.{list_any}
+use Rattle.sas_wording.specs.declared.line.Line.{Line}
+use Rattle.sas_wording.specs.Line.{is_same_rule_line}
 
--- whether a line begins so
-abbrev pub begins : List ℕ → List ℕ → Bool
-begins front bytes = bytes_eq (take (length front) bytes) front
+-- these lines and one more, unless it is a line of a rule that is among them
+abbrev pub with_line : List Line → Line → List Line
+with_line lines next =
+    if list_any (is_same_rule_line next) lines then lines else lines ++ next ∷ []
 
--- Whether a line tells of a rule. Such a line is told once: it is left out where it stands further
--- up already.
-abbrev pub is_rule_line : List ℕ → Bool
-is_rule_line bytes = begins (codes "    rule ") bytes
+-- these lines and more of them, so one after another
+abbrev pub with_lines : List Line → List Line → List Line
+with_lines lines [] = lines
+with_lines lines (next ∷ more) = with_lines (with_line lines next) more
 
--- the lines behind those that came, but for each line of a rule that came already
-abbrev pub told_once : List (List ℕ) → List (List ℕ) → List (List ℕ)
-told_once came [] = []
-told_once came (next ∷ lines) = if is_rule_line next && list_any (bytes_eq next) came
-    then told_once came lines
-    else next ∷ told_once (next ∷ came) lines
+-- this line, and such lines behind it
+abbrev pub TellsBehind : Line → (List Line → Type 0) → List Line → Type 0
+TellsBehind first Tells lines = (behind : List Line) × Tells behind × (lines ≡ first ∷ behind)
 
 -- the lines of each item, one behind the other
-abbrev pub TellsEach : {A : Type 0} → (A → List (List ℕ) → Type 0) → List A → List (List ℕ)
-    → Type 0
+abbrev pub TellsEach : {A : Type 0} → (A → List Line → Type 0) → List A → List Line → Type 0
 TellsEach Tells [] lines = lines ≡ []
-TellsEach Tells (item ∷ items) lines = (its others : List (List ℕ))
+TellsEach Tells (item ∷ items) lines = (its others : List Line)
     × Tells item its
     × TellsEach Tells items others
     × (lines ≡ its ++ others)
 
--- the places of the items that pass a test, ascending; the first item has this place
+-- the places of the items that pass a test, ascending, where the first item has this place
 abbrev pub places_from : {A : Type 0} → ℕ → (A → Bool) → List A → List ℕ
 places_from place passes [] = []
 places_from place passes (item ∷ items) = if passes item
     then place ∷ places_from (place + 1) passes items
     else places_from (place + 1) passes items
 
+-- the places of the items that pass a test
 abbrev pub places : {A : Type 0} → (A → Bool) → List A → List ℕ
 places passes items = places_from 0 passes items

@@ -1,33 +1,29 @@
 -- What is known of a run that was retraced up to a fault.
-use Rattle.std.proofs.Common.{◌≡◌, ℕ, ◌-◌, ◌<◌, ◌≤◌, List, [], ◌∷◌, ◌++◌, length, get_or, map, take, Option, None, Some, refl, sym, ◌∙◌, ap, subst, inl, inr, arith}
+use Rattle.std.proofs.Common.{◌≡◌, ℕ, ◌-◌, ◌<◌, ◌≤◌, List, [], ◌∷◌, ◌++◌, length, take, Option, None, Some, refl, sym, ◌∙◌, ap, subst, inl, inr, arith}
 use Rattle.std.specs.List.{All}
-use Rattle.std.proofs.lemmas.List.{append-nil, map-append, take_all, get_or-take, length-take}
+use Rattle.std.proofs.lemmas.List.{append-nil, take_all}
 use Rattle.std.proofs.lemmas.List.Elements.{All-nil, All-cons}
 use Rattle.std.proofs.Math.Seq.{take-append_seam}
 use Rattle.sas_core.specs.declared.parts.Parts.{Parts}
 use Rattle.sas_core.specs.PlanParts.{PlanParts}
-use Rattle.sas_core.specs.Stepwise.{step_at}
 use Rattle.sas_core.specs.Grounded.{operator_at}
 use Rattle.sas_core.specs.Variables.{IsState}
 use Rattle.sas_meaning.specs.Layers.{IsLayered}
 use Rattle.sas_meaning.specs.Settled.{IsSettled}
 use Rattle.sas_meaning.specs.Steps.{Agree}
 use Rattle.sas_run.specs.declared.plan_check.PlanFault.{PlanFault}
-use Rattle.sas_run.specs.declared.plan_check.PlanFault.TheVariants.{Memory, NoOperator, NotApplicable, Conflict, GoalMissed, CostDiffers}
+use Rattle.sas_run.specs.declared.plan_check.PlanFault.TheVariants.{Conflict}
 use Rattle.sas_run.specs.Plans.{GoThrough, LeadsTo}
 use Rattle.sas_run.specs.Verdicts.{ComesTo, IsFaultOf}
 use Rattle.sas_run.proofs.Determined.{leads_one_way}
-use Rattle.sas_reasons.specs.Lines.{told_once}
+use Rattle.sas_wording.specs.declared.line.Line.{Line}
+use Rattle.sas_wording.specs.declared.line.Line.TheVariants as line
 use Rattle.sas_reasons.specs.Runs.{Run, last_state, GoesThrough}
-use Rattle.sas_reasons.specs.WhyPlan.{steps_before, other_line, TellsFault, IsWhy}
-use Rattle.sas_why.specs.declared.line.Line.{Line}
-use Rattle.sas_why.specs.declared.line.Line.TheVariants as line
+use Rattle.sas_reasons.specs.WhyPlan.{steps_before, TellsOther, TellsFault, IsWhy}
 use Rattle.sas_why.specs.declared.retraced.Other.{Other}
 use Rattle.sas_why.specs.declared.retraced.Retraced.{Retraced}
-use Rattle.sas_why.specs.Line.{line_bytes}
 use Rattle.sas_why.specs.Retracing.{EndsBy, IsOtherIfAny, Retraces}
-use Rattle.sas_why.specs.Told.{IsBehind, TellsOnce}
-use Rattle.sas_why.proofs.Once.{IsPlain, plain_behind}
+use Rattle.sas_why.specs.Report.{IsBehind, TellsOnce}
 
 -- ---- where steps lead
 
@@ -70,34 +66,15 @@ last_rests p run through =
 pub operators_exist : (p : Parts) (run : Run) → GoesThrough p run → All (λ (o : ℕ). o < length p.operators) run.operators
 operators_exist p run through = let l = leads p run through in goes_by p l.initial run.steps run.operators (last_state run) l.goes
 
--- ---- the steps of the plan
-
-short : {A : Type 0} (n : ℕ) (xs : List A) → length (take n xs) ≤ n
-short n xs = omega (arith, length-take n xs)
-
-step_of : (plan : PlanParts) (n : ℕ) (steps : List (List ℕ)) → steps ≡ take n plan.steps → (k : ℕ) → k < length steps → step_at plan k ≡ get_or steps k []
-step_of plan n steps is k lt =
-    let below : k < n = omega (arith, ap (λ (l : List (List ℕ)). length l) is, short n plan.steps) in
-    sym (ap (λ (l : List (List ℕ)). get_or l k []) is ∙ get_or-take n plan.steps k [] below)
-
-steps_of : (plan : PlanParts) (fault : PlanFault) (steps : List (List ℕ)) → steps ≡ steps_before plan fault → (k : ℕ) → k < length steps → step_at plan k ≡ get_or steps k []
-steps_of plan (NoOperator step) steps is k lt = step_of plan (step - 1) steps is k lt
-steps_of plan (NotApplicable step) steps is k lt = step_of plan (step - 1) steps is k lt
-steps_of plan (Conflict step operator) steps is k lt = step_of plan (step - 1) steps is k lt
-steps_of plan (GoalMissed index) steps is k lt = sym (ap (λ (l : List (List ℕ)). get_or l k []) is)
-steps_of plan (CostDiffers sum) steps is k lt = sym (ap (λ (l : List (List ℕ)). get_or l k []) is)
-steps_of plan Memory steps is k lt = sym (ap (λ (l : List (List ℕ)). get_or l k []) is)
-
 module _ (p : Parts) (plan : PlanParts) (noted : Retraced) (run : Run) (fault : PlanFault) (r : Retraces p plan noted run) (is : noted.fault ≡ Some fault) where
   pub ends : IsFaultOf p plan fault × (run.steps ≡ steps_before plan fault)
   ends = subst (EndsBy p plan run) is r.ends
 
-  pub behind : IsBehind p plan noted run
+  pub behind : IsBehind p noted run
   behind =
       let rests = last_rests p run r.through in
       record {
         through = r.through;
-        steps = steps_of plan fault run.steps ends.1;
         last = r.last;
         state = subst (IsState p.variables) (sym r.last) rests.0;
         settled = subst (IsSettled p) (sym r.last) rests.1;
@@ -106,36 +83,28 @@ module _ (p : Parts) (plan : PlanParts) (noted : Retraced) (run : Run) (fault : 
 
   -- ---- why
 
-  pub is_why : (lines : List Line) → TellsOnce p plan lines (TellsFault p plan run fault) → (new : List Line)
-      → ((other : Other) → noted.other ≡ Some other → new ≡ lines ++ line.MayMean other.step other.operator ∷ [])
+  pub is_why : (lines : List Line) → TellsOnce lines (TellsFault p plan run fault) → (new : List Line)
+      → ((other : Other) → noted.other ≡ Some other → new ≡ lines ++ line.CouldBe other.step other.operator ∷ [])
       → (noted.other ≡ None → new ≡ lines)
-      → IsWhy p plan fault (map (line_bytes p plan) new)
+      → IsWhy p plan fault new
   is_why lines told new some none = at noted.other refl
     where
-      at : (other : Option Other) → noted.other ≡ other → IsWhy p plan fault (map (line_bytes p plan) new)
-      at None e = record {
+      why : (others : List Line) → TellsOther p run others → new ≡ lines ++ others → IsWhy p plan fault new
+      why others may is = record {
         run = run;
         went = ends.1;
         through = r.through;
         reasons = told.0;
         told = told.1;
-        others = [];
-        may = inr (subst (IsOtherIfAny p run) e r.other, refl);
-        whole = ap (map (line_bytes p plan)) (none e) ∙ (told.2 ∙ ap (told_once []) (sym (append-nil told.0)));
+        others = others;
+        may = may;
+        whole = is ∙ ap (λ (l : List Line). l ++ others) told.2;
       }
-      at (Some other) e = record {
-        run = run;
-        went = ends.1;
-        through = r.through;
-        reasons = told.0;
-        told = told.1;
-        others = other_line other.step other.operator ∷ [];
-        may = inl (other.step, other.operator, subst (IsOtherIfAny p run) e r.other, refl);
-        whole = ap (map (line_bytes p plan)) (some other e)
-            ∙ (map-append (line_bytes p plan) lines (line.MayMean other.step other.operator ∷ [])
-            ∙ (ap (λ (l : List (List ℕ)). l ++ other_line other.step other.operator ∷ []) told.2
-            ∙ sym (plain_behind told.0 (other_line other.step other.operator ∷ []) (All-cons IsPlain (other_line other.step other.operator) [] refl (All-nil IsPlain)))));
-      }
+
+      at : (other : Option Other) → noted.other ≡ other → IsWhy p plan fault new
+      at None e = why [] (inr (subst (IsOtherIfAny p run) e r.other, refl)) (none e ∙ sym (append-nil lines))
+      at (Some other) e = why (line.CouldBe other.step other.operator ∷ [])
+          (inl (other.step, other.operator, subst (IsOtherIfAny p run) e r.other, refl)) (some other e)
 
 -- ---- the state before a step
 

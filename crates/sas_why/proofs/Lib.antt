@@ -5,7 +5,6 @@ pub mod Noted
 pub mod Folding
 pub mod Firsts
 pub mod Once
-pub mod Bytes
 pub mod RulesOf
 pub mod Adding
 pub mod Composing

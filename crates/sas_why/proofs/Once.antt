@@ -1,182 +1,145 @@
--- What is told behind lines that were told.
-use Rattle.std.proofs.Common.{◌≡◌, ◌≢◌, ℕ, suc, ◌⊎◌, Bool, true, false, not, List, [], ◌∷◌, ◌++◌, map, bytes_eq, refl, sym, ◌∙◌, ap, subst, inl, inr, arith}
+-- Lines that are added to others, each line of a rule once.
+use Rattle.std.proofs.Common.{◌≡◌, ◌≢◌, ℕ, suc, Bool, true, false, not, List, [], ◌∷◌, ◌++◌, map, get_or, refl, sym, ◌∙◌, ap, subst, inl, inr, arith, append_assoc}
 use Rattle.std.proofs.lemmas.List.{append-nil}
-use Rattle.std.specs.Prelude.{if◌then◌else◌, filter}
-use Rattle.std.specs.List.{Contains, All, AllPairs, list_any}
-use Rattle.std.proofs.lemmas.Bool.{cases_Bool, false≢true, and_parts, and_from}
-use Rattle.std.proofs.lemmas.List.Elements.{All-head, All-tail}
-use Rattle.sas_reasons.specs.Lines.{is_rule_line, told_once}
+use Rattle.std.specs.Prelude.{◌||◌, ◌&&◌, if◌then◌else◌, bytes_eq, filter}
+use Rattle.std.specs.List.{Contains, AllByRecursion, AllPairs, list_any}
+use Rattle.std.proofs.lemmas.Bool.{cases_Bool, false≢true}
+use Rattle.std.proofs.lemmas.Bool.Decides.{same_from_decides}
+use Rattle.std.proofs.lemmas.List.Elements.{All-contains}
+use Rattle.sas_wording.specs.declared.line.Line.{Line}
+use Rattle.sas_wording.specs.declared.line.Line.TheVariants.{RuleDerives}
+use Rattle.sas_wording.specs.Line.{rule_numbers, is_rule_line, is_same_rule_line}
+use Rattle.sas_wording.proofs.RuleLines.{same_is}
+use Rattle.sas_reasons.specs.Lines.{with_line, with_lines}
 use Rattle.sas_reasons.proofs.Sorting.{contains_head, contains_tail, contains_cases, contains_none}
-use Rattle.sas_reasons.proofs.Telling.{came_when, when_came, left_out, told_then, told_else}
+use Rattle.sas_reasons.proofs.Telling.{is_among, among_is, is_among_when, line_then, line_else}
 
--- what came once these lines are told
-abbrev came_behind : List (List ℕ) → List (List ℕ) → List (List ℕ)
-came_behind came [] = came
-came_behind came (next ∷ lines) = if left_out came next then came_behind came lines else came_behind (next ∷ came) lines
+-- one list behind another
+pub lines_append : (lines a b : List Line) → with_lines lines (a ++ b) ≡ with_lines (with_lines lines a) b
+lines_append lines [] b = refl
+lines_append lines (next ∷ a) b = lines_append (with_line lines next) a b
 
-behind_then : (came : List (List ℕ)) (next : List ℕ) (lines : List (List ℕ)) → left_out came next ≡ true → came_behind came (next ∷ lines) ≡ came_behind came lines
-behind_then came next lines is = ap (λ b. if b then came_behind came lines else came_behind (next ∷ came) lines) is
+-- ---- lines of no rule
 
-behind_else : (came : List (List ℕ)) (next : List ℕ) (lines : List (List ℕ)) → left_out came next ≡ false → came_behind came (next ∷ lines) ≡ came_behind (next ∷ came) lines
-behind_else came next lines is = ap (λ b. if b then came_behind came lines else came_behind (next ∷ came) lines) is
+abbrev pub IsPlain : Line → Type 0
+IsPlain l = is_rule_line l ≡ false
 
--- lines behind others
-told_behind : (came lines more : List (List ℕ)) → told_once came (lines ++ more) ≡ told_once came lines ++ told_once (came_behind came lines) more
-told_behind came [] more = refl
-told_behind came (next ∷ lines) more = elim (cases_Bool (left_out came next)) [
-  | inl out ↦ told_then came next (lines ++ more) out
-      ∙ (told_behind came lines more
-      ∙ (ap (λ (a : List (List ℕ)). a ++ told_once (came_behind came lines) more) (sym (told_then came next lines out))
-      ∙ ap (λ (c : List (List ℕ)). told_once came (next ∷ lines) ++ told_once c more) (sym (behind_then came next lines out))))
-  | inr stays ↦ told_else came next (lines ++ more) stays
-      ∙ (ap (λ (a : List (List ℕ)). next ∷ a) (told_behind (next ∷ came) lines more)
-      ∙ (ap (λ (a : List (List ℕ)). a ++ told_once (came_behind (next ∷ came) lines) more) (sym (told_else came next lines stays))
-      ∙ ap (λ (c : List (List ℕ)). told_once came (next ∷ lines) ++ told_once c more) (sym (behind_else came next lines stays))))
+never_same : (lines : List Line) (next : Line) → IsPlain next → is_among lines next ≡ false
+never_same [] next plain = refl
+never_same (l ∷ lines) next plain =
+    ap (λ b. (b && bytes_eq (rule_numbers next) (rule_numbers l)) || is_among lines next) plain ∙ never_same lines next plain
+
+pub plain_lines : (lines more : List Line) → AllByRecursion IsPlain more → with_lines lines more ≡ lines ++ more
+plain_lines lines [] plain = sym (append-nil lines)
+plain_lines lines (next ∷ more) plain =
+    ap (λ (l : List Line). with_lines l more) (line_else lines next (never_same lines next plain.0))
+    ∙ (plain_lines (lines ++ next ∷ []) more plain.1 ∙ append_assoc lines (next ∷ []) more)
+
+-- ---- lines that are among the others
+
+pub none_new : (lines more : List Line) → ((z : Line) → Contains more z → (is_rule_line z ≡ true) × Contains lines z) → with_lines lines more ≡ lines
+none_new lines [] all = refl
+none_new lines (next ∷ more) all =
+    let first = all next (contains_head next more) in
+    ap (λ (l : List Line). with_lines l more) (line_then lines next (is_among_when lines next first.0 first.1))
+    ∙ none_new lines more (λ z h. all z (contains_tail next more z h))
+
+-- ---- lines of which each one is new among themselves
+
+abbrev pub Apart : List Line → Type 0
+Apart [] = Unit
+Apart (next ∷ more) = ((z : Line) → Contains more z → is_same_rule_line z next ≡ false) × Apart more
+
+-- those that aren't among the others
+abbrev new_of : List Line → List Line → List Line
+new_of lines more = filter (λ l. not (is_among lines l)) more
+
+among_more : (test : Line → Bool) (lines : List Line) (next : Line) → test next ≡ false → list_any test (lines ++ next ∷ []) ≡ list_any test lines
+among_more test [] next other = ap (λ b. b || false) other
+among_more test (l ∷ lines) next other = ap (λ b. test l || b) (among_more test lines next other)
+
+new_more : (lines : List Line) (next : Line) (more : List Line) → ((z : Line) → Contains more z → is_same_rule_line z next ≡ false)
+    → new_of (lines ++ next ∷ []) more ≡ new_of lines more
+new_more lines next [] others = refl
+new_more lines next (z ∷ more) others =
+    ap (λ b. if not b then z ∷ new_of (lines ++ next ∷ []) more else new_of (lines ++ next ∷ []) more)
+    (among_more (is_same_rule_line z) lines next (others z (contains_head z more)))
+    ∙ ap (λ (l : List Line). if not (is_among lines z) then z ∷ l else l) (new_more lines next more (λ y h. others y (contains_tail z more y h)))
+
+new_lines : (lines more : List Line) → Apart more → with_lines lines more ≡ lines ++ new_of lines more
+new_lines lines [] apart = sym (append-nil lines)
+new_lines lines (next ∷ more) apart = elim (cases_Bool (is_among lines next)) [
+  | inl among ↦ ap (λ (l : List Line). with_lines l more) (line_then lines next among)
+      ∙ (new_lines lines more apart.1
+      ∙ ap (λ b. lines ++ (if not b then next ∷ new_of lines more else new_of lines more)) (sym among))
+  | inr new ↦ ap (λ (l : List Line). with_lines l more) (line_else lines next new)
+      ∙ (new_lines (lines ++ next ∷ []) more apart.1
+      ∙ (ap (λ (l : List Line). (lines ++ next ∷ []) ++ l) (new_more lines next more apart.0)
+      ∙ (append_assoc lines (next ∷ []) (new_of lines more)
+      ∙ ap (λ b. lines ++ (if not b then next ∷ new_of lines more else new_of lines more)) (sym new))))
 ]
 
--- what came are those before, and the lines
-came_is : (came lines : List (List ℕ)) (z : List ℕ) → Contains (came_behind came lines) z → Contains came z ⊎ Contains lines z
-came_is came [] z h = inl h
-came_is came (next ∷ lines) z h = elim (cases_Bool (left_out came next)) [
-  | inl out ↦ elim (came_is came lines z (subst (λ c. Contains c z) (behind_then came next lines out) h)) [
-    | inl before ↦ inl before
-    | inr there ↦ inr (contains_tail next lines z there)
+all_kept : (lines more : List Line) → ((z : Line) → Contains more z → Contains lines z → ⊥) → new_of lines more ≡ more
+all_kept lines [] new = refl
+all_kept lines (next ∷ more) new = elim (cases_Bool (is_among lines next)) [
+  | inl among ↦ absurd (new next (contains_head next more) (among_is lines next among))
+  | inr other ↦ ap (λ b. if not b then next ∷ new_of lines more else new_of lines more) other
+      ∙ ap (λ (l : List Line). next ∷ l) (all_kept lines more (λ z h. new z (contains_tail next more z h)))
+]
+
+pub all_new : (lines more : List Line) → Apart more → ((z : Line) → Contains more z → Contains lines z → ⊥) → with_lines lines more ≡ lines ++ more
+all_new lines more apart new = new_lines lines more apart ∙ ap (λ (l : List Line). lines ++ l) (all_kept lines more new)
+
+-- ---- lines of rules that derive values
+
+-- the number of a line's rule
+abbrev pub rule_of : Line → ℕ
+rule_of l = get_or (rule_numbers l) 0 0
+
+pub other_line : (z next : Line) → rule_of next ≢ rule_of z → is_same_rule_line z next ≡ false
+other_line z next differ = elim (cases_Bool (is_same_rule_line z next)) [
+  | inl same ↦ absurd (differ (sym (ap rule_of (same_is z next same))))
+  | inr other ↦ other
+]
+
+pub contains_map : {A B : Type 0} (f : A → B) (xs : List A) (x : A) → Contains xs x → Contains (map f xs) (f x)
+contains_map f [] x h = absurd (contains_none x h)
+contains_map f (y ∷ ys) x h = elim (contains_cases y ys x h) [
+  | inl e ↦ subst (λ z. Contains (f y ∷ map f ys) (f z)) e (contains_head (f y) (map f ys))
+  | inr there ↦ contains_tail (f y) (map f ys) (f x) (contains_map f ys x there)
+]
+
+pub map_contains : {A B : Type 0} (f : A → B) (xs : List A) (z : B) → Contains (map f xs) z → (x : A) × Contains xs x × (f x ≡ z)
+map_contains f [] z h = absurd (contains_none z h)
+map_contains f (y ∷ ys) z h = elim (contains_cases (f y) (map f ys) z h) [
+  | inl e ↦ (y, contains_head y ys, e)
+  | inr there ↦ (let w = map_contains f ys z there in (w.0, contains_tail y ys w.0 w.1, w.2))
+]
+
+derived_apart : (rules : List ℕ) → AllPairs (λ a b. a ≢ b) rules → Apart (map RuleDerives rules)
+derived_apart [] pairs = tt
+derived_apart (rule ∷ rules) pairs = (
+  λ z h. let w = map_contains RuleDerives rules z h in
+      other_line z (RuleDerives rule) (λ e. All-contains (λ x. rule ≢ x) rules w.0
+      (λ k d lt. pairs 0 (suc k) d (omega arith) (omega arith)) w.1 (e ∙ sym (ap rule_of w.2))),
+  derived_apart rules (λ i j d lt within. pairs (suc i) (suc j) d (omega arith) (omega arith)),
+)
+
+module _ (lines : List Line) (is_told : ℕ → Bool) (told : (rule : ℕ) → (is_told rule ≡ true → Contains lines (RuleDerives rule)) × (Contains lines (RuleDerives rule) → is_told rule ≡ true)) where
+  told_is : (rule : ℕ) → is_among lines (RuleDerives rule) ≡ is_told rule
+  told_is rule = same_from_decides _ _ (among_is lines (RuleDerives rule), is_among_when lines (RuleDerives rule) refl) (told rule)
+
+  untold_lines : (rules : List ℕ) → new_of lines (map RuleDerives rules) ≡ map RuleDerives (filter (λ rule. not (is_told rule)) rules)
+  untold_lines [] = refl
+  untold_lines (rule ∷ rules) = elim (cases_Bool (is_told rule)) [
+    | inl out ↦ ap (λ b. if not b then RuleDerives rule ∷ new_of lines (map RuleDerives rules) else new_of lines (map RuleDerives rules)) (told_is rule ∙ out)
+        ∙ (untold_lines rules
+        ∙ ap (λ b. map RuleDerives (if not b then rule ∷ filter (λ r. not (is_told r)) rules else filter (λ r. not (is_told r)) rules)) (sym out))
+    | inr stays ↦ ap (λ b. if not b then RuleDerives rule ∷ new_of lines (map RuleDerives rules) else new_of lines (map RuleDerives rules)) (told_is rule ∙ stays)
+        ∙ (ap (λ (l : List Line). RuleDerives rule ∷ l) (untold_lines rules)
+        ∙ ap (λ b. map RuleDerives (if not b then rule ∷ filter (λ r. not (is_told r)) rules else filter (λ r. not (is_told r)) rules)) (sym stays))
   ]
-  | inr stays ↦ elim (came_is (next ∷ came) lines z (subst (λ c. Contains c z) (behind_else came next lines stays) h)) [
-    | inl before ↦ elim (contains_cases next came z before) [
-      | inl e ↦ inr (subst (Contains (next ∷ lines)) e (contains_head next lines))
-      | inr w ↦ inl w
-    ]
-    | inr there ↦ inr (contains_tail next lines z there)
-  ]
-]
 
-came_before : (came lines : List (List ℕ)) (z : List ℕ) → Contains came z → Contains (came_behind came lines) z
-came_before came [] z h = h
-came_before came (next ∷ lines) z h = elim (cases_Bool (left_out came next)) [
-  | inl out ↦ subst (λ c. Contains c z) (sym (behind_then came next lines out)) (came_before came lines z h)
-  | inr stays ↦ subst (λ c. Contains c z) (sym (behind_else came next lines stays)) (came_before (next ∷ came) lines z (contains_tail next came z h))
-]
-
-is_came : (came lines : List (List ℕ)) (z : List ℕ) → Contains lines z → Contains (came_behind came lines) z
-is_came came [] z h = absurd (contains_none z h)
-is_came came (next ∷ lines) z h = elim (cases_Bool (left_out came next)) [
-  | inl out ↦ subst (λ c. Contains c z) (sym (behind_then came next lines out)) (elim (contains_cases next lines z h) [
-    | inl e ↦ came_before came lines z (subst (Contains came) e (came_when next came (and_parts (is_rule_line next) (list_any (bytes_eq next) came) out).1))
-    | inr there ↦ is_came came lines z there
-  ])
-  | inr stays ↦ subst (λ c. Contains c z) (sym (behind_else came next lines stays)) (elim (contains_cases next lines z h) [
-    | inl e ↦ came_before (next ∷ came) lines z (subst (Contains (next ∷ came)) e (contains_head next came))
-    | inr there ↦ is_came (next ∷ came) lines z there
-  ])
-]
-
-stays_unless : (came : List (List ℕ)) (next : List ℕ) → (is_rule_line next ≡ true → Contains came next → ⊥) → left_out came next ≡ false
-stays_unless came next new = elim (cases_Bool (left_out came next)) [
-  | inr n ↦ n
-  | inl y ↦ (let both = and_parts (is_rule_line next) (list_any (bytes_eq next) came) y in absurd (new both.0 (came_when next came both.1)))
-]
-
-goes_when : (came : List (List ℕ)) (next : List ℕ) → is_rule_line next ≡ true → Contains came next → left_out came next ≡ true
-goes_when came next rule there = and_from (is_rule_line next) (list_any (bytes_eq next) came) rule (when_came next came there)
-
--- a line that is of no rule
-abbrev pub IsPlain : List ℕ → Type 0
-IsPlain bytes = is_rule_line bytes ≡ false
-
-plain_told : (came lines : List (List ℕ)) → All IsPlain lines → told_once came lines ≡ lines
-plain_told came [] plain = refl
-plain_told came (next ∷ lines) plain =
-    told_else came next lines (stays_unless came next (λ rule there. false≢true (sym (All-head IsPlain next lines plain) ∙ rule)))
-    ∙ ap (λ (a : List (List ℕ)). next ∷ a) (plain_told (next ∷ came) lines (All-tail IsPlain next lines plain))
-
--- lines of rules that came are not told
-none_told : (came lines : List (List ℕ)) → ((z : List ℕ) → Contains lines z → (is_rule_line z ≡ true) × Contains came z) → told_once came lines ≡ []
-none_told came [] all = refl
-none_told came (next ∷ lines) all =
-    let first = all next (contains_head next lines) in
-    told_then came next lines (goes_when came next first.0 first.1) ∙ none_told came lines (λ z h. all z (contains_tail next lines z h))
-
--- ---- lines of items
-
-module _ (line_of : ℕ → List ℕ) (is_rule : (item : ℕ) → is_rule_line (line_of item) ≡ true) (is_told : ℕ → Bool) where
-  -- the lines of different items, of which some came
-  items_told : (came : List (List ℕ)) (items : List ℕ)
-      → AllPairs (λ a b. line_of a ≢ line_of b) items
-      → ((item : ℕ) → Contains items item → is_told item ≡ true → Contains came (line_of item))
-      → ((item : ℕ) → Contains items item → Contains came (line_of item) → is_told item ≡ true)
-      → told_once came (map line_of items) ≡ map line_of (filter (λ item. not (is_told item)) items)
-  items_told came [] apart told there = refl
-  items_told came (item ∷ items) apart told there = elim (cases_Bool (is_told item)) [
-    | inl y ↦ told_then came (line_of item) (map line_of items) (goes_when came (line_of item) (is_rule item) (told item (contains_head item items) y))
-        ∙ (items_told came items later (λ z h. told z (contains_tail item items z h)) (λ z h. there z (contains_tail item items z h))
-        ∙ ap (λ b. map line_of (if not b then item ∷ rest else rest)) (sym y))
-    | inr n ↦ told_else came (line_of item) (map line_of items) (stays_unless came (line_of item) (λ rule h. false≢true (sym n ∙ there item (contains_head item items) h)))
-        ∙ (ap (λ (a : List (List ℕ)). line_of item ∷ a)
-        (items_told (line_of item ∷ came) items later
-        (λ z h t. contains_tail (line_of item) came (line_of z) (told z (contains_tail item items z h) t))
-        (λ z h c. elim (contains_cases (line_of item) came (line_of z) c) [
-          | inl e ↦ absurd (differs z h e)
-          | inr w ↦ there z (contains_tail item items z h) w
-        ]))
-        ∙ ap (λ b. map line_of (if not b then item ∷ rest else rest)) (sym n))
-  ]
-    where
-      rest : List ℕ
-      rest = filter (λ item. not (is_told item)) items
-
-      later : AllPairs (λ a b. line_of a ≢ line_of b) items
-      later i j d lt within = apart (suc i) (suc j) d (omega arith) (omega arith)
-
-      differs : (z : ℕ) → Contains items z → line_of item ≢ line_of z
-      differs z h e = apart 0 (suc h.0) z (omega arith) (let lt = h.1 in omega arith) (e ∙ ap line_of (sym h.2))
-
--- different lines that didn't come are all told
-fresh_told : (came more : List (List ℕ)) → AllPairs (λ a b. a ≢ b) more → ((z : List ℕ) → Contains more z → Contains came z → ⊥) → told_once came more ≡ more
-fresh_told came [] apart new = refl
-fresh_told came (next ∷ lines) apart new =
-    told_else came next lines (stays_unless came next (λ rule there. new next (contains_head next lines) there))
-    ∙ ap (λ (a : List (List ℕ)). next ∷ a) (fresh_told (next ∷ came) lines later (λ z h c. elim (contains_cases next came z c) [
-      | inl e ↦ differs z h e
-      | inr w ↦ new z (contains_tail next lines z h) w
-    ]))
-  where
-    later : AllPairs (λ a b. a ≢ b) lines
-    later i j d lt within = apart (suc i) (suc j) d (omega arith) (omega arith)
-
-    differs : (z : List ℕ) → Contains lines z → next ≢ z
-    differs z h e = apart 0 (suc h.0) z (omega arith) (let lt = h.1 in omega arith) (e ∙ sym h.2)
-
--- ---- behind lines that were told from the start
-
-only_before : (lines : List (List ℕ)) (z : List ℕ) → Contains (came_behind [] lines) z → Contains lines z
-only_before lines z h = elim (came_is [] lines z h) [
-  | inl none ↦ absurd (contains_none z none)
-  | inr there ↦ there
-]
-
-pub plain_behind : (lines more : List (List ℕ)) → All IsPlain more → told_once [] (lines ++ more) ≡ told_once [] lines ++ more
-plain_behind lines more plain = told_behind [] lines more ∙ ap (λ (m : List (List ℕ)). told_once [] lines ++ m) (plain_told (came_behind [] lines) more plain)
-
-pub none_behind : (lines more : List (List ℕ)) → ((z : List ℕ) → Contains more z → (is_rule_line z ≡ true) × Contains lines z) → told_once [] (lines ++ more) ≡ told_once [] lines
-none_behind lines more all = told_behind [] lines more
-    ∙ (ap (λ (m : List (List ℕ)). told_once [] lines ++ m)
-    (none_told (came_behind [] lines) more (λ z h. ((all z h).0, is_came [] lines z (all z h).1)))
-    ∙ append-nil (told_once [] lines))
-
-pub fresh_behind : (lines more : List (List ℕ)) → AllPairs (λ a b. a ≢ b) more → ((z : List ℕ) → Contains more z → Contains lines z → ⊥)
-    → told_once [] (lines ++ more) ≡ told_once [] lines ++ more
-fresh_behind lines more apart new = told_behind [] lines more
-    ∙ ap (λ (m : List (List ℕ)). told_once [] lines ++ m) (fresh_told (came_behind [] lines) more apart (λ z h c. new z h (only_before lines z c)))
-
-pub items_behind : (line_of : ℕ → List ℕ) (is_rule : (item : ℕ) → is_rule_line (line_of item) ≡ true) (is_told : ℕ → Bool)
-    (lines : List (List ℕ)) (items : List ℕ)
-    → AllPairs (λ a b. line_of a ≢ line_of b) items
-    → ((item : ℕ) → Contains items item → is_told item ≡ true → Contains lines (line_of item))
-    → ((item : ℕ) → Contains items item → Contains lines (line_of item) → is_told item ≡ true)
-    → told_once [] (lines ++ map line_of items) ≡ told_once [] lines ++ map line_of (filter (λ item. not (is_told item)) items)
-items_behind line_of is_rule is_told lines items apart told there = told_behind [] lines (map line_of items)
-    ∙ ap (λ (m : List (List ℕ)). told_once [] lines ++ m)
-    (items_told line_of is_rule is_told (came_behind [] lines) items apart
-    (λ z h t. is_came [] lines (line_of z) (told z h t))
-    (λ z h c. there z h (only_before lines (line_of z) c)))
+  pub derived_lines : (rules : List ℕ) → AllPairs (λ a b. a ≢ b) rules
+      → with_lines lines (map RuleDerives rules) ≡ lines ++ map RuleDerives (filter (λ rule. not (is_told rule)) rules)
+  derived_lines rules pairs = new_lines lines (map RuleDerives rules) (derived_apart rules pairs) ∙ ap (λ (l : List Line). lines ++ l) (untold_lines rules)

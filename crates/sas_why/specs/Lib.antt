@@ -1,9 +1,8 @@
 pub mod Asking
-pub mod Line
 pub mod Origins
 pub mod Retracing
 pub mod Noting
 pub mod Conflicts
 pub mod RulesOf
-pub mod Told
+pub mod Report
 pub mod Rounds

@@ -1,70 +1,71 @@
 // The causes of facts that fail.
-ghost use Rattle.std.specs.Prelude.{◌≡◌, ◌<◌, ℕ, length, map, flat_map, find, not, ◌==◌, ◌&&◌, OnOk, All};
+ghost use Rattle.std.specs.Prelude.{◌≡◌, ◌<◌, ℕ, [], ◌∷◌, ◌++◌, length, map, flat_map, find, not, ◌==◌, ◌&&◌, OnOk, All, slice_index};
 ghost use Rattle.sas_core.specs.declared.parts.Fact.{Fact};
-ghost use Rattle.sas_core.specs.declared.parts.Parts.{Parts};
 ghost use Rattle.sas_core.specs.Variables.{IsState};
 ghost use Rattle.sas_meaning.specs.Layers.{default_of};
 ghost use Rattle.sas_reasons.specs.Lines.{places};
 ghost use Rattle.sas_reasons.specs.Runs.{last_state};
 ghost use Rattle.sas_reasons.specs.Derivation.{can_give};
-ghost use Rattle.sas_reasons.specs.Cause.{fails, is_derived, is_given, gives_line, failing_lines};
+ghost use Rattle.sas_reasons.specs.Cause.{fails, is_derived, is_given, actual_fact, since_line, failing_lines};
 ghost use Rattle.sas_reasons.specs.Cause.{TellsGivers, can_be_given, keeping_lines, missing_lines, IsCause};
-ghost use Rattle.sas_why.specs.Told.{CanTell, Adds, AddLines, TellsAsked};
+ghost use Rattle.sas_why.specs.Report.{CanTell, Adds};
 
-use crate::line::Line;
+use crate::report::Report;
 use crate::retraced::Retraced;
-use crate::told::Told;
 use sas_core::{Fact, Grounded, Items};
 use sas_meaning::{Layered, State};
+use sas_wording::Line;
 use std::alloc::AllocError;
 
-/// Tells the cause of a fact that fails in the last state.
-pub fn tell_cause<T: Grounded>(
+/// Reports the cause of a fact that fails in the last state.
+pub fn report_cause<T: Grounded>(
     task: &Layered<T>,
     noted: &Retraced,
     fact: Fact,
-    told: &mut Told,
+    report: &mut Report,
 ) -> Result<(), AllocError>
     requires fact { fact.var < length task.now.variables }
-    requires told { CanTell task.now noted.now told.old }
-    ensures { OnOk result (Adds task.now noted.now told.old told.new
+    requires report { CanTell task.now noted.now report.old }
+    ensures { OnOk result (Adds task.now noted.now report.old report.new
         (λ run. IsCause task.now run fact)) }
 {
-    tell_values(noted, fact, &mut told.lines)?;
-    tell_givers(task, noted, fact.var, told)?;
-    tell_missing(task, noted, fact, told)
+    report_values(noted, fact, &mut report.lines)?;
+    report_givers(task, noted, fact.var, report)?;
+    report_missing(task, noted, fact, report)
 }
 
-/// Tells what is asked, what the last state has instead, and since when.
-fn tell_values(noted: &Retraced, fact: Fact, lines: &mut Items<Line>) -> Result<(), AllocError>
+/// Reports the required fact, the actual one, and since when it holds.
+fn report_values(noted: &Retraced, fact: Fact, lines: &mut Items<Line>) -> Result<(), AllocError>
     requires state { fact.var < length noted.now.last }
     requires since { fact.var < length noted.now.since.items }
-    ensures { OnOk result (TellsAsked noted.now fact lines.old lines.new) }
+    ensures { OnOk result (lines.new ≡ lines.old
+        ++ (Line.Requires fact ∷ Line.Actual (actual_fact noted.now.last fact.var)
+        ∷ since_line (slice_index noted.now.since.items fact.var) ∷ [])) }
 {
     let var = fact.var;
     let value = noted.last.value(var);
-    lines.push(Line::Asks { fact })?;
-    lines.push(Line::Has {
+    lines.push(Line::Requires { fact })?;
+    lines.push(Line::Actual {
         fact: Fact { var, value },
     })?;
     let since = noted.since[var as usize];
     lines.push(if since == 0 {
-        Line::SinceStart
+        Line::SinceInitialState
     } else {
         Line::SinceStep { step: since }
     })
 }
 
-/// Tells from which rules a derived variable has its value, if it hasn't its default.
-fn tell_givers<T: Grounded>(
+/// Reports which rules derive a variable's value, if it isn't its default.
+fn report_givers<T: Grounded>(
     task: &Layered<T>,
     noted: &Retraced,
     var: u32,
-    told: &mut Told,
+    report: &mut Report,
 ) -> Result<(), AllocError>
     requires var { var < length task.now.variables }
-    requires told { CanTell task.now noted.now told.old }
-    ensures { OnOk result (Adds task.now noted.now told.old told.new
+    requires report { CanTell task.now noted.now report.old }
+    ensures { OnOk result (Adds task.now noted.now report.old report.new
         (λ run. TellsGivers (is_given task.now (last_state run) var) task.now (last_state run) var)) }
 {
     // By its contract the task is well ranged and layered.
@@ -72,9 +73,9 @@ fn tell_givers<T: Grounded>(
     if !has_givers(task, &noted.last, var) {
         return Ok(());
     }
-    told.next.clear();
-    told.origins.tell(task, var, &mut told.next)?;
-    push_givers(told.next.as_slice(), &mut told.lines)
+    report.next.clear();
+    report.origins.tell(task, var, &mut report.next)?;
+    push_givers(report.next.as_slice(), &mut report.lines)
 }
 
 /// Returns whether the variable is derived and hasn't its default.
@@ -90,28 +91,28 @@ fn has_givers<T: Grounded>(task: &Layered<T>, state: &State, var: u32) -> bool
 
 /// Adds a line for each of the rules.
 fn push_givers(rules: &[u32], lines: &mut Items<Line>) -> Result<(), AllocError>
-    ensures { OnOk result ((p : Parts) → AddLines p lines.old lines.new (map (gives_line p) rules.now)) }
+    ensures { OnOk result (lines.new ≡ lines.old ++ map Line.RuleDerives rules.now) }
 {
     for rule in rules {
-        lines.push(Line::Gives { rule: *rule })?;
+        lines.push(Line::RuleDerives { rule: *rule })?;
     }
     Ok(())
 }
 
-/// Tells why a derived variable hasn't the value that is asked for, if this isn't its default.
-fn tell_missing<T: Grounded>(
+/// Reports why no rule derives the required value of a derived variable, if this isn't its default.
+fn report_missing<T: Grounded>(
     task: &Layered<T>,
     noted: &Retraced,
     fact: Fact,
-    told: &mut Told,
+    report: &mut Report,
 ) -> Result<(), AllocError>
     requires fact { fact.var < length task.now.variables }
-    requires told { CanTell task.now noted.now told.old }
-    ensures { OnOk result (Adds task.now noted.now told.old told.new
+    requires report { CanTell task.now noted.now report.old }
+    ensures { OnOk result (Adds task.now noted.now report.old report.new
         (λ run lines. lines ≡ missing_lines task.now (last_state run) fact)) }
 {
     if asks_for_rules(task, fact) {
-        tell_keepers(task, noted, fact, told)
+        report_keepers(task, noted, fact, report)
     } else {
         Ok(())
     }
@@ -126,33 +127,33 @@ fn asks_for_rules<T: Grounded>(task: &Layered<T>, fact: Fact) -> bool
     task.layer(fact.var).is_some() && fact.value != task.initial_value(fact.var)
 }
 
-/// Tells what keeps the rules of the fact's variable from firing, or that none of them gives the fact's value.
-fn tell_keepers<T: Grounded>(
+/// Reports what the rules of the fact's variable require that fails, or that none of them derives the fact's value.
+fn report_keepers<T: Grounded>(
     task: &Layered<T>,
     noted: &Retraced,
     fact: Fact,
-    told: &mut Told,
+    report: &mut Report,
 ) -> Result<(), AllocError>
     requires fact { fact.var < length task.now.variables }
-    requires told { CanTell task.now noted.now told.old }
-    ensures { OnOk result (Adds task.now noted.now told.old told.new
+    requires report { CanTell task.now noted.now report.old }
+    ensures { OnOk result (Adds task.now noted.now report.old report.new
         (λ run lines. lines ≡ keeping_lines task.now (last_state run) fact)) }
 {
     // By its contract the task is well ranged and layered.
     let _ = task.task();
     let var = fact.var as usize;
-    let rules = told.rules.get(var);
+    let rules = report.rules.get(var);
     if !give_value(task, rules, fact) {
-        return told.lines.push(Line::NoRule);
+        return report.lines.push(Line::NoRuleDerives);
     }
-    if told.kept.as_slice()[var] {
+    if report.kept.as_slice()[var] {
         return Ok(());
     }
-    told.kept.set(var, true);
-    push_keepers(task, &noted.last, rules, &mut told.lines)
+    report.kept.set(var, true);
+    push_keepers(task, &noted.last, rules, &mut report.lines)
 }
 
-/// Returns whether the rules of the fact's variable that can fire give it the fact's value. All of them give the same.
+/// Returns whether the rules of the fact's variable that can fire derive the fact's value. All of them derive the same.
 fn give_value<T: Grounded>(task: &Layered<T>, rules: &[u32], fact: Fact) -> bool
     requires { rules.now ≡ places (can_give task.now fact.var) task.now.rules }
     ensures { result ≡ can_be_given task.now fact }
@@ -174,14 +175,14 @@ fn push_keepers<T: Grounded>(
 ) -> Result<(), AllocError>
     requires state { IsState task.now.variables state.now }
     requires rules { All (λ (rule : ℕ). rule < length task.now.rules) rules.now }
-    ensures { OnOk result (AddLines task.now lines.old lines.new
-        (flat_map (failing_lines task.now state.now) rules.now)) }
+    ensures { OnOk result (lines.new
+        ≡ lines.old ++ flat_map (failing_lines task.now state.now) rules.now) }
 {
     // By its contract the task is well ranged and layered.
     let _ = task.task();
     for rule in rules {
         if let Some(fact) = first_failing(state, task.rule_conditions(*rule)) {
-            lines.push(Line::RuleAsks { rule: *rule, fact })?;
+            lines.push(Line::RuleRequires { rule: *rule, fact })?;
         }
     }
     Ok(())

@@ -1,29 +1,27 @@
 // Why a plan isn't valid.
-ghost use Rattle.std.specs.Prelude.{◌≡◌, ◌<◌, ◌-◌, ℕ, [], length, All, IfOk, OnOk, Some, map};
-ghost use Rattle.sas_core.specs.PlanParts.{PlanParts};
+ghost use Rattle.std.specs.Prelude.{◌≡◌, ◌<◌, ◌-◌, ℕ, [], length, All, IfOk, OnOk, Some};
 ghost use Rattle.sas_core.specs.Grounded.{operator_at};
-ghost use Rattle.sas_core.specs.Stepwise.{step_at};
 ghost use Rattle.sas_core.specs.Variables.{IsState};
 ghost use Rattle.sas_meaning.specs.Steps.{Agree};
-ghost use Rattle.sas_reasons.specs.Runs.{Run, last_state};
-ghost use Rattle.sas_reasons.specs.WhyPlan.{TellsInapplicable, TellsGoal, TellsFault, IsWhy};
-ghost use Rattle.sas_reasons.specs.WhyPlan.{cost_lines_sum};
-ghost use Rattle.sas_why.specs.Line.{line_bytes};
+ghost use Rattle.sas_reasons.specs.Lines.{TellsBehind};
+ghost use Rattle.sas_reasons.specs.Runs.{Run};
+ghost use Rattle.sas_reasons.specs.WhyPlan.{TellsLike, TellsInapplicable, TellsOperators, TellsConflict};
+ghost use Rattle.sas_reasons.specs.WhyPlan.{TellsGoal, TellsFault, IsWhy, cost_lines, cost_lines_sum};
 ghost use Rattle.sas_why.specs.Retracing.{Retraces};
-ghost use Rattle.sas_why.specs.Told.{IsBehind, IsTold, CanTell, Adds, TellsOnce};
+ghost use Rattle.sas_why.specs.Report.{IsBehind, CanTell, Adds, TellsOnce};
 
-use crate::causes::tell_cause;
+use crate::causes::report_cause;
 use crate::conflicts::conflict;
 use crate::likeness::like;
-use crate::line::Line;
+use crate::report::Report;
 use crate::retraced::Retraced;
-use crate::told::Told;
 use sas_core::{Grounded, Items, Stepwise};
 use sas_meaning::{Layered, Preconditions, State};
 use sas_run::PlanFault;
+use sas_wording::Line;
 use std::alloc::{AllocError, Global};
 
-/// Why the plan isn't valid: the lines that are told behind its verdict.
+/// Returns why the plan isn't valid: the lines of reasons behind its verdict.
 pub fn reasons<T: Grounded, P: Stepwise>(
     alloc: Global,
     layered: &Layered<T>,
@@ -33,12 +31,11 @@ pub fn reasons<T: Grounded, P: Stepwise>(
 ) -> Result<Vec<Line>, AllocError>
     requires retraced { (run : Run) × Retraces layered.now (P.says plan.now) noted.now run }
     requires fault { noted.now.fault ≡ Some fault }
-    ensures { IfOk result (λ lines. IsWhy layered.now (P.says plan.now) fault
-        (map (line_bytes layered.now (P.says plan.now)) lines.items)) }
+    ensures { IfOk result (λ lines. IsWhy layered.now (P.says plan.now) fault lines.items) }
 {
     let mut lines = lines_of_fault(alloc, layered, plan, noted, fault)?;
     if let Some(other) = noted.other {
-        lines.push(Line::MayMean {
+        lines.push(Line::CouldBe {
             step: other.step,
             operator: other.operator,
         })?;
@@ -58,8 +55,7 @@ fn lines_of_fault<T: Grounded, P: Stepwise>(
     requires fault { noted.now.fault ≡ Some fault }
     ensures { IfOk result (λ lines. (run : Run)
         → Retraces layered.now (P.says plan.now) noted.now run
-        → TellsOnce layered.now (P.says plan.now) lines
-        (TellsFault layered.now (P.says plan.now) run fault)) }
+        → TellsOnce lines (TellsFault layered.now (P.says plan.now) run fault)) }
 {
     // By its contract the task is well ranged and layered.
     let _ = layered.task();
@@ -77,26 +73,25 @@ fn lines_of_fault<T: Grounded, P: Stepwise>(
     }
 }
 
-/// No operator has the step's name: returns the lines that tell which one has nearly that name.
+/// Returns the lines for a step whose name no operator has: the step, and an operator of nearly that name.
 fn unknown<T: Grounded>(
     alloc: Global,
     task: &Layered<T>,
     name: &[u8],
     step: usize,
 ) -> Result<Items<Line>, AllocError>
-    ensures { IfOk result (λ lines. (plan : PlanParts) (run : Run)
-        → name.now ≡ step_at plan (step - 1)
-        → TellsOnce task.now plan lines (TellsFault task.now plan run (PlanFault.NoOperator step))) }
+    ensures { IfOk result (λ lines.
+        TellsOnce lines (TellsBehind (Line.Step step) (TellsLike task.now name.now))) }
 {
     let mut lines = Items::new(alloc);
     lines.push(Line::Step { step })?;
     if let Some(operator) = like(task, name) {
-        lines.push(Line::Like { operator })?;
+        lines.push(Line::SimilarOperator { operator })?;
     }
     Ok(lines)
 }
 
-/// No operator of the step's name is applicable: returns the lines that tell why each of them isn't.
+/// Returns the lines for a step none of whose operators is applicable: the step, and why each of them isn't.
 fn blocked<T: Grounded>(
     alloc: Global,
     task: &Layered<T>,
@@ -104,71 +99,65 @@ fn blocked<T: Grounded>(
     name: &[u8],
     step: usize,
 ) -> Result<Items<Line>, AllocError>
-    requires { (plan : PlanParts) × (run : Run) × IsBehind task.now plan noted.now run }
-    ensures { IfOk result (λ lines. (plan : PlanParts) (run : Run)
-        → IsBehind task.now plan noted.now run
-        → name.now ≡ step_at plan (step - 1)
-        → TellsOnce task.now plan lines (TellsFault task.now plan run (PlanFault.NotApplicable step))) }
+    requires { (run : Run) × IsBehind task.now noted.now run }
+    ensures { IfOk result (λ lines. (run : Run) → IsBehind task.now noted.now run
+        → TellsOnce lines (TellsBehind (Line.Step step) (TellsOperators task.now run name.now))) }
 {
-    let mut told = Told::new(alloc, task, &noted.last)?;
-    match tell_blocked(task, noted, name, step, &mut told) {
-        Ok(()) => Ok(told.into_lines()),
+    let mut report = Report::new(alloc, task, &noted.last)?;
+    match report_blocked(task, noted, name, step, &mut report) {
+        Ok(()) => Ok(report.into_lines()),
         Err(error) => {
-            drop(told);
+            drop(report);
             Err(error)
         }
     }
 }
 
-/// Tells the step, and why each operator of its name isn't applicable. Nothing was told before.
-fn tell_blocked<T: Grounded>(
+/// Reports the step, and why each operator of its name isn't applicable.
+fn report_blocked<T: Grounded>(
     task: &Layered<T>,
     noted: &Retraced,
     name: &[u8],
     step: usize,
-    told: &mut Told,
+    report: &mut Report,
 ) -> Result<(), AllocError>
-    requires { CanTell task.now noted.now told.old }
-    ensures { OnOk result ((plan : PlanParts) (run : Run)
-        → IsBehind task.now plan noted.now run
-        → name.now ≡ step_at plan (step - 1)
-        → IsTold task.now plan noted.now.last told.old []
-        → TellsOnce task.now plan told.new.lines
-        (TellsFault task.now plan run (PlanFault.NotApplicable step))) }
+    requires { CanTell task.now noted.now report.old }
+    ensures { OnOk result (Adds task.now noted.now report.old report.new
+        (λ run. TellsBehind (Line.Step step) (TellsOperators task.now run name.now))) }
 {
-    told.lines.push(Line::Step { step })?;
+    report.lines.push(Line::Step { step })?;
     for operator in 0..task.operators() {
         if task.name(operator) == name {
-            tell_inapplicable(task, noted, operator, told)?;
+            report_inapplicable(task, noted, operator, report)?;
         }
     }
     Ok(())
 }
 
-/// Tells the operator, and the cause of each of its preconditions that fails.
-fn tell_inapplicable<T: Grounded>(
+/// Reports the operator, and the cause of each of its preconditions that fails.
+fn report_inapplicable<T: Grounded>(
     task: &Layered<T>,
     noted: &Retraced,
     operator: u32,
-    told: &mut Told,
+    report: &mut Report,
 ) -> Result<(), AllocError>
     requires operator { operator < length task.now.operators }
-    requires told { CanTell task.now noted.now told.old }
-    ensures { OnOk result (Adds task.now noted.now told.old told.new
+    requires report { CanTell task.now noted.now report.old }
+    ensures { OnOk result (Adds task.now noted.now report.old report.new
         (λ run. TellsInapplicable task.now run operator)) }
 {
     // By its contract the task is well ranged and layered.
     let _ = task.task();
-    told.lines.push(Line::Operator { operator })?;
+    report.lines.push(Line::Operator { operator })?;
     for fact in Preconditions::new(task, operator) {
         if noted.last.value(fact.var) != fact.value {
-            tell_cause(task, noted, fact, told)?;
+            report_cause(task, noted, fact, report)?;
         }
     }
     Ok(())
 }
 
-/// Effects of the step's operator conflict: returns the lines that tell which two.
+/// Returns the lines for a step whose effects conflict: the step, its operator, and the two effects.
 fn conflicting<T: Grounded>(
     alloc: Global,
     task: &Layered<T>,
@@ -179,80 +168,75 @@ fn conflicting<T: Grounded>(
     requires operator { operator < length task.now.operators }
     requires state { IsState task.now.variables state.now }
     requires disagree { Agree state.now (operator_at task.now operator).effects → ⊥ }
-    ensures { IfOk result (λ lines. (plan : PlanParts) (run : Run)
-        → state.now ≡ last_state run
-        → TellsOnce task.now plan lines
-        (TellsFault task.now plan run (PlanFault.Conflict step operator))) }
+    ensures { IfOk result (λ lines.
+        TellsOnce lines (TellsBehind (Line.Step step) (TellsConflict task.now state.now operator))) }
 {
     let clash = conflict(alloc, task, operator, state)?;
     let mut lines = Items::new(alloc);
     lines.push(Line::Step { step })?;
     lines.push(Line::Operator { operator })?;
-    lines.push(Line::Sets {
+    lines.push(Line::ConflictingEffect {
         operator,
         effect: clash.earlier,
     })?;
-    lines.push(Line::Sets {
+    lines.push(Line::ConflictingEffect {
         operator,
         effect: clash.later,
     })?;
     Ok(lines)
 }
 
-/// Returns the lines that tell the cause of each goal fact that fails.
+/// Returns the lines for the goal facts that fail, each with its cause.
 fn missed<T: Grounded>(
     alloc: Global,
     task: &Layered<T>,
     noted: &Retraced,
 ) -> Result<Items<Line>, AllocError>
-    requires { (plan : PlanParts) × (run : Run) × IsBehind task.now plan noted.now run }
-    ensures { IfOk result (λ lines. (plan : PlanParts) (run : Run)
-        → IsBehind task.now plan noted.now run
-        → TellsOnce task.now plan lines (TellsGoal task.now run)) }
+    requires { (run : Run) × IsBehind task.now noted.now run }
+    ensures { IfOk result (λ lines. (run : Run) → IsBehind task.now noted.now run
+        → TellsOnce lines (TellsGoal task.now run)) }
 {
-    let mut told = Told::new(alloc, task, &noted.last)?;
-    match tell_missed(task, noted, &mut told) {
-        Ok(()) => Ok(told.into_lines()),
+    let mut report = Report::new(alloc, task, &noted.last)?;
+    match report_missed(task, noted, &mut report) {
+        Ok(()) => Ok(report.into_lines()),
         Err(error) => {
-            drop(told);
+            drop(report);
             Err(error)
         }
     }
 }
 
-/// Tells the cause of each goal fact that fails.
-fn tell_missed<T: Grounded>(
+/// Reports each goal fact that fails, and its cause.
+fn report_missed<T: Grounded>(
     task: &Layered<T>,
     noted: &Retraced,
-    told: &mut Told,
+    report: &mut Report,
 ) -> Result<(), AllocError>
-    requires { CanTell task.now noted.now told.old }
-    ensures { OnOk result (Adds task.now noted.now told.old told.new (TellsGoal task.now)) }
+    requires { CanTell task.now noted.now report.old }
+    ensures { OnOk result (Adds task.now noted.now report.old report.new (TellsGoal task.now)) }
 {
     // By its contract the task is well ranged and layered.
     let _ = task.task();
     for (index, fact) in task.goal().iter().enumerate() {
         if noted.last.value(fact.var) != fact.value {
-            told.lines.push(Line::GoalFact {
+            report.lines.push(Line::GoalFact {
                 index: index as u32,
             })?;
-            tell_cause(task, noted, *fact, told)?;
+            report_cause(task, noted, *fact, report)?;
         }
     }
     Ok(())
 }
 
-/// The cost differs: returns the lines that tell what it is made of.
+/// Returns the lines for a cost that differs: what the plan's cost is made of.
 fn costs<T: Grounded>(
     alloc: Global,
     task: &Layered<T>,
     operators: &[u32],
 ) -> Result<Items<Line>, AllocError>
     requires { All (λ (operator : ℕ). operator < length task.now.operators) operators.now }
-    ensures { IfOk result (λ lines. (plan : PlanParts) (run : Run) (sum : ℕ)
-        → operators.now ≡ run.operators
-        → length run.operators ≡ length run.steps
-        → TellsOnce task.now plan lines (TellsFault task.now plan run (PlanFault.CostDiffers sum))) }
+    ensures { IfOk result (λ lines. (run : Run) → operators.now ≡ run.operators
+        → length run.operators ≡ length run.steps → lines ≡ cost_lines task.now run) }
 {
     let mut lines = Items::new(alloc);
     lines.push(Line::Metric)?;

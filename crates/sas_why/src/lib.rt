@@ -8,14 +8,12 @@ mod conflicts;
 mod derived;
 mod faults;
 mod likeness;
-mod line;
 mod origins;
+mod report;
 mod retraced;
 mod rounds;
 mod second_pass;
-mod told;
 
 pub use faults::reasons;
-pub use line::Line;
 pub use retraced::{Other, Retraced};
 pub use second_pass::retrace;

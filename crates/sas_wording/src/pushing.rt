@@ -1,19 +1,73 @@
 // How lines of reasons go out: names are looked up here.
-ghost use Rattle.std.specs.Prelude.{◌≡◌, ◌↔◌, false, [], ◌∷◌, ◌++◌, map, IsErr, IsTrue, decimal};
+ghost use Rattle.std.specs.Prelude.{◌≡◌, ◌↔◌, ◌⊎◌, false, [], ◌∷◌, ◌++◌, map, Some};
+ghost use Rattle.std.specs.Prelude.{IfErr, IsErr, IsErrAnd, IsTrue, OnOk, decimal};
+ghost use Rattle.std.specs.Io.KnownBytes.{Appends};
+ghost use Rattle.sas_output.specs.Ending.{EndsCounting, IsWrite};
 ghost use Rattle.sas_output.specs.Pieces.{PutsOrBreaks};
 ghost use Rattle.sas_output.specs.Words.{word_bytes};
-ghost use Rattle.sas_wording.specs.Line.{line_bytes, reasons_text};
-ghost use Rattle.sas_wording.specs.Wording.{steps_of, line_with, wording_bytes};
+ghost use Rattle.sas_wording.specs.Line.{words_of, line_bytes, reasons_text};
+ghost use Rattle.sas_wording.specs.Wording.{steps_of, part_words, could_be_words, line_with, wording_bytes};
 
 use crate::line::Line;
 use crate::names::{Named, value_name};
-use crate::wording::{Rest, Start, Wording};
+use crate::wording::{Part, Rest, Start, Wording};
 use itoa::Buffer;
 use sas_core::Fact;
 use sas_flat::FlatTask;
 use sas_lines::{Short, Watched};
-use sas_output::{Pieces, Word, Words};
+use sas_output::{Pieces, Status, ToolFault, Word, Words};
+use std::alloc::Global;
 use std::io::Write;
+
+/// Writes an answer that says no: its verdict, a line with its end, and its reasons. The text goes out in pieces. If an `Err` isn't
+/// a failed write, it is `Memory`, and nothing was written. Not to be called after a failure.
+pub fn write_reasons<W: Write>(
+    alloc: Global,
+    out: &mut Watched<W>,
+    verdict: &[u8],
+    named: &Named<'_>,
+    lines: &[Line],
+) -> Result<Status, ToolFault>
+    requires { out.old.failed ≡ false }
+    ensures ends { EndsCounting (λ output. output ≡ Some (record {
+      text = verdict.now
+          ++ reasons_text named.now.task.now (steps_of named.now.plan) lines.now;
+      status = Status.No;
+    })) (Appends (W.contents out.old.device) (W.contents out.new.device)) result }
+    ensures nothing { IfErr result (λ e. IsWrite e
+        ⊎ ((e ≡ ToolFault.Memory) × (out.new ≡ out.old))) }
+    ensures writes { IsErrAnd result IsWrite ↔ IsTrue out.new.failed }
+{
+    // What takes memory comes first.
+    let mut pieces = Pieces::new(alloc)?;
+    match push_answer(&mut pieces, out, verdict, named, lines) {
+        Ok(()) => Ok(Status::No),
+        Err(short) => Err(ToolFault::Write {
+            written: short.written,
+        }),
+    }
+}
+
+/// Writes the verdict and the lines behind it. In the end nothing is held back.
+fn push_answer<W: Write>(
+    pieces: &mut Pieces,
+    out: &mut Watched<W>,
+    verdict: &[u8],
+    named: &Named<'_>,
+    lines: &[Line],
+) -> Result<(), Short>
+    requires { out.old.failed ≡ false }
+    ensures puts { PutsOrBreaks (W.contents out.old.device) (W.contents out.new.device)
+        pieces.old pieces.new
+        (verdict.now ++ reasons_text named.now.task.now (steps_of named.now.plan) lines.now)
+        result }
+    ensures empty { OnOk result (pieces.new.held ≡ []) }
+    ensures note { IsErr result ↔ IsTrue out.new.failed }
+{
+    pieces.push(out, verdict)?;
+    push_lines(pieces, out, named, lines)?;
+    pieces.flush(out)
+}
 
 /// Adds the lines, each with its end, to the text. Not to be called after a failure.
 pub fn push_lines<W: Write>(
@@ -68,34 +122,10 @@ fn push_wording<W: Write>(
         Rest::Nothing => push_words(pieces, out, start, &[]),
         Rest::Number { number } => push_words(pieces, out, start, &[Word::Number(number)]),
         Rest::Sum { sum } => push_sum(pieces, out, start, sum),
-        Rest::Named { number, name } => {
-            let words = [Word::Number(number), Word::Text(name)];
-            push_words(pieces, out, start, &words)
-        }
-        Rest::OfFact { fact } => {
-            let name = value_name(task, fact);
-            let words = [var_of(fact), value_of(fact), Word::Text(name)];
-            push_words(pieces, out, start, &words)
-        }
-        Rest::Part { number, verb, fact } => {
-            let name = value_name(task, fact);
-            let words = [
-                Word::Number(number),
-                Word::Text(verb),
-                var_of(fact),
-                value_of(fact),
-                Word::Text(name),
-            ];
-            push_words(pieces, out, start, &words)
-        }
-        Rest::CouldBe { step, operator } => {
-            let words = [
-                Word::Number(step),
-                Word::Text(b"could also be operator"),
-                Word::Number(operator),
-            ];
-            push_words(pieces, out, start, &words)
-        }
+        Rest::Named { number, name } => push_named(pieces, out, start, number, name),
+        Rest::OfFact { fact } => push_fact(pieces, out, task, start, fact),
+        Rest::OfPart { part } => push_part(pieces, out, task, start, part),
+        Rest::CouldBe { step, operator } => push_could_be(pieces, out, start, step, operator),
     }
 }
 
@@ -120,20 +150,6 @@ fn push_words<W: Write>(
     pieces.push_line(out, line)
 }
 
-/// Returns the number of the fact's variable.
-fn var_of<'w>(fact: Fact) -> Word<'w>
-    ensures { result ≡ Word.Number fact.var }
-{
-    Word::Number(u64::from(fact.var))
-}
-
-/// Returns the number of the fact's value.
-fn value_of<'w>(fact: Fact) -> Word<'w>
-    ensures { result ≡ Word.Number fact.value }
-{
-    Word::Number(u64::from(fact.value))
-}
-
 /// Adds the line of a sum, which may be larger than a `u64`, and its end.
 fn push_sum<W: Write>(
     pieces: &mut Pieces,
@@ -150,4 +166,88 @@ fn push_sum<W: Write>(
     let mut buffer = Buffer::new();
     let digits = buffer.format(sum).as_bytes();
     push_words(pieces, out, start, &[Word::Text(digits)])
+}
+
+/// Adds the line of a number and a name, and its end.
+fn push_named<W: Write>(
+    pieces: &mut Pieces,
+    out: &mut Watched<W>,
+    start: Start,
+    number: u64,
+    name: &[u8],
+) -> Result<(), Short>
+    requires { out.old.failed ≡ false }
+    ensures puts { PutsOrBreaks (W.contents out.old.device) (W.contents out.new.device)
+        pieces.old pieces.new
+        (line_with start (decimal number ∷ name.now ∷ []) ++ 10 ∷ []) result }
+    ensures note { IsErr result ↔ IsTrue out.new.failed }
+{
+    let words = [Word::Number(number), Word::Text(name)];
+    push_words(pieces, out, start, &words)
+}
+
+/// Adds the line of a fact, and its end.
+fn push_fact<W: Write>(
+    pieces: &mut Pieces,
+    out: &mut Watched<W>,
+    task: &FlatTask,
+    start: Start,
+    fact: Fact,
+) -> Result<(), Short>
+    requires { out.old.failed ≡ false }
+    ensures puts { PutsOrBreaks (W.contents out.old.device) (W.contents out.new.device)
+        pieces.old pieces.new
+        (line_with start (words_of task.now fact) ++ 10 ∷ []) result }
+    ensures note { IsErr result ↔ IsTrue out.new.failed }
+{
+    let var = Word::Number(u64::from(fact.var));
+    let value = Word::Number(u64::from(fact.value));
+    let name = value_name(task, fact);
+    push_words(pieces, out, start, &[var, value, Word::Text(name)])
+}
+
+/// Adds the line of what a part of the task does with a fact, and its end.
+fn push_part<W: Write>(
+    pieces: &mut Pieces,
+    out: &mut Watched<W>,
+    task: &FlatTask,
+    start: Start,
+    part: Part,
+) -> Result<(), Short>
+    requires { out.old.failed ≡ false }
+    ensures puts { PutsOrBreaks (W.contents out.old.device) (W.contents out.new.device)
+        pieces.old pieces.new
+        (line_with start (part_words task.now part) ++ 10 ∷ []) result }
+    ensures note { IsErr result ↔ IsTrue out.new.failed }
+{
+    let number = Word::Number(u64::from(part.number));
+    let verb = Word::Text(part.verb);
+    let var = Word::Number(u64::from(part.fact.var));
+    let value = Word::Number(u64::from(part.fact.value));
+    let name = value_name(task, part.fact);
+    push_words(
+        pieces,
+        out,
+        start,
+        &[number, verb, var, value, Word::Text(name)],
+    )
+}
+
+/// Adds the line of an operator that a step could also be, and its end.
+fn push_could_be<W: Write>(
+    pieces: &mut Pieces,
+    out: &mut Watched<W>,
+    start: Start,
+    step: u64,
+    operator: u64,
+) -> Result<(), Short>
+    requires { out.old.failed ≡ false }
+    ensures puts { PutsOrBreaks (W.contents out.old.device) (W.contents out.new.device)
+        pieces.old pieces.new
+        (line_with start (could_be_words step operator) ++ 10 ∷ []) result }
+    ensures note { IsErr result ↔ IsTrue out.new.failed }
+{
+    let could_be = Word::Text(b"could also be operator");
+    let words = [Word::Number(step), could_be, Word::Number(operator)];
+    push_words(pieces, out, start, &words)
 }

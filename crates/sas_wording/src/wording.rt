@@ -47,39 +47,31 @@ pub struct Wording<'n> {
     pub rest: Rest<'n>,
 }
 
+/// What a part of a task, which has this number, does with a fact.
+#[derive(Clone, Copy)]
+pub struct Part {
+    pub number: u32,
+    pub verb: &'static [u8],
+    pub fact: Fact,
+}
+
 /// What follows the first words of a line.
 #[derive(Clone, Copy)]
 pub enum Rest<'n> {
     /// Nothing.
     Nothing,
     /// `N`.
-    Number {
-        number: u64,
-    },
+    Number { number: u64 },
     /// `N`, where the number may be larger than a `u64`.
-    Sum {
-        sum: u128,
-    },
+    Sum { sum: u128 },
     /// `N NAME`.
-    Named {
-        number: u64,
-        name: &'n [u8],
-    },
+    Named { number: u64, name: &'n [u8] },
     /// `VAR VALUE NAME`.
-    OfFact {
-        fact: Fact,
-    },
+    OfFact { fact: Fact },
     /// `N VERB VAR VALUE NAME`.
-    Part {
-        number: u64,
-        verb: &'static [u8],
-        fact: Fact,
-    },
+    OfPart { part: Part },
     /// `N could also be operator M`.
-    CouldBe {
-        step: u64,
-        operator: u64,
-    },
+    CouldBe { step: u64, operator: u64 },
 }
 
 /// Returns the line that begins with these words, behind two spaces.
@@ -180,11 +172,12 @@ impl<'n> Named<'n> {
         ensures { codes "rule" ∷ rest_words self.now.task.now result
             ≡ rule_words self.now.task.now rule }
     {
-        Rest::Part {
-            number: u64::from(rule),
+        let part = Part {
+            number: rule,
             verb: b"derives",
             fact: given_by(self.task, rule),
-        }
+        };
+        Rest::OfPart { part }
     }
 
     /// Returns that the operator's effect sets its fact.
@@ -192,11 +185,12 @@ impl<'n> Named<'n> {
         ensures { codes "effect" ∷ rest_words self.now.task.now result
             ≡ effect_words self.now.task.now operator effect }
     {
-        Rest::Part {
-            number: u64::from(effect),
+        let part = Part {
+            number: effect,
             verb: b"sets",
             fact: set_by(self.task, operator, effect),
-        }
+        };
+        Rest::OfPart { part }
     }
 
     /// Returns the task's metric.
@@ -224,11 +218,12 @@ fn requirement<'n>(number: u32, fact: Fact) -> Rest<'n>
     ensures { (p : Parts) → rest_words p result
         ≡ decimal number ∷ codes "requires" ∷ fact_words p fact.var fact.value }
 {
-    Rest::Part {
-        number: u64::from(number),
+    let part = Part {
+        number: number,
         verb: b"requires",
         fact,
-    }
+    };
+    Rest::OfPart { part }
 }
 
 /// Returns that a step could also be the operator.

@@ -1,21 +1,20 @@
 -- One rule more, which has a condition that fails or none.
-use Rattle.std.proofs.Common.{◌≡◌, ℕ, ◌<◌, List, [], ◌∷◌, ◌++◌, length, get_or, map, Option, sym, ◌∙◌, ap, subst}
+use Rattle.std.proofs.Common.{◌≡◌, ℕ, ◌<◌, List, [], ◌∷◌, ◌++◌, length, get_or, Option, sym, ◌∙◌, ap, subst}
 use Rattle.std.specs.Prelude.{flat_map, find}
 use Rattle.std.specs.List.{All}
 use Rattle.std.specs.Option.{option_map_or}
-use Rattle.std.proofs.lemmas.List.{append-nil, map-append, take_all}
+use Rattle.std.proofs.lemmas.List.{append-nil, take_all}
 use Rattle.sas_core.specs.declared.parts.Fact.{Fact}
 use Rattle.sas_core.specs.Grounded.{rule_at}
-use Rattle.sas_reasons.specs.Cause.{fails, rule_asks_line, failing_lines}
-use Rattle.sas_why.specs.declared.line.Line.TheVariants.{RuleAsks}
-use Rattle.sas_why.specs.Line.{line_bytes}
+use Rattle.sas_wording.specs.declared.line.Line.TheVariants.{RuleRequires}
+use Rattle.sas_reasons.specs.Cause.{fails, failing_lines}
 use Rattle.sas_why.proofs.Composing.{flat_more}
 use Rattle.sas_why.proofs.Within.{conditions_within}
 use Rattle.sas_why.proofs.causes.push_keepers.Goals as goal
 use Rattle.sas_why.proofs.causes.push_keepers.Goals.{in-Some+in_ok-push, in_default}
 
 pub loop-rule-init : goal.loop-rule-init
-loop-rule-init g c plan = sym (append-nil (map (line_bytes c.args.task.now plan) c.args.lines.now))
+loop-rule-init g c = sym (append-nil c.args.lines.now)
 
 pub first_failing-requires : goal.first_failing-requires
 first_failing-requires g c = subst (All (λ (f : Fact). f.var < length c.args.state.now)) (sym c.rule_conditions.ensures)
@@ -23,23 +22,23 @@ first_failing-requires g c = subst (All (λ (f : Fact). f.var < length c.args.st
     (c.requires.rules c.loop-rule.rule-index 0 c.loop-rule-test.true))
 
 pub loop-rule-preserved : goal.loop-rule-preserved
-loop-rule-preserved g c plan =
+loop-rule-preserved g c =
     let p = c.args.task.now in
     let s = c.args.state.now in
     let rule = get_or c.args.rules.now c.loop-rule.rule-index 0 in
     let found : c.first_failing.result ≡ find (fails s) (rule_at p rule).conditions = c.first_failing.ensures ∙ ap (λ (l : List Fact). find (fails s) l) c.rule_conditions.ensures in
     elim c.match-first_failing.branch [
-      | in-Some+in_ok-push w ↦ flat_more (line_bytes p plan) (failing_lines p s) c.args.lines.now c.loop-rule.lines c.match-first_failing.lines
-          (rule_asks_line p rule w.in-Some.fact ∷ []) c.loop-rule.rule-index c.args.rules.now 0 c.loop-rule-test.true (c.loop-rule.invariant plan)
-          (ap (map (line_bytes p plan)) (w.lines-is ∙ w.in_ok-push.ensures.ok) ∙ map-append (line_bytes p plan) c.loop-rule.lines (RuleAsks rule w.in-Some.fact ∷ []))
-          (ap (λ (o : Option Fact). option_map_or (λ x. rule_asks_line p rule x ∷ []) o []) (sym w.in-Some.is ∙ found))
-      | in_default w ↦ flat_more (line_bytes p plan) (failing_lines p s) c.args.lines.now c.loop-rule.lines c.match-first_failing.lines
-          [] c.loop-rule.rule-index c.args.rules.now 0 c.loop-rule-test.true (c.loop-rule.invariant plan)
-          (ap (map (line_bytes p plan)) w.lines-is ∙ sym (append-nil (map (line_bytes p plan) c.loop-rule.lines)))
-          (ap (λ (o : Option Fact). option_map_or (λ x. rule_asks_line p rule x ∷ []) o []) (sym w.in_default.is ∙ found))
+      | in-Some+in_ok-push w ↦ flat_more (failing_lines p s) c.args.lines.now c.loop-rule.lines c.match-first_failing.lines
+          (RuleRequires rule w.in-Some.fact ∷ []) c.loop-rule.rule-index c.args.rules.now 0 c.loop-rule-test.true c.loop-rule.invariant
+          (w.lines-is ∙ w.in_ok-push.ensures.ok)
+          (ap (λ (o : Option Fact). option_map_or (λ x. RuleRequires rule x ∷ []) o []) (sym w.in-Some.is ∙ found))
+      | in_default w ↦ flat_more (failing_lines p s) c.args.lines.now c.loop-rule.lines c.match-first_failing.lines
+          [] c.loop-rule.rule-index c.args.rules.now 0 c.loop-rule-test.true c.loop-rule.invariant
+          (w.lines-is ∙ sym (append-nil c.loop-rule.lines))
+          (ap (λ (o : Option Fact). option_map_or (λ x. RuleRequires rule x ∷ []) o []) (sym w.in_default.is ∙ found))
     ]
 
 pub returns : goal.returns
-returns g c plan = c.loop-rule.invariant plan
-    ∙ ap (λ (l : List ℕ). map (line_bytes c.args.task.now plan) c.args.lines.now ++ flat_map (failing_lines c.args.task.now c.args.state.now) l)
+returns g c = c.loop-rule.invariant
+    ∙ ap (λ (l : List ℕ). c.args.lines.now ++ flat_map (failing_lines c.args.task.now c.args.state.now) l)
     (take_all c.loop-rule.rule-index c.args.rules.now c.loop-rule-test.false)

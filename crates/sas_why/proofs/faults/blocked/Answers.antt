@@ -1,9 +1,15 @@
--- All is told on a state of which nothing was told.
-use Rattle.std.proofs.Common.{[]}
+-- All is reported of a state of which nothing was.
+use Rattle.sas_wording.specs.declared.line.Line.TheVariants.{Step}
+use Rattle.sas_reasons.specs.Lines.{TellsBehind}
+use Rattle.sas_reasons.specs.WhyPlan.{TellsOperators}
+use Rattle.sas_why.proofs.Faulty.{all_told}
 use Rattle.sas_why.proofs.faults.blocked.Goals as goal
 
-pub tell_blocked-requires : goal.tell_blocked-requires
-tell_blocked-requires g c = (c.requires.0, c.requires.1, [], c.requires.2, c.in_ok-told.ensures c.requires.0)
+pub report_blocked-requires : goal.report_blocked-requires
+report_blocked-requires g c = (c.requires.0, c.requires.1, c.in_ok-report.ensures.report)
 
 pub returns-in-Ok : goal.returns-in-Ok
-returns-in-Ok g c plan run behind named = rw c.into_lines.ensures (c.in-Ok.ensures plan run behind named (c.in_ok-told.ensures plan))
+returns-in-Ok g c =
+    let p = c.args.task.now in
+    rw c.into_lines.ensures (all_told p c.args.noted.now (λ run. TellsBehind (Step c.args.step) (TellsOperators p run c.args.name.now)) c.in_ok-report.report c.report_blocked.new.report
+    c.in_ok-report.ensures.report c.in_ok-report.ensures.empty c.in-Ok.ensures)

@@ -1,25 +1,27 @@
 -- What each fault gives is known of the run.
-use Rattle.std.proofs.Common.{◌<◌, ℕ, List, length, Some, sym, ◌∙◌, ap, subst}
+use Rattle.std.proofs.Common.{◌<◌, ℕ, List, length, Some, refl, sym, ◌∙◌, ap, subst}
 use Rattle.std.specs.List.{All}
 use Rattle.std.proofs.lemmas.Result.{IfOk-weaker}
 use Rattle.sas_core.specs.Grounded.{operator_at}
 use Rattle.sas_meaning.specs.Steps.{Agree}
 use Rattle.sas_run.specs.declared.plan_check.PlanFault.{PlanFault}
 use Rattle.sas_run.specs.declared.plan_check.PlanFault.TheVariants.{Conflict}
-use Rattle.sas_reasons.specs.WhyPlan.{TellsFault}
-use Rattle.sas_why.specs.Told.{TellsOnce}
+use Rattle.sas_wording.specs.declared.line.Line.TheVariants.{Step}
+use Rattle.sas_reasons.specs.Lines.{TellsBehind}
+use Rattle.sas_reasons.specs.WhyPlan.{TellsLike, TellsOperators, TellsConflict, TellsFault, cost_lines}
+use Rattle.sas_why.specs.Report.{TellsOnce}
 use Rattle.sas_why.proofs.Behind.{ends, behind, operators_exist, conflict_clashes, last_is, operators_are, operators_as_many}
 use Rattle.sas_why.proofs.faults.lines_of_fault.Goals as goal
 
 pub blocked-requires : goal.blocked-requires
 blocked-requires g c =
     let r = c.requires.retraced in
-    (g.P.Stepwise.says c.args.plan.now, r.0, behind c.args.layered.now (g.P.Stepwise.says c.args.plan.now) c.args.noted.now r.0 c.args.fault r.1 c.requires.fault)
+    (r.0, behind c.args.layered.now (g.P.Stepwise.says c.args.plan.now) c.args.noted.now r.0 c.args.fault r.1 c.requires.fault)
 
 pub missed-requires : goal.missed-requires
 missed-requires g c =
     let r = c.requires.retraced in
-    (g.P.Stepwise.says c.args.plan.now, r.0, behind c.args.layered.now (g.P.Stepwise.says c.args.plan.now) c.args.noted.now r.0 c.args.fault r.1 c.requires.fault)
+    (r.0, behind c.args.layered.now (g.P.Stepwise.says c.args.plan.now) c.args.noted.now r.0 c.args.fault r.1 c.requires.fault)
 
 pub conflicting-requires-clause-state : goal.conflicting-requires-clause-state
 conflicting-requires-clause-state g c =
@@ -47,25 +49,31 @@ pub returns-in-NoOperator : goal.returns-in-NoOperator
 returns-in-NoOperator g c =
     let p = c.args.layered.now in
     let plan = g.P.Stepwise.says c.args.plan.now in
+    let step = c.in-NoOperator.step in
     IfOk-weaker c.unknown.result _ _
-    (λ lines tells run r. subst (λ (f : PlanFault). TellsOnce p plan lines (TellsFault p plan run f)) (sym c.in-NoOperator.is) (tells plan run c.step.ensures))
+    (λ lines told run r. subst (λ (f : PlanFault). TellsOnce lines (TellsFault p plan run f)) (sym c.in-NoOperator.is)
+    (subst (λ (name : List ℕ). TellsOnce lines (TellsBehind (Step step) (TellsLike p name))) c.step.ensures told))
     c.unknown.ensures
 
 pub returns-in-NotApplicable : goal.returns-in-NotApplicable
 returns-in-NotApplicable g c =
     let p = c.args.layered.now in
     let plan = g.P.Stepwise.says c.args.plan.now in
+    let step = c.in-NotApplicable.step in
     IfOk-weaker c.blocked.result _ _
-    (λ lines tells run r. subst (λ (f : PlanFault). TellsOnce p plan lines (TellsFault p plan run f)) (sym c.in-NotApplicable.is)
-    (tells plan run (behind p plan c.args.noted.now run c.args.fault r c.requires.fault) c.step-in-NotApplicable.ensures))
+    (λ lines told run r. subst (λ (f : PlanFault). TellsOnce lines (TellsFault p plan run f)) (sym c.in-NotApplicable.is)
+    (subst (λ (name : List ℕ). TellsOnce lines (TellsBehind (Step step) (TellsOperators p run name))) c.step-in-NotApplicable.ensures
+    (told run (behind p plan c.args.noted.now run c.args.fault r c.requires.fault))))
     c.blocked.ensures
 
 pub returns-in-Conflict : goal.returns-in-Conflict
 returns-in-Conflict g c =
     let p = c.args.layered.now in
     let plan = g.P.Stepwise.says c.args.plan.now in
+    let step = c.in-Conflict.step in
     IfOk-weaker c.conflicting.result _ _
-    (λ lines tells run r. subst (λ (f : PlanFault). TellsOnce p plan lines (TellsFault p plan run f)) (sym c.in-Conflict.is) (tells plan run (last_is p plan c.args.noted.now run r)))
+    (λ lines told run r. subst (λ (f : PlanFault). TellsOnce lines (TellsFault p plan run f)) (sym c.in-Conflict.is)
+    (subst (λ (s : List ℕ). TellsOnce lines (TellsBehind (Step step) (TellsConflict p s c.in-Conflict.operator))) (last_is p plan c.args.noted.now run r) told))
     c.conflicting.ensures
 
 pub returns-in-GoalMissed : goal.returns-in-GoalMissed
@@ -73,8 +81,8 @@ returns-in-GoalMissed g c =
     let p = c.args.layered.now in
     let plan = g.P.Stepwise.says c.args.plan.now in
     IfOk-weaker c.missed.result _ _
-    (λ lines tells run r. subst (λ (f : PlanFault). TellsOnce p plan lines (TellsFault p plan run f)) (sym c.in-GoalMissed.is)
-    (tells plan run (behind p plan c.args.noted.now run c.args.fault r c.requires.fault)))
+    (λ lines told run r. subst (λ (f : PlanFault). TellsOnce lines (TellsFault p plan run f)) (sym c.in-GoalMissed.is)
+    (told run (behind p plan c.args.noted.now run c.args.fault r c.requires.fault)))
     c.missed.ensures
 
 pub returns-in-CostDiffers : goal.returns-in-CostDiffers
@@ -82,6 +90,6 @@ returns-in-CostDiffers g c =
     let p = c.args.layered.now in
     let plan = g.P.Stepwise.says c.args.plan.now in
     IfOk-weaker c.costs.result _ _
-    (λ lines tells run r. subst (λ (f : PlanFault). TellsOnce p plan lines (TellsFault p plan run f)) (sym c.in-CostDiffers.is)
-    (tells plan run c.in-CostDiffers.sum (c.as_slice.ensures.value ∙ operators_are p plan c.args.noted.now run r) (operators_as_many p plan c.args.noted.now run r)))
+    (λ lines are run r. subst (λ (f : PlanFault). TellsOnce lines (TellsFault p plan run f)) (sym c.in-CostDiffers.is)
+    (cost_lines p run, refl, are run (c.as_slice.ensures.value ∙ operators_are p plan c.args.noted.now run r) (operators_as_many p plan c.args.noted.now run r)))
     c.costs.ensures

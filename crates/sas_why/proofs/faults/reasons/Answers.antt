@@ -1,10 +1,9 @@
 -- The lines of the fault, and that of another operator if a step may mean one.
-use Rattle.std.proofs.Common.{List, ◌++◌, ◌∷◌, [], map, sym, ◌∙◌, ap, subst}
+use Rattle.std.proofs.Common.{List, ◌++◌, ◌∷◌, [], sym, ◌∙◌, ap, subst}
 use Rattle.sas_reasons.specs.WhyPlan.{IsWhy}
-use Rattle.sas_why.specs.declared.line.Line.{Line}
-use Rattle.sas_why.specs.declared.line.Line.TheVariants.{MayMean}
+use Rattle.sas_wording.specs.declared.line.Line.{Line}
+use Rattle.sas_wording.specs.declared.line.Line.TheVariants.{CouldBe}
 use Rattle.sas_why.specs.declared.retraced.Other.{Other}
-use Rattle.sas_why.specs.Line.{line_bytes}
 use Rattle.sas_why.proofs.Behind.{is_why, same_other, some_not_none}
 use Rattle.sas_why.proofs.faults.reasons.Goals as goal
 use Rattle.sas_why.proofs.faults.reasons.Goals.{in-Some+in_ok-push, in_default}
@@ -18,11 +17,11 @@ returns g c =
     let r = c.requires.retraced.1 in
     let lines = c.in_ok-lines.lines in
     let new = c.match-noted.lines in
-    subst (λ (l : List Line). IsWhy p plan c.args.fault (map (line_bytes p plan) l)) (sym c.into_vec.ensures)
+    subst (λ (l : List Line). IsWhy p plan c.args.fault l) (sym c.into_vec.ensures)
     (is_why p plan noted run c.args.fault r c.requires.fault lines (c.in_ok-lines.ensures run r) new
     (λ other is. elim c.match-noted.branch [
       | in-Some+in_ok-push w ↦ w.lines-is ∙ (w.in_ok-push.ensures.ok
-          ∙ ap (λ (o : Other). lines ++ MayMean o.step o.operator ∷ []) (same_other w.in-Some.other other (sym w.in-Some.is ∙ is)))
+          ∙ ap (λ (o : Other). lines ++ CouldBe o.step o.operator ∷ []) (same_other w.in-Some.other other (sym w.in-Some.is ∙ is)))
       | in_default w ↦ absurd (some_not_none other (sym is ∙ w.in_default.is))
     ])
     (λ is. elim c.match-noted.branch [

@@ -1,0 +1,21 @@
+-- The rules of the derivation, and their lines.
+use Rattle.std.proofs.Common.{◌≡◌, ℕ, List, ◌++◌, map, sym, ◌∙◌, subst}
+use Rattle.std.proofs.lemmas.Result.{on_ok_weaker}
+use Rattle.sas_wording.specs.declared.line.Line.TheVariants.{RuleDerives}
+use Rattle.sas_why.specs.Origins.{TellsDerivation}
+use Rattle.sas_why.proofs.Composing.{no_givers, some_givers}
+use Rattle.sas_why.proofs.causes.report_givers.Goals as goal
+
+pub returns-then-not-has_givers : goal.returns-then-not-has_givers
+returns-then-not-has_givers g c = no_givers c.args.task.now c.args.noted.now c.args.report.now c.args.var (sym c.has_givers.ensures ∙ c.if-not-has_givers.true)
+
+pub returns : goal.returns
+returns g c =
+    let p = c.args.task.now in
+    let report = c.args.report.now in
+    on_ok_weaker c.push_givers.result
+    (λ add. some_givers p c.args.noted.now report c.push_givers.new.lines c.tell.new.self c.tell.new.rules c.args.var
+    (sym c.has_givers.ensures ∙ c.if-not-has_givers.false)
+    (λ s are. subst (λ (before : List ℕ). TellsDerivation p s c.args.var report.origins c.tell.new.self before c.tell.new.rules.items) c.clear.ensures.items (c.in_ok-tell.ensures s are))
+    (subst (λ (l : List ℕ). c.push_givers.new.lines ≡ report.lines ++ map RuleDerives l) c.as_slice.ensures.value add))
+    c.push_givers.ensures

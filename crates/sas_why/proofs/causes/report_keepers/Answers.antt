@@ -1,0 +1,51 @@
+-- No rule derives the value, or all of the variable's rules were reported before, or they are reported now.
+use Rattle.std.proofs.Common.{◌≡◌, ◌<◌, ℕ, Bool, List, ◌++◌, length, get_or, false, sym, ◌∙◌, ap, subst}
+use Rattle.std.specs.Prelude.{flat_map}
+use Rattle.std.specs.List.{All}
+use Rattle.std.proofs.lemmas.Result.{on_ok_weaker}
+use Rattle.std.proofs.lemmas.List.Elements.{Contains-get_or}
+use Rattle.sas_reasons.specs.Lines.{places}
+use Rattle.sas_reasons.specs.Derivation.{can_give}
+use Rattle.sas_reasons.specs.Cause.{failing_lines, keeping_lines}
+use Rattle.sas_reasons.specs.Runs.{last_state}
+use Rattle.sas_why.specs.Report.{Adds}
+use Rattle.sas_why.proofs.RulesOf.{of_variable}
+use Rattle.sas_why.proofs.Composing.{no_rule, told_before, told_now, rules_of_report}
+use Rattle.sas_why.proofs.causes.report_keepers.Goals as goal
+
+pub give_value-requires : goal.give_value-requires
+give_value-requires g c = c.get-rules.ensures ∙ rules_of_report c.args.task.now c.args.noted.now c.args.report.now c.args.fact.var c.requires.fact c.requires.report
+
+pub returns-then-not-give_value : goal.returns-then-not-give_value
+returns-then-not-give_value g c = on_ok_weaker c.push.result
+    (no_rule c.args.task.now c.args.noted.now c.args.report.now c.push.new.self c.args.fact (sym c.give_value.ensures ∙ c.if-not-give_value.true))
+    c.push.ensures.ok
+
+pub returns-then-as_slice-var : goal.returns-then-as_slice-var
+returns-then-as_slice-var g c = told_before c.args.task.now c.args.noted.now c.args.report.now c.args.fact
+    (sym c.give_value.ensures ∙ c.if-not-give_value.false)
+    (ap (λ (l : List Bool). get_or l c.args.fact.var false) (sym c.as_slice.ensures) ∙ c.if-as_slice-var.true)
+
+pub push_keepers-requires-clause-rules : goal.push_keepers-requires-clause-rules
+push_keepers-requires-clause-rules g c =
+    let p = c.args.task.now in
+    let are : c.get-rules.result.now ≡ places (can_give p c.args.fact.var) p.rules =
+    c.get-rules.ensures ∙ rules_of_report p c.args.noted.now c.args.report.now c.args.fact.var c.requires.fact c.requires.report in
+    subst (All (λ (rule : ℕ). rule < length p.rules)) (sym are)
+    (λ k d lt. (of_variable p c.args.fact.var (get_or (places (can_give p c.args.fact.var) p.rules) k d) (Contains-get_or (places (can_give p c.args.fact.var) p.rules) k d lt)).0)
+
+pub returns : goal.returns
+returns g c =
+    let p = c.args.task.now in
+    let report = c.args.report.now in
+    let are : c.get-rules.result.now ≡ places (can_give p c.args.fact.var) p.rules =
+    c.get-rules.ensures ∙ rules_of_report p c.args.noted.now report c.args.fact.var c.requires.fact c.requires.report in
+    on_ok_weaker c.push_keepers.result
+    (λ add. subst (λ (kept : List Bool). Adds p c.args.noted.now report
+    (record { lines = c.push_keepers.new.lines; origins = report.origins; rules = report.rules; kept = kept; next = report.next })
+    (λ run lines. lines ≡ keeping_lines p (last_state run) c.args.fact)) (sym c.set.ensures)
+    (told_now p c.args.noted.now report c.push_keepers.new.lines c.args.fact c.requires.fact
+    (sym c.give_value.ensures ∙ c.if-not-give_value.false)
+    (ap (λ (l : List Bool). get_or l c.args.fact.var false) (sym c.as_slice.ensures) ∙ c.if-as_slice-var.false)
+    (subst (λ (rules : List ℕ). c.push_keepers.new.lines ≡ report.lines ++ flat_map (failing_lines p c.args.noted.now.last) rules) are add)))
+    c.push_keepers.ensures

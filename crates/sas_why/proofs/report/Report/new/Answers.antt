@@ -1,0 +1,28 @@
+-- Nothing is reported.
+use Rattle.std.proofs.Common.{rules, ◌≡◌, ℕ, zero, suc, ◌∙◌, Bool, false, List, length, get_or, replicate, refl, sym, ap, subst}
+use Rattle.std.specs.List.{Contains}
+use Rattle.std.proofs.lemmas.Bool.{false≢true}
+use Rattle.std.proofs.lemmas.List.{length-replicate}
+use Rattle.sas_wording.specs.declared.line.Line.{Line}
+use Rattle.sas_reasons.proofs.Sorting.{contains_none}
+use Rattle.sas_why.proofs.report.Report.new.Goals as goal
+
+none_kept : (n var : ℕ) → get_or (replicate n false) var false ≡ false
+none_kept zero var = refl
+none_kept (suc n) zero = refl
+none_kept (suc n) (suc var) = none_kept n var
+
+pub returns-clause-report : goal.returns-clause-report
+returns-clause-report g c =
+    let n = c.variables.result in
+    let all : c.in_ok-vec.field-0.items ≡ replicate n false = search rules in
+    let kept = c.from_vec.ensures ∙ all in
+    let empty = λ (z : Line) (h : Contains c.new.result z). contains_none z (subst (λ (l : List Line). Contains l z) c.new.ensures h) in
+    record {
+      origins = c.in_ok-new.ensures.origins;
+      derived = λ rule. (λ t. absurd (false≢true (sym (c.in_ok-new.ensures.untold rule) ∙ t)), λ h. absurd (empty _ h));
+      rules = c.in_ok-rules_of_variables.ensures;
+      one_each = ap length kept ∙ length-replicate n false ∙ c.variables.ensures.count;
+      kept = λ var e line h. absurd (false≢true (sym (ap (λ (l : List Bool). get_or l var false) kept ∙ none_kept n var) ∙ e));
+      not_kept = λ rule condition e h. empty _ h;
+    }
