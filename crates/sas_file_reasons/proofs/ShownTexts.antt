@@ -1,11 +1,9 @@
--- A whole text is shown byte by byte, but for a space at its end; and a rest that isn't empty is unfinished.
+-- A whole text is shown byte by byte, but for a space at its end.
 use Rattle.std.proofs.Common.{◌≡◌, ◌≢◌, ℕ, ◌-◌, Bool, true, false, List, [], ◌∷◌, ◌++◌, ◌==◌, length, take, drop, append_assoc, append-nil, codes, flat_map, refl, sym, ap, ◌∙◌, eqb-true, arith, length-append}
 use Rattle.std.specs.Prelude.{if◌then◌else◌, nat_eq}
 use Rattle.std.specs.Cmp.Lexicographic.{pointwise, same_text, other_text}
 use Rattle.std.proofs.lemmas.List.{take-append-drop}
 use Rattle.std.proofs.Math.Seq.{drop-append_seam}
-use Rattle.sas_file_reasons.specs.FileLine.{Unfinished}
-use Rattle.sas_file_reasons.specs.Reasons.{rest_line}
 use Rattle.sas_file_reasons.specs.Shown.{in_digits, shown_byte, shown_whole}
 
 behind_front : (front : List ℕ) → shown_whole (front ++ 32 ∷ []) ≡ flat_map shown_byte front ++ in_digits 32
@@ -41,7 +39,3 @@ no_space_at_end bytes other = by_bytes bytes (λ front is.
     let n : length bytes - 1 ≡ length front = omega (arith, ap length is, length-append front (32 ∷ [])) in
     other_text _ _ (sym other) (ap (λ (k : ℕ). drop k bytes) n ∙ ap (drop (length front)) is ∙ drop-append_seam front (32 ∷ [])))
     ∙ sym (append-nil (flat_map shown_byte bytes))
-
-pub some_rest : (bytes : List ℕ) (more : Bool) → (length bytes == 0) ≡ false → rest_line bytes more ≡ Unfinished bytes more
-some_rest [] more e = absurd cc
-some_rest (b ∷ bytes) more e = refl

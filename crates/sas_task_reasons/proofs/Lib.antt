@@ -1,4 +1,3 @@
-mod ReasonTexts
 mod Positions
 mod FailingChecks
 mod OtherGivers

@@ -1,10 +1,9 @@
 -- What is said of a task with reasons: one thing, and always something; and how the answer comes about.
-use Rattle.std.proofs.Common.{◌≡◌, ℕ, List, ◌++◌, map, refl, sym, ap, subst, ◌∙◌, Option, Some, None}
+use Rattle.std.proofs.Common.{◌≡◌, ℕ, List, [], ◌++◌, refl, sym, ap, subst, ◌∙◌, Option, Some, None}
 use Rattle.std.specs.Prelude.{option_map}
 use Rattle.std.proofs.lemmas.Option.{none-some}
 use Rattle.sas_core.specs.declared.parts.Parts.{Parts}
 use Rattle.sas_core.specs.FirstFault.{first_fault}
-use Rattle.sas_lines.specs.Lines.{text}
 use Rattle.sas_meaning.specs.declared.layered.LayerFault.{LayerFault}
 use Rattle.sas_meaning.specs.declared.layered.LayerFault.TheVariants.{Memory}
 use Rattle.sas_meaning.specs.LayerChecks.{layer_checks}
@@ -18,10 +17,9 @@ use Rattle.sas_answers.specs.Answers.{layers_refusal, layers_verdict}
 use Rattle.sas_answers.specs.LayerWords.{layer_words, layers_line}
 use Rattle.sas_answers.proofs.AnswerLaws.{OneAnswer, SomeAnswer}
 use Rattle.sas_answers.proofs.CheckAnswers.{some_check_answer}
-use Rattle.sas_task_reasons.specs.declared.line.Line.{Line}
-use Rattle.sas_task_reasons.specs.Line.{line_bytes}
+use Rattle.sas_wording.specs.declared.line.Line.{Line}
+use Rattle.sas_wording.specs.Line.{reasons_text}
 use Rattle.sas_task_reasons.specs.LayerReasons.{layer_reasons}
-use Rattle.sas_task_reasons.specs.ReasonsText.{reasons_text}
 use Rattle.sas_task_reasons.specs.WhyGroups.{WhyGroupsAnswer}
 use Rattle.sas_task_reasons.specs.WhyLayers.{with_reasons, why_refusal, why_verdict, WhyCheckAnswer, WhyLayeredGroups, WhyMutexAnswer}
 use Rattle.sas_task_reasons.proofs.GroupAnswers.{one_groups_answer, some_groups_answer}
@@ -29,8 +27,8 @@ use Rattle.sas_task_reasons.proofs.GroupAnswers.{one_groups_answer, some_groups_
 -- ---- the layers
 
 -- the same refusal, with reasons behind
-pub refused_why : (p : Parts) (fault : LayerFault) (o : Output) → layers_refusal fault ≡ Some o → why_refusal p fault ≡ Some (with_reasons (layer_reasons p fault) o)
-refused_why p fault o is = ap (option_map (with_reasons (layer_reasons p fault))) is
+pub refused_why : (p : Parts) (fault : LayerFault) (o : Output) → layers_refusal fault ≡ Some o → why_refusal p fault ≡ Some (with_reasons (reasons_text p [] (layer_reasons p fault)) o)
+refused_why p fault o is = ap (option_map (with_reasons (reasons_text p [] (layer_reasons p fault)))) is
 
 verdict_why : (p : Parts) (first : Option LayerFault) (o : Output) → layers_verdict first ≡ Some o → (q : Output) × (why_verdict p first ≡ Some q)
 verdict_why p None o is = (o, is)
@@ -68,15 +66,15 @@ says_no (Some w) o is =
     let same : (record { text = layers_line w; status = No }) ≡ o = cc in
     sym (ap (λ (x : Output). x.status) same)
 
-pub explained : (p : Parts) (fault : LayerFault) (told : Told) (lines : List Line) → layers_refusal fault ≡ Some (output_told told) → map (line_bytes p) lines ≡ layer_reasons p fault
-    → why_refusal p fault ≡ Some (record { text = told.text.items ++ reasons_text p lines; status = No })
+pub explained : (p : Parts) (fault : LayerFault) (told : Told) (lines : List Line) → layers_refusal fault ≡ Some (output_told told) → lines ≡ layer_reasons p fault
+    → why_refusal p fault ≡ Some (record { text = told.text.items ++ reasons_text p [] lines; status = No })
 explained p fault told lines is are =
-    let reasons = layer_reasons p fault in
+    let reasons = reasons_text p [] (layer_reasons p fault) in
     let plain = output_told told in
     let no_ = says_no (layer_words fault) plain is in
     refused_why p fault plain is
-    ∙ ap (λ (s : Status). Some (let x : Output = record { text = plain.text ++ text reasons; status = s } in x)) no_
-    ∙ ap (λ (l : List (List ℕ)). Some (let x : Output = record { text = plain.text ++ text l; status = No } in x)) (sym are)
+    ∙ ap (λ (s : Status). Some (let x : Output = record { text = plain.text ++ reasons; status = s } in x)) no_
+    ∙ ap (λ (l : List Line). Some (let x : Output = record { text = plain.text ++ reasons_text p [] l; status = No } in x)) (sym are)
 
 module _ (p : Parts) (o : Output) where
   pub check_layered : IsLayered p → layers_verdict None ≡ Some o → WhyCheckAnswer p o

@@ -19,21 +19,21 @@ pub record IsOtherGiver (p : Parts) (rule other : Rule) : Type 0 where
   pub can_fire : CanFire p other
   pub differs : other.new ≢ rule.new
 
--- the other giver that is told of the rule at this place is the lowest, and stands before it
+-- the other rule in the reasons for the rule at this place is the lowest, and comes before it
 pub record IsToldOther (p : Parts) (rule other : ℕ) : Type 0 where
   pub told : other_giver p (rule_at p rule) ≡ Some other
   pub before : other < rule
   pub gives : IsOtherGiver p (rule_at p rule) (rule_at p other)
   pub lowest : (lower : ℕ) → lower < other → IsOtherGiver p (rule_at p rule) (rule_at p lower) → ⊥
 
--- the old value that is told of a rule isn't the default of its variable
+-- the old value in the reasons for a rule isn't the default of its variable
 pub record IsToldOld (p : Parts) (rule : Rule) : Type 0 where
   pub old : ℕ
   pub told : rule.old ≡ Some old
   pub differs : old ≢ default_of p rule.var
 
--- what the lines for a fault tell is there: the parts that they name, layers, the old value, the
--- other giver
+-- the parts that the lines for a fault name exist, and so do the layers, the old value and the
+-- other rule
 abbrev pub IsWhole : Parts → LayerFault → Type 0
 IsWhole p (EffectOnDerived operator effect) =
     (operator < length p.operators)

@@ -1,5 +1,5 @@
 -- Why mutex groups aren't shown to be exclusive: the lines behind `group K ..`.
-use Rattle.std.specs.Prelude.{◌≡◌, ℕ, ◌+◌, List, [], ◌∷◌, ◌++◌, codes, Option, slice_index_or}
+use Rattle.std.specs.Prelude.{◌≡◌, ℕ, ◌+◌, List, [], ◌∷◌, ◌++◌, map, Option, slice_index_or}
 use Rattle.std.specs.Option.{option_map_or}
 use Rattle.sas_core.specs.declared.parts.Fact.{Fact}
 use Rattle.sas_core.specs.declared.parts.Parts.{Parts}
@@ -13,54 +13,41 @@ use Rattle.sas_group_reasons.specs.declared.reason.Reason.{Reason}
 use Rattle.sas_group_reasons.specs.declared.reason.Reason.TheVariants.{OnDerived, HoldsTwo, Breaks}
 use Rattle.sas_group_reasons.specs.Reasons.{AreReasons, reason_at}
 use Rattle.sas_output.specs.Ending.{Output}
-use Rattle.sas_output.specs.Words.{line}
 use Rattle.sas_answers.specs.GroupWords.{group_line, groups_status}
-use Rattle.sas_wording.specs.Facts.{fact_words}
-use Rattle.sas_task_reasons.specs.LayerReasons.{operator_line, effect_line}
-
--- ---- lines
-
--- `fact VAR VALUE NAME`, `holds VAR VALUE NAME` and `may stay VAR VALUE NAME`
-abbrev pub fact_line : Parts → Fact → List ℕ
-fact_line p f = line 2 (codes "fact" ∷ fact_words p f.var f.value)
-
-abbrev pub holds_line : Parts → Fact → List ℕ
-holds_line p f = line 2 (codes "holds" ∷ fact_words p f.var f.value)
-
-abbrev pub stays_line : Parts → Fact → List ℕ
-stays_line p f = line 2 (codes "may stay" ∷ fact_words p f.var f.value)
-
--- ---- the lines of a reason
+use Rattle.sas_wording.specs.declared.line.Line.{Line}
+use Rattle.sas_wording.specs.declared.line.Line.TheVariants as line
+use Rattle.sas_wording.specs.Line.{line_bytes}
 
 -- the fact at this place of a group; behind the last one, that variable 0 has value 0
 abbrev pub member_at : Parts → ℕ → ℕ → Fact
 member_at p group place = slice_index_or (group_at p group) place (record { var = 0; value = 0 })
 
--- how the operator fails to keep the group at this place
-abbrev pub failure_lines : Parts → ℕ → ℕ → Failure → List (List ℕ)
+-- what the effect of the operator clashes with: another effect, or a fact of the group
+abbrev pub failure_lines : Parts → ℕ → ℕ → Failure → List Line
 failure_lines p group operator (SetsTwo effect other) =
-    operator_line p operator
-    ∷ effect_line p operator effect
-    ∷ effect_line p operator other
+    line.NamedOperator operator
+    ∷ line.EffectSets operator effect
+    ∷ line.EffectSets operator other
     ∷ []
 failure_lines p group operator (MayStay effect place) =
-    operator_line p operator
-    ∷ effect_line p operator effect
-    ∷ stays_line p (member_at p group place)
+    line.NamedOperator operator
+    ∷ line.EffectSets operator effect
+    ∷ line.MayRemain (member_at p group place)
     ∷ []
 
--- the reason why the group at this place isn't exclusive
-abbrev pub reason_lines : Parts → ℕ → Reason → List (List ℕ)
-reason_lines p group (OnDerived fact) = fact_line p fact ∷ []
-reason_lines p group (HoldsTwo first second) = holds_line p first ∷ holds_line p second ∷ []
+-- the lines of the reason why the group at this place isn't exclusive
+abbrev pub reason_lines : Parts → ℕ → Reason → List Line
+reason_lines p group (OnDerived fact) = line.Derived fact ∷ []
+reason_lines p group (HoldsTwo first second) = line.Holds first ∷ line.Holds second ∷ []
 reason_lines p group (Breaks operator failure) = failure_lines p group operator failure
 
--- ---- the lines of all groups
+-- the lines of the reason, if there is one, in their bytes
+abbrev pub why_group : Parts → ℕ → Option Reason → List (List ℕ)
+why_group p group reason = map (line_bytes p []) (option_map_or (reason_lines p group) reason [])
 
 -- the verdict on the group at this place, and behind it the reason, if there is one
 abbrev pub group_lines : Parts → ℕ → Verdict → Option Reason → List (List ℕ)
-group_lines p group verdict reason =
-    group_line group verdict ∷ option_map_or (reason_lines p group) reason []
+group_lines p group verdict reason = group_line group verdict ∷ why_group p group reason
 
 -- the lines of each group, the first of which has this place
 abbrev pub why_lines_from : Parts → List (Option Reason) → ℕ → List Verdict → List (List ℕ)
@@ -77,8 +64,6 @@ why_lines p verdicts reasons = why_lines_from p reasons 0 verdicts
 abbrev pub groups_output : Parts → List Verdict → List (Option Reason) → Output
 groups_output p verdicts reasons =
     record { text = text (why_lines p verdicts reasons); status = groups_status verdicts }
-
--- ---- the answer
 
 -- the answer about the mutex groups of a layered task: the joint verdict on each, and the reason
 -- behind it where the group isn't exclusive

@@ -1,26 +1,26 @@
 -- The answers about a task, with the reasons why it isn't layered, or a group of it isn't exclusive.
-use Rattle.std.specs.Prelude.{◌≡◌, ℕ, List, ◌++◌, Option, Some, None, option_map}
+use Rattle.std.specs.Prelude.{◌≡◌, ℕ, List, [], ◌++◌, Option, Some, None, option_map}
 use Rattle.sas_core.specs.declared.parts.Parts.{Parts}
 use Rattle.sas_core.specs.FirstFault.{first_fault}
-use Rattle.sas_lines.specs.Lines.{text}
 use Rattle.sas_meaning.specs.declared.layered.LayerFault.{LayerFault}
 use Rattle.sas_meaning.specs.LayerChecks.{layer_checks}
 use Rattle.sas_output.specs.declared.ending.Status.TheVariants.{No}
 use Rattle.sas_output.specs.Ending.{Output, output_told}
 use Rattle.sas_answers.specs.Answers.{layers_refusal, layers_verdict}
+use Rattle.sas_wording.specs.Line.{reasons_text}
 use Rattle.sas_task_reasons.specs.declared.tasks.TaskAnswer.{TaskAnswer}
 use Rattle.sas_task_reasons.specs.declared.tasks.TaskAnswer.TheVariants.{Text, Explained, Groups}
 use Rattle.sas_task_reasons.specs.LayerReasons.{layer_reasons}
 use Rattle.sas_task_reasons.specs.WhyGroups.{WhyGroupsAnswer}
 
--- an answer with these lines behind
-abbrev pub with_reasons : List (List ℕ) → Output → Output
-with_reasons reasons plain =
-    record { text = plain.text ++ text reasons; status = plain.status }
+-- an answer with the text of some reasons behind
+abbrev pub with_reasons : List ℕ → Output → Output
+with_reasons reasons plain = record { text = plain.text ++ reasons; status = plain.status }
 
 -- the refusal of a task for a fault of its layers, with the reasons behind
 abbrev pub why_refusal : Parts → LayerFault → Option Output
-why_refusal p fault = option_map (with_reasons (layer_reasons p fault)) (layers_refusal fault)
+why_refusal p fault =
+    option_map (with_reasons (reasons_text p [] (layer_reasons p fault))) (layers_refusal fault)
 
 -- the answer about a task's layers, by their first fault if they have one
 abbrev pub why_verdict : Parts → Option LayerFault → Option Output

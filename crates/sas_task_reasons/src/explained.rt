@@ -1,17 +1,15 @@
 // The answer about a task that is refused, with its reasons. Their names are put in as it is written: they may make it far longer
 // than the numbers that it holds.
 ghost use Rattle.std.specs.Prelude.{◌≡◌, ◌⊎◌, ◌↔◌, ◌++◌, [], false, Some};
-ghost use Rattle.std.specs.Prelude.{IfErr, IsErr, IsErrAnd, IsTrue, OnOk};
+ghost use Rattle.std.specs.Prelude.{IfErr, IsErrAnd, IsTrue};
 ghost use Rattle.std.specs.Io.KnownBytes.{Appends};
 ghost use Rattle.sas_output.specs.Ending.{EndsCounting, IsWrite};
-ghost use Rattle.sas_output.specs.Pieces.{PutsOrBreaks};
-ghost use Rattle.sas_task_reasons.specs.ReasonsText.{reasons_text};
+ghost use Rattle.sas_wording.specs.Line.{reasons_text};
 
-use crate::line::Line;
-use crate::lines::push_reason;
 use sas_flat::FlatTask;
-use sas_lines::{Short, Watched};
-use sas_output::{Pieces, Status, ToolFault};
+use sas_lines::Watched;
+use sas_output::{Status, ToolFault};
+use sas_wording::{Line, Named, write_reasons};
 use std::alloc::Global;
 use std::io::Write;
 use std::marker::Model;
@@ -37,18 +35,18 @@ impl Drop for ExplainedTask {
 }
 
 impl Model for ExplainedTask {
-    ghost use Rattle.std.specs.Prelude.{ℕ, List, ◌++◌};
-    ghost use Rattle.sas_task_reasons.specs.ReasonsText.{reasons_text};
+    ghost use Rattle.std.specs.Prelude.{ℕ, List, [], ◌++◌};
+    ghost use Rattle.sas_wording.specs.Line.{reasons_text};
 
     ghost Value = { List ℕ };
 
-    ghost view = { λ e. e.refusal.items ++ reasons_text e.task e.reasons.items };
+    ghost view = { λ e. e.refusal.items ++ reasons_text e.task [] e.reasons.items };
 }
 
 impl ExplainedTask {
     /// Returns the answer with this refusal, a line with its end, and these reasons.
     pub(crate) fn new(refusal: Vec<u8>, reasons: Vec<Line>, task: FlatTask) -> ExplainedTask
-        ensures { result ≡ refusal.items ++ reasons_text task reasons.items }
+        ensures { result ≡ refusal.items ++ reasons_text task [] reasons.items }
     {
         ExplainedTask {
             refusal,
@@ -68,59 +66,11 @@ impl ExplainedTask {
             ⊎ ((e ≡ ToolFault.Memory) × (out.new ≡ out.old))) }
         ensures writes { IsErrAnd result IsWrite ↔ IsTrue out.new.failed }
     {
-        // What takes memory comes first.
-        let mut pieces = Pieces::new(alloc)?;
+        let named = Named {
+            task: &self.task,
+            plan: None,
+        };
         let refusal = self.refusal.as_slice();
-        match push_explained(
-            &mut pieces,
-            out,
-            refusal,
-            &self.task,
-            self.reasons.as_slice(),
-        ) {
-            Ok(()) => Ok(Status::No),
-            Err(short) => Err(ToolFault::Write {
-                written: short.written,
-            }),
-        }
+        write_reasons(alloc, out, refusal, &named, self.reasons.as_slice())
     }
-}
-
-/// Writes the refusal and the lines behind it. In the end nothing is held back.
-fn push_explained<W: Write>(
-    pieces: &mut Pieces,
-    out: &mut Watched<W>,
-    refusal: &[u8],
-    task: &FlatTask,
-    reasons: &[Line],
-) -> Result<(), Short>
-    requires { out.old.failed ≡ false }
-    ensures puts { PutsOrBreaks (W.contents out.old.device) (W.contents out.new.device)
-        pieces.old pieces.new
-        (refusal.now ++ reasons_text task.now reasons.now) result }
-    ensures empty { OnOk result (pieces.new.held ≡ []) }
-    ensures note { IsErr result ↔ IsTrue out.new.failed }
-{
-    pieces.push(out, refusal)?;
-    push_reasons(pieces, out, task, reasons)?;
-    pieces.flush(out)
-}
-
-/// Adds the lines, each with its end, to the text. Not to be called after a failure.
-pub fn push_reasons<W: Write>(
-    pieces: &mut Pieces,
-    out: &mut Watched<W>,
-    task: &FlatTask,
-    reasons: &[Line],
-) -> Result<(), Short>
-    requires { out.old.failed ≡ false }
-    ensures puts { PutsOrBreaks (W.contents out.old.device) (W.contents out.new.device)
-        pieces.old pieces.new
-        (reasons_text task.now reasons.now) result }
-    ensures note { IsErr result ↔ IsTrue out.new.failed }
-{
-    for line in reasons {
-        push_reason(pieces, out, task, *line)?;
-    }
-    Ok(())
 }

@@ -1,9 +1,9 @@
-// What the reasons tell of the parts of a task. Behind the last part of a sort nothing is told, or that variable 0 has value 0.
+// Parts of a task, by number. A number of no part stands for none, or for the fact that variable 0 has value 0.
 ghost use Rattle.std.specs.Prelude.{◌≡◌};
 ghost use Rattle.sas_core.specs.Changes as spec;
 ghost use Rattle.sas_core.specs.Grounded.{rule_at};
 ghost use Rattle.sas_core.specs.Variables as variables;
-ghost use Rattle.sas_meaning.specs.Layers.{default_of};
+ghost use Rattle.sas_task_reasons.specs.LayerReasons as layers;
 ghost use Rattle.sas_task_reasons.specs.LayerReasons.{condition_at};
 ghost use Rattle.sas_task_reasons.specs.WhyGroups.{member_at};
 
@@ -23,7 +23,7 @@ pub fn layer_of(task: &FlatTask, var: u32) -> Option<u32>
 
 /// Returns the fact that the variable has its default.
 pub fn default_fact(task: &FlatTask, var: u32) -> Fact
-    ensures { result ≡ record { var = var; value = default_of task.now var } }
+    ensures { result ≡ layers.default_fact task.now var }
 {
     if var < task.variables() {
         Fact {

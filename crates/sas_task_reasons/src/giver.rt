@@ -1,4 +1,4 @@
-// Which rule gives a variable another value.
+// Which rule derives another value of a variable.
 ghost use Rattle.std.specs.Prelude.{◌≡◌, ◌<◌, ◌==◌, ◌&&◌, not, length};
 ghost use Rattle.sas_core.specs.Grounded.{rule_at};
 ghost use Rattle.sas_meaning.specs.Layers.{can_fire};

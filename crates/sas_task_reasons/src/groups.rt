@@ -9,19 +9,18 @@ ghost use Rattle.sas_group_reasons.specs.Reasons.{reason_at};
 ghost use Rattle.sas_output.specs.Ending.{EndsCounting, IsWrite};
 ghost use Rattle.sas_output.specs.Pieces.{PutsOrBreaks};
 ghost use Rattle.sas_output.specs.Words.{line, word_bytes};
-ghost use Rattle.sas_task_reasons.specs.Line.{line_bytes};
+ghost use Rattle.sas_wording.specs.Line.{reasons_text};
 ghost use Rattle.sas_task_reasons.specs.WhyGroups as spec;
 ghost use Rattle.sas_task_reasons.specs.WhyGroups.{why_lines, groups_output};
 
-use crate::explained::push_reasons;
 use crate::facts::member_of;
-use crate::line::Line;
 use crate::verdicts::groups_status;
 use sas_flat::FlatTask;
 use sas_group_reasons::{Failure, Reason};
 use sas_lines::{Short, Watched};
 use sas_mutex::Verdict;
 use sas_output::{Indent, Pieces, Status, ToolFault, Word, Words};
+use sas_wording::{Line, Named, push_lines};
 use std::alloc::Global;
 use std::io::Write;
 use std::marker::Model;
@@ -139,7 +138,7 @@ fn push_groups<W: Write>(
     Ok(())
 }
 
-/// What is told of the group at a place: the verdict on it, and why it isn't exclusive.
+/// The verdict on the group at a place, and why it isn't exclusive.
 #[derive(Clone, Copy)]
 struct Group {
     place: usize,
@@ -235,39 +234,40 @@ fn push_why<W: Write>(
     requires { out.old.failed ≡ false }
     ensures puts { PutsOrBreaks (W.contents out.old.device) (W.contents out.new.device)
         pieces.old pieces.new
-        (text (spec.reason_lines task.now group reason)) result }
+        (reasons_text task.now [] (spec.reason_lines task.now group reason)) result }
     ensures note { IsErr result ↔ IsTrue out.new.failed }
 {
+    let named = Named { task, plan: None };
     match reason {
-        Reason::OnDerived { fact } => push_reasons(pieces, out, task, &[Line::Derived { fact }]),
+        Reason::OnDerived { fact } => push_lines(pieces, out, &named, &[Line::Derived { fact }]),
         Reason::HoldsTwo { first, second } => {
             let lines = [Line::Holds { fact: first }, Line::Holds { fact: second }];
-            push_reasons(pieces, out, task, &lines)
+            push_lines(pieces, out, &named, &lines)
         }
         Reason::Breaks { operator, failure } => {
             let lines = failure_lines(task, group, operator, failure);
-            push_reasons(pieces, out, task, &lines)
+            push_lines(pieces, out, &named, &lines)
         }
     }
 }
 
 /// Returns the lines of how the operator fails to keep the group at this place.
 fn failure_lines(task: &FlatTask, group: usize, operator: u32, failure: Failure) -> [Line; 3]
-    ensures { map (line_bytes task.now) result ≡ spec.failure_lines task.now group operator failure }
+    ensures { result ≡ spec.failure_lines task.now group operator failure }
 {
     match failure {
         Failure::SetsTwo { effect, other } => [
-            Line::Operator { operator },
-            Line::Sets { operator, effect },
-            Line::Sets {
+            Line::NamedOperator { operator },
+            Line::EffectSets { operator, effect },
+            Line::EffectSets {
                 operator,
                 effect: other,
             },
         ],
         Failure::MayStay { effect, place } => [
-            Line::Operator { operator },
-            Line::Sets { operator, effect },
-            Line::MayStay {
+            Line::NamedOperator { operator },
+            Line::EffectSets { operator, effect },
+            Line::MayRemain {
                 fact: member_of(task, group, place),
             },
         ],

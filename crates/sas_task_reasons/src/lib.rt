@@ -7,8 +7,6 @@ mod facts;
 mod giver;
 mod groups;
 mod laws;
-mod line;
-mod lines;
 mod reasons;
 mod tasks;
 mod verdicts;

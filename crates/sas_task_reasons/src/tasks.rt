@@ -1,18 +1,16 @@
 // The answers about a task, with the reasons why it isn't layered, or a group of it isn't exclusive.
-ghost use Rattle.std.specs.Prelude.{◌≡◌, Some, None, IfOk, map};
+ghost use Rattle.std.specs.Prelude.{◌≡◌, Some, None, IfOk};
 ghost use Rattle.sas_answers.specs.Answers.{layers_verdict, layers_refusal};
 ghost use Rattle.sas_output.specs.Ending.{output_told};
 ghost use Rattle.sas_groups.specs.Joint.{AreJointVerdicts};
 ghost use Rattle.sas_group_reasons.specs.Reasons.{AreReasons};
 ghost use Rattle.sas_task_reasons.specs.LayerReasons as spec;
-ghost use Rattle.sas_task_reasons.specs.Line.{line_bytes};
 ghost use Rattle.sas_task_reasons.specs.WhyLayers.{why_refusal, output_of_task};
 ghost use Rattle.sas_task_reasons.specs.WhyLayers.{WhyCheckAnswer, WhyMutexAnswer};
 ghost use Rattle.sas_task_reasons.specs.WhyGroups.{WhyGroupsAnswer};
 
 use crate::explained::ExplainedTask;
 use crate::groups::ExplainedGroups;
-use crate::line::Line;
 use crate::reasons::layer_reasons;
 use sas_answers::{accept_layers, refuse_layers};
 use sas_flat::FlatTask;
@@ -20,6 +18,7 @@ use sas_group_reasons::{Reason, group_reasons};
 use sas_meaning::{LayerFault, Layered};
 use sas_mutex::{Verdict, check_groups};
 use sas_output::{Status, Told};
+use sas_wording::Line;
 use std::alloc::{AllocError, Global};
 
 /// The answer about a task.
@@ -124,7 +123,7 @@ fn refusal_and_reasons(
     fault: LayerFault,
 ) -> Result<(Told, Vec<Line>), AllocError>
     ensures refusal { IfOk result (λ told. layers_refusal fault ≡ Some (output_told told.0)) }
-    ensures reasons { IfOk result (λ told. map (line_bytes task.now) told.1.items ≡ spec.layer_reasons task.now fault) }
+    ensures reasons { IfOk result (λ told. told.1.items ≡ spec.layer_reasons task.now fault) }
 {
     let refusal = refuse_layers(alloc, fault)?;
     let reasons = layer_reasons(alloc, task, fault)?;

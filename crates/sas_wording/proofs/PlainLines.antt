@@ -21,12 +21,12 @@ use Rattle.sas_wording.specs.Facts.{fact_of_effect, fact_of_rule}
 use Rattle.sas_wording.specs.Line.{words_of, effect_words, rule_words, line_bytes}
 use Rattle.sas_wording.specs.Laws.{IsReasonLine, LinesAreReasons}
 
-abbrev IsPlain : List ℕ → Type 0
+abbrev pub IsPlain : List ℕ → Type 0
 IsPlain bytes = IsTrue (list_all is_plain bytes)
 
 -- ---- numbers and names
 
-plain-append : (a b : List ℕ) → IsPlain a → IsPlain b → IsPlain (a ++ b)
+pub plain-append : (a b : List ℕ) → IsPlain a → IsPlain b → IsPlain (a ++ b)
 plain-append [] b h g = g
 plain-append (x ∷ a) b h g = let p = and_parts (is_plain x) (list_all is_plain a) h in
     and_from (is_plain x) (list_all is_plain (a ++ b)) p.0 (plain-append a b p.1 g)
@@ -38,10 +38,10 @@ plain_without (b ∷ bytes) h g =
     (and_from (not (b == 10)) (not (b == 13)) (ap not (ne_eqb b 10 h.0)) (ap not (ne_eqb b 13 g.0)))
     (plain_without bytes h.1 g.1)
 
-number : (n : ℕ) → IsPlain (decimal n)
+pub number : (n : ℕ) → IsPlain (decimal n)
 number n = plain_without (decimal n) (Without-decimal 10 n (omega arith)) (Without-decimal 13 n (omega arith))
 
-number_then : (n : ℕ) (rest : List ℕ) → IsPlain rest → IsPlain (decimal n ++ rest)
+pub number_then : (n : ℕ) (rest : List ℕ) → IsPlain rest → IsPlain (decimal n ++ rest)
 number_then n rest h = plain-append (decimal n) rest (number n) h
 
 plain-name : (bytes : List ℕ) → IsName bytes → IsPlain bytes
@@ -70,7 +70,7 @@ plain_step (first ∷ steps) (suc place) names = plain_step steps place names.1
 
 -- ---- lines
 
-two : (behind : List ℕ) → IsPlain behind → IsReasonLine (32 ∷ 32 ∷ behind)
+pub two : (behind : List ℕ) → IsPlain behind → IsReasonLine (32 ∷ 32 ∷ behind)
 two behind plain = record { behind = behind; spaces = refl; plain = plain }
 
 module _ (p : Parts) (steps : List (List ℕ)) (ranged : WellRanged p) (names : AllByRecursion IsName steps) where
