@@ -114,7 +114,7 @@ GiverFires = (p : Parts) (s : List ℕ) (var rule : ℕ) → IsLayered p → IsS
     → AllHold (slice_index s) (rule_at p rule).conditions × ((rule_at p rule).var ≡ var)
     × ((rule_at p rule).new ≡ slice_index s var)
 
--- a condition asks for the default of a variable on a lower layer
+-- a condition requires the default of a variable on a lower layer
 pub record AsksLower (p : Parts) (var : ℕ) (condition : Fact) : Type 0 where
   pub default : condition.value ≡ default_of p condition.var
   pub here : ℕ
@@ -123,12 +123,12 @@ pub record AsksLower (p : Parts) (var : ℕ) (condition : Fact) : Type 0 where
   pub asked : IsOnLayer p there condition.var
   pub lower : there < here
 
--- a condition asks for another value than the default of a variable that comes before this one
+-- a condition requires another value than the default of a variable that comes before this one
 pub record AsksEarlier (p : Parts) (s : List ℕ) (var : ℕ) (condition : Fact) : Type 0 where
   pub other : condition.value ≢ default_of p condition.var
   pub earlier : ComesBefore p s condition.var var
 
--- each of its conditions is on a basic variable, or asks so
+-- each of its conditions is on a basic variable, or is one of these
 abbrev pub GiverLooksDown : Type 0
 GiverLooksDown = (p : Parts) (s : List ℕ) (var rule : ℕ) → IsLayered p → IsSettled p s
     → IsGivenBy p s var rule
@@ -190,7 +190,7 @@ abbrev pub OperatorsHaveName : Type 0
 OperatorsHaveName = (p : Parts) (name : List ℕ) (operator : ℕ)
     → Contains (operators_of p name) operator ↔ IsNamed p name operator
 
--- the first goal fact that fails is told first
+-- the first goal fact that fails comes first
 abbrev pub FirstGoalFact : Type 0
 FirstGoalFact = (p : Parts) (s : List ℕ) (index : ℕ) → IsFirstMissed (slice_index s) p.goal index
     → (behind : List ℕ) × (places (fails s) p.goal ≡ index ∷ behind)
@@ -202,7 +202,7 @@ abbrev pub SomeConflict : Type 0
 SomeConflict = (s : List ℕ) (o : Operator) → (Agree s o.effects → ⊥)
     → (d e : ℕ) × IsConflict s o d e
 
--- and only two are told
+-- and only one pair is the first that does
 abbrev pub OneConflict : Type 0
 OneConflict = (s : List ℕ) (o : Operator) (d e d' e' : ℕ) → IsConflict s o d e
     → IsConflict s o d' e' → (d ≡ d') × (e ≡ e')
@@ -221,12 +221,12 @@ RulesToldOnce = (lines : List Line)
 
 -- ---- why a plan isn't valid
 
--- the fault of a plan of a layered task is told
+-- the fault of a plan of a layered task has lines of reasons
 abbrev pub SomeWhy : Type 0
 SomeWhy = (p : Parts) (plan : PlanParts) (fault : PlanFault) → IsLayered p
     → IsFaultOf p plan fault → (lines : List Line) × IsWhy p plan fault lines
 
--- in one way
+-- and only these
 abbrev pub OneWhy : Type 0
 OneWhy = (p : Parts) (plan : PlanParts) (fault : PlanFault) (a b : List Line) → IsLayered p
     → IsWhy p plan fault a → IsWhy p plan fault b → a ≡ b

@@ -31,7 +31,7 @@ pub fn name_laws()
 /// Ensures the laws of derivations, in a settled state of a layered task.
 /// - A derived variable has a rank exactly if it differs from its default, and only one.
 /// - Then one rule gives it its value: its conditions hold in the state, and it sets the value that the variable has.
-/// - Each condition of that rule is on a basic variable, or asks for the default of a variable on a lower layer, or for another
+/// - Each condition of that rule is on a basic variable, or requires the default of a variable on a lower layer, or another
 ///   value of a variable that comes before.
 /// - In a derivation each variable differs from its default, and all others come before the one that is derived. Nothing comes
 ///   before itself.
@@ -51,13 +51,13 @@ pub fn derivation_laws()
     ensures own_last { OwnRuleIsLast }
 {}
 
-/// Ensures the laws of what is told.
+/// Ensures the laws of causes.
 /// - A derived variable that hasn't a value which a rule can give it has its default, and then each of its rules that can fire
 ///   has a condition that fails.
 /// - An operator that isn't applicable has a precondition that fails. The operators of a name have exactly this name. The first
-///   goal fact that is told is the first that fails.
-/// - Where effects that fire don't agree, two conflict, and only two are told.
-/// - Of the lines that are told once none is lost, and none of a rule stands twice.
+///   goal fact that is reported is the first that fails.
+/// - Where effects that fire don't agree, two conflict, and only two are reported.
+/// - With each line of a rule once no line is lost, and none of a rule stands twice.
 pub fn cause_laws()
     ensures default { DefaultIfNotGiven }
     ensures each_fails { EachRuleFails }
@@ -70,7 +70,7 @@ pub fn cause_laws()
     ensures rules_once { RulesToldOnce }
 {}
 
-/// Ensures that each fault of a plan of a layered task is told, and in one way.
+/// Ensures that each fault of a plan of a layered task has one list of lines of reasons.
 pub fn why_laws()
     ensures some { SomeWhy }
     ensures one { OneWhy }

@@ -37,7 +37,7 @@ is_kept report var = slice_index_or report.kept var false
 -- a report of this state, which notes the lines of rules that it has
 pub record IsReport (p : Parts) (s : List ℕ) (report : Report) : Type 0 where
   pub origins : AreOrigins p s report.origins
-  -- the rules that are noted as told have a line
+  -- the rules that are noted so have a line
   pub derived : (rule : ℕ)
       → IsTrue (is_told report.origins rule) ↔ Contains report.lines (RuleDerives rule)
   pub rules : AreRulesOf p report.rules

@@ -1,4 +1,4 @@
--- Facts, and how they are told.
+-- Facts as words.
 use Rattle.std.specs.Prelude.{ℕ, List, [], ◌∷◌, decimal}
 use Rattle.std.specs.Option.{unwrap_or}
 use Rattle.sas_core.specs.declared.parts.Fact.{Fact}
