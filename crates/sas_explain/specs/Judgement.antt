@@ -6,16 +6,16 @@ use Rattle.sas_run.specs.declared.plan_check.PlanFault.{PlanFault}
 use Rattle.sas_run.specs.Verdicts.{IsFaultOf}
 use Rattle.sas_output.specs.Ending.{output_told}
 use Rattle.sas_answers.specs.Answers.{valid_answer}
+use Rattle.sas_wording.specs.Line.{reasons_text}
 use Rattle.sas_explain.specs.declared.plans.Judgement.{Judgement}
 use Rattle.sas_explain.specs.declared.plans.Judgement.TheVariants.{Valid, Refused}
-use Rattle.sas_explain.specs.ReasonsText.{reasons_text}
 use Rattle.sas_explain.specs.Verdict.{WhyVerdict, Explains}
 
 -- it is the answer to the plan; or its fault is explained, once the names are put into the reasons
 abbrev pub IsJudgement : Parts → PlanParts → Judgement → Type 0
 IsJudgement p plan (Valid told) = WhyVerdict p plan (output_told told)
 IsJudgement p plan (Refused verdict reasons) = (fault : PlanFault) × IsFaultOf p plan fault
-    × Explains p plan fault (verdict.items ++ reasons_text p plan reasons.items)
+    × Explains p plan fault (verdict.items ++ reasons_text p plan.steps reasons.items)
 
 -- it is that the plan is valid
 abbrev pub IsAccepted : PlanParts → Judgement → Type 0

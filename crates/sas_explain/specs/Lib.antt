@@ -1,3 +1,2 @@
 pub mod Judgement
-pub mod ReasonsText
 pub mod Verdict

@@ -2,26 +2,26 @@
 use Rattle.std.specs.Prelude.{◌≡◌, ◌⊎◌, ℕ, List, ◌++◌, Some}
 use Rattle.sas_core.specs.declared.parts.Parts.{Parts}
 use Rattle.sas_core.specs.PlanParts.{PlanParts}
-use Rattle.sas_lines.specs.Lines.{text}
 use Rattle.sas_run.specs.declared.plan_check.PlanFault.{PlanFault}
 use Rattle.sas_run.specs.Plans.{IsValid}
 use Rattle.sas_run.specs.Verdicts.{IsFaultOf}
 use Rattle.sas_output.specs.declared.ending.Status.TheVariants.{No}
 use Rattle.sas_output.specs.Ending.{Output, output_told}
 use Rattle.sas_answers.specs.Answers.{valid_answer, invalid_answer}
+use Rattle.sas_wording.specs.declared.line.Line.{Line}
+use Rattle.sas_wording.specs.Line.{reasons_text}
 use Rattle.sas_reasons.specs.WhyPlan.{IsWhy}
 use Rattle.sas_explain.specs.declared.plans.PlanAnswer.{PlanAnswer}
 use Rattle.sas_explain.specs.declared.plans.PlanAnswer.TheVariants.{Valid, Explained}
 
--- the text of the answer about a plan with this fault: its verdict, and behind it the lines that
--- tell why
+-- the text of the answer about a plan with this fault: its verdict, and behind it the reasons
 pub record Explains (p : Parts) (plan : PlanParts) (fault : PlanFault) (bytes : List ℕ)
     : Type 0 where
   pub verdict : Output
   pub told : invalid_answer plan.cost fault ≡ Some verdict
-  pub reasons : List (List ℕ)
+  pub reasons : List Line
   pub why : IsWhy p plan fault reasons
-  pub whole : bytes ≡ verdict.text ++ text reasons
+  pub whole : bytes ≡ verdict.text ++ reasons_text p plan.steps reasons
 
 -- the answer about a plan, with reasons: that it is valid for the task, or else its fault and why
 abbrev pub WhyVerdict : Parts → PlanParts → Output → Type 0

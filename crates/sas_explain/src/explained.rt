@@ -1,18 +1,16 @@
 // The answer about a plan that isn't valid, with its reasons. It is put together as it is written: names that are repeated may make it
 // far longer than the task.
-ghost use Rattle.std.specs.Prelude.{◌≡◌, ◌⊎◌, ◌↔◌, ◌++◌, [], false, Some};
-ghost use Rattle.std.specs.Prelude.{IfErr, IsErr, IsErrAnd, IsTrue, OnOk};
+ghost use Rattle.std.specs.Prelude.{◌≡◌, ◌⊎◌, ◌↔◌, ◌++◌, false, Some};
+ghost use Rattle.std.specs.Prelude.{IfErr, IsErrAnd, IsTrue};
 ghost use Rattle.std.specs.Io.KnownBytes.{Appends};
 ghost use Rattle.sas_output.specs.Ending.{EndsCounting, IsWrite};
-ghost use Rattle.sas_output.specs.Pieces.{PutsOrBreaks};
-ghost use Rattle.sas_explain.specs.ReasonsText.{reasons_text};
+ghost use Rattle.sas_wording.specs.Line.{reasons_text};
 
-use crate::lines::{Named, push_reason};
 use sas_flat::{FlatPlan, FlatTask};
-use sas_lines::{Short, Watched};
+use sas_lines::Watched;
 use sas_meaning::Layered;
-use sas_output::{Pieces, Status, ToolFault};
-use sas_why::Line;
+use sas_output::{Status, ToolFault};
+use sas_wording::{Line, Named, write_reasons};
 use std::alloc::Global;
 use std::io::Write;
 use std::marker::Model;
@@ -42,11 +40,11 @@ impl Drop for Explained {
 
 impl Model for Explained {
     ghost use Rattle.std.specs.Prelude.{ℕ, List, ◌++◌};
-    ghost use Rattle.sas_explain.specs.ReasonsText.{reasons_text};
+    ghost use Rattle.sas_wording.specs.Line.{reasons_text};
 
     ghost Value = { List ℕ };
 
-    ghost view = { λ e. e.verdict.items ++ reasons_text e.task e.plan e.reasons.items };
+    ghost view = { λ e. e.verdict.items ++ reasons_text e.task e.plan.steps e.reasons.items };
 }
 
 impl Explained {
@@ -57,7 +55,7 @@ impl Explained {
         task: Layered<FlatTask>,
         plan: FlatPlan,
     ) -> Explained
-        ensures { result ≡ verdict.items ++ reasons_text task plan reasons.items }
+        ensures { result ≡ verdict.items ++ reasons_text task plan.steps reasons.items }
     {
         Explained {
             verdict,
@@ -78,57 +76,11 @@ impl Explained {
             ⊎ ((e ≡ ToolFault.Memory) × (out.new ≡ out.old))) }
         ensures writes { IsErrAnd result IsWrite ↔ IsTrue out.new.failed }
     {
-        // What takes memory comes first.
-        let mut pieces = Pieces::new(alloc)?;
         let named = Named {
-            task: &self.task,
-            plan: &self.plan,
+            task: self.task.task(),
+            plan: Some(&self.plan),
         };
         let verdict = self.verdict.as_slice();
-        match push_explained(&mut pieces, out, verdict, &named, self.reasons.as_slice()) {
-            Ok(()) => Ok(Status::No),
-            Err(short) => Err(ToolFault::Write {
-                written: short.written,
-            }),
-        }
+        write_reasons(alloc, out, verdict, &named, self.reasons.as_slice())
     }
-}
-
-/// Writes the verdict and the lines behind it. In the end nothing is held back.
-fn push_explained<W: Write>(
-    pieces: &mut Pieces,
-    out: &mut Watched<W>,
-    verdict: &[u8],
-    named: &Named<'_>,
-    reasons: &[Line],
-) -> Result<(), Short>
-    requires { out.old.failed ≡ false }
-    ensures puts { PutsOrBreaks (W.contents out.old.device) (W.contents out.new.device)
-        pieces.old pieces.new
-        (verdict.now ++ reasons_text named.now.task.now named.now.plan.now reasons.now) result }
-    ensures empty { OnOk result (pieces.new.held ≡ []) }
-    ensures note { IsErr result ↔ IsTrue out.new.failed }
-{
-    pieces.push(out, verdict)?;
-    push_reasons(pieces, out, named, reasons)?;
-    pieces.flush(out)
-}
-
-/// Adds the lines, each with its end, to the text.
-fn push_reasons<W: Write>(
-    pieces: &mut Pieces,
-    out: &mut Watched<W>,
-    named: &Named<'_>,
-    reasons: &[Line],
-) -> Result<(), Short>
-    requires { out.old.failed ≡ false }
-    ensures puts { PutsOrBreaks (W.contents out.old.device) (W.contents out.new.device)
-        pieces.old pieces.new
-        (reasons_text named.now.task.now named.now.plan.now reasons.now) result }
-    ensures note { IsErr result ↔ IsTrue out.new.failed }
-{
-    for line in reasons {
-        push_reason(pieces, out, named, *line)?;
-    }
-    Ok(())
 }

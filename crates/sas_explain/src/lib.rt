@@ -2,7 +2,6 @@
 #![tactic(auto)]
 
 mod explained;
-mod lines;
 mod plans;
 
 pub use explained::Explained;

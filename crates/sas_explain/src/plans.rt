@@ -14,7 +14,8 @@ use sas_flat::{FlatPlan, FlatTask};
 use sas_meaning::Layered;
 use sas_output::Told;
 use sas_run::{Course, PlanFault};
-use sas_why::{Line, Retraced, reasons, retrace};
+use sas_why::{Retraced, reasons, retrace};
+use sas_wording::Line;
 use std::alloc::{AllocError, Global};
 
 /// The answer about a plan.
@@ -106,7 +107,7 @@ fn accept(alloc: Global, plan: &FlatPlan) -> Result<Judgement, AllocError>
     Ok(Judgement::Valid(accept_plan(alloc, plan)?))
 }
 
-/// Returns the reasons for the fault that the plan has, behind the line that tells it.
+/// Returns the verdict on the plan's fault, and its reasons.
 fn explain_fault(
     alloc: Global,
     task: &Layered<FlatTask>,

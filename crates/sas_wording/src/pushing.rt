@@ -1,18 +1,18 @@
 // How lines of reasons go out: names are looked up here.
 ghost use Rattle.std.specs.Prelude.{◌≡◌, ◌↔◌, ◌⊎◌, false, [], ◌∷◌, ◌++◌, map, Some};
-ghost use Rattle.std.specs.Prelude.{IfErr, IsErr, IsErrAnd, IsTrue, OnOk, decimal};
+ghost use Rattle.std.specs.Prelude.{IfErr, IsErr, IsErrAnd, IsTrue, OnOk, decimal, if◌then◌else◌};
 ghost use Rattle.std.specs.Io.KnownBytes.{Appends};
 ghost use Rattle.sas_output.specs.Ending.{EndsCounting, IsWrite};
 ghost use Rattle.sas_output.specs.Pieces.{PutsOrBreaks};
 ghost use Rattle.sas_output.specs.Words.{word_bytes};
 ghost use Rattle.sas_wording.specs.Line.{words_of, line_bytes, reasons_text};
-ghost use Rattle.sas_wording.specs.Wording.{steps_of, part_words, could_be_words, line_with, wording_bytes};
+ghost use Rattle.sas_wording.specs.Wording.{steps_of, verb_words, part_words, could_be_words, rest_words, line_with};
 
 use crate::line::Line;
-use crate::names::{Named, value_name};
-use crate::wording::{Part, Rest, Start, Wording};
+use crate::names::{Named, given_by, operator_name, set_by, value_name};
+use crate::wording::{Part, Rest, Start, wording};
 use itoa::Buffer;
-use sas_core::Fact;
+use sas_core::{Fact, Grounded};
 use sas_flat::FlatTask;
 use sas_lines::{Short, Watched};
 use sas_output::{Pieces, Status, ToolFault, Word, Words};
@@ -101,31 +101,39 @@ fn push_line<W: Write>(
         (line_bytes named.now.task.now (steps_of named.now.plan) line ++ 10 ∷ []) result }
     ensures note { IsErr result ↔ IsTrue out.new.failed }
 {
-    push_wording(pieces, out, named.task, named.wording(line))
+    let (indent, words, rest) = wording(line);
+    push_rest(pieces, out, named, Start { indent, words }, rest)
 }
 
-/// Adds the line and its end to the text.
-fn push_wording<W: Write>(
+/// Adds the line that begins so, with this rest, and its end.
+fn push_rest<W: Write>(
     pieces: &mut Pieces,
     out: &mut Watched<W>,
-    task: &FlatTask,
-    wording: Wording<'_>,
+    named: &Named<'_>,
+    start: Start,
+    rest: Rest,
 ) -> Result<(), Short>
     requires { out.old.failed ≡ false }
     ensures puts { PutsOrBreaks (W.contents out.old.device) (W.contents out.new.device)
         pieces.old pieces.new
-        (wording_bytes task.now wording.entry ++ 10 ∷ []) result }
+        (line_with start (rest_words named.now.task.now (steps_of named.now.plan) rest) ++ 10 ∷ [])
+        result }
     ensures note { IsErr result ↔ IsTrue out.new.failed }
 {
-    let start = wording.start;
-    match wording.rest {
+    let task = named.task;
+    match rest {
         Rest::Nothing => push_words(pieces, out, start, &[]),
-        Rest::Number { number } => push_words(pieces, out, start, &[Word::Number(number)]),
-        Rest::Sum { sum } => push_sum(pieces, out, start, sum),
-        Rest::Named { number, name } => push_named(pieces, out, start, number, name),
-        Rest::OfFact { fact } => push_fact(pieces, out, task, start, fact),
-        Rest::OfPart { part } => push_part(pieces, out, task, start, part),
-        Rest::CouldBe { step, operator } => push_could_be(pieces, out, start, step, operator),
+        Rest::Number(number) => push_words(pieces, out, start, &[Word::Number(number)]),
+        Rest::Sum(sum) => push_sum(pieces, out, start, sum),
+        Rest::Metric => push_metric(pieces, out, start, task),
+        Rest::Step(step) => push_named(pieces, out, start, step as u64, named.step_name(step)),
+        Rest::Operator(operator) => {
+            let name = operator_name(task, operator);
+            push_named(pieces, out, start, u64::from(operator), name)
+        }
+        Rest::CouldBe(step, operator) => push_could_be(pieces, out, start, step, operator),
+        Rest::OfFact(fact) => push_fact(pieces, out, task, start, fact),
+        Rest::OfPart(part) => push_part(pieces, out, task, start, part),
     }
 }
 
@@ -166,6 +174,23 @@ fn push_sum<W: Write>(
     let mut buffer = Buffer::new();
     let digits = buffer.format(sum).as_bytes();
     push_words(pieces, out, start, &[Word::Text(digits)])
+}
+
+/// Adds the line of the task's metric, and its end.
+fn push_metric<W: Write>(
+    pieces: &mut Pieces,
+    out: &mut Watched<W>,
+    start: Start,
+    task: &FlatTask,
+) -> Result<(), Short>
+    requires { out.old.failed ≡ false }
+    ensures puts { PutsOrBreaks (W.contents out.old.device) (W.contents out.new.device)
+        pieces.old pieces.new
+        (line_with start (decimal (if task.now.metric then 1 else 0) ∷ []) ++ 10 ∷ []) result }
+    ensures note { IsErr result ↔ IsTrue out.new.failed }
+{
+    let metric = u64::from(task.metric());
+    push_words(pieces, out, start, &[Word::Number(metric)])
 }
 
 /// Adds the line of a number and a name, and its end.
@@ -220,17 +245,25 @@ fn push_part<W: Write>(
         (line_with start (part_words task.now part) ++ 10 ∷ []) result }
     ensures note { IsErr result ↔ IsTrue out.new.failed }
 {
-    let number = Word::Number(u64::from(part.number));
-    let verb = Word::Text(part.verb);
-    let var = Word::Number(u64::from(part.fact.var));
-    let value = Word::Number(u64::from(part.fact.value));
-    let name = value_name(task, part.fact);
-    push_words(
-        pieces,
-        out,
-        start,
-        &[number, verb, var, value, Word::Text(name)],
-    )
+    let (number, verb, fact) = deed(task, part);
+    let var = Word::Number(u64::from(fact.var));
+    let value = Word::Number(u64::from(fact.value));
+    let name = Word::Text(value_name(task, fact));
+    let words = [Word::Number(number), Word::Text(verb), var, value, name];
+    push_words(pieces, out, start, &words)
+}
+
+/// Returns the number of the part, the verb, and the fact.
+fn deed(task: &FlatTask, part: Part) -> (u64, &'static [u8], Fact)
+    ensures { verb_words task.now result.0 result.1.now result.2 ≡ part_words task.now part }
+{
+    match part {
+        Part::Derives(rule) => (u64::from(rule), b"derives", given_by(task, rule)),
+        Part::Sets(operator, effect) => {
+            (u64::from(effect), b"sets", set_by(task, operator, effect))
+        }
+        Part::Requires(number, fact) => (u64::from(number), b"requires", fact),
+    }
 }
 
 /// Adds the line of an operator that a step could also be, and its end.
@@ -238,8 +271,8 @@ fn push_could_be<W: Write>(
     pieces: &mut Pieces,
     out: &mut Watched<W>,
     start: Start,
-    step: u64,
-    operator: u64,
+    step: usize,
+    operator: u32,
 ) -> Result<(), Short>
     requires { out.old.failed ≡ false }
     ensures puts { PutsOrBreaks (W.contents out.old.device) (W.contents out.new.device)
@@ -248,6 +281,7 @@ fn push_could_be<W: Write>(
     ensures note { IsErr result ↔ IsTrue out.new.failed }
 {
     let could_be = Word::Text(b"could also be operator");
-    let words = [Word::Number(step), could_be, Word::Number(operator)];
+    let operator = Word::Number(u64::from(operator));
+    let words = [Word::Number(step as u64), could_be, operator];
     push_words(pieces, out, start, &words)
 }
