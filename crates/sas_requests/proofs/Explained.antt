@@ -11,10 +11,10 @@ use Rattle.sas_reader.specs.Devices.{ReadsAll}
 use Rattle.sas_reader.specs.Format.{Format, ReadsAs}
 use Rattle.sas_reader.specs.Found.{IsFoundOf}
 use Rattle.sas_reader.specs.Limit.{most_bytes}
-use Rattle.sas_reader.specs.About.{IsTold, TellingLaws}
-use Rattle.sas_reader.specs.Telling.{TellsAbout, ReadsAllTelling}
+use Rattle.sas_reader.specs.About.{IsTold, AboutLaws}
+use Rattle.sas_reader.specs.Refusals.{Explains, ReadsOrExplains}
 use Rattle.sas_reader.proofs.Known.{known_answer, known_fault}
-use Rattle.sas_reader.proofs.KnownTelling.{plain_reads, known_told}
+use Rattle.sas_reader.proofs.KnownRefusals.{known_explained}
 use Rattle.sas_output.specs.declared.ending.ToolFault.{ToolFault}
 use Rattle.sas_output.specs.declared.ending.ToolFault.TheVariants as tool_fault
 use Rattle.sas_output.specs.Ending.{Output, IsDecided, IsWrite}
@@ -23,7 +23,7 @@ use Rattle.sas_requests.specs.Answering.{Answers, AnswersFile, output_of}
 use Rattle.sas_plan_file.specs.declared.plan_refusal.PlanRefusal.{PlanRefusal}
 use Rattle.sas_task_format.proofs.TaskSections.{less, is_less}
 use Rattle.sas_task_format.specs.TaskReasons.{IsTaskReason}
-use Rattle.sas_task_reader.specs.declared.telling.TaskRefusal.{TaskRefusal}
+use Rattle.sas_task_reader.specs.declared.task_refusal.TaskRefusal.{TaskRefusal}
 use Rattle.sas_file_reasons.specs.FileLine.{FileLine}
 use Rattle.sas_file_reasons.specs.Reasons.{task_reasons, plan_reasons, file_lines}
 use Rattle.sas_requests.specs.Explaining.{FileOutWhy, IsRefusedWith, task_refusal_reasons, plan_refusal_reasons}
@@ -32,19 +32,19 @@ use Rattle.sas_outputs.specs.Output.{refusal}
 use Rattle.sas_outputs.proofs.Outputs.{refused_kind, too_long_else, reading_of_refusal}
 use Rattle.sas_requests.proofs.RefusalReasons.{no_reasons, some_of}
 
-module _ {D V I S A R : Type 0} (left : D → Option (List ℕ)) (F : Format V I S) (telling : TellingLaws F) (Tells : Kind → List (List ℕ) → List ℕ → List FileLine → Type 0) (Gives : List ℕ → A → Type 0)
+module _ {D V I S A R : Type 0} (left : D → Option (List ℕ)) (F : Format V I S) (telling : AboutLaws F) (Tells : Kind → List (List ℕ) → List ℕ → List FileLine → Type 0) (Gives : List ℕ → A → Type 0)
     (fault : R → Fault) (found : R → Found) (Told : List (List ℕ) → List ℕ → R → Type 0) (name : List ℕ) (IsAnswer : V → Output → Type 0) where
   abbrev Reads : Device D → Device D → Result A R → Type 0
-  Reads = ReadsAllTelling F fault found Told left Gives
+  Reads = ReadsOrExplains F fault found Told left Gives
 
   abbrev OutWhy : List ℕ → Option Output → Type 0
   OutWhy = FileOutWhy F Tells name IsAnswer
 
   pub plain_read : (old new : Device D) (a : A) → Reads old new (Ok a) → ReadsAll left F Gives old new (Ok a)
-  plain_read old new a h = plain_reads left F fault found Told Gives old new (Ok a) h
+  plain_read old new a h = h.plain
 
   plain_fault : (old new : Device D) (r : R) → Reads old new (Err r) → ReadsAll left F Gives old new (Err (fault r))
-  plain_fault old new r h = plain_reads left F fault found Told Gives old new (Err r) h
+  plain_fault old new r h = h.plain
 
   -- ---- what was read is answered
 
@@ -60,16 +60,16 @@ module _ {D V I S A R : Type 0} (left : D → Option (List ℕ)) (F : Format V I
   pub explains_value : (old new : Device D) (a : A) (r : Answer) → Reads old new (Ok a) → ((b : List ℕ) → Gives b a → (v : V) × ReadsAs F most_bytes b (Ok v) × IsAnswer v (output_of r)) → AnswersFile left OutWhy old new (Ok r)
   explains_value old new a r h gives = record {
     output = λ b known. value_out b (output_of r) (gives b (known_answer left F Gives old new a b (plain_read old new a h) known));
-    taken = λ decided. let read = h.read in (read.0, (read.1).0, value_out read.0 (output_of r) (gives read.0 read.2));
-    reads = (λ e. absurd cc, λ t. absurd (h.note.1 t));
+    taken = λ decided. let read = h.plain.read in (read.0, (read.1).0, value_out read.0 (output_of r) (gives read.0 read.2));
+    reads = (λ e. absurd cc, λ t. absurd (h.plain.note.1 t));
     writes = tt;
   }
 
   -- ---- a fault is refused, or the run ends at it
 
   module _ (r : R) (reasons : List FileLine) (tells : (accepted : List (List ℕ)) (text : List ℕ) → IsFoundOf text (found r) → Told accepted text r → Tells (fault r).kind accepted text reasons) where
-    reasons_of : (b : List ℕ) → TellsAbout F fault found Told b r → FaultReasons F Tells b (fault r) reasons
-    reasons_of b (accepted, text, about, is, says) = told accepted text about (tells accepted text is says)
+    reasons_of : (b : List ℕ) → Explains F fault found Told b r → FaultReasons F Tells b (fault r) reasons
+    reasons_of b e = told e.accepted e.text e.about (tells e.accepted e.text e.kept e.why)
 
     -- the kind of a fault that is refused
     worded_kind : (o : Output) → IsRefusedWith name (fault r) reasons o → IsTold (fault r).kind
@@ -80,7 +80,7 @@ module _ {D V I S A R : Type 0} (left : D → Option (List ℕ)) (F : Format V I
           refused_kind (fault r).kind Memory _ plain refl refused,
         )
 
-    refused_out : (b : List ℕ) (o : Output) → IsRefusedWith name (fault r) reasons o → ReadsAs F most_bytes b (Err (fault r)) → TellsAbout F fault found Told b r → OutWhy b (Some o)
+    refused_out : (b : List ℕ) (o : Output) → IsRefusedWith name (fault r) reasons o → ReadsAs F most_bytes b (Err (fault r)) → Explains F fault found Told b r → OutWhy b (Some o)
     refused_out b o is reads about = record {
       of_read = refusal name (fault r);
       reasons = reasons;
@@ -103,13 +103,13 @@ module _ {D V I S A R : Type 0} (left : D → Option (List ℕ)) (F : Format V I
       known_out b known o is =
           let kind = worded_kind o is in
           refused_out b o is (known_fault left F Gives old new (fault r) b (plain_fault old new r h) known kind.2 kind.0)
-          (known_told left F fault found Told Gives old new r b telling h known kind)
+          (known_explained left F fault found Told Gives old new r b telling h known kind)
 
       taken_out : (o : Output) → IsRefusedWith name (fault r) reasons o → (b : List ℕ) × Consumes (left old.device) (left new.device) b × OutWhy b (Some o)
       taken_out o is =
           let kind = worded_kind o is in
-          let x = h.refused kind.2 in
-          (x.0, x.1, refused_out x.0 o is (reading_of_refusal F x.0 (IsAtEnd (left new.device)) (fault r) (x.2).refuses kind.0) ((x.2).about kind))
+          let x = h.explained kind in
+          (x.0, x.1, refused_out x.0 o is (reading_of_refusal F x.0 (IsAtEnd (left new.device)) (fault r) x.2 kind.0) x.3)
 
       not_memory : (fault r).kind ≡ TooLong → (fault r).kind ≢ Memory
       not_memory long = too_long_else (fault r).kind Memory long (λ e. absurd cc)
@@ -122,8 +122,8 @@ module _ {D V I S A R : Type 0} (left : D → Option (List ℕ)) (F : Format V I
 
       taken_long : (fault r).kind ≡ TooLong → (b : List ℕ) × Consumes (left old.device) (left new.device) b × OutWhy b None
       taken_long long =
-          let x = h.refused (not_memory long) in
-          (x.0, x.1, long_out x.0 long (reading_of_refusal F x.0 (IsAtEnd (left new.device)) (fault r) (x.2).refuses (not_read long)))
+          let x = h.plain.fault (not_memory long) in
+          (x.0, x.1, long_out x.0 long (reading_of_refusal F x.0 (IsAtEnd (left new.device)) (fault r) x.2 (not_read long)))
 
       known_answers : (result : Result Answer ToolFault) → IfOk result (λ a. IsRefusedWith name (fault r) reasons (output_of a)) → (IsErrOf result tool_fault.TooLong → (fault r).kind ≡ TooLong) → (b : List ℕ) → left old.device ≡ Some b → Answers (OutWhy b) result
       known_answers (Ok a) ok long b known = known_out b known (output_of a) ok
@@ -142,7 +142,7 @@ module _ {D V I S A R : Type 0} (left : D → Option (List ℕ)) (F : Format V I
       explains_refusal result ok long read writes = record {
         output = λ b known. known_answers result ok long b known;
         taken = λ decided. taken_answers result ok long writes decided;
-        reads = (λ e. h.note.0 (read.0 e), λ t. read.1 (h.note.1 t));
+        reads = (λ e. h.plain.note.0 (read.0 e), λ t. read.1 (h.plain.note.1 t));
         writes = writes;
       }
 

@@ -12,8 +12,8 @@ use Rattle.sas_reader.specs.declared.fault.Kind.TheVariants as kinds
 use Rattle.sas_reader.specs.Format.{Format, FaultOf, KindAt, too_long, trailing, wrong, ReadsAs}
 use Rattle.sas_reader.specs.Laws.{Laws}
 use Rattle.sas_reader.specs.Limit.{most_bytes}
-use Rattle.sas_reader.specs.About.{IsAbout, of_line, of_byte, of_end, TellingLaws}
-use Rattle.sas_reader.proofs.Telling.{telling_laws_of}
+use Rattle.sas_reader.specs.About.{IsAbout, of_line, of_byte, of_end, AboutLaws}
+use Rattle.sas_reader.proofs.About.{about_laws_of}
 use Rattle.sas_plan_file.specs.PlanFormat.{plan_format, PlanLineFits}
 use Rattle.sas_plan_file.specs.PlanMachine.{plan_node, plan_start}
 use Rattle.sas_plan_file.proofs.PlanGrammar.{plan_grammar}
@@ -38,15 +38,15 @@ use Rattle.sas_requests.specs.Why.{is_reason}
 use Rattle.sas_outputs.proofs.Outputs.{Worded, plan_worded, task_worded}
 use Rattle.sas_requests.proofs.ReasonLines.{IsReason, AreReasons}
 
-pub task_telling : TellingLaws task_format
-task_telling = telling_laws_of task_format TaskLineFits process_node task_start task_grammar
+pub task_telling : AboutLaws task_format
+task_telling = about_laws_of task_format TaskLineFits process_node task_start task_grammar
 
-pub plan_telling : TellingLaws plan_format
-plan_telling = telling_laws_of plan_format PlanLineFits plan_node plan_start plan_grammar
+pub plan_telling : AboutLaws plan_format
+plan_telling = about_laws_of plan_format PlanLineFits plan_node plan_start plan_grammar
 
 -- ---- one file
 
-module _ {V I S : Type 0} (F : Format V I S) (Tells : Kind → List (List ℕ) → List ℕ → List FileLine → Type 0) (laws : Laws F) (telling : TellingLaws F) (worded : Worded F) where
+module _ {V I S : Type 0} (F : Format V I S) (Tells : Kind → List (List ℕ) → List ℕ → List FileLine → Type 0) (laws : Laws F) (telling : AboutLaws F) (worded : Worded F) where
   -- what a fault is about has a word
   about_short : (bytes : List ℕ) (f : Fault) (begun : List (List ℕ)) (found : List ℕ) → IsAbout F most_bytes bytes f begun found → f.kind ≢ kinds.TooLong
   about_short bytes f begun found (of_line h ha ht s n k) e = worded s found f.kind k (rw e refl)

@@ -9,7 +9,7 @@ use Rattle.sas_reader.specs.Found.{bytes_of}
 use Rattle.sas_plan_file.specs.declared.plan_refusal.PlanRefusal.{PlanRefusal}
 use Rattle.sas_plan_file.specs.PlanFormat.{plan_format}
 use Rattle.sas_task_format.specs.TaskFormat.{task_format}
-use Rattle.sas_task_reader.specs.declared.telling.TaskRefusal.{TaskRefusal}
+use Rattle.sas_task_reader.specs.declared.task_refusal.TaskRefusal.{TaskRefusal}
 use Rattle.sas_file_reasons.specs.FileLine.{FileLine}
 use Rattle.sas_file_reasons.specs.Reasons.{task_reasons, plan_reasons, file_lines}
 use Rattle.sas_output.specs.Ending.{Output}

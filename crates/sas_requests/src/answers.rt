@@ -101,7 +101,7 @@ fn show<R: Read>(alloc: Global, reader: &mut Watched<R>) -> Result<Answer, ToolF
 {
     match read_outline(alloc, reader) {
         Ok(outline) => Ok(Answer::Summary(Summary::new(outline))),
-        Err(fault) => refuse(alloc, "task", fault),
+        Err(refusal) => refuse(alloc, "task", refusal.fault),
     }
 }
 
@@ -115,7 +115,7 @@ fn print<R: Read>(alloc: Global, reader: &mut Watched<R>) -> Result<Answer, Tool
             text,
             status: Status::Yes,
         })),
-        Err(fault) => refuse(alloc, "task", fault),
+        Err(refusal) => refuse(alloc, "task", refusal.fault),
     }
 }
 
@@ -129,7 +129,7 @@ fn steps<R: Read>(alloc: Global, plan: &mut Watched<R>) -> Result<Answer, ToolFa
             text,
             status: Status::Yes,
         })),
-        Err(fault) => refuse(alloc, "plan", fault),
+        Err(refusal) => refuse(alloc, "plan", refusal.fault),
     }
 }
 
@@ -140,7 +140,7 @@ fn check<R: Read>(alloc: Global, reader: &mut Watched<R>) -> Result<Answer, Tool
 {
     let task = match read_flat_task(alloc, reader) {
         Ok(task) => task,
-        Err(fault) => return refuse(alloc, "task", fault),
+        Err(refusal) => return refuse(alloc, "task", refusal.fault),
     };
     Ok(Answer::Text(layers_answer(alloc, task)?))
 }
@@ -152,7 +152,7 @@ fn mutex<R: Read>(alloc: Global, reader: &mut Watched<R>) -> Result<Answer, Tool
 {
     let task = match read_flat_task(alloc, reader) {
         Ok(task) => task,
-        Err(fault) => return refuse(alloc, "task", fault),
+        Err(refusal) => return refuse(alloc, "task", refusal.fault),
     };
     Ok(Answer::Text(groups_answer(alloc, task)?))
 }

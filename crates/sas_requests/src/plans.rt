@@ -28,7 +28,7 @@ pub fn plan_answer<T: Read, P: Read>(
 {
     let read = match read_flat_task(alloc, task) {
         Ok(read) => read,
-        Err(fault) => return refuse(alloc, "task", fault),
+        Err(refusal) => return refuse(alloc, "task", refusal.fault),
     };
     match Layered::new(alloc, read) {
         Ok(layered) => {
@@ -62,7 +62,7 @@ fn judge<P: Read>(
 {
     let read = match read_flat_plan(alloc, plan) {
         Ok(read) => read,
-        Err(fault) => return refuse(alloc, "plan", fault),
+        Err(refusal) => return refuse(alloc, "plan", refusal.fault),
     };
     Ok(Answer::Text(verdict_answer(alloc, layered, &read)?))
 }

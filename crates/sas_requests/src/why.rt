@@ -21,9 +21,9 @@ use sas_flat::FlatTask;
 use sas_lines::Watched;
 use sas_meaning::{LayerFault, Layered};
 use sas_output::Told;
-use sas_plan_file::{read_flat_plan_telling, read_plan_text_telling};
+use sas_plan_file::{read_flat_plan, read_plan_text};
 use sas_summary::Summary;
-use sas_task_reader::{read_flat_task_telling, read_outline_telling, read_task_text_telling};
+use sas_task_reader::{read_flat_task, read_outline, read_task_text};
 use sas_task_reasons::{TaskAnswer, explain_check, explain_groups, explain_layers};
 use std::alloc::Global;
 use std::io::Read;
@@ -67,7 +67,7 @@ fn show_explanation<R: Read>(alloc: Global, reader: &mut Watched<R>) -> Result<A
     requires { reader.old.failed ≡ false }
     ensures { AnswersFile R.remaining (TaskOutWhy ShowAnswer) reader.old reader.new result }
 {
-    match read_outline_telling(alloc, reader) {
+    match read_outline(alloc, reader) {
         Ok(outline) => Ok(Answer::Summary(Summary::new(outline))),
         Err(refusal) => explain_task_refusal(alloc, refusal),
     }
@@ -78,7 +78,7 @@ fn print_explanation<R: Read>(alloc: Global, reader: &mut Watched<R>) -> Result<
     requires { reader.old.failed ≡ false }
     ensures { AnswersFile R.remaining (TaskOutWhy (PrintAnswer task_format)) reader.old reader.new result }
 {
-    match read_task_text_telling(alloc, reader) {
+    match read_task_text(alloc, reader) {
         Ok(text) => Ok(Answer::Text(Told {
             text,
             status: Status::Yes,
@@ -92,7 +92,7 @@ fn steps_explanation<R: Read>(alloc: Global, plan: &mut Watched<R>) -> Result<An
     requires { plan.old.failed ≡ false }
     ensures { AnswersFile R.remaining (PlanOutWhy (PrintAnswer plan_format)) plan.old plan.new result }
 {
-    match read_plan_text_telling(alloc, plan) {
+    match read_plan_text(alloc, plan) {
         Ok(text) => Ok(Answer::Text(Told {
             text,
             status: Status::Yes,
@@ -106,7 +106,7 @@ fn check_explanation<R: Read>(alloc: Global, reader: &mut Watched<R>) -> Result<
     requires { reader.old.failed ≡ false }
     ensures { AnswersFile R.remaining (TaskOutWhy WhyCheckAnswer) reader.old reader.new result }
 {
-    let task = match read_flat_task_telling(alloc, reader) {
+    let task = match read_flat_task(alloc, reader) {
         Ok(task) => task,
         Err(refusal) => return explain_task_refusal(alloc, refusal),
     };
@@ -119,7 +119,7 @@ fn mutex_explanation<R: Read>(alloc: Global, reader: &mut Watched<R>) -> Result<
     requires { reader.old.failed ≡ false }
     ensures { AnswersFile R.remaining (TaskOutWhy WhyMutexAnswer) reader.old reader.new result }
 {
-    let task = match read_flat_task_telling(alloc, reader) {
+    let task = match read_flat_task(alloc, reader) {
         Ok(task) => task,
         Err(refusal) => return explain_task_refusal(alloc, refusal),
     };
@@ -149,7 +149,7 @@ fn plan_explanation<T: Read, P: Read>(
     ensures { AnswersFiles T.remaining P.remaining (OutWhy Request.Plan)
         task.old task.new plan.old plan.new result }
 {
-    let read = match read_flat_task_telling(alloc, task) {
+    let read = match read_flat_task(alloc, task) {
         Ok(read) => read,
         Err(refusal) => return explain_task_refusal(alloc, refusal),
     };
@@ -178,7 +178,7 @@ fn explain_judged<P: Read>(
     requires { plan.old.failed ≡ false }
     ensures { AnswersFile P.remaining (PlanOutWhy (WhyVerdict layered)) plan.old plan.new result }
 {
-    match read_flat_plan_telling(alloc, plan) {
+    match read_flat_plan(alloc, plan) {
         Ok(read) => match explain_plan(alloc, layered, read)? {
             PlanAnswer::Valid(told) => Ok(Answer::Text(told)),
             PlanAnswer::Explained(explained) => Ok(Answer::Explained(explained)),

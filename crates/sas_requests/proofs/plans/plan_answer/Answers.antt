@@ -10,14 +10,14 @@ use Rattle.sas_requests.proofs.plans.plan_answer.Goals as goal
 pub returns-in-Err : goal.returns-in-Err
 returns-in-Err g c =
     refused_files VerdictAnswer plain_refusal g.T.Read.remaining g.P.Read.remaining _ _ _ c.refuse.result c.requires.plan
-    (answers_refusal g.T.Read.remaining task_format _ (codes "task") NoAnswer _ _ c.in-Err.fault c.refuse.result c.in-Err.ensures c.refuse.ensures.ok c.refuse.ensures.long.0 c.refuse.ensures.read c.refuse.ensures.writes)
+    (answers_refusal g.T.Read.remaining task_format _ (codes "task") NoAnswer _ _ c.in-Err.refusal.fault c.refuse.result c.in-Err.ensures.plain c.refuse.ensures.ok c.refuse.ensures.long.0 c.refuse.ensures.read c.refuse.ensures.writes)
 
 pub returns-in-Ok-new : goal.returns-in-Ok-new
 returns-in-Ok-new g c =
-    judged_files VerdictAnswer plain_refusal g.T.Read.remaining g.P.Read.remaining _ _ c.in-Ok.read c.in-Ok.ensures _ _ c.judge-answer.result
+    judged_files VerdictAnswer plain_refusal g.T.Read.remaining g.P.Read.remaining _ _ c.in-Ok.read c.in-Ok.ensures.plain _ _ c.judge-answer.result
     (rw c.in-Ok-new.ensures.task at c.in-Ok-new.ensures.layered) (rw c.in-Ok-new.ensures.task at c.judge-answer.ensures)
 
 pub returns-in-Err-new : goal.returns-in-Err-new
 returns-in-Err-new g c =
-    unlayered_files VerdictAnswer plain_refusal g.T.Read.remaining g.P.Read.remaining _ _ c.in-Ok.read c.in-Ok.ensures plain_refuses _ c.in-Err-new.fault c.refuse_task.result c.requires.plan
+    unlayered_files VerdictAnswer plain_refusal g.T.Read.remaining g.P.Read.remaining _ _ c.in-Ok.read c.in-Ok.ensures.plain plain_refuses _ c.in-Err-new.fault c.refuse_task.result c.requires.plan
     c.in-Err-new.ensures.first c.refuse_task.ensures.ok c.refuse_task.ensures.err
