@@ -14,11 +14,11 @@ use Rattle.sas_run.specs.declared.plan_check.PlanFault.TheVariants.{Memory, NoOp
 use Rattle.sas_run.specs.Plans.{GoThrough, LeadsTo}
 use Rattle.sas_run.specs.Verdicts.{ComesTo, IsFaultOf}
 use Rattle.sas_reasons.specs.Lines.{told_once, TellsEach, places}
-use Rattle.sas_reasons.specs.Runs.{Run, last_state, GoesThrough}
+use Rattle.sas_run.specs.Runs.{Run, last_state, GoesThrough, steps_before}
 use Rattle.sas_reasons.specs.Cause.{fails, IsCause}
-use Rattle.sas_reasons.specs.WhyPlan.{step_line, operator_line, like_line, TellsLike, failing, operators_of, TellsInapplicable, effect_line, TellsConflict, goal_fact_at, goal_line, TellsGoalFact, cost_lines, other_line, TellsOther, steps_before, TellsFault, IsWhy}
+use Rattle.sas_reasons.specs.WhyPlan.{step_line, operator_line, like_line, TellsLike, failing, operators_of, TellsInapplicable, effect_line, TellsConflict, goal_fact_at, goal_line, TellsGoalFact, cost_lines, other_line, TellsOther, TellsFault, IsWhy}
 use Rattle.sas_reasons.specs.Laws.{SomeWhy, OneWhy}
-use Rattle.sas_reasons.proofs.Runs.{some_run, one_run}
+use Rattle.sas_run.proofs.Runs.{some_run, one_run}
 use Rattle.sas_reasons.proofs.Likeness.{some_like, one_like}
 use Rattle.sas_reasons.proofs.MayMean.{some_may_mean, one_may_mean}
 use Rattle.sas_reasons.proofs.Causes.{some_cause, one_cause}

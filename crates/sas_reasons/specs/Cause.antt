@@ -15,7 +15,7 @@ use Rattle.sas_meaning.specs.Settled.{differs}
 use Rattle.sas_output.specs.Words.{line}
 use Rattle.sas_wording.specs.Facts.{fact_words}
 use Rattle.sas_reasons.specs.Lines.{places}
-use Rattle.sas_reasons.specs.Runs.{Run, last_state}
+use Rattle.sas_run.specs.Runs.{Run, last_state}
 use Rattle.sas_reasons.specs.Since.{IsSince}
 use Rattle.sas_reasons.specs.Derivation.{can_give, IsDerivation}
 

@@ -14,7 +14,7 @@ use Rattle.sas_meaning.specs.Layers.{default_of}
 use Rattle.sas_output.specs.Words.{line}
 use Rattle.sas_wording.specs.Facts.{fact_words}
 use Rattle.sas_reasons.specs.Lines.{TellsEach, places}
-use Rattle.sas_reasons.specs.Runs.{Run, last_state}
+use Rattle.sas_run.specs.Runs.{Run, last_state}
 use Rattle.sas_reasons.specs.Since.{IsSince}
 use Rattle.sas_reasons.specs.Derivation.{can_give, IsDerivation}
 use Rattle.sas_reasons.specs.Cause.{is_derived, is_given, asks_line, has_line, since_line, gives_line, TellsGivers, can_be_given, keeping_lines, missing_lines, IsCause}

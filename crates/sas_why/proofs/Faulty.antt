@@ -13,7 +13,7 @@ use Rattle.sas_core.specs.Stepwise.{step_at}
 use Rattle.sas_core.specs.Grounded.{operator_at}
 use Rattle.sas_run.specs.declared.plan_check.PlanFault.TheVariants.{NoOperator, NotApplicable, Conflict}
 use Rattle.sas_reasons.specs.Lines.{told_once, TellsEach, places}
-use Rattle.sas_reasons.specs.Runs.{Run, last_state}
+use Rattle.sas_run.specs.Runs.{Run, last_state}
 use Rattle.sas_reasons.specs.Cause.{fails}
 use Rattle.sas_reasons.specs.Conflicts.{IsConflict}
 use Rattle.sas_reasons.specs.Likeness.{IsLike}

@@ -9,7 +9,7 @@ use Rattle.sas_core.specs.Grounded.{rule_at}
 use Rattle.sas_core.specs.Variables.{IsState}
 use Rattle.sas_meaning.specs.Settled.{IsSettled}
 use Rattle.sas_reasons.specs.Lines.{told_once, places}
-use Rattle.sas_reasons.specs.Runs.{Run, last_state, GoesThrough}
+use Rattle.sas_run.specs.Runs.{Run, last_state, GoesThrough}
 use Rattle.sas_reasons.specs.Derivation.{can_give}
 use Rattle.sas_reasons.specs.Since.{IsSince}
 use Rattle.sas_reasons.specs.Cause.{asks_line, has_line, since_line, gives_line, rule_asks_line, failing_lines}

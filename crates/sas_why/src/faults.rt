@@ -5,7 +5,7 @@ ghost use Rattle.sas_core.specs.Grounded.{operator_at};
 ghost use Rattle.sas_core.specs.Stepwise.{step_at};
 ghost use Rattle.sas_core.specs.Variables.{IsState};
 ghost use Rattle.sas_meaning.specs.Steps.{Agree};
-ghost use Rattle.sas_reasons.specs.Runs.{Run, last_state};
+ghost use Rattle.sas_run.specs.Runs.{Run, last_state};
 ghost use Rattle.sas_reasons.specs.WhyPlan.{TellsInapplicable, TellsGoal, TellsFault, IsWhy};
 ghost use Rattle.sas_reasons.specs.WhyPlan.{cost_lines_sum};
 ghost use Rattle.sas_why.specs.Line.{line_bytes};

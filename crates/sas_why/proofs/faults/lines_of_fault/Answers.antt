@@ -6,9 +6,10 @@ use Rattle.sas_core.specs.Grounded.{operator_at}
 use Rattle.sas_meaning.specs.Steps.{Agree}
 use Rattle.sas_run.specs.declared.plan_check.PlanFault.{PlanFault}
 use Rattle.sas_run.specs.declared.plan_check.PlanFault.TheVariants.{Conflict}
+use Rattle.sas_run.proofs.Runs.{operators_exist}
 use Rattle.sas_reasons.specs.WhyPlan.{TellsFault}
 use Rattle.sas_why.specs.Told.{TellsOnce}
-use Rattle.sas_why.proofs.Behind.{ends, behind, operators_exist, conflict_clashes, last_is, operators_are, operators_as_many}
+use Rattle.sas_why.proofs.Behind.{ends, behind, conflict_clashes, last_is, operators_are, operators_as_many}
 use Rattle.sas_why.proofs.faults.lines_of_fault.Goals as goal
 
 pub blocked-requires : goal.blocked-requires
