@@ -67,8 +67,8 @@ itself o = record { front = []; whole = refl; status = refl }
 
 module _ (p : Parts) where
   verdict_of : (plan : PlanParts) (o : Output) (t : TraceVerdict p plan o) → EndsWith p plan t.run t.verdict → VerdictAnswer p plan t.verdict
-  verdict_of plan o t (inl (valid, steps, is)) = inl ((t.run.operators, valid), is)
-  verdict_of plan o t (inr (fault, is_fault, steps, is)) = inr (fault, is_fault, is)
+  verdict_of plan o t (inl (ends, is)) = inl ((t.run.operators, ends.0), is)
+  verdict_of plan o t (inr (fault, ends, is)) = inr (fault, ends.0, is)
 
   plan_ends : (r : Result PlanParts Fault) (o : Output) → IsAnswerOrRefusal (codes "plan") (TraceVerdict p) r (Some o)
       → (plain : Output) × IsAnswerOrRefusal (codes "plan") (VerdictAnswer p) r (Some plain) × EndsAs o plain

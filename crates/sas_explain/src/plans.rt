@@ -1,6 +1,6 @@
 // Whether a plan is valid, and why it isn't.
 ghost use Rattle.std.specs.Prelude.{◌≡◌, Some, IfOk};
-ghost use Rattle.sas_run.specs.Courses.{SetsOut};
+ghost use Rattle.sas_run.specs.Executions.{IsFound};
 ghost use Rattle.sas_run.specs.Verdicts.{IsFaultOf};
 ghost use Rattle.sas_explain.specs.Verdict.{WhyVerdict, output_of_plan};
 ghost use Rattle.sas_explain.specs.Judgement.{IsJudgement, IsAccepted};
@@ -13,7 +13,7 @@ use sas_core::Stepwise;
 use sas_flat::{FlatPlan, FlatTask};
 use sas_meaning::Layered;
 use sas_output::Told;
-use sas_run::{Course, PlanFault};
+use sas_run::{Execution, PlanFault};
 use sas_why::{Retraced, reasons, retrace};
 use sas_wording::Line;
 use std::alloc::{AllocError, Global};
@@ -71,31 +71,29 @@ fn judge(alloc: Global, task: &Layered<FlatTask>, plan: &FlatPlan) -> Result<Jud
     ensures { IfOk result (IsJudgement task.now plan.now) }
 {
     let worklist = Worklist::new(alloc, task)?;
-    let mut course = Course::new(alloc, task, worklist, plan)?;
-    match course.check() {
-        Ok(()) => {
-            drop(course);
+    let mut execution = Execution::new(alloc, task, worklist, plan)?;
+    match execution.find_fault() {
+        None => {
+            drop(execution);
             accept(alloc, plan)
         }
-        Err(_) => explain_course(alloc, task, plan, course),
+        Some(fault) => explain_execution(alloc, task, plan, execution, fault),
     }
 }
 
-/// Goes through the steps of the plan by its course once more, and returns the reasons for its fault.
-fn explain_course(
+/// Goes through the steps of the plan by its execution once more, which found this fault, and returns the reasons for it.
+fn explain_execution(
     alloc: Global,
     task: &Layered<FlatTask>,
     plan: &FlatPlan,
-    course: Course<'_, '_, Worklist, FlatTask, FlatPlan>,
+    execution: Execution<'_, '_, Worklist, FlatTask, FlatPlan>,
+    fault: PlanFault,
 ) -> Result<Judgement, AllocError>
-    requires { SetsOut task.now plan.now course }
+    requires { IsFound task.now plan.now (Some fault) execution }
     ensures { IfOk result (IsJudgement task.now plan.now) }
 {
-    let noted = retrace(alloc, task, plan, course)?;
-    let judgement = match noted.fault {
-        Some(fault) => explain_fault(alloc, task, plan, &noted, fault),
-        None => accept(alloc, plan),
-    };
+    let noted = retrace(alloc, execution, fault)?;
+    let judgement = explain_fault(alloc, task, plan, &noted, fault);
     drop(noted);
     judgement
 }

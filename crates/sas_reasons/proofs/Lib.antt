@@ -1,5 +1,4 @@
 pub mod Lowest
-pub mod Runs
 pub mod Since
 pub mod Likeness
 pub mod MayMean

@@ -4,7 +4,7 @@ use Rattle.std.proofs.lemmas.Bool.{cases_lt}
 use Rattle.sas_core.specs.declared.parts.Parts.{Parts}
 use Rattle.sas_run.proofs.Choosing.{named_or_not, applicable_or_not}
 use Rattle.sas_reasons.specs.Lowest.{IsLowest}
-use Rattle.sas_reasons.specs.Runs.{Run, state_at}
+use Rattle.sas_run.specs.Runs.{Run, state_at}
 use Rattle.sas_reasons.specs.MayMean.{IsOther, HasOther, MayMean}
 use Rattle.sas_reasons.specs.Laws.{SomeMayMean, OneMayMean}
 use Rattle.sas_reasons.proofs.Lowest.{lowest_below, lowest_is_one}

@@ -16,11 +16,11 @@ use Rattle.sas_run.specs.Verdicts.{ComesTo, IsFaultOf}
 use Rattle.sas_wording.specs.declared.line.Line.{Line}
 use Rattle.sas_wording.specs.declared.line.Line.TheVariants as line
 use Rattle.sas_reasons.specs.Lines.{with_lines, TellsBehind, TellsEach, places}
-use Rattle.sas_reasons.specs.Runs.{Run, last_state, GoesThrough}
+use Rattle.sas_run.specs.Runs.{Run, last_state, GoesThrough, steps_before}
 use Rattle.sas_reasons.specs.Cause.{fails, IsCause}
-use Rattle.sas_reasons.specs.WhyPlan.{TellsLike, failing, operators_of, TellsInapplicable, TellsConflict, goal_fact_at, TellsGoalFact, cost_lines, TellsOther, steps_before, TellsFault, IsWhy}
+use Rattle.sas_reasons.specs.WhyPlan.{TellsLike, failing, operators_of, TellsInapplicable, TellsConflict, goal_fact_at, TellsGoalFact, cost_lines, TellsOther, TellsFault, IsWhy}
 use Rattle.sas_reasons.specs.Laws.{SomeWhy, OneWhy}
-use Rattle.sas_reasons.proofs.Runs.{some_run, one_run}
+use Rattle.sas_run.proofs.Runs.{some_run, one_run}
 use Rattle.sas_reasons.proofs.Likeness.{some_like, one_like}
 use Rattle.sas_reasons.proofs.MayMean.{some_may_mean, one_may_mean}
 use Rattle.sas_reasons.proofs.Causes.{some_cause, one_cause}

@@ -13,7 +13,7 @@ use Rattle.sas_meaning.specs.Settled.{differs}
 use Rattle.sas_wording.specs.declared.line.Line.{Line}
 use Rattle.sas_wording.specs.declared.line.Line.TheVariants as line
 use Rattle.sas_reasons.specs.Lines.{places}
-use Rattle.sas_reasons.specs.Runs.{Run, last_state}
+use Rattle.sas_run.specs.Runs.{Run, last_state}
 use Rattle.sas_reasons.specs.Since.{IsSince}
 use Rattle.sas_reasons.specs.Derivation.{can_give, IsDerivation}
 

@@ -13,9 +13,9 @@ use Rattle.sas_meaning.specs.Settled.{differs, IsSettled}
 use Rattle.sas_meaning.specs.Steps.{Agree}
 use Rattle.sas_names.specs.Named.{IsNamed}
 use Rattle.sas_run.specs.declared.plan_check.PlanFault.{PlanFault}
-use Rattle.sas_run.specs.Plans.{IsApplicable, LeadsTo}
+use Rattle.sas_run.specs.Plans.{IsApplicable}
 use Rattle.sas_run.specs.Verdicts.{IsFirstMissed, IsFaultOf}
-use Rattle.sas_reasons.specs.Runs.{Run, last_state, GoesThrough}
+use Rattle.sas_run.specs.Runs.{Run}
 use Rattle.sas_reasons.specs.Since.{value_at, IsSince}
 use Rattle.sas_reasons.specs.Likeness.{folded, IsLike}
 use Rattle.sas_reasons.specs.MayMean.{HasOther, MayMean}
@@ -26,20 +26,6 @@ use Rattle.sas_reasons.specs.Lines.{with_lines, places}
 use Rattle.sas_reasons.specs.Cause.{fails, can_be_given}
 use Rattle.sas_reasons.specs.Conflicts.{IsConflict}
 use Rattle.sas_reasons.specs.WhyPlan.{failing, operators_of, IsWhy}
-
--- ---- runs
-
--- steps that lead to a state are those of a run, with the same operators and the same last state
-abbrev pub SomeRun : Type 0
-SomeRun = (p : Parts) (steps : List (List ℕ)) (operators last : List ℕ)
-    → LeadsTo p steps operators last
-    → (run : Run) × GoesThrough p run × (run.steps ≡ steps) × (run.operators ≡ operators)
-    × (last_state run ≡ last)
-
--- and in a layered task of one run only
-abbrev pub OneRun : Type 0
-OneRun = (p : Parts) (a b : Run) → IsLayered p → GoesThrough p a → GoesThrough p b
-    → a.steps ≡ b.steps → a ≡ b
 
 -- ---- since when a variable has its value
 

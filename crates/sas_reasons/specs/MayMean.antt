@@ -6,7 +6,7 @@ use Rattle.sas_core.specs.Grounded.{operator_at}
 use Rattle.sas_names.specs.Named.{IsNamed}
 use Rattle.sas_run.specs.Plans.{IsApplicable}
 use Rattle.sas_reasons.specs.Lowest.{IsLowest}
-use Rattle.sas_reasons.specs.Runs.{Run, state_at}
+use Rattle.sas_run.specs.Runs.{Run, state_at}
 
 -- an operator above that of step k + 1 has the step's name too, and is applicable in the state
 -- before the step

@@ -1,6 +1,6 @@
 -- Since when a variable has the value that it has in the last state of a run.
 use Rattle.std.specs.Prelude.{◌≡◌, ◌≢◌, ℕ, ◌+◌, ◌<◌, ◌≤◌, length, slice_index}
-use Rattle.sas_reasons.specs.Runs.{Run, state_at}
+use Rattle.sas_run.specs.Runs.{Run, state_at}
 
 -- the variable's value in the state with this number
 abbrev pub value_at : Run → ℕ → ℕ → ℕ

@@ -1,5 +1,5 @@
 -- Why a plan isn't valid: the lines of reasons behind its verdict.
-use Rattle.std.specs.Prelude.{◌≡◌, ◌⊎◌, ℕ, ◌-◌, List, [], ◌∷◌, ◌++◌, length, take}
+use Rattle.std.specs.Prelude.{◌≡◌, ◌⊎◌, ℕ, ◌-◌, List, [], ◌∷◌, ◌++◌, length}
 use Rattle.std.specs.Prelude.{filter, sum_by, slice_index_or, bytes_eq, Option}
 use Rattle.std.specs.Option.{option_map_or}
 use Rattle.sas_core.specs.declared.parts.Fact.{Fact}
@@ -15,7 +15,7 @@ use Rattle.sas_run.specs.declared.plan_check.PlanFault.TheVariants.{Conflict, Go
 use Rattle.sas_wording.specs.declared.line.Line.{Line}
 use Rattle.sas_wording.specs.declared.line.Line.TheVariants as line
 use Rattle.sas_reasons.specs.Lines.{with_lines, TellsBehind, TellsEach, places}
-use Rattle.sas_reasons.specs.Runs.{Run, last_state, GoesThrough}
+use Rattle.sas_run.specs.Runs.{Run, last_state, GoesThrough, steps_before}
 use Rattle.sas_reasons.specs.Likeness.{IsLike}
 use Rattle.sas_reasons.specs.MayMean.{HasOther, MayMean}
 use Rattle.sas_reasons.specs.Cause.{fails, IsCause}
@@ -95,15 +95,6 @@ TellsOther p run lines =
     ⊎ (((k : ℕ) → HasOther p run k → ⊥) × (lines ≡ []))
 
 -- ---- why
-
--- the steps that go through before the plan has this fault
-abbrev pub steps_before : PlanParts → PlanFault → List (List ℕ)
-steps_before plan (NoOperator step) = take (step - 1) plan.steps
-steps_before plan (NotApplicable step) = take (step - 1) plan.steps
-steps_before plan (Conflict step operator) = take (step - 1) plan.steps
-steps_before plan (GoalMissed index) = plan.steps
-steps_before plan (CostDiffers sum) = plan.steps
-steps_before plan Memory = plan.steps
 
 -- the lines for this fault, where these steps went through (refused memory is no fault)
 abbrev pub TellsFault : Parts → PlanParts → Run → PlanFault → List Line → Type 0

@@ -1,16 +1,13 @@
 // Laws of reasons.
-ghost use Rattle.sas_reasons.specs.Laws.{SomeRun, OneRun, SomeSince, OneSince, SameSince};
+ghost use Rattle.sas_reasons.specs.Laws.{SomeSince, OneSince, SameSince};
 ghost use Rattle.sas_reasons.specs.Laws.{SpaceFolds, FoldsOnce, SomeLike, OneLike, SomeMayMean, OneMayMean};
 ghost use Rattle.sas_reasons.specs.Laws.{RankIfDiffers, OneRank, SomeGiver, OneGiver, GiverFires, GiverLooksDown};
 ghost use Rattle.sas_reasons.specs.Laws.{ItselfIsLast, NoCircle, AllDiffer, SomeDerivation, OneDerivation, OwnRuleIsLast};
 ghost use Rattle.sas_reasons.specs.Laws.{DefaultIfNotGiven, EachRuleFails, SomePreconditionFails, OperatorsHaveName};
 ghost use Rattle.sas_reasons.specs.Laws.{FirstGoalFact, SomeConflict, OneConflict, NoneIsLost, RulesToldOnce, SomeWhy, OneWhy};
 
-/// Ensures the laws of runs. Steps that lead to a state are those of a run, which in a layered task is one. Each variable has
-/// one last change in a run, and from there on one value.
-pub fn run_laws()
-    ensures some_run { SomeRun }
-    ensures one_run { OneRun }
+/// Ensures the laws of changes. Each variable has one last change in a run, and from there on one value.
+pub fn since_laws()
     ensures some_since { SomeSince }
     ensures one_since { OneSince }
     ensures same_since { SameSince }

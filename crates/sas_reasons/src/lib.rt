@@ -3,4 +3,4 @@
 
 mod laws;
 
-pub use laws::{cause_laws, derivation_laws, name_laws, run_laws, why_laws};
+pub use laws::{cause_laws, derivation_laws, name_laws, since_laws, why_laws};

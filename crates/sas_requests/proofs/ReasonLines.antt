@@ -18,10 +18,10 @@ use Rattle.sas_run.specs.declared.plan_check.PlanFault.{PlanFault}
 use Rattle.sas_run.specs.declared.plan_check.PlanFault.TheVariants.{Memory, NoOperator, NotApplicable, Conflict, GoalMissed, CostDiffers}
 use Rattle.sas_wording.specs.Facts.{fact_words}
 use Rattle.sas_reasons.specs.Lines.{is_rule_line, told_once, TellsEach, places}
-use Rattle.sas_reasons.specs.Runs.{Run, last_state}
+use Rattle.sas_run.specs.Runs.{Run, last_state, steps_before}
 use Rattle.sas_reasons.specs.Derivation.{can_give}
 use Rattle.sas_reasons.specs.Cause.{fails, is_derived, asks_line, has_line, since_line, gives_line, is_given, TellsGivers, rule_asks_line, failing_lines, can_be_given, keeping_lines, missing_lines, IsCause}
-use Rattle.sas_reasons.specs.WhyPlan.{step_line, operator_line, like_line, failing, TellsInapplicable, operators_of, effect_line, TellsConflict, goal_fact_at, goal_line, TellsGoalFact, cost_lines_sum, cost_lines, other_line, TellsOther, steps_before, TellsFault, IsWhy}
+use Rattle.sas_reasons.specs.WhyPlan.{step_line, operator_line, like_line, failing, TellsInapplicable, operators_of, effect_line, TellsConflict, goal_fact_at, goal_line, TellsGoalFact, cost_lines_sum, cost_lines, other_line, TellsOther, TellsFault, IsWhy}
 use Rattle.sas_requests.specs.Why.{is_reason}
 use Rattle.sas_requests.proofs.PlainNames.{HasPlainNames, ArePlain, plain_first}
 

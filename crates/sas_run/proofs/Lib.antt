@@ -5,9 +5,11 @@ pub mod PlanVerdicts
 pub mod Ranges
 pub mod Missed
 pub mod Giving
-pub mod Gone
+pub mod Deleted
 pub mod PlainSteps
 pub mod NamedAlike
 pub mod Going
 pub mod PlanStates
-pub mod UnderWay
+pub mod Runs
+pub mod Endings
+pub mod Executing

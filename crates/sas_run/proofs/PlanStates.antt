@@ -1,10 +1,13 @@
--- The states that a plan comes through are reachable.
-use Rattle.std.proofs.Common.{ℕ, List, [], ◌∷◌, sym, subst}
-use Rattle.std.proofs.lemmas.List.Elements.{Contains-get_or}
+-- The states that a plan comes through are reachable, and so settled states of the task.
+use Rattle.std.proofs.Common.{ℕ, ◌<◌, List, [], ◌∷◌, length, sym, subst}
+use Rattle.std.specs.List.{All}
+use Rattle.std.proofs.lemmas.List.Elements.{All-nil, All-cons, Contains-get_or}
 use Rattle.sas_core.specs.declared.parts.Parts.{Parts}
 use Rattle.sas_core.specs.Grounded.{operator_at}
+use Rattle.sas_core.specs.Variables.{IsState}
 use Rattle.sas_meaning.specs.Reachable.{Reachable, Initial, Next}
-use Rattle.sas_run.specs.Plans.{GoThrough}
+use Rattle.sas_meaning.specs.Settled.{IsSettled}
+use Rattle.sas_run.specs.Plans.{GoThrough, LeadsTo}
 use Rattle.sas_run.specs.Laws.{LeadsToReachable, LastIsReachable}
 
 -- from a reachable state steps lead to reachable ones
@@ -21,3 +24,25 @@ leads_to_reachable p steps operators last leads = go_on p leads.initial steps op
 
 pub last_is_reachable : LastIsReachable
 last_is_reachable p plan operators valid = leads_to_reachable p plan.steps operators valid.last valid.leads
+
+-- a reachable state is a settled state of the task
+rests : (p : Parts) (s : List ℕ) → Reachable p s → IsState p.variables s × IsSettled p s
+rests p s (Initial starts) = (starts.state, starts.settled)
+rests p s (Next o before among step) = (step.state, step.settled)
+
+pub leads_to_rest : (p : Parts) (steps : List (List ℕ)) (operators last : List ℕ) → LeadsTo p steps operators last
+    → IsState p.variables last × IsSettled p last
+leads_to_rest p steps operators last leads = rests p last (leads_to_reachable p steps operators last leads)
+
+-- steps go through by operators that exist
+goes_by : (p : Parts) (s : List ℕ) (names : List (List ℕ)) (operators last : List ℕ) → GoThrough p s names operators last
+    → All (λ (o : ℕ). o < length p.operators) operators
+goes_by p s [] [] last goes = All-nil (λ (o : ℕ). o < length p.operators)
+goes_by p s [] (operator ∷ operators) last goes = absurd goes
+goes_by p s (name ∷ names) [] last goes = absurd goes
+goes_by p s (name ∷ names) (operator ∷ operators) last (next, chosen, step, rest) =
+    All-cons (λ (o : ℕ). o < length p.operators) operator operators chosen.of_name.exists (goes_by p next names operators last rest)
+
+pub leads_by : (p : Parts) (steps : List (List ℕ)) (operators last : List ℕ) → LeadsTo p steps operators last
+    → All (λ (o : ℕ). o < length p.operators) operators
+leads_by p steps operators last leads = goes_by p leads.initial steps operators last leads.goes

@@ -52,9 +52,9 @@ pub record GivesOther (given : List (Option ℕ)) (var value : ℕ) (given' : Li
   pub now : given' ≡ given
 
 -- the fact comes into the state s: if another one on its variable held, that one is added to those
--- that are gone
+-- that are deleted
 abbrev pub Replaces : List ℕ → Fact → List Fact → List Fact → Type 0
-Replaces s fact gone gone' =
-    ((slice_index s fact.var ≡ fact.value) × (gone' ≡ gone))
+Replaces s fact deleted deleted' =
+    ((slice_index s fact.var ≡ fact.value) × (deleted' ≡ deleted))
     ⊎ ((slice_index s fact.var ≢ fact.value)
-    × (gone' ≡ gone ++ (record { var = fact.var; value = slice_index s fact.var }) ∷ []))
+    × (deleted' ≡ deleted ++ (record { var = fact.var; value = slice_index s fact.var }) ∷ []))

@@ -1,5 +1,5 @@
 -- What follows from the definitions: a plan of a layered task is valid in one way, or has exactly
--- one fault. The state to which its steps lead is reachable.
+-- one fault. The state to which its steps lead is reachable, and they are those of one run.
 use Rattle.std.specs.Prelude.{◌≡◌, ◌⊎◌, ℕ, List}
 use Rattle.sas_core.specs.declared.parts.Parts.{Parts}
 use Rattle.sas_core.specs.PlanParts.{PlanParts}
@@ -8,6 +8,7 @@ use Rattle.sas_meaning.specs.Layers.{IsLayered}
 use Rattle.sas_meaning.specs.Reachable.{Reachable}
 use Rattle.sas_run.specs.declared.plan_check.PlanFault.{PlanFault}
 use Rattle.sas_run.specs.Plans.{LeadsTo, IsValid}
+use Rattle.sas_run.specs.Runs.{Run, last_state, GoesThrough}
 use Rattle.sas_run.specs.Verdicts.{IsFaultOf}
 
 -- a plan is valid or has a fault
@@ -40,3 +41,15 @@ LeadsToReachable = (p : Parts) (steps : List (List ℕ)) (operators last : List 
 abbrev pub LastIsReachable : Type 0
 LastIsReachable = (p : Parts) (plan : PlanParts) (operators : List ℕ)
     (valid : IsValid p plan operators) → Reachable p valid.last
+
+-- steps that lead to a state are those of a run, with the same operators and the same last state
+abbrev pub SomeRun : Type 0
+SomeRun = (p : Parts) (steps : List (List ℕ)) (operators last : List ℕ)
+    → LeadsTo p steps operators last
+    → (run : Run) × GoesThrough p run × (run.steps ≡ steps) × (run.operators ≡ operators)
+    × (last_state run ≡ last)
+
+-- and in a layered task of one run only
+abbrev pub OneRun : Type 0
+OneRun = (p : Parts) (a b : Run) → IsLayered p → GoesThrough p a → GoesThrough p b
+    → a.steps ≡ b.steps → a ≡ b

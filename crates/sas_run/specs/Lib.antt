@@ -2,8 +2,9 @@
 pub mod Plans
 pub mod Verdicts
 pub mod Laws
+pub mod Runs
 pub mod Running
 pub mod Given
 pub mod PlainSteps
-pub mod Walking
-pub mod Courses
+pub mod Stepping
+pub mod Executions

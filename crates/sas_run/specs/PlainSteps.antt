@@ -24,11 +24,11 @@ pub record IsPlainStep (o : Operator) (changes : List Change) : Type 0 where
 abbrev pub OldHolds : List ℕ → Change → Type 0
 OldHolds s c = (value : ℕ) → c.old ≡ Some value → slice_index s c.var ≡ value
 
--- all changes are made in s, which gives s', and these facts are gone
-pub record AreMade (p : Parts) (s : List ℕ) (changes : List Change) (gone : List Fact)
+-- all changes are made in s, which gives s', and these facts are deleted
+pub record AreMade (p : Parts) (s : List ℕ) (changes : List Change) (deleted : List Fact)
     (s' : List ℕ) : Type 0 where
   pub state : IsState p.variables s'
   pub set : All (λ (c : Change). slice_index s' c.var ≡ c.new) changes
   pub kept : (var : ℕ) → All (λ (c : Change). c.var ≢ var) changes
       → slice_index s' var ≡ slice_index s var
-  pub lost : HaveGone p gone s s'
+  pub lost : HaveGone p deleted s s'

@@ -1,5 +1,5 @@
 -- What the calls of a runner say.
-use Rattle.std.specs.Prelude.{◌≡◌, ◌≢◌, ℕ, ◌<◌, ◌≤◌, ◌+◌, ◌++◌, ◌∷◌, List, length, All}
+use Rattle.std.specs.Prelude.{◌≡◌, ◌≢◌, ℕ, ◌<◌, ◌≤◌, List, length, All}
 use Rattle.std.specs.Prelude.{slice_index, slice_index_or, Option, None, Some, Result, Ok, Err}
 use Rattle.sas_core.specs.declared.parts.Fact.{Fact}
 use Rattle.sas_core.specs.declared.parts.Effect.{Effect}
@@ -16,7 +16,7 @@ use Rattle.sas_run.specs.declared.runner.Choice.{Choice}
 use Rattle.sas_run.specs.declared.runner.Choice.TheVariants.{Unknown, Blocked, Found}
 use Rattle.sas_run.specs.declared.steps.StepFault.{StepFault}
 use Rattle.sas_run.specs.declared.steps.StepFault.TheVariants as step_fault
-use Rattle.sas_run.specs.Plans.{IsApplicable, NoneApplicable, IsChosen, GoThrough, cost_of_all}
+use Rattle.sas_run.specs.Plans.{IsApplicable, NoneApplicable, IsChosen, cost_of_all}
 use Rattle.sas_run.specs.Verdicts.{IsFirstMissed}
 
 -- which operator a name means in a state: no operator has the name, none that has it is applicable,
@@ -122,35 +122,16 @@ StopsAt p s name step (plan_fault.GoalMissed index) = ⊥
 StopsAt p s name step (plan_fault.CostDiffers sum) = ⊥
 StopsAt p s name step plan_fault.Memory = ⊥
 
--- the step of this number is made by its applicable operator, or its effects conflict
-abbrev pub Makes : Parts → List ℕ → ℕ → ℕ → List ℕ → Result (Unit {0}) PlanFault → Type 0
-Makes p s operator step s' (Ok _) = Step p s (operator_at p operator) s'
-Makes p s operator step s' (Err fault) = (fault ≡ plan_fault.Conflict step operator)
-    × (Agree s (operator_at p operator).effects → ⊥)
-    × (s' ≡ s)
-
 -- in this state, to which all steps led, the goal holds and the operators cost this; or what fails
-abbrev pub IsJudged : Parts → List ℕ → List ℕ → ℕ → Result (Unit {0}) PlanFault → Type 0
-IsJudged p operators s cost (Ok _) = AllHold (slice_index s) p.goal
+abbrev pub IsJudged : Parts → List ℕ → List ℕ → ℕ → Option PlanFault → Type 0
+IsJudged p operators s cost None = AllHold (slice_index s) p.goal
     × (cost_of_all p operators ≡ cost)
-IsJudged p operators s cost (Err (plan_fault.GoalMissed index)) =
+IsJudged p operators s cost (Some (plan_fault.GoalMissed index)) =
     IsFirstMissed (slice_index s) p.goal index
-IsJudged p operators s cost (Err (plan_fault.CostDiffers sum)) = AllHold (slice_index s) p.goal
+IsJudged p operators s cost (Some (plan_fault.CostDiffers sum)) = AllHold (slice_index s) p.goal
     × (sum ≡ cost_of_all p operators)
     × (sum ≢ cost)
-IsJudged p operators s cost (Err (plan_fault.NoOperator step)) = ⊥
-IsJudged p operators s cost (Err (plan_fault.NotApplicable step)) = ⊥
-IsJudged p operators s cost (Err (plan_fault.Conflict step operator)) = ⊥
-IsJudged p operators s cost (Err plan_fault.Memory) = ⊥
-
--- all steps go through from the state s, or those before one that stops
-abbrev pub GoesThrough : Parts → List ℕ → List (List ℕ) → List ℕ → List ℕ
-    → Result (Unit {0}) PlanFault → Type 0
-GoesThrough p s steps operators s' (Ok _) = GoThrough p s steps operators s'
-    × IsState p.variables s'
-    × All (λ (o : ℕ). o < length p.operators) operators
-GoesThrough p s steps operators s' (Err fault) = (before behind : List (List ℕ))
-    × (name mid : List ℕ)
-    × (steps ≡ before ++ name ∷ behind)
-    × GoThrough p s before operators mid
-    × StopsAt p mid name (length before + 1) fault
+IsJudged p operators s cost (Some (plan_fault.NoOperator step)) = ⊥
+IsJudged p operators s cost (Some (plan_fault.NotApplicable step)) = ⊥
+IsJudged p operators s cost (Some (plan_fault.Conflict step operator)) = ⊥
+IsJudged p operators s cost (Some plan_fault.Memory) = ⊥

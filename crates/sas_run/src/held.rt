@@ -4,7 +4,7 @@ ghost use Rattle.sas_run.specs.Plans.{IsValid};
 ghost use Rattle.sas_run.specs.Verdicts.{IsFaultOf};
 
 use crate::plan_check::{PlanFault, Valid, check_found, check_named};
-use crate::walker::{Walker, walker_for};
+use crate::stepper::{Stepper, stepper_for};
 use sas_core::{Grounded, Stepwise, Task};
 use sas_meaning::{Layered, Settle};
 use sas_names::{NamedTask, Names, StepOperators, is_long};
@@ -17,7 +17,7 @@ use std::marker::Model;
 pub struct Held<E: Settle<T> + Drop, T: Grounded + Drop = Task> {
     layered: Layered<T>,
     names: Names,
-    walker: Walker<E>,
+    stepper: Stepper<E>,
 }
 
 impl<E: Settle<T> + Drop, T: Grounded + Drop> Drop for Held<E, T> {
@@ -25,24 +25,24 @@ impl<E: Settle<T> + Drop, T: Grounded + Drop> Drop for Held<E, T> {
         let Held {
             layered,
             names,
-            walker,
+            stepper,
         } = self;
         drop(layered);
         drop(names);
-        drop(walker);
+        drop(stepper);
     }
 }
 
 impl<E: Settle<T> + Drop, T: Grounded + Drop> Model for Held<E, T> {
     ghost use Rattle.sas_core.specs.declared.parts.Parts.{Parts};
     ghost use Rattle.sas_names.specs.NameTable.{AreNames};
-    ghost use Rattle.sas_run.specs.Walking.{IsPrepared};
+    ghost use Rattle.sas_run.specs.Stepping.{IsPrepared};
 
     ghost Value = { Parts };
 
     ghost view = { λ h. h.layered };
 
-    ghost invariant = { λ h. AreNames h.layered h.names × IsPrepared E.ready h.layered h.walker };
+    ghost invariant = { λ h. AreNames h.layered h.names × IsPrepared E.ready h.layered h.stepper };
 }
 
 impl<E: Settle<T> + Drop, T: Grounded + Drop> Held<E, T> {
@@ -53,13 +53,13 @@ impl<E: Settle<T> + Drop, T: Grounded + Drop> Held<E, T> {
         ensures { IfOk result (λ h. h ≡ layered) }
     {
         let names = Names::new(alloc, &layered)?;
-        let Ok(walker) = walker_for(alloc, &layered, evaluator) else {
+        let Ok(stepper) = stepper_for(alloc, &layered, evaluator) else {
             return Err(AllocError);
         };
         Ok(Held {
             layered,
             names,
-            walker,
+            stepper,
         })
     }
 
@@ -82,12 +82,12 @@ impl<E: Settle<T> + Drop, T: Grounded + Drop> Held<E, T> {
         if is_long(&self.layered, plan) {
             let operators = StepOperators::by_operator_names(alloc, &self.layered, plan)?;
             let found = operators.found();
-            return check_found(alloc, &self.layered, &mut self.walker, plan, found);
+            return check_found(alloc, &self.layered, &mut self.stepper, plan, found);
         }
         let named = NamedTask {
             task: &self.layered,
             names: &self.names,
         };
-        check_named(alloc, &named, &mut self.walker, plan)
+        check_named(alloc, &named, &mut self.stepper, plan)
     }
 }

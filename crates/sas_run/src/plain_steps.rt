@@ -66,44 +66,44 @@ pub fn old_values_hold(state: &State, changes: &[Change]) -> bool
     true
 }
 
-/// Makes the changes, which are what the operator's effects do, in the state. Adds the facts that this takes away to `gone`, which is
+/// Makes the changes, which are what the operator's effects do, in the state. Adds the facts that this makes false to `deleted`, which is
 /// empty.
 #[inline(always)]
 pub fn make_changes<T: Grounded>(
     task: &Layered<T>,
     operator: u32,
     changes: &[Change],
-    gone: &mut Vec<Fact>,
+    deleted: &mut Vec<Fact>,
     state: &mut State,
 )
     requires operator { operator < length task.now.operators }
     requires plain { IsPlainStep (operator_at task.now operator) changes.now }
     requires state { IsState task.now.variables state.old }
-    requires empty { gone.old.items ≡ [] }
-    requires room { length changes.now ≤ vec_capacity gone.old }
-    ensures made { AreMade task.now state.old changes.now gone.new.items state.new }
-    ensures room { vec_capacity gone.old ≤ vec_capacity gone.new }
+    requires empty { deleted.old.items ≡ [] }
+    requires room { length changes.now ≤ vec_capacity deleted.old }
+    ensures made { AreMade task.now state.old changes.now deleted.new.items state.new }
+    ensures room { vec_capacity deleted.old ≤ vec_capacity deleted.new }
 {
     // By its contract the task is well ranged and layered.
     let _ = task.task();
     for change in changes {
-        replace(change.fact(), gone, state);
+        replace(change.fact(), deleted, state);
     }
 }
 
-/// Puts the fact into the state. If another one on its variable held, adds that one to `gone`, for which there is room.
+/// Puts the fact into the state. If another one on its variable held, adds that one to `deleted`, for which there is room.
 #[inline(always)]
-pub fn replace(fact: Fact, gone: &mut Vec<Fact>, state: &mut State)
+pub fn replace(fact: Fact, deleted: &mut Vec<Fact>, state: &mut State)
     requires exists { fact.var < length state.old }
-    requires room { length gone.old.items < vec_capacity gone.old }
+    requires room { length deleted.old.items < vec_capacity deleted.old }
     ensures state { state.new ≡ slice_set state.old fact.var fact.value }
-    ensures gone { Replaces state.old fact gone.old.items gone.new.items }
-    ensures room { vec_capacity gone.old ≤ vec_capacity gone.new }
+    ensures deleted { Replaces state.old fact deleted.old.items deleted.new.items }
+    ensures room { vec_capacity deleted.old ≤ vec_capacity deleted.new }
 {
     let before = state.value(fact.var);
     if before != fact.value {
         let var = fact.var;
-        gone.push(Fact { var, value: before }).unwrap();
+        deleted.push(Fact { var, value: before }).unwrap();
         state.set(fact);
     }
 }

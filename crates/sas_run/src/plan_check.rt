@@ -1,19 +1,20 @@
 // Whether a plan is valid.
-ghost use Rattle.std.specs.Prelude.{◌≡◌, ◌≢◌, ◌<◌, ◌≤◌, [], length};
-ghost use Rattle.std.specs.Prelude.{IfOk, IfErr, OnOk, slice_index_or, vec_capacity};
+ghost use Rattle.std.specs.Prelude.{◌≡◌, ◌≢◌, ◌≤◌, [], length, Some};
+ghost use Rattle.std.specs.Prelude.{IfOk, IfErr, OnOk, vec_capacity};
 ghost use Rattle.sas_core.specs.Grounded.{operator_at};
 ghost use Rattle.sas_core.specs.Variables.{IsState};
 ghost use Rattle.sas_meaning.specs.Reachable.{IsInitial};
 ghost use Rattle.sas_names.specs.Chains.{IsChain, HaveChains};
-ghost use Rattle.sas_names.specs.Names.{AreFirsts, HaveFirsts, IsFirst, IsNextNamed};
-ghost use Rattle.sas_run.specs.Plans.{IsValid};
+ghost use Rattle.sas_names.specs.Names.{AreFirsts, IsFirst};
+ghost use Rattle.sas_run.specs.Plans.{LeadsTo, IsValid};
 ghost use Rattle.sas_run.specs.Verdicts.{IsFaultOf};
-ghost use Rattle.sas_run.specs.Running.{GoesOn, StopsAt, GoesThrough};
-ghost use Rattle.sas_run.specs.Walking.{IsPrepared};
+ghost use Rattle.sas_run.specs.Running.{GoesOn, StopsAt};
+ghost use Rattle.sas_run.specs.Runs.{IsEnding};
+ghost use Rattle.sas_run.specs.Stepping.{IsPrepared};
 
+use crate::progress::{NextStep, Progress, choose, judge_last};
 use crate::runner::Runner;
-use crate::walk::{NextStep, Walk, choose, judge_last, make};
-use crate::walker::{Walker, walker_for};
+use crate::stepper::{Stepper, go_on_from, stepper_for};
 use sas_core::{Grounded, Stepwise};
 use sas_meaning::{Layered, Settle, State};
 use sas_names::{Found, NamedTask, StepOperators, first_operators};
@@ -67,7 +68,7 @@ impl<'a, E: Settle<T> + Drop, T: Grounded> Runner<'a, E, T> {
             task: self.layered,
             names: &self.names,
         };
-        check_named(alloc, &named, &mut self.walker, plan)
+        check_named(alloc, &named, &mut self.stepper, plan)
     }
 }
 
@@ -75,11 +76,11 @@ impl<'a, E: Settle<T> + Drop, T: Grounded> Runner<'a, E, T> {
 pub fn check_named<E: Settle<T> + Drop, T: Grounded, P: Stepwise>(
     alloc: Global,
     named: &NamedTask<'_, Layered<T>>,
-    walker: &mut Walker<E>,
+    stepper: &mut Stepper<E>,
     plan: &P,
 ) -> Result<Valid, PlanFault>
-    requires { IsPrepared E.ready named.now walker.old }
-    ensures prepared { IsPrepared E.ready named.now walker.new }
+    requires { IsPrepared E.ready named.now stepper.old }
+    ensures prepared { IsPrepared E.ready named.now stepper.new }
     ensures valid { IfOk result (λ v. IsValid named.now (P.says plan.now) v.operators.items) }
     ensures cost { IfOk result (λ v. v.cost ≡ (P.says plan.now).cost) }
     ensures fault { IfErr result (λ f. f ≢ PlanFault.Memory
@@ -90,7 +91,7 @@ pub fn check_named<E: Settle<T> + Drop, T: Grounded, P: Stepwise>(
         firsts: firsts.as_slice(),
         nexts: named.names.next(),
     };
-    check_found(alloc, named.task, walker, plan, found)
+    check_found(alloc, named.task, stepper, plan, found)
 }
 
 /// Checks whether the plan of the task is valid, as `Runner::check_plan` does, with an evaluator that is ready for the task. It keeps
@@ -107,92 +108,97 @@ pub fn check_once<E: Settle<T> + Drop, T: Grounded, P: Stepwise>(
     ensures fault { IfErr result (λ f. f ≢ PlanFault.Memory
         → IsFaultOf layered.now (P.says plan.now) f) }
 {
-    let Ok(mut walker) = walker_for(alloc, layered, evaluator) else {
+    let Ok(mut stepper) = stepper_for(alloc, layered, evaluator) else {
         return Err(PlanFault::Memory);
     };
     let operators = StepOperators::new(alloc, layered, plan)?;
-    check_found(alloc, layered, &mut walker, plan, operators.found())
+    check_found(alloc, layered, &mut stepper, plan, operators.found())
 }
 
 /// Checks whether the plan is valid, where it is found what the names of its steps mean.
 pub fn check_found<E: Settle<T> + Drop, T: Grounded, P: Stepwise>(
     alloc: Global,
     layered: &Layered<T>,
-    walker: &mut Walker<E>,
+    stepper: &mut Stepper<E>,
     plan: &P,
     found: Found<'_>,
 ) -> Result<Valid, PlanFault>
-    requires prepared { IsPrepared E.ready layered.now walker.old }
+    requires prepared { IsPrepared E.ready layered.now stepper.old }
     requires firsts { AreFirsts layered.now (P.says plan.now).steps found.firsts.now }
     requires chains { HaveChains layered.now found.firsts.now found.nexts.now }
-    ensures prepared { IsPrepared E.ready layered.now walker.new }
+    ensures prepared { IsPrepared E.ready layered.now stepper.new }
     ensures valid { IfOk result (λ v. IsValid layered.now (P.says plan.now) v.operators.items) }
     ensures cost { IfOk result (λ v. v.cost ≡ (P.says plan.now).cost) }
     ensures fault { IfErr result (λ f. f ≢ PlanFault.Memory
         → IsFaultOf layered.now (P.says plan.now) f) }
 {
-    let mut walk = Walk::new(alloc, layered, walker, plan.steps())?;
-    judge(layered, walker, plan, found, &mut walk)?;
-    Ok(Valid {
-        operators: walk.operators,
-        cost: plan.cost(),
-    })
+    let mut progress = Progress::new(alloc, layered, stepper, plan.steps())?;
+    match find_fault(layered, stepper, plan, found, &mut progress) {
+        None => Ok(Valid {
+            operators: progress.operators,
+            cost: plan.cost(),
+        }),
+        Some(fault) => Err(fault),
+    }
 }
 
-/// Checks whether the plan is valid, where it is found what the names of its steps mean. Adds the plan's operators, for
-/// which there is room. Without an allocator it can ask for no memory.
-pub fn judge<E: Settle<T> + Drop, T: Grounded, P: Stepwise>(
+/// Makes the plan's steps in turn, up to its fault, and returns that, if it has one. `found` has what their names mean. Adds the
+/// operators of the steps that go through, for which there is room. Without an allocator it can ask for no memory.
+pub fn find_fault<E: Settle<T> + Drop, T: Grounded, P: Stepwise>(
     layered: &Layered<T>,
-    walker: &mut Walker<E>,
+    stepper: &mut Stepper<E>,
     plan: &P,
     found: Found<'_>,
-    walk: &mut Walk,
-) -> Result<(), PlanFault>
-    requires prepared { IsPrepared E.ready layered.now walker.old }
-    requires follows { E.follows walker.old.evaluator layered.now walk.old.state }
+    progress: &mut Progress,
+) -> Option<PlanFault>
+    requires prepared { IsPrepared E.ready layered.now stepper.old }
+    requires follows { E.follows stepper.old.evaluator layered.now progress.old.state }
     requires firsts { AreFirsts layered.now (P.says plan.now).steps found.firsts.now }
     requires chains { HaveChains layered.now found.firsts.now found.nexts.now }
-    requires initial { IsInitial layered.now walk.old.state }
-    requires room { length (P.says plan.now).steps ≤ vec_capacity walk.old.operators }
-    requires empty { walk.old.operators.items ≡ [] }
-    ensures prepared { IsPrepared E.ready layered.now walker.new }
-    ensures valid { OnOk result (IsValid layered.now (P.says plan.now) walk.new.operators.items) }
-    ensures fault { IfErr result (IsFaultOf layered.now (P.says plan.now)) }
-    ensures state { IsState layered.now.variables walk.new.state }
-    ensures room { vec_capacity walk.old.operators ≤ vec_capacity walk.new.operators }
+    requires initial { IsInitial layered.now progress.old.state }
+    requires room { length (P.says plan.now).steps ≤ vec_capacity progress.old.operators }
+    requires empty { progress.old.operators.items ≡ [] }
+    ensures prepared { IsPrepared E.ready layered.now stepper.new }
+    ensures ends { IsEnding layered.now (P.says plan.now) progress.new.operators.items result }
+    ensures state { IsState layered.now.variables progress.new.state }
+    ensures room { vec_capacity progress.old.operators ≤ vec_capacity progress.new.operators }
 {
-    go_through(layered, walker, plan, found, walk)?;
-    judge_last(layered, walk, plan.cost())
+    match go_through(layered, stepper, plan, found, progress) {
+        Ok(()) => judge_last(layered, progress, plan.cost()),
+        Err(fault) => Some(fault),
+    }
 }
 
 /// Makes the plan's steps in turn, where it is found what their names mean. Adds their operators, for which there is room.
 fn go_through<E: Settle<T> + Drop, T: Grounded, P: Stepwise>(
     layered: &Layered<T>,
-    walker: &mut Walker<E>,
+    stepper: &mut Stepper<E>,
     plan: &P,
     found: Found<'_>,
-    walk: &mut Walk,
+    progress: &mut Progress,
 ) -> Result<(), PlanFault>
-    requires prepared { IsPrepared E.ready layered.now walker.old }
-    requires follows { E.follows walker.old.evaluator layered.now walk.old.state }
+    requires prepared { IsPrepared E.ready layered.now stepper.old }
+    requires follows { E.follows stepper.old.evaluator layered.now progress.old.state }
     requires firsts { AreFirsts layered.now (P.says plan.now).steps found.firsts.now }
     requires chains { HaveChains layered.now found.firsts.now found.nexts.now }
-    requires state { IsState layered.now.variables walk.old.state }
-    requires room { length (P.says plan.now).steps ≤ vec_capacity walk.old.operators }
-    requires empty { walk.old.operators.items ≡ [] }
-    ensures prepared { IsPrepared E.ready layered.now walker.new }
-    ensures goes { GoesThrough layered.now walk.old.state (P.says plan.now).steps
-        walk.new.operators.items walk.new.state result }
-    ensures state { IsState layered.now.variables walk.new.state }
-    ensures room { vec_capacity walk.old.operators ≤ vec_capacity walk.new.operators }
+    requires initial { IsInitial layered.now progress.old.state }
+    requires room { length (P.says plan.now).steps ≤ vec_capacity progress.old.operators }
+    requires empty { progress.old.operators.items ≡ [] }
+    ensures prepared { IsPrepared E.ready layered.now stepper.new }
+    ensures leads { OnOk result (LeadsTo layered.now (P.says plan.now).steps
+        progress.new.operators.items progress.new.state) }
+    ensures ends { IfErr result (λ fault. IsEnding layered.now (P.says plan.now)
+        progress.new.operators.items (Some fault)) }
+    ensures state { IsState layered.now.variables progress.new.state }
+    ensures room { vec_capacity progress.old.operators ≤ vec_capacity progress.new.operators }
 {
     for before in 0..found.firsts.len() {
         let next = NextStep {
             first: found.firsts[before],
             number: before + 1,
         };
-        let operator = go_on(layered, walker, found.nexts, next, &mut walk.state)?;
-        walk.operators.push(operator).unwrap();
+        let operator = go_on(layered, stepper, found.nexts, next, &mut progress.state)?;
+        progress.operators.push(operator).unwrap();
     }
     if found.firsts.len() < plan.steps() {
         return Err(PlanFault::NoOperator {
@@ -206,18 +212,18 @@ fn go_through<E: Settle<T> + Drop, T: Grounded, P: Stepwise>(
 #[inline(always)]
 fn go_on<E: Settle<T> + Drop, T: Grounded>(
     layered: &Layered<T>,
-    walker: &mut Walker<E>,
+    stepper: &mut Stepper<E>,
     nexts: &[Option<u32>],
     next: NextStep,
     state: &mut State,
 ) -> Result<u32, PlanFault>
-    requires prepared { IsPrepared E.ready layered.now walker.old }
-    requires follows { E.follows walker.old.evaluator layered.now state.old }
+    requires prepared { IsPrepared E.ready layered.now stepper.old }
+    requires follows { E.follows stepper.old.evaluator layered.now state.old }
     requires first { IsFirst layered.now next.first }
     requires chain { IsChain layered.now next.first nexts.now }
     requires state { IsState layered.now.variables state.old }
-    ensures prepared { IsPrepared E.ready layered.now walker.new }
-    ensures follows { IfOk result (λ _. E.follows walker.new.evaluator layered.now state.new) }
+    ensures prepared { IsPrepared E.ready layered.now stepper.new }
+    ensures follows { IfOk result (λ _. E.follows stepper.new.evaluator layered.now state.new) }
     ensures ok { IfOk result (λ operator. GoesOn layered.now state.old
         (operator_at layered.now next.first).name operator state.new) }
     ensures err { IfErr result (λ fault. StopsAt layered.now state.old
@@ -225,6 +231,11 @@ fn go_on<E: Settle<T> + Drop, T: Grounded>(
     ensures state { IsState layered.now.variables state.new }
 {
     let operator = choose(layered, nexts, state, next)?;
-    make(layered, walker, operator, next.number, state)?;
-    Ok(operator)
+    match go_on_from(layered, stepper, operator, state) {
+        Ok(()) => Ok(operator),
+        Err(_) => Err(PlanFault::Conflict {
+            step: next.number,
+            operator,
+        }),
+    }
 }

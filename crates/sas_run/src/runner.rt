@@ -10,8 +10,8 @@ ghost use Rattle.sas_run.specs.Running.{IsChoice, IsFirstChosen, IsLaterIfAny, I
 
 use crate::holding::first_missed;
 use crate::plain_steps::old_values_hold;
+use crate::stepper::{Stepper, initial_of, step_on, stepper_for};
 use crate::steps::{StepFault, missed_precondition};
-use crate::walker::{Walker, initial_of, step_on, walker_for};
 use sas_core::{Grounded, Task};
 use sas_meaning::{Layered, Settle, State};
 use sas_names::{Names, next_in};
@@ -34,7 +34,7 @@ pub enum Choice {
 pub struct Runner<'a, E: Settle<T> + Drop, T: Grounded = Task> {
     pub(crate) layered: &'a Layered<T>,
     pub(crate) names: Names,
-    pub(crate) walker: Walker<E>,
+    pub(crate) stepper: Stepper<E>,
 }
 
 impl<'a, E: Settle<T> + Drop, T: Grounded> Drop for Runner<'a, E, T> {
@@ -42,24 +42,24 @@ impl<'a, E: Settle<T> + Drop, T: Grounded> Drop for Runner<'a, E, T> {
         let Runner {
             layered: _,
             names,
-            walker,
+            stepper,
         } = self;
         drop(names);
-        drop(walker);
+        drop(stepper);
     }
 }
 
 impl<'a, E: Settle<T> + Drop, T: Grounded> Model for Runner<'a, E, T> {
     ghost use Rattle.sas_core.specs.declared.parts.Parts.{Parts};
     ghost use Rattle.sas_names.specs.NameTable.{AreNames};
-    ghost use Rattle.sas_run.specs.Walking.{IsPrepared};
+    ghost use Rattle.sas_run.specs.Stepping.{IsPrepared};
 
     ghost Value = { Parts };
 
     ghost view = { λ r. r.layered.now };
 
     ghost invariant = { λ r. AreNames r.layered.now r.names
-        × IsPrepared E.ready r.layered.now r.walker };
+        × IsPrepared E.ready r.layered.now r.stepper };
 }
 
 impl<'a, E: Settle<T> + Drop, T: Grounded> Runner<'a, E, T> {
@@ -81,7 +81,7 @@ impl<'a, E: Settle<T> + Drop, T: Grounded> Runner<'a, E, T> {
         Ok(Runner {
             layered,
             names,
-            walker: walker_for(alloc, layered, evaluator)?,
+            stepper: stepper_for(alloc, layered, evaluator)?,
         })
     }
 
@@ -90,7 +90,7 @@ impl<'a, E: Settle<T> + Drop, T: Grounded> Runner<'a, E, T> {
         ensures initial { IfOk result (λ s. IsInitial self.old s) }
         ensures same { self.new ≡ self.old }
     {
-        initial_of(alloc, self.layered, &mut self.walker)
+        initial_of(alloc, self.layered, &mut self.stepper)
     }
 
     /// Returns whether the operator's preconditions hold in the state. It takes no memory.
@@ -143,7 +143,7 @@ impl<'a, E: Settle<T> + Drop, T: Grounded> Runner<'a, E, T> {
     {
         match missed_precondition(self.layered, operator, state) {
             Some(fact) => Err(StepFault::NotApplicable { fact }),
-            None => step_on(self.layered, &mut self.walker, operator, state),
+            None => step_on(self.layered, &mut self.stepper, operator, state),
         }
     }
 

@@ -44,34 +44,34 @@ pub fn missed_precondition<T: Grounded>(
 }
 
 /// Applies the effects that fire to the state, where the preconditions hold. If two of these effects conflict, leaves the
-/// state and `gone` as they were, and returns the fault. `given` is used meanwhile, and holds no value in the end. `gone` then
-/// holds the facts that the effects took away.
+/// state and `deleted` as they were, and returns the fault. `given` is used meanwhile, and holds no value in the end. `deleted` then
+/// holds the facts that the effects made false.
 #[inline(always)]
 pub fn apply<T: Grounded>(
     task: &Layered<T>,
     operator: u32,
     given: &mut Items<Option<u32>>,
-    gone: &mut Vec<Fact>,
+    deleted: &mut Vec<Fact>,
     state: &mut State,
 ) -> Result<(), StepFault>
     requires operator { operator < length task.now.operators }
     requires state { IsState task.now.variables state.old }
     requires applicable { IsApplicable state.old (operator_at task.now operator) }
     requires clean { IsClean task.now given.old }
-    requires room { length (operator_at task.now operator).effects ≤ vec_capacity gone.old }
+    requires room { length (operator_at task.now operator).effects ≤ vec_capacity deleted.old }
     ensures applies { Applies task.now state.old operator state.new result }
-    ensures gone { OnOk result (HaveGone task.now gone.new.items state.old state.new) }
-    ensures same { OnErr result (gone.new ≡ gone.old) }
+    ensures deleted { OnOk result (HaveGone task.now deleted.new.items state.old state.new) }
+    ensures same { OnErr result (deleted.new ≡ deleted.old) }
     ensures clean { IsClean task.now given.new }
-    ensures room { vec_capacity gone.old ≤ vec_capacity gone.new }
+    ensures room { vec_capacity deleted.old ≤ vec_capacity deleted.new }
 {
     match plain_step(task, operator) {
         Some(changes) => {
-            gone.clear();
-            make_changes(task, operator, changes, gone, state);
+            deleted.clear();
+            make_changes(task, operator, changes, deleted, state);
             Ok(())
         }
-        None => apply_given(task, operator, given, gone, state),
+        None => apply_given(task, operator, given, deleted, state),
     }
 }
 
@@ -80,26 +80,26 @@ fn apply_given<T: Grounded>(
     task: &Layered<T>,
     operator: u32,
     given: &mut Items<Option<u32>>,
-    gone: &mut Vec<Fact>,
+    deleted: &mut Vec<Fact>,
     state: &mut State,
 ) -> Result<(), StepFault>
     requires operator { operator < length task.now.operators }
     requires state { IsState task.now.variables state.old }
     requires applicable { IsApplicable state.old (operator_at task.now operator) }
     requires clean { IsClean task.now given.old }
-    requires room { length (operator_at task.now operator).effects ≤ vec_capacity gone.old }
+    requires room { length (operator_at task.now operator).effects ≤ vec_capacity deleted.old }
     ensures applies { Applies task.now state.old operator state.new result }
-    ensures gone { OnOk result (HaveGone task.now gone.new.items state.old state.new) }
-    ensures same { OnErr result (gone.new ≡ gone.old) }
+    ensures deleted { OnOk result (HaveGone task.now deleted.new.items state.old state.new) }
+    ensures same { OnErr result (deleted.new ≡ deleted.old) }
     ensures clean { IsClean task.now given.new }
-    ensures room { vec_capacity gone.old ≤ vec_capacity gone.new }
+    ensures room { vec_capacity deleted.old ≤ vec_capacity deleted.new }
 {
     if let Some(effect) = give_effects(task, operator, state, given) {
         take_back(task, operator, given);
         return Err(StepFault::Conflict { effect });
     }
-    gone.clear();
-    write_given(task, operator, given, gone, state);
+    deleted.clear();
+    write_given(task, operator, given, deleted, state);
     Ok(())
 }
 
@@ -164,31 +164,31 @@ fn take_back<T: Grounded>(task: &Layered<T>, operator: u32, given: &mut Items<Op
 }
 
 /// Writes the values that are stored for the variables of the effects into the state, and removes them. Adds the facts that
-/// this takes away to `gone`, which is empty.
+/// this makes false to `deleted`, which is empty.
 fn write_given<T: Grounded>(
     task: &Layered<T>,
     operator: u32,
     given: &mut Items<Option<u32>>,
-    gone: &mut Vec<Fact>,
+    deleted: &mut Vec<Fact>,
     state: &mut State,
 )
     requires operator { operator < length task.now.operators }
     requires state { IsState task.now.variables state.old }
     requires given_to { IsGivenTo task.now (operator_at task.now operator) given.old }
-    requires empty { gone.old.items ≡ [] }
-    requires room { length (operator_at task.now operator).effects ≤ vec_capacity gone.old }
+    requires empty { deleted.old.items ≡ [] }
+    requires room { length (operator_at task.now operator).effects ≤ vec_capacity deleted.old }
     ensures state { IsState task.now.variables state.new }
     ensures written { (var : ℕ) → slice_index state.new var ≡ value_after given.old state.old var }
-    ensures gone { HaveGone task.now gone.new.items state.old state.new }
+    ensures deleted { HaveGone task.now deleted.new.items state.old state.new }
     ensures clean { IsClean task.now given.new }
-    ensures room { vec_capacity gone.old ≤ vec_capacity gone.new }
+    ensures room { vec_capacity deleted.old ≤ vec_capacity deleted.new }
 {
     // By its contract the task is well ranged and layered.
     let _ = task.task();
     for effect in 0..task.effects(operator) {
         let var = task.effect_change(operator, effect).var;
         if let Some(value) = given.as_slice()[var as usize] {
-            replace(Fact { var, value }, gone, state);
+            replace(Fact { var, value }, deleted, state);
             given.set(var as usize, None);
         }
     }

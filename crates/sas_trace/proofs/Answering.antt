@@ -1,8 +1,7 @@
 -- The answer about a plan with its trace: there is one, it ends with the answer about the plan, and the costs add up.
-use Rattle.std.proofs.Common.{◌≡◌, ℕ, ◌-◌, List, ◌∷◌, ◌++◌, length, take, Option, Some, None, refl, sym, ◌∙◌, ap, subst, inl, inr, arith}
+use Rattle.std.proofs.Common.{◌≡◌, ℕ, List, ◌++◌, Option, Some, None, refl, sym, ◌∙◌, ap, subst, inl, inr}
 use Rattle.std.specs.Prelude.{option_map}
 use Rattle.std.proofs.lemmas.Option.{same_Some}
-use Rattle.std.proofs.Math.Seq.{take-append_seam}
 use Rattle.sas_core.specs.declared.parts.Parts.{Parts}
 use Rattle.sas_core.specs.PlanParts.{PlanParts}
 use Rattle.sas_lines.specs.Lines.{text}
@@ -10,24 +9,23 @@ use Rattle.sas_meaning.specs.Layers.{IsLayered}
 use Rattle.sas_run.specs.declared.plan_check.PlanFault.{PlanFault}
 use Rattle.sas_run.specs.declared.plan_check.PlanFault.TheVariants.{Memory, NoOperator, NotApplicable, Conflict, GoalMissed, CostDiffers}
 use Rattle.sas_run.specs.Plans.{IsValid}
-use Rattle.sas_run.specs.Verdicts.{ComesTo, IsFaultOf}
+use Rattle.sas_run.specs.Verdicts.{IsFaultOf}
 use Rattle.sas_run.proofs.PlanVerdicts.{some_verdict, valid_has_no_fault, fault_is_one}
 use Rattle.sas_output.specs.declared.ending.Status.{Status}
 use Rattle.sas_output.specs.declared.ending.Status.TheVariants.{Yes, No}
 use Rattle.sas_output.specs.Ending.{Output}
 use Rattle.sas_answers.specs.Answers.{valid_answer, invalid_answer}
 use Rattle.sas_answers.specs.PlanWords.{fault_words, invalid_line}
-use Rattle.sas_reasons.specs.Runs.{Run, GoesThrough}
-use Rattle.sas_reasons.specs.WhyPlan.{steps_before}
-use Rattle.sas_reasons.proofs.Runs.{some_run, one_run}
+use Rattle.sas_run.specs.Runs.{Run, GoesThrough, steps_before}
+use Rattle.sas_run.proofs.Runs.{some_run, one_run, to_fault}
 use Rattle.sas_trace.specs.Trace.{run_lines}
 use Rattle.sas_trace.specs.Traced.{EndsWith, TraceVerdict}
 use Rattle.sas_trace.specs.Laws.{EndsWithVerdict, CostsAddUp, SomeTrace, OneTrace}
 
 pub ends_with_verdict : EndsWithVerdict
 ends_with_verdict p plan output trace = elim trace.ends [
-  | inl w ↦ (trace.verdict, inl ((trace.run.operators, w.0), w.2), text (run_lines p trace.run), trace.whole, trace.status)
-  | inr w ↦ (trace.verdict, inr (w.0, w.1, w.3), text (run_lines p trace.run), trace.whole, trace.status)
+  | inl w ↦ (trace.verdict, inl ((trace.run.operators, w.0.0), w.1), text (run_lines p trace.run), trace.whole, trace.status)
+  | inr w ↦ (trace.verdict, inr (w.0, w.1.0, w.2), text (run_lines p trace.run), trace.whole, trace.status)
 ]
 
 -- ---- a plan that isn't valid
@@ -40,9 +38,9 @@ refusal_is_no (Some words) verdict e =
 
 pub costs_add_up : CostsAddUp
 costs_add_up p plan output trace accepted = elim trace.ends [
-  | inl w ↦ w.0.cost
+  | inl w ↦ w.0.0.cost
   | inr w ↦
-      let no : Yes ≡ No = sym accepted ∙ (trace.status ∙ refusal_is_no (fault_words plan.cost w.0) trace.verdict w.3) in
+      let no : Yes ≡ No = sym accepted ∙ (trace.status ∙ refusal_is_no (fault_words plan.cost w.0) trace.verdict w.2) in
       absurd cc
 ]
 
@@ -55,27 +53,7 @@ traced p plan run verdict through ends = (
 )
 
 module _ (p : Parts) (plan : PlanParts) where
-  -- the run up to the step to which the plan comes
-  to_step : (step : ℕ) (s name : List ℕ) → ComesTo p plan.steps step s name → (run : Run) × GoesThrough p run × (run.steps ≡ take (step - 1) plan.steps)
-  to_step step s name comes =
-      let w = some_run p comes.before comes.operators s comes.leads in
-      let place : length comes.before ≡ step - 1 = (let e = comes.place in omega arith) in (
-        w.0,
-        w.1,
-        w.2 ∙ (sym (take-append_seam comes.before (name ∷ comes.behind))
-            ∙ (ap (λ (steps : List (List ℕ)). take (length comes.before) steps) (sym comes.whole) ∙ ap (λ n. take n plan.steps) place)),
-      )
-
-  -- the run of the steps before a fault
-  to_fault : (fault : PlanFault) → IsFaultOf p plan fault → (run : Run) × GoesThrough p run × (run.steps ≡ steps_before plan fault)
-  to_fault (NoOperator step) f = to_step step f.0 f.1 f.2
-  to_fault (NotApplicable step) f = to_step step f.0 f.1 f.2
-  to_fault (Conflict step operator) f = to_step step f.0 f.1 f.2
-  to_fault (GoalMissed index) f = let w = some_run p plan.steps f.0 f.1 f.2 in (w.0, w.1, w.2)
-  to_fault (CostDiffers sum) f = let w = some_run p plan.steps f.0 f.1 f.2 in (w.0, w.1, w.2)
-  to_fault Memory f = absurd f
-
-  -- and the answer about it
+  -- there is an answer about a fault
   answer_to : (fault : PlanFault) → IsFaultOf p plan fault → (verdict : Output) × (invalid_answer plan.cost fault ≡ Some verdict)
   answer_to (NoOperator step) f = (_, refl)
   answer_to (NotApplicable step) f = (_, refl)
@@ -89,22 +67,22 @@ some_trace p plan ranged layered = elim (some_verdict p plan ranged layered) [
   | inl v ↦
       let valid = v.1 in
       let w = some_run p plan.steps v.0 valid.last valid.leads in
-      traced p plan w.0 (valid_answer plan) w.1 (inl (subst (λ os. IsValid p plan os) (sym w.3) valid, w.2, refl))
+      traced p plan w.0 (valid_answer plan) w.1 (inl ((subst (λ os. IsValid p plan os) (sym w.3) valid, w.2), refl))
   | inr v ↦
       let w = to_fault p plan v.0 v.1 in
       let a = answer_to p plan v.0 v.1 in
-      traced p plan w.0 a.0 w.1 (inr (v.0, v.1, w.2, a.1))
+      traced p plan w.0 a.0 w.1 (inr (v.0, (v.1, w.2), a.1))
 ]
 
 -- ---- one trace
 
 ends_one : (p : Parts) (plan : PlanParts) (a b : Run) (x y : Output) → IsLayered p → EndsWith p plan a x → EndsWith p plan b y → (a.steps ≡ b.steps) × (x ≡ y)
-ends_one p plan a b x y layered (inl v) (inl w) = (v.1 ∙ sym w.1, v.2 ∙ sym w.2)
-ends_one p plan a b x y layered (inl v) (inr w) = absurd (valid_has_no_fault p plan a.operators w.0 layered v.0 w.1)
-ends_one p plan a b x y layered (inr v) (inl w) = absurd (valid_has_no_fault p plan b.operators v.0 layered w.0 v.1)
+ends_one p plan a b x y layered (inl v) (inl w) = (v.0.1 ∙ sym w.0.1, v.1 ∙ sym w.1)
+ends_one p plan a b x y layered (inl v) (inr w) = absurd (valid_has_no_fault p plan a.operators w.0 layered v.0.0 w.1.0)
+ends_one p plan a b x y layered (inr v) (inl w) = absurd (valid_has_no_fault p plan b.operators v.0 layered w.0.0 v.1.0)
 ends_one p plan a b x y layered (inr v) (inr w) =
-    let same = fault_is_one p plan v.0 w.0 layered v.1 w.1 in
-    (v.2 ∙ (ap (steps_before plan) same ∙ sym w.2), same_Some x y (sym v.3 ∙ (ap (invalid_answer plan.cost) same ∙ w.3)))
+    let same = fault_is_one p plan v.0 w.0 layered v.1.0 w.1.0 in
+    (v.1.1 ∙ (ap (steps_before plan) same ∙ sym w.1.1), same_Some x y (sym v.2 ∙ (ap (invalid_answer plan.cost) same ∙ w.2)))
 
 abbrev made : List ℕ → Status → Output
 made bytes status = record { text = bytes; status = status }

@@ -2,8 +2,7 @@ mod Numbers
 mod Changing
 mod InitialTexts
 mod Listing
-mod Passing
 mod StepTexts
-mod Twice
+mod Standing
 mod Replaying
 pub mod Answering

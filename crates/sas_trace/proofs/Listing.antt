@@ -11,7 +11,7 @@ use Rattle.sas_core.specs.declared.parts.Fact.{Fact}
 use Rattle.sas_core.specs.declared.parts.Parts.{Parts}
 use Rattle.sas_meaning.specs.declared.touched.Touched.{Touched}
 use Rattle.sas_axioms.proofs.Derived.{derived_within}
-use Rattle.sas_run.specs.Walking.{TellsStep}
+use Rattle.sas_run.specs.Stepping.{ListsChanges}
 use Rattle.sas_trace.specs.Changes.{IsNoted, Grows, CoverChanges}
 
 pub grows_none : (n : ℕ) (xs : List ℕ) → Grows n xs xs
@@ -47,20 +47,20 @@ covers_permuted s s' xs ys same covers = record {
 
 -- ---- what a step may have changed
 
-module _ (p : Parts) (s s' : List ℕ) (gone : List Fact) (touched : Touched) (tells : TellsStep p s s' gone touched) where
+module _ (p : Parts) (s s' : List ℕ) (deleted : List Fact) (touched : Touched) (tells : ListsChanges p s s' deleted touched) where
   -- its derived variables have values in a state
   pub touched_exist : length s' ≡ length p.variables → (k d : ℕ) → k < length touched.vars.items → get_or touched.vars.items k d < length s'
   touched_exist fits k d lt = let within = derived_within p (get_or touched.vars.items k d) (tells.derived k d lt) in omega (arith, fits, within)
 
-  -- where the facts that are gone are noted, and then the variables on the list
-  pub covers_both : (xs ys : List ℕ) → length s ≡ length s' → Grows (length s') [] xs → All (λ (f : Fact). IsNoted s s' xs f.var) gone
+  -- where the facts that are deleted are noted, and then the variables on the list
+  pub covers_both : (xs ys : List ℕ) → length s ≡ length s' → Grows (length s') [] xs → All (λ (f : Fact). IsNoted s s' xs f.var) deleted
       → Grows (length s') xs ys → All (IsNoted s s' ys) touched.vars.items → IsFalse touched.any → CoverChanges s s' ys
-  covers_both xs ys fits first of_gone second of_list not_any = record {
+  covers_both xs ys fits first of_deleted second of_list not_any = record {
     exist = subst (λ n. All (λ (var : ℕ). var < n) ys) (sym fits) (second.exist (first.exist (All-nil (λ (var : ℕ). var < length s'))));
     each = λ var. elim (tells.each var) [
       | inl same ↦ inl same
       | inr (inl there) ↦ still_noted (length s') s s' xs ys second var
-          (subst (IsNoted s s' xs) there.2 (All-contains (λ (f : Fact). IsNoted s s' xs f.var) gone there.0 of_gone there.1))
+          (subst (IsNoted s s' xs) there.2 (All-contains (λ (f : Fact). IsNoted s s' xs f.var) deleted there.0 of_deleted there.1))
       | inr (inr may) ↦ elim may.1 [
         | inl any ↦ absurd (false≢true (sym not_any ∙ any))
         | inr there ↦ All-contains (IsNoted s s' ys) touched.vars.items var of_list there

@@ -7,11 +7,11 @@ use Rattle.std.proofs.lemmas.Grind.{same_number_lists}
 use Rattle.std.proofs.lemmas.List.FromFn.{length-map-range_with_len, get_or-map-range_with_len}
 use Rattle.std.proofs.Math.Numerals.{add-one}
 use Rattle.sas_core.specs.declared.parts.Fact.{Fact}
-use Rattle.sas_reasons.specs.Runs.{state_at}
+use Rattle.sas_run.specs.Runs.{state_at}
 use Rattle.sas_trace.specs.Trace.{is_changed}
 use Rattle.sas_trace.specs.Laws.{facts_told, Replays}
 use Rattle.sas_trace.proofs.Changing.{is_same, is_other}
-use Rattle.sas_trace.proofs.Passing.{state_fits}
+use Rattle.sas_run.proofs.Runs.{state_fits}
 
 -- a fact comes into a state
 abbrev put : List ℕ → Fact → List ℕ
@@ -76,9 +76,9 @@ module _ (s s' : List ℕ) where
       writes n 0 s (fits' ∙ e) (record { fits = fits ∙ e; below = λ k lt. absurd (omega arith); above = λ k le. refl })
 
 pub replays : Replays
-replays p run zero ranged through le = values_are (state_at run 0) (length p.variables) (state_fits p run 0 (through.leads 0 le))
+replays p run zero ranged through le = values_are (state_at run 0) (length p.variables) (state_fits p run through 0 le).one_each
 replays p run (suc k) ranged through le =
     let e : k + 1 ≡ suc k = add-one k in
     ap (λ (s : List ℕ). fold put s (facts_told p run k)) (replays p run k ranged through (omega arith))
-    ∙ (all_written (state_at run k) (state_at run (k + 1)) (length p.variables) (state_fits p run k (through.leads k (omega arith))) (state_fits p run (k + 1) (through.leads (k + 1) (omega arith)))
+    ∙ (all_written (state_at run k) (state_at run (k + 1)) (length p.variables) (state_fits p run through k (omega arith)).one_each (state_fits p run through (k + 1) (omega arith)).one_each
     ∙ ap (state_at run) e)

@@ -7,7 +7,7 @@ use Rattle.sas_core.specs.declared.parts.Parts.{Parts}
 use Rattle.sas_lines.specs.declared.devices.Short.{Short}
 use Rattle.sas_lines.specs.Lines.{text}
 use Rattle.sas_output.specs.Pieces.{Piece, Puts, Breaks, PutsOrBreaks}
-use Rattle.sas_reasons.specs.Runs.{Run, state_at}
+use Rattle.sas_run.specs.Runs.{Run, state_at}
 use Rattle.sas_trace.specs.Trace.{initial_lines, step_lines, run_lines}
 use Rattle.sas_trace.proofs.Numbers.{said}
 
@@ -30,19 +30,14 @@ module _ (p : Parts) (run : Run) where
   breaks_so a b q n short broken = subst (λ (l : List ℕ). Breaks a b q l short) (sym (text_is n)) broken
 
 -- the text of a run, and bytes behind it
-module _ (p : Parts) (run : Run) (steps : ℕ) (s behind : List ℕ) (start : s ≡ state_at run 0) (made : length run.steps ≡ steps) where
-  abbrev initials : List ℕ
-  initials = text (initial_lines p s)
-
+module _ (p : Parts) (run : Run) (s behind : List ℕ) (start : s ≡ state_at run 0) where
   abbrev its_steps : List ℕ
-  its_steps = text (flat_map (step_lines p run) (range_with_len 0 steps))
+  its_steps = text (flat_map (step_lines p run) (range_with_len 0 (length run.steps)))
 
-  pub text_parts : (initials ++ its_steps) ++ behind ≡ text (run_lines p run) ++ behind
-  text_parts =
-      ap (λ (n : ℕ). (initials ++ text (flat_map (step_lines p run) (range_with_len 0 n))) ++ behind) (sym made)
-      ∙ (ap (λ (i : List ℕ). (text (initial_lines p i) ++ text (flat_map (step_lines p run) (range_with_len 0 (length run.steps)))) ++ behind) start
-      ∙ ap (λ (l : List ℕ). l ++ behind) (sym (flat_map-append (λ (line : List ℕ). line ++ 10 ∷ []) (initial_lines p (state_at run 0)) (flat_map (step_lines p run) (range_with_len 0 (length run.steps))))))
+  text_parts : (text (initial_lines p s) ++ its_steps) ++ behind ≡ text (run_lines p run) ++ behind
+  text_parts = ap (λ (i : List ℕ). (text (initial_lines p i) ++ its_steps) ++ behind) start
+      ∙ ap (λ (l : List ℕ). l ++ behind) (sym (flat_map-append (λ (line : List ℕ). line ++ 10 ∷ []) (initial_lines p (state_at run 0)) (flat_map (step_lines p run) (range_with_len 0 (length run.steps)))))
 
-  pub whole_puts : (a b : Option (List ℕ)) (q r : Piece) (result : Result ⊤ Short) → PutsOrBreaks a b q r ((initials ++ its_steps) ++ behind) result
+  pub whole_puts : (a b : Option (List ℕ)) (q r : Piece) (result : Result ⊤ Short) → PutsOrBreaks a b q r ((text (initial_lines p s) ++ its_steps) ++ behind) result
       → PutsOrBreaks a b q r (text (run_lines p run) ++ behind) result
   whole_puts a b q r result puts = subst (λ (l : List ℕ). PutsOrBreaks a b q r l result) text_parts puts

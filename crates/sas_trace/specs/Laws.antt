@@ -10,7 +10,7 @@ use Rattle.sas_meaning.specs.Layers.{IsLayered}
 use Rattle.sas_output.specs.declared.ending.Status.TheVariants.{Yes}
 use Rattle.sas_output.specs.Ending.{Output}
 use Rattle.sas_answers.specs.Answers.{VerdictAnswer}
-use Rattle.sas_reasons.specs.Runs.{Run, state_at, GoesThrough}
+use Rattle.sas_run.specs.Runs.{Run, state_at, GoesThrough}
 use Rattle.sas_trace.specs.Trace.{variables_of, changed}
 use Rattle.sas_trace.specs.Traced.{TraceVerdict}
 

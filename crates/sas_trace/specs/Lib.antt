@@ -1,5 +1,5 @@
 pub mod Trace
 pub mod Traced
 pub mod Laws
-pub mod Passes
+pub mod Tracing
 pub mod Changes

@@ -10,7 +10,7 @@ use Rattle.sas_core.specs.Tasks.{cost_of}
 use Rattle.sas_core.specs.Variables.{value_name}
 use Rattle.sas_output.specs.Words.{line}
 use Rattle.sas_wording.specs.Facts.{fact_words}
-use Rattle.sas_reasons.specs.Runs.{Run, state_at}
+use Rattle.sas_run.specs.Runs.{Run, state_at}
 
 -- the variables of a task, ascending
 abbrev pub variables_of : Parts → List ℕ

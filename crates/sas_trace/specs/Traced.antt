@@ -4,20 +4,15 @@ use Rattle.sas_core.specs.declared.parts.Parts.{Parts}
 use Rattle.sas_core.specs.PlanParts.{PlanParts}
 use Rattle.sas_lines.specs.Lines.{text}
 use Rattle.sas_run.specs.declared.plan_check.PlanFault.{PlanFault}
-use Rattle.sas_run.specs.Plans.{IsValid}
-use Rattle.sas_run.specs.Verdicts.{IsFaultOf}
+use Rattle.sas_run.specs.Runs.{Run, GoesThrough, EndsBy}
 use Rattle.sas_output.specs.Ending.{Output}
 use Rattle.sas_answers.specs.Answers.{valid_answer, invalid_answer}
-use Rattle.sas_reasons.specs.Runs.{Run, GoesThrough}
-use Rattle.sas_reasons.specs.WhyPlan.{steps_before}
 use Rattle.sas_trace.specs.Trace.{run_lines}
 
--- how a plan ends: all steps of a valid one go through, of another those before its fault; and the
--- answer about it
+-- how a plan ends behind the steps of a run, and the answer about it
 abbrev pub EndsWith : Parts → PlanParts → Run → Output → Type 0
-EndsWith p plan run verdict =
-    (IsValid p plan run.operators × (run.steps ≡ plan.steps) × (verdict ≡ valid_answer plan))
-    ⊎ ((fault : PlanFault) × IsFaultOf p plan fault × (run.steps ≡ steps_before plan fault)
+EndsWith p plan run verdict = (EndsBy p plan run None × (verdict ≡ valid_answer plan))
+    ⊎ ((fault : PlanFault) × EndsBy p plan run (Some fault)
     × (invalid_answer plan.cost fault ≡ Some verdict))
 
 -- the answer about a plan with its trace: the lines of the run of its steps that go through, and

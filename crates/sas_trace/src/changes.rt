@@ -1,31 +1,31 @@
 // Which variables a step may have changed.
 ghost use Rattle.std.specs.Prelude.{◌≡◌, ◌<◌, length, All, IsTrue};
 ghost use Rattle.sas_core.specs.declared.parts.Fact.{Fact};
-ghost use Rattle.sas_run.specs.Walking.{TellsStep};
+ghost use Rattle.sas_run.specs.Stepping.{ListsChanges};
 ghost use Rattle.sas_trace.specs.Changes.{IsNoted, Grows, CoverChanges};
 
 use sas_core::{Fact, Grounded, Stepwise};
 use sas_meaning::{Settle, State};
-use sas_run::Course;
+use sas_run::Execution;
 
-/// Lists the variables whose values in the state of the course aren't those that were told, in no order. Returns whether
+/// Lists the variables whose values in the state of the execution aren't those that were told, in no order. Returns whether
 /// these are all: not so where any may have changed, or the list has too little room. It takes no memory. Only what the last step
 /// may have changed is looked at.
 pub fn list_changes<E: Settle<T> + Drop, T: Grounded, P: Stepwise>(
     listed: &mut Vec<u32>,
     told: &[u32],
-    course: &Course<'_, '_, E, T, P>,
+    execution: &Execution<'_, '_, E, T, P>,
 ) -> bool
-    requires fits { length told.now ≡ length course.now.task.variables }
-    requires step { TellsStep course.now.task told.now course.now.state
-        course.now.gone course.now.touched }
-    ensures { IsTrue result → CoverChanges told.now course.now.state listed.new.items }
+    requires fits { length told.now ≡ length execution.now.task.variables }
+    requires step { ListsChanges execution.now.task told.now execution.now.state
+        execution.now.deleted execution.now.touched }
+    ensures { IsTrue result → CoverChanges told.now execution.now.state listed.new.items }
 {
     listed.clear();
-    match course.touched().vars() {
+    match execution.touched().vars() {
         Some(touched) => {
-            list_gone(listed, told, course.state(), course.gone())
-                && list_touched(listed, told, course.state(), touched)
+            list_deleted(listed, told, execution.state(), execution.deleted())
+                && list_touched(listed, told, execution.state(), touched)
         }
         None => false,
     }
@@ -33,14 +33,14 @@ pub fn list_changes<E: Settle<T> + Drop, T: Grounded, P: Stepwise>(
 
 /// Adds the variables of the facts whose values in the state aren't those that were told. Returns whether there is room for
 /// them.
-fn list_gone(listed: &mut Vec<u32>, told: &[u32], state: &State, gone: &[Fact]) -> bool
+fn list_deleted(listed: &mut Vec<u32>, told: &[u32], state: &State, deleted: &[Fact]) -> bool
     requires fits { length told.now ≡ length state.now }
-    requires exist { All (λ (f : Fact). f.var < length state.now) gone.now }
+    requires exist { All (λ (f : Fact). f.var < length state.now) deleted.now }
     ensures grows { Grows (length state.now) listed.old.items listed.new.items }
     ensures noted { IsTrue result
-        → All (λ (f : Fact). IsNoted told.now state.now listed.new.items f.var) gone.now }
+        → All (λ (f : Fact). IsNoted told.now state.now listed.new.items f.var) deleted.now }
 {
-    for fact in gone {
+    for fact in deleted {
         if !list_variable(listed, told, state, fact.var) {
             return false;
         }

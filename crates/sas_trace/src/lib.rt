@@ -2,10 +2,8 @@
 #![tactic(auto)]
 
 mod changes;
-mod judging;
 mod laws;
 mod lines;
-mod stepping;
 mod traces;
 mod tracing;
 

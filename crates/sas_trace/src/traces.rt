@@ -1,19 +1,22 @@
 // The trace of a plan, as it goes out.
-ghost use Rattle.std.specs.Prelude.{◌≡◌, ◌⊎◌, ◌↔◌, false, IfErr, IsErrAnd, IsTrue};
+ghost use Rattle.std.specs.Prelude.{◌≡◌, ◌⊎◌, ◌↔◌, false, IfOk, IfErr, IsErrAnd, IsTrue};
 ghost use Rattle.std.specs.Io.KnownBytes.{Appends};
 ghost use Rattle.sas_output.specs.Ending.{EndsCounting, IsWrite};
-ghost use Rattle.sas_run.specs.Courses.{SetsOut};
+ghost use Rattle.sas_run.specs.Executions.{IsNew};
+ghost use Rattle.sas_run.specs.Runs.{Run};
 ghost use Rattle.sas_trace.specs.Traced.{IsTraced};
+ghost use Rattle.sas_trace.specs.Tracing.{HasVerdict};
 
-use crate::judging::judge;
 use crate::tracing::Tracer;
+use sas_answers::{accept_plan, refuse_plan};
 use sas_axioms::Worklist;
+use sas_core::{Grounded, Stepwise};
 use sas_flat::{FlatPlan, FlatTask};
 use sas_lines::Watched;
 use sas_meaning::{Layered, Settle};
-use sas_output::{Status, ToolFault};
-use sas_run::Course;
-use std::alloc::Global;
+use sas_output::{Status, Told, ToolFault};
+use sas_run::Execution;
+use std::alloc::{AllocError, Global};
 use std::io::Write;
 
 /// Writes the answer about a plan of the task with its trace in front, in pieces, and returns its status. The plan is judged first;
@@ -33,21 +36,21 @@ pub fn write_trace<W: Write>(
     ensures writes { IsErrAnd result IsWrite ↔ IsTrue out.new.failed }
 {
     let worklist = Worklist::new(alloc, task)?;
-    let mut course = Course::new(alloc, task, worklist, plan)?;
-    let written = write_course(alloc, task, plan, &mut course, out);
-    drop(course);
+    let mut execution = Execution::new(alloc, task, worklist, plan)?;
+    let written = write_execution(alloc, task, plan, &mut execution, out);
+    drop(execution);
     written
 }
 
-/// Writes the trace of the course of the plan, which is at its start, as `write_trace` does.
-fn write_course<W: Write, E: Settle<FlatTask> + Drop>(
+/// Writes the trace of the plan by its execution, which is new, as `write_trace` does.
+fn write_execution<W: Write, E: Settle<FlatTask> + Drop>(
     alloc: Global,
     task: &Layered<FlatTask>,
     plan: &FlatPlan,
-    course: &mut Course<'_, '_, E, FlatTask, FlatPlan>,
+    execution: &mut Execution<'_, '_, E, FlatTask, FlatPlan>,
     out: &mut Watched<W>,
 ) -> Result<Status, ToolFault>
-    requires course { SetsOut task.now plan.now course.old }
+    requires execution { IsNew task.now plan.now execution.old }
     requires out { out.old.failed ≡ false }
     ensures ends { EndsCounting (IsTraced task.now plan.now)
         (Appends (W.contents out.old.device) (W.contents out.new.device)) result }
@@ -55,15 +58,28 @@ fn write_course<W: Write, E: Settle<FlatTask> + Drop>(
         ⊎ ((e ≡ ToolFault.Memory) × (out.new ≡ out.old))) }
     ensures writes { IsErrAnd result IsWrite ↔ IsTrue out.new.failed }
 {
-    // By its contract the task is layered, so the steps go as they went before.
-    let _ = task.task();
-    let judged = judge(alloc, plan, course)?;
-    course.restart();
-    let mut tracer = Tracer::new(alloc, course.state())?;
-    match tracer.write(out, task, course, &judged) {
-        Ok(()) => Ok(judged.verdict.status),
+    let verdict = judge(alloc, plan, execution)?;
+    let mut tracer = Tracer::new(alloc, execution.state())?;
+    match tracer.write(out, task, execution, verdict.text.as_slice()) {
+        Ok(()) => Ok(verdict.status),
         Err(short) => Err(ToolFault::Write {
             written: short.written,
         }),
+    }
+}
+
+/// Returns the answer about the plan. Its execution then knows which steps go through, and is at its start.
+fn judge<E: Settle<T> + Drop, T: Grounded>(
+    alloc: Global,
+    plan: &FlatPlan,
+    execution: &mut Execution<'_, '_, E, T, FlatPlan>,
+) -> Result<Told, AllocError>
+    requires { IsNew execution.old.task plan.now execution.old }
+    ensures { IfOk result (λ verdict. (run : Run)
+        × HasVerdict execution.old.task plan.now run verdict execution.new) }
+{
+    match execution.find_fault() {
+        None => accept_plan(alloc, plan),
+        Some(fault) => refuse_plan(alloc, plan.cost(), fault),
     }
 }

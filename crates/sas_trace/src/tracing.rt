@@ -5,32 +5,23 @@ ghost use Rattle.std.specs.List.{range_with_len};
 ghost use Rattle.std.specs.List.Sorted.{IsNonDecreasing};
 ghost use Rattle.sas_lines.specs.Lines.{text};
 ghost use Rattle.sas_output.specs.Pieces.{PutsOrBreaks};
-ghost use Rattle.sas_run.specs.Courses.{GoesOnBy, next_name};
-ghost use Rattle.sas_run.specs.Running.{GoesOn};
-ghost use Rattle.sas_run.specs.Walking.{TellsStep};
-ghost use Rattle.sas_reasons.specs.Runs.{Run};
+ghost use Rattle.sas_run.specs.Executions.{Executes, Advances, next_operator};
+ghost use Rattle.sas_run.specs.Stepping.{ListsChanges};
+ghost use Rattle.sas_run.specs.Runs.{Run};
 ghost use Rattle.sas_trace.specs.Changes.{CoverChanges, change_text};
-ghost use Rattle.sas_trace.specs.Passes.{IsWayBy, Judges, StandsAt};
+ghost use Rattle.sas_trace.specs.Tracing.{StandsAt};
 ghost use Rattle.sas_trace.specs.Trace.{initial_lines, step_line, change_lines, step_lines, run_lines};
 
 use crate::changes::list_changes;
-use crate::judging::Judged;
 use crate::lines::{push_change_line, push_initial_line, push_step_line};
 use sas_core::{Fact, Grounded};
 use sas_flat::{FlatPlan, FlatTask};
 use sas_lines::{Short, Watched};
 use sas_meaning::{Layered, Settle, State};
 use sas_output::Pieces;
-use sas_run::Course;
+use sas_run::Execution;
 use std::alloc::{AllocError, Global};
 use std::io::Write;
-
-/// A step that is made once more: its number, counted from 1, and its operator.
-#[derive(Clone, Copy)]
-pub struct Again {
-    pub step: usize,
-    pub operator: u32,
-}
 
 /// A trace that is being written. Only `new` asks for memory.
 #[derive(Drop)]
@@ -58,87 +49,78 @@ impl Tracer {
         })
     }
 
-    /// Writes the trace of the course, which is at its start, up to where the plan was judged, and the answer. In the end nothing is
-    /// held back. Not to be called after a failure.
+    /// Writes the trace of the execution, which is before its first step, and this text behind it. In the end nothing is held back. Not
+    /// to be called after a failure.
     pub fn write<W: Write, E: Settle<FlatTask> + Drop>(
         &mut self,
         out: &mut Watched<W>,
         task: &Layered<FlatTask>,
-        course: &mut Course<'_, '_, E, FlatTask, FlatPlan>,
-        judged: &Judged,
+        execution: &mut Execution<'_, '_, E, FlatTask, FlatPlan>,
+        behind: &[u8],
     ) -> Result<(), Short>
         requires out { out.old.failed ≡ false }
-        requires way { (run : Run) × Judges task.now course.old.plan judged.now run
-            × StandsAt task.now course.old.plan run 0 course.old self.old.told.items }
-        ensures puts { (run : Run) × Judges task.now course.old.plan judged.now run
-            × PutsOrBreaks (W.contents out.old.device) (W.contents out.new.device)
+        requires start { execution.old.made ≡ 0 }
+        requires stands { (run : Run) × StandsAt task.now run execution.old self.old.told.items }
+        ensures puts { (run : Run) → StandsAt task.now run execution.old self.old.told.items
+            → PutsOrBreaks (W.contents out.old.device) (W.contents out.new.device)
             self.old.pieces self.new.pieces
-            (text (run_lines task.now run) ++ judged.now.verdict.text.items) result }
+            (text (run_lines task.now run) ++ behind.now) result }
         ensures empty { OnOk result (self.new.pieces.held ≡ []) }
         ensures note { IsErr result ↔ IsTrue out.new.failed }
     {
-        push_initial_lines(&mut self.pieces, out, task, course.state())?;
-        self.push_steps(out, task, course, judged.operators.as_slice())?;
-        self.pieces.push(out, judged.verdict.text.as_slice())?;
+        push_initial_lines(&mut self.pieces, out, task, execution.state())?;
+        self.push_steps(out, task, execution)?;
+        self.pieces.push(out, behind)?;
         self.pieces.flush(out)
     }
 
-    /// Makes the steps of these operators once more, and adds their lines to the text.
+    /// Makes the steps that go through, and adds their lines to the text.
     fn push_steps<W: Write, E: Settle<FlatTask> + Drop>(
         &mut self,
         out: &mut Watched<W>,
         task: &Layered<FlatTask>,
-        course: &mut Course<'_, '_, E, FlatTask, FlatPlan>,
-        operators: &[u32],
+        execution: &mut Execution<'_, '_, E, FlatTask, FlatPlan>,
     ) -> Result<(), Short>
         requires out { out.old.failed ≡ false }
-        requires way { (run : Run) × IsWayBy task.now course.old.plan operators.now run
-            × StandsAt task.now course.old.plan run 0 course.old self.old.told.items }
-        ensures puts { (run : Run) → IsWayBy task.now course.old.plan operators.now run
-            → StandsAt task.now course.old.plan run 0 course.old self.old.told.items
+        requires start { execution.old.made ≡ 0 }
+        requires stands { (run : Run) × StandsAt task.now run execution.old self.old.told.items }
+        ensures puts { (run : Run) → StandsAt task.now run execution.old self.old.told.items
             → PutsOrBreaks (W.contents out.old.device) (W.contents out.new.device)
             self.old.pieces self.new.pieces
-            (text (flat_map (step_lines task.now run) (range_with_len 0 (length operators.now)))) result }
+            (text (flat_map (step_lines task.now run) (range_with_len 0 (length run.steps)))) result }
         ensures note { IsErr result ↔ IsTrue out.new.failed }
     {
-        // By its contract the task is layered, so the steps go as they went before.
-        let _ = task.task();
-        for before in 0..operators.len() {
-            let again = Again {
-                step: before + 1,
-                operator: operators[before],
-            };
-            self.push_step(out, task, course, again)?;
+        for before in 0..execution.operators().len() {
+            self.push_step(out, task, execution, before + 1)?;
         }
         Ok(())
     }
 
-    /// Makes the next step once more, and adds its lines to the text.
+    /// Makes the next step, which has this number, and adds its lines to the text.
     fn push_step<W: Write, E: Settle<FlatTask> + Drop>(
         &mut self,
         out: &mut Watched<W>,
         task: &Layered<FlatTask>,
-        course: &mut Course<'_, '_, E, FlatTask, FlatPlan>,
-        again: Again,
+        execution: &mut Execution<'_, '_, E, FlatTask, FlatPlan>,
+        step: usize,
     ) -> Result<(), Short>
         requires out { out.old.failed ≡ false }
-        requires task { course.old.task ≡ task.now }
-        requires left { length course.old.operators < length course.old.plan.steps }
-        requires goes { (next : List ℕ)
-            × GoesOn task.now course.old.state (next_name course.old) again.operator next }
-        requires told { self.old.told.items ≡ course.old.state }
-        requires fits { length course.old.state ≡ length task.now.variables }
+        requires task { execution.old.task ≡ task.now }
+        requires left { execution.old.made < length execution.old.operators }
+        requires told { self.old.told.items ≡ execution.old.state }
+        requires fits { length execution.old.state ≡ length task.now.variables }
         ensures puts { PutsOrBreaks (W.contents out.old.device) (W.contents out.new.device)
             self.old.pieces self.new.pieces
-            (text (step_line task.now again.step again.operator
-            ∷ change_lines task.now course.old.state course.new.state)) result }
-        ensures goes_on { GoesOnBy course.old again.operator course.new }
-        ensures told { OnOk result (self.new.told.items ≡ course.new.state) }
+            (text (step_line task.now step (next_operator execution.old)
+            ∷ change_lines task.now execution.old.state execution.new.state)) result }
+        ensures advances { Advances execution.old (next_operator execution.old) execution.new }
+        ensures run { (run : Run) → Executes run execution.old → Executes run execution.new }
+        ensures told { OnOk result (self.new.told.items ≡ execution.new.state) }
         ensures note { IsErr result ↔ IsTrue out.new.failed }
     {
-        course.go_on(again.operator).unwrap();
-        push_step_line(&mut self.pieces, out, task, again.step, again.operator)?;
-        self.push_changes(out, task, course)
+        let operator = execution.advance();
+        push_step_line(&mut self.pieces, out, task, step, operator)?;
+        self.push_changes(out, task, execution)
     }
 
     /// Adds the lines of what the last step changed to the text.
@@ -146,24 +128,24 @@ impl Tracer {
         &mut self,
         out: &mut Watched<W>,
         task: &Layered<FlatTask>,
-        course: &Course<'_, '_, E, FlatTask, FlatPlan>,
+        execution: &Execution<'_, '_, E, FlatTask, FlatPlan>,
     ) -> Result<(), Short>
         requires out { out.old.failed ≡ false }
-        requires task { course.now.task ≡ task.now }
+        requires task { execution.now.task ≡ task.now }
         requires fits { length self.old.told.items ≡ length task.now.variables }
-        requires step { TellsStep task.now self.old.told.items course.now.state
-            course.now.gone course.now.touched }
+        requires step { ListsChanges task.now self.old.told.items execution.now.state
+            execution.now.deleted execution.now.touched }
         ensures puts { PutsOrBreaks (W.contents out.old.device) (W.contents out.new.device)
             self.old.pieces self.new.pieces
-            (text (change_lines task.now self.old.told.items course.now.state)) result }
-        ensures told { OnOk result (self.new.told.items ≡ course.now.state) }
+            (text (change_lines task.now self.old.told.items execution.now.state)) result }
+        ensures told { OnOk result (self.new.told.items ≡ execution.now.state) }
         ensures note { IsErr result ↔ IsTrue out.new.failed }
     {
-        if list_changes(&mut self.listed, self.told.as_slice(), course) {
+        if list_changes(&mut self.listed, self.told.as_slice(), execution) {
             self.listed.sort_unstable();
-            self.push_listed(out, task, course.state())
+            self.push_listed(out, task, execution.state())
         } else {
-            self.push_all(out, task, course.state())
+            self.push_all(out, task, execution.state())
         }
     }
 

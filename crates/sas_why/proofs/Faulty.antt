@@ -10,7 +10,7 @@ use Rattle.sas_core.specs.declared.parts.Parts.{Parts}
 use Rattle.sas_wording.specs.declared.line.Line.{Line}
 use Rattle.sas_wording.specs.declared.line.Line.TheVariants as line
 use Rattle.sas_reasons.specs.Lines.{with_lines, TellsBehind, TellsEach}
-use Rattle.sas_reasons.specs.Runs.{Run, last_state}
+use Rattle.sas_run.specs.Runs.{Run, last_state}
 use Rattle.sas_reasons.specs.Cause.{fails}
 use Rattle.sas_reasons.specs.Likeness.{IsLike}
 use Rattle.sas_reasons.specs.WhyPlan.{TellsLike}

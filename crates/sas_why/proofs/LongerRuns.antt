@@ -1,49 +1,75 @@
--- A run that is one step longer.
-use Rattle.std.proofs.Common.{◌≡◌, ◌≢◌, ℕ, zero, suc, ◌+◌, ◌<◌, ◌≤◌, List, [], ◌∷◌, ◌++◌, length, take, get_or, refl, sym, ◌∙◌, ap, subst, inl, inr, arith}
+-- The run of the first steps of a run, and the one that is a step longer.
+use Rattle.std.proofs.Common.{◌≡◌, ◌≢◌, ℕ, ◌+◌, ◌<◌, ◌≤◌, List, [], ◌∷◌, ◌++◌, length, take, get_or, refl, sym, ◌∙◌, ap, subst, inl, inr, arith}
 use Rattle.std.proofs.lemmas.Bool.{cases_lt}
-use Rattle.std.proofs.lemmas.List.{take_all, take-append-le}
+use Rattle.std.proofs.lemmas.List.{take_all, take_more, take-take, length-take-le, get_or-take}
 use Rattle.std.proofs.Math.ListN.{get_or-append, length-append}
 use Rattle.std.proofs.Math.Seq.{get_or-append_seam}
 use Rattle.sas_core.specs.declared.parts.Parts.{Parts}
 use Rattle.sas_core.specs.Grounded.{operator_at}
-use Rattle.sas_meaning.specs.Reachable.{IsInitial}
 use Rattle.sas_names.specs.Named.{IsNamed}
 use Rattle.sas_run.specs.Plans.{LeadsTo, IsApplicable}
-use Rattle.sas_run.specs.Running.{GoesOn, IsLater}
-use Rattle.sas_run.proofs.Going.{goes_one_more}
-use Rattle.sas_reasons.specs.Runs.{Run, state_at, last_state, GoesThrough}
+use Rattle.sas_run.specs.Running.{IsLater}
+use Rattle.sas_run.specs.Runs.{Run, state_at, last_state, GoesThrough}
 use Rattle.sas_reasons.specs.Since.{value_at, IsSince}
 use Rattle.sas_reasons.specs.MayMean.{IsOther, HasOther, MayMean}
+use Rattle.sas_why.specs.Retracing.{first_steps}
 
--- the run of no steps
-abbrev pub still : List ℕ → Run
-still s = record { steps = []; operators = []; states = s ∷ [] }
-
-pub still_goes : (p : Parts) (s : List ℕ) → IsInitial p s → GoesThrough p (still s)
-still_goes p s starts = record { operators = refl; states = refl; leads = at }
-  where
-    at : (k : ℕ) → k ≤ 0 → LeadsTo p (take k []) (take k []) (state_at (still s) k)
-    at zero le = record { initial = s; starts = starts; goes = refl }
-    at (suc k) le = absurd (omega arith)
-
-pub still_since : (s : List ℕ) (var : ℕ) → IsSince (still s) var 0
-still_since s var = record {
-  exists = omega arith;
-  changed = λ before e. absurd (omega arith);
-  unchanged = λ later from upto. absurd (omega arith);
-}
-
--- what leads to the last state of a run
-pub leads_to_last : (p : Parts) (run : Run) → GoesThrough p run → LeadsTo p run.steps run.operators (last_state run)
-leads_to_last p run through =
-    subst (λ names. LeadsTo p names run.operators (last_state run)) (take_all (length run.steps) run.steps (omega arith))
-    (subst (λ os. LeadsTo p (take (length run.steps) run.steps) os (last_state run)) (take_all (length run.steps) run.operators (omega (arith, through.operators)))
-    (through.leads (length run.steps) (omega arith)))
+abbrev run_of : List (List ℕ) → List ℕ → List (List ℕ) → Run
+run_of steps operators states = record { steps = steps; operators = operators; states = states }
 
 -- one step more
 abbrev pub one_more : Run → List ℕ → ℕ → List ℕ → Run
-one_more run name operator next =
-    record { steps = run.steps ++ name ∷ []; operators = run.operators ++ operator ∷ []; states = run.states ++ next ∷ [] }
+one_more run name operator next = run_of (run.steps ++ name ∷ []) (run.operators ++ operator ∷ []) (run.states ++ next ∷ [])
+
+-- ---- the first steps
+
+module _ (p : Parts) (run : Run) (through : GoesThrough p run) where
+  module _ (k : ℕ) (le : k ≤ length run.steps) where
+    pub first_many : length (take k run.steps) ≡ k
+    first_many = length-take-le k run.steps le
+
+    pub first_goes : GoesThrough p (first_steps run k)
+    first_goes = record {
+      operators = length-take-le k run.operators (omega (arith, through.operators)) ∙ sym first_many;
+      states = length-take-le (k + 1) run.states (omega (arith, through.states)) ∙ ap (λ n. n + 1) (sym first_many);
+      leads = leads;
+    }
+      where
+        leads : (j : ℕ) → j ≤ length (take k run.steps) → LeadsTo p (take j (take k run.steps)) (take j (take k run.operators)) (get_or (take (k + 1) run.states) j [])
+        leads j within =
+            let early : j ≤ k = omega (arith, first_many) in
+            subst (λ s. LeadsTo p (take j (take k run.steps)) (take j (take k run.operators)) s) (sym (get_or-take (k + 1) run.states j [] (omega arith)))
+            (subst (λ os. LeadsTo p (take j (take k run.steps)) os (state_at run j)) (sym (take-take j k run.operators early))
+            (subst (λ names. LeadsTo p names (take j run.operators) (state_at run j)) (sym (take-take j k run.steps early))
+            (through.leads j (omega arith))))
+
+    pub first_last : last_state (first_steps run k) ≡ state_at run k
+    first_last = ap (λ n. get_or (take (k + 1) run.states) n []) first_many ∙ get_or-take (k + 1) run.states k [] (omega arith)
+
+  -- one step more of them
+  pub first_more : (k : ℕ) → k < length run.steps → first_steps run (k + 1) ≡ one_more (first_steps run k) (get_or run.steps k []) (get_or run.operators k 0) (state_at run (k + 1))
+  first_more k lt =
+      ap (λ names. run_of names (take (k + 1) run.operators) (take (k + 1 + 1) run.states)) (take_more run.steps k [] lt)
+      ∙ (ap (λ os. run_of (take k run.steps ++ get_or run.steps k [] ∷ []) os (take (k + 1 + 1) run.states)) (take_more run.operators k 0 (omega (arith, through.operators)))
+      ∙ ap (λ ss. run_of (take k run.steps ++ get_or run.steps k [] ∷ []) (take k run.operators ++ get_or run.operators k 0 ∷ []) ss)
+      (take_more run.states (k + 1) [] (omega (arith, through.states))))
+
+  -- and all of them
+  pub first_all : first_steps run (length run.steps) ≡ run
+  first_all =
+      ap (λ names. run_of names (take (length run.steps) run.operators) (take (length run.steps + 1) run.states)) (take_all (length run.steps) run.steps (omega arith))
+      ∙ (ap (λ os. run_of run.steps os (take (length run.steps + 1) run.states)) (take_all (length run.steps) run.operators (omega (arith, through.operators)))
+      ∙ ap (λ ss. run_of run.steps run.operators ss) (take_all (length run.steps + 1) run.states (omega (arith, through.states))))
+
+-- where there is one state, nothing has changed
+pub none_since : (run : Run) (var : ℕ) → length run.states ≡ 1 → IsSince run var 0
+none_since run var one = record {
+  exists = omega (arith, one);
+  changed = λ before e. absurd (omega arith);
+  unchanged = λ later from upto. absurd (omega (arith, one));
+}
+
+-- ---- one step more
 
 module _ (p : Parts) (run : Run) (through : GoesThrough p run) (name : List ℕ) (operator : ℕ) (next : List ℕ) where
   abbrev longer : Run
@@ -61,34 +87,6 @@ module _ (p : Parts) (run : Run) (through : GoesThrough p run) (name : List ℕ)
 
   next_state : state_at longer (length run.steps + 1) ≡ next
   next_state = ap (λ k. get_or longer.states k []) (sym through.states) ∙ get_or-append_seam run.states next [] []
-
-  pub last_longer : last_state longer ≡ next
-  last_longer = ap (λ k. state_at longer k) one_step_more ∙ next_state
-
-  module _ (on : GoesOn p (last_state run) name operator next) where
-    leads_longer : (k : ℕ) → k ≤ length longer.steps → LeadsTo p (take k longer.steps) (take k longer.operators) (state_at longer k)
-    leads_longer k le = elim (cases_lt k (length longer.steps)) [
-      | inl lt ↦
-          let early : k ≤ length run.steps = omega (arith, one_step_more) in
-          subst (λ s. LeadsTo p (take k longer.steps) (take k longer.operators) s) (sym (same_state k early))
-          (subst (λ os. LeadsTo p (take k longer.steps) os (state_at run k)) (sym (take-append-le k run.operators (operator ∷ []) (omega (arith, through.operators))))
-          (subst (λ names. LeadsTo p names (take k run.operators) (state_at run k)) (sym (take-append-le k run.steps (name ∷ []) early))
-          (through.leads k early)))
-      | inr ge ↦
-          let leads = leads_to_last p run through in
-          let at_end : k ≡ length run.steps + 1 = omega (arith, one_step_more) in
-          subst (λ s. LeadsTo p (take k longer.steps) (take k longer.operators) s) (sym (ap (λ j. state_at longer j) at_end ∙ next_state))
-          (subst (λ os. LeadsTo p (take k longer.steps) os next) (sym (take_all k longer.operators (omega (arith, at_end, through.operators, length-append run.operators (operator ∷ [])))))
-          (subst (λ names. LeadsTo p names longer.operators next) (sym (take_all k longer.steps (omega (arith, at_end, one_step_more))))
-          (record { initial = leads.initial; starts = leads.starts; goes = goes_one_more p leads.initial run.steps run.operators (last_state run) name operator next leads.goes on })))
-    ]
-
-    pub goes_longer : GoesThrough p longer
-    goes_longer = record {
-      operators = omega (arith, through.operators, one_step_more, length-append run.operators (operator ∷ []));
-      states = omega (arith, through.states, one_step_more, one_state_more);
-      leads = leads_longer;
-    }
 
   -- ---- since when a variable has its value
 

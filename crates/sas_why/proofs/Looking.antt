@@ -8,7 +8,7 @@ use Rattle.sas_core.specs.declared.parts.Parts.{Parts}
 use Rattle.sas_core.specs.Variables.{IsDerived, IsState}
 use Rattle.sas_meaning.specs.declared.touched.Touched.{Touched}
 use Rattle.sas_meaning.specs.Touched.{MayHaveChanged}
-use Rattle.sas_run.specs.Walking.{TellsStep}
+use Rattle.sas_run.specs.Stepping.{ListsChanges}
 use Rattle.sas_why.specs.declared.changes.Changes.{Changes}
 use Rattle.sas_why.specs.Noting.{HavePlaces, NotedAt, LeftAt, NotesSome, NotesChanges, AreDerived, looked_at, CoverChanges}
 use Rattle.sas_why.proofs.DerivedVariables.{derived_within}
@@ -79,26 +79,26 @@ noted_at_last step s old new var (inr left) same = record {
   unchanged = λ _. left.since;
 }
 
-pub all_noted : (step : ℕ) (s : List ℕ) (old mid new : Changes) (gone : List Fact) (touched : List ℕ) → CoverChanges old.values.items s gone touched
-    → NotesSome step s old mid → All (λ (f : Fact). NotedAt step s old mid f.var) gone
+pub all_noted : (step : ℕ) (s : List ℕ) (old mid new : Changes) (deleted : List Fact) (touched : List ℕ) → CoverChanges old.values.items s deleted touched
+    → NotesSome step s old mid → All (λ (f : Fact). NotedAt step s old mid f.var) deleted
     → NotesSome step s mid new → All (NotedAt step s mid new) touched → NotesChanges step s old new
-all_noted step s old mid new gone touched cover first of_gone second of_touched = record {
+all_noted step s old mid new deleted touched cover first of_deleted second of_touched = record {
   places = second.places;
   each = λ var lt. elim (cover.each var) [
     | inl same ↦ noted_at_last step s old new var (some_then step s old mid new var (first.each var) (second.each var)) same
-    | inr (inl there) ↦ noted_before step s old mid new var (subst (NotedAt step s old mid) there.2 (All-contains (λ (f : Fact). NotedAt step s old mid f.var) gone there.0 of_gone there.1)) (second.each var)
+    | inr (inl there) ↦ noted_before step s old mid new var (subst (NotedAt step s old mid) there.2 (All-contains (λ (f : Fact). NotedAt step s old mid f.var) deleted there.0 of_deleted there.1)) (second.each var)
     | inr (inr there) ↦ noted_then step s old mid new var (first.each var) (All-contains (NotedAt step s mid new) touched var of_touched there)
   ];
 }
 
 -- ---- what a step may have changed
 
-module _ (p : Parts) (s s' : List ℕ) (gone : List Fact) (touched : Touched) (derived : List ℕ) (state : IsState p.variables s')
-    (tells : TellsStep p s s' gone touched) (are : AreDerived p derived) where
+module _ (p : Parts) (s s' : List ℕ) (deleted : List Fact) (touched : Touched) (derived : List ℕ) (state : IsState p.variables s')
+    (tells : ListsChanges p s s' deleted touched) (are : AreDerived p derived) where
   within : (vars : List ℕ) → All (IsDerived p.variables) vars → All (λ (var : ℕ). var < length s') vars
   within vars only k d lt = (let one = state.one_each in let in_task = derived_within p (get_or vars k d) (only k d lt) in omega (arith, one, in_task))
 
-  covers_by : (vars : List ℕ) → All (IsDerived p.variables) vars → ((var : ℕ) → IsDerived p.variables var → MayHaveChanged touched var → Contains vars var) → CoverChanges s s' gone vars
+  covers_by : (vars : List ℕ) → All (IsDerived p.variables) vars → ((var : ℕ) → IsDerived p.variables var → MayHaveChanged touched var → Contains vars var) → CoverChanges s s' deleted vars
   covers_by vars only each = record {
     facts = λ k d lt. (let one = state.one_each in let in_task = tells.exist k d lt in omega (arith, one, in_task));
     variables = within vars only;
@@ -113,7 +113,7 @@ module _ (p : Parts) (s s' : List ℕ) (gone : List Fact) (touched : Touched) (d
   on_list not var (inl any) = (let f : false ≡ true = sym not ∙ any in absurd cc)
   on_list not var (inr there) = there
 
-  pub covers : CoverChanges s s' gone (looked_at derived touched)
+  pub covers : CoverChanges s s' deleted (looked_at derived touched)
   covers = elim (cases_Bool touched.any) [
     | inl any ↦ rw any (covers_by derived are.only (λ var is may. are.each var is))
     | inr not ↦ rw not (covers_by touched.vars.items tells.derived (λ var is may. on_list not var may))

@@ -4,10 +4,9 @@ use Rattle.sas_core.specs.declared.parts.Fact.{Fact}
 use Rattle.sas_core.specs.declared.parts.Parts.{Parts}
 use Rattle.sas_core.specs.Variables.{IsDerived}
 use Rattle.sas_meaning.specs.declared.touched.Touched.{Touched}
-use Rattle.sas_run.specs.Plans.{IsChosen}
 use Rattle.sas_run.specs.Running.{IsLaterIfAny}
-use Rattle.sas_run.specs.Courses.{UnderWay, next_name, GoesOnBy}
-use Rattle.sas_run.specs.Walking.{HasFactOn}
+use Rattle.sas_run.specs.Executions.{Executed, next_operator, Advances}
+use Rattle.sas_run.specs.Stepping.{HasFactOn}
 use Rattle.sas_why.specs.declared.changes.Changes.{Changes}
 use Rattle.sas_why.specs.declared.retraced.Other.{Other}
 use Rattle.sas_why.specs.declared.second_pass.Notes.{Notes}
@@ -62,28 +61,27 @@ looked_at derived touched = if touched.any then derived else touched.vars.items
 
 -- these facts and variables exist, and each variable whose value in the state s isn't the one before
 -- is one of these, or of one of these facts
-pub record CoverChanges (before s : List ℕ) (gone : List Fact) (touched : List ℕ) : Type 0 where
-  pub facts : All (λ (f : Fact). f.var < length s) gone
+pub record CoverChanges (before s : List ℕ) (deleted : List Fact) (touched : List ℕ) : Type 0 where
+  pub facts : All (λ (f : Fact). f.var < length s) deleted
   pub variables : All (λ (var : ℕ). var < length s) touched
   pub each : (var : ℕ) → (slice_index s var ≡ slice_index before var)
-      ⊎ (HasFactOn gone var ⊎ Contains touched var)
+      ⊎ (HasFactOn deleted var ⊎ Contains touched var)
 
 -- ---- which other operator a step may mean
 
--- what is noted once the next step goes on by this operator: what was noted before, or else the
--- lowest operator above it that the step may mean, if there is one
-abbrev pub AddsOther : UnderWay → ℕ → Option Other → Option Other → Type 0
-AddsOther course operator (Some other) noted = noted ≡ Some other
-AddsOther course operator None None = IsLaterIfAny course.task course.state operator None
-AddsOther course operator None (Some other) = (other.step ≡ length course.operators + 1)
-    × IsLaterIfAny course.task course.state operator (Some other.operator)
+-- what is noted with the next step: what was noted before, or else the lowest operator above its
+-- own that it may mean, too, if there is one
+abbrev pub AddsOther : Executed → Option Other → Option Other → Type 0
+AddsOther e (Some other) noted = noted ≡ Some other
+AddsOther e None None = IsLaterIfAny e.task e.state (next_operator e) None
+AddsOther e None (Some other) = (other.step ≡ e.made + 1)
+    × IsLaterIfAny e.task e.state (next_operator e) (Some other.operator)
 
 -- ---- both
 
 -- the next step was made, and noted
-pub record NotesStep (old : UnderWay) (notes : Notes) (new : UnderWay) (notes' : Notes) : Type 0 where
+pub record NotesStep (old : Executed) (notes : Notes) (new : Executed) (notes' : Notes) : Type 0 where
   pub operator : ℕ
-  pub chosen : IsChosen old.task old.state (next_name old) operator
-  pub goes : GoesOnBy old operator new
-  pub other : AddsOther old operator notes.other notes'.other
-  pub changes : NotesChanges (length old.operators + 1) new.state notes.changes notes'.changes
+  pub advances : Advances old operator new
+  pub other : AddsOther old notes.other notes'.other
+  pub changes : NotesChanges (old.made + 1) new.state notes.changes notes'.changes

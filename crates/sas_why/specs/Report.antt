@@ -9,7 +9,7 @@ use Rattle.sas_meaning.specs.Settled.{IsSettled}
 use Rattle.sas_wording.specs.declared.line.Line.{Line}
 use Rattle.sas_wording.specs.declared.line.Line.TheVariants.{RuleDerives, RuleRequires}
 use Rattle.sas_reasons.specs.Lines.{with_lines, places}
-use Rattle.sas_reasons.specs.Runs.{Run, last_state, GoesThrough}
+use Rattle.sas_run.specs.Runs.{Run, last_state, GoesThrough}
 use Rattle.sas_reasons.specs.Derivation.{can_give}
 use Rattle.sas_reasons.specs.Cause.{failing_lines}
 use Rattle.sas_why.specs.declared.retraced.Retraced.{Retraced}

@@ -1,24 +1,14 @@
 -- What a second pass over a plan has noted.
-use Rattle.std.specs.Prelude.{◌≡◌, ℕ, ◌<◌, List, length, take, slice_index, Option, Some, None}
+use Rattle.std.specs.Prelude.{◌≡◌, ℕ, ◌+◌, ◌<◌, List, length, take, slice_index, Option, Some, None}
 use Rattle.sas_core.specs.declared.parts.Parts.{Parts}
 use Rattle.sas_core.specs.PlanParts.{PlanParts}
-use Rattle.sas_run.specs.declared.plan_check.PlanFault.{PlanFault}
-use Rattle.sas_run.specs.Plans.{IsValid}
-use Rattle.sas_run.specs.Courses.{UnderWay}
-use Rattle.sas_run.specs.Verdicts.{IsFaultOf}
-use Rattle.sas_reasons.specs.Runs.{Run, last_state, GoesThrough}
+use Rattle.sas_run.specs.Executions.{Executed, Executes}
+use Rattle.sas_run.specs.Runs.{Run, last_state, GoesThrough, EndsBy}
 use Rattle.sas_reasons.specs.Since.{IsSince}
 use Rattle.sas_reasons.specs.MayMean.{HasOther, MayMean}
-use Rattle.sas_reasons.specs.WhyPlan.{steps_before}
 use Rattle.sas_why.specs.declared.second_pass.Notes.{Notes}
 use Rattle.sas_why.specs.declared.retraced.Other.{Other}
 use Rattle.sas_why.specs.declared.retraced.Retraced.{Retraced}
-
--- the plan has this fault, and these steps go through before it; or none, and it is valid with
--- these operators
-abbrev pub EndsBy : Parts → PlanParts → Run → Option PlanFault → Type 0
-EndsBy p plan run (Some fault) = IsFaultOf p plan fault × (run.steps ≡ steps_before plan fault)
-EndsBy p plan run None = IsValid p plan run.operators
 
 -- the first step of the run that may mean another operator, and the lowest that it may mean; or
 -- none may
@@ -44,15 +34,17 @@ pub record Retraces (p : Parts) (plan : PlanParts) (noted : Retraced) (run : Run
 abbrev pub IsRetraced : Parts → PlanParts → Retraced → Type 0
 IsRetraced p plan noted = (run : Run) × Retraces p plan noted run
 
--- these notes are of the run of the steps that a course of this plan has made so far
-pub record AreNotes (p : Parts) (plan : PlanParts) (course : UnderWay) (notes : Notes) (run : Run)
-    : Type 0 where
-  pub task : course.task ≡ p
-  pub of_plan : course.plan ≡ plan
-  pub through : GoesThrough p run
-  pub steps : run.steps ≡ take (length course.operators) plan.steps
-  pub operators : course.operators ≡ run.operators
-  pub last : course.state ≡ last_state run
-  pub values : notes.changes.values.items ≡ last_state run
-  pub since : HaveSince p run notes.changes.since.items
-  pub other : IsOtherIfAny p run notes.other
+-- the run of its first k steps
+abbrev pub first_steps : Run → ℕ → Run
+first_steps run k = record {
+  steps = take k run.steps;
+  operators = take k run.operators;
+  states = take (k + 1) run.states;
+}
+
+-- these notes are of the steps of the run that were made
+pub record AreNotes (run : Run) (e : Executed) (notes : Notes) : Type 0 where
+  pub executes : Executes run e
+  pub values : notes.changes.values.items ≡ e.state
+  pub since : HaveSince e.task (first_steps run e.made) notes.changes.since.items
+  pub other : IsOtherIfAny e.task (first_steps run e.made) notes.other

@@ -27,24 +27,24 @@ impl Changes {
     }
 
     /// Notes the step, which led to this state, for each variable whose value it changed. Each of these is the variable of a
-    /// fact that is gone, or one that was touched. The others aren't looked at.
-    pub fn note(&mut self, step: usize, state: &State, gone: &[Fact], touched: &[u32])
+    /// fact that is deleted, or one that was touched. The others aren't looked at.
+    pub fn note(&mut self, step: usize, state: &State, deleted: &[Fact], touched: &[u32])
         requires places { HavePlaces (length state.now) self.old }
-        requires cover { CoverChanges self.old.values.items state.now gone.now touched.now }
+        requires cover { CoverChanges self.old.values.items state.now deleted.now touched.now }
         ensures { NotesChanges step state.now self.old self.new }
     {
-        self.note_gone(step, state, gone);
+        self.note_deleted(step, state, deleted);
         self.note_touched(step, state, touched);
     }
 
     /// Notes the step for each variable of the facts, if it changed its value.
-    fn note_gone(&mut self, step: usize, state: &State, gone: &[Fact])
+    fn note_deleted(&mut self, step: usize, state: &State, deleted: &[Fact])
         requires places { HavePlaces (length state.now) self.old }
-        requires exist { All (λ (f : Fact). f.var < length state.now) gone.now }
+        requires exist { All (λ (f : Fact). f.var < length state.now) deleted.now }
         ensures some { NotesSome step state.now self.old self.new }
-        ensures noted { All (λ (f : Fact). NotedAt step state.now self.old self.new f.var) gone.now }
+        ensures noted { All (λ (f : Fact). NotedAt step state.now self.old self.new f.var) deleted.now }
     {
-        for fact in gone {
+        for fact in deleted {
             self.note_variable(fact.var as usize, step, state);
         }
     }

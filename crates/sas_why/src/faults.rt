@@ -4,7 +4,7 @@ ghost use Rattle.sas_core.specs.Grounded.{operator_at};
 ghost use Rattle.sas_core.specs.Variables.{IsState};
 ghost use Rattle.sas_meaning.specs.Steps.{Agree};
 ghost use Rattle.sas_reasons.specs.Lines.{TellsBehind};
-ghost use Rattle.sas_reasons.specs.Runs.{Run};
+ghost use Rattle.sas_run.specs.Runs.{Run};
 ghost use Rattle.sas_reasons.specs.WhyPlan.{TellsLike, TellsInapplicable, TellsOperators, TellsConflict};
 ghost use Rattle.sas_reasons.specs.WhyPlan.{TellsGoal, TellsFault, IsWhy, cost_lines, cost_lines_sum};
 ghost use Rattle.sas_why.specs.Retracing.{Retraces};

@@ -1,18 +1,16 @@
 // The second pass over a plan.
-ghost use Rattle.std.specs.Prelude.{◌≡◌, ◌+◌, ◌<◌, length, IfOk, IfErr, OnOk, OnErr};
-ghost use Rattle.sas_reasons.specs.Runs.{Run};
-ghost use Rattle.sas_run.specs.Courses.{SetsOut, next_name};
-ghost use Rattle.sas_run.specs.Plans.{IsChosen};
-ghost use Rattle.sas_run.specs.Running.{StopsAt};
+ghost use Rattle.std.specs.Prelude.{◌≡◌, ◌+◌, ◌<◌, length, IfOk, Some};
+ghost use Rattle.sas_run.specs.Executions.{IsFound, Executes};
+ghost use Rattle.sas_run.specs.Runs.{Run};
 ghost use Rattle.sas_why.specs.Noting.{HavePlaces, AreDerived, AddsOther, NotesStep};
-ghost use Rattle.sas_why.specs.Retracing.{AreNotes, EndsBy, IsRetraced};
+ghost use Rattle.sas_why.specs.Retracing.{AreNotes, IsRetraced};
 
 use crate::changes::Changes;
 use crate::derived::{derived_variables, touched_among};
 use crate::retraced::{Other, Retraced};
 use sas_core::{Grounded, Stepwise};
-use sas_meaning::{Layered, Settle};
-use sas_run::{Course, PlanFault, Walk};
+use sas_meaning::Settle;
+use sas_run::{Execution, PlanFault};
 use std::alloc::{AllocError, Global};
 
 /// What is noted of the steps so far.
@@ -23,104 +21,91 @@ pub struct Notes {
     pub other: Option<Other>,
 }
 
-/// Goes through the steps of the plan by its course, which is at its start, up to the plan's fault, and notes since when each variable
-/// has its value, and which other operator a step may mean. All memory is asked for before the first step.
+/// Makes the steps of the plan, which has this fault, once more, and notes since when each variable has its value, and which other
+/// operator a step may mean. The execution found the fault, and is at its start. All memory is asked for before the first step.
 pub fn retrace<E: Settle<T> + Drop, T: Grounded, P: Stepwise>(
     alloc: Global,
-    layered: &Layered<T>,
-    plan: &P,
-    mut course: Course<'_, '_, E, T, P>,
+    mut execution: Execution<'_, '_, E, T, P>,
+    fault: PlanFault,
 ) -> Result<Retraced, AllocError>
-    requires { SetsOut layered.now (P.says plan.now) course }
-    ensures { IfOk result (IsRetraced layered.now (P.says plan.now)) }
+    requires { IsFound execution.task execution.plan (Some fault) execution }
+    ensures retraced { IfOk result (IsRetraced execution.entry.task execution.entry.plan) }
+    ensures fault { IfOk result (λ noted. noted.fault ≡ Some fault) }
 {
     let mut notes = Notes {
-        changes: Changes::new(alloc, course.state())?,
+        changes: Changes::new(alloc, execution.state())?,
         other: None,
     };
-    let derived = derived_variables(alloc, layered)?;
-    let fault = follow(plan.steps(), derived.as_slice(), &mut course, &mut notes);
-    let Walk { state, operators } = course.into_walk();
+    let derived = derived_variables(alloc, execution.layered())?;
+    note_steps(derived.as_slice(), &mut execution, &mut notes);
+    let (operators, last) = execution.into_parts();
     let Notes { changes, other } = notes;
     Ok(Retraced {
-        fault,
+        fault: Some(fault),
         operators,
-        last: state,
+        last,
         since: changes.since,
         other,
     })
 }
 
-/// Makes this many steps of the plan in turn, which are all, and notes them. Returns the plan's fault, if it has one.
-fn follow<E: Settle<T> + Drop, T: Grounded, P: Stepwise>(
-    steps: usize,
+/// Makes the steps that go through, and notes them.
+fn note_steps<E: Settle<T> + Drop, T: Grounded, P: Stepwise>(
     derived: &[u32],
-    course: &mut Course<'_, '_, E, T, P>,
+    execution: &mut Execution<'_, '_, E, T, P>,
     notes: &mut Notes,
-) -> Option<PlanFault>
-    requires steps { steps ≡ length course.old.plan.steps }
-    requires derived { AreDerived course.old.task derived.now }
-    requires none { length course.old.operators ≡ 0 }
-    requires notes { (run : Run) × AreNotes course.old.task course.old.plan course.old notes.old run }
-    ensures { (run : Run)
-        × AreNotes course.old.task course.old.plan course.new notes.new run
-        × EndsBy course.old.task course.old.plan run result }
+)
+    requires derived { AreDerived execution.old.task derived.now }
+    requires start { execution.old.made ≡ 0 }
+    requires notes { (run : Run) × AreNotes run execution.old notes.old }
+    ensures notes { (run : Run) → AreNotes run execution.old notes.old
+        → AreNotes run execution.new notes.new }
+    ensures task { execution.new.task ≡ execution.old.task }
+    ensures operators { execution.new.operators ≡ execution.old.operators }
+    ensures made { execution.new.made ≡ length execution.old.operators }
 {
-    for before in 0..steps {
-        if let Err(fault) = note_step(before + 1, derived, course, notes) {
-            return Some(fault);
-        }
-    }
-    match course.judge() {
-        Ok(()) => None,
-        Err(fault) => Some(fault),
+    for before in 0..execution.operators().len() {
+        note_step(before + 1, derived, execution, notes);
     }
 }
 
-/// Makes the plan's next step, which has this number, and notes it. Of the variables, only those that it may have changed
-/// are looked at. Where the plan stops there, notes nothing, and returns why.
+/// Makes the next step, which has this number, and notes it. Of the variables, only those that it may have changed are looked at.
 fn note_step<E: Settle<T> + Drop, T: Grounded, P: Stepwise>(
     step: usize,
     derived: &[u32],
-    course: &mut Course<'_, '_, E, T, P>,
+    execution: &mut Execution<'_, '_, E, T, P>,
     notes: &mut Notes,
-) -> Result<(), PlanFault>
-    requires step { step ≡ length course.old.operators + 1 }
-    requires left { length course.old.operators < length course.old.plan.steps }
-    requires derived { AreDerived course.old.task derived.now }
-    requires places { HavePlaces (length course.old.task.variables) notes.old.changes }
-    requires values { notes.old.changes.values.items ≡ course.old.state }
-    ensures ok { OnOk result (NotesStep course.old notes.old course.new notes.new) }
-    ensures stops { IfErr result (StopsAt course.old.task course.old.state (next_name course.old) step) }
-    ensures same { OnErr result ((course.new ≡ course.old) × (notes.new ≡ notes.old)) }
+)
+    requires step { step ≡ execution.old.made + 1 }
+    requires left { execution.old.made < length execution.old.operators }
+    requires derived { AreDerived execution.old.task derived.now }
+    requires places { HavePlaces (length execution.old.task.variables) notes.old.changes }
+    requires values { notes.old.changes.values.items ≡ execution.old.state }
+    ensures notes { NotesStep execution.old notes.old execution.new notes.new }
+    ensures run { (run : Run) → Executes run execution.old → Executes run execution.new }
 {
-    let operator = course.choose()?;
-    let other = other_with(course, notes.other, operator, step);
-    course.go_on(operator)?;
-    notes.other = other;
-    let touched = touched_among(derived, course.touched());
+    notes.other = other_with(execution, notes.other, step);
+    execution.advance();
+    let touched = touched_among(derived, execution.touched());
     notes
         .changes
-        .note(step, course.state(), course.gone(), touched);
-    Ok(())
+        .note(step, execution.state(), execution.deleted(), touched);
 }
 
-/// Returns what is noted of other operators once the next step, which has this number, goes on by this operator.
+/// Returns what is noted of other operators with the next step, which has this number.
 fn other_with<E: Settle<T> + Drop, T: Grounded, P: Stepwise>(
-    course: &Course<'_, '_, E, T, P>,
+    execution: &Execution<'_, '_, E, T, P>,
     noted: Option<Other>,
-    operator: u32,
     step: usize,
 ) -> Option<Other>
-    requires step { step ≡ length course.now.operators + 1 }
-    requires left { length course.now.operators < length course.now.plan.steps }
-    requires chosen { IsChosen course.now.task course.now.state (next_name course.now) operator }
-    ensures { AddsOther course.now operator noted result }
+    requires step { step ≡ execution.now.made + 1 }
+    requires left { execution.now.made < length execution.now.operators }
+    ensures { AddsOther execution.now noted result }
 {
     if noted.is_some() {
         return noted;
     }
-    match course.later(operator) {
+    match execution.later() {
         Some(operator) => Some(Other { step, operator }),
         None => None,
     }

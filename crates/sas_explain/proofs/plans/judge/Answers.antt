@@ -19,8 +19,8 @@ pub returns-in-Ok : goal.returns-in-Ok
 returns-in-Ok c =
     let p = c.args.task.now in
     let plan = c.args.plan.now in
-    let starts = c.in_ok-course.ensures in
+    let starts = c.in_ok-execution.ensures in
     let found = c.in-Ok.ensures.valid in
     let valid = subst (λ (q : PlanParts). IsValid p q found.0) starts.of_plan
-    (subst (λ (q : Parts). IsValid q c.in_ok-course.course.plan found.0) starts.task found.1) in
+    (subst (λ (q : Parts). IsValid q c.in_ok-execution.execution.plan found.0) starts.task found.1) in
     accepted p plan found.0 valid c.accept.result c.accept.ensures

@@ -1,6 +1,7 @@
 -- Each law is a lemma.
 use Rattle.sas_run.proofs.PlanVerdicts.{some_verdict, valid_has_no_fault, valid_is_one, fault_is_one}
 use Rattle.sas_run.proofs.PlanStates.{leads_to_reachable, last_is_reachable}
+use Rattle.sas_run.proofs.Runs.{some_run, one_run}
 use Rattle.sas_run.proofs.laws.verdict_laws.Goals as goal
 
 pub returns-clause-some : goal.returns-clause-some
@@ -20,3 +21,9 @@ returns-clause-leads c = leads_to_reachable
 
 pub returns-clause-reached : goal.returns-clause-reached
 returns-clause-reached c = last_is_reachable
+
+pub returns-clause-some_run : goal.returns-clause-some_run
+returns-clause-some_run c = some_run
+
+pub returns-clause-one_run : goal.returns-clause-one_run
+returns-clause-one_run c = one_run

@@ -23,13 +23,13 @@ loop-change-preserved g c =
     let change = get_or changes n no_change in
     let some = c.loop-change-test.true in
     let effects = c.requires.plain.effects in
-    let more = one_more_made p c.args.state.now c.loop-change.state changes n c.loop-change.gone.items c.loop-change.invariant.made c.requires.plain.apart some change (λ d. get_or_default changes n d no_change some)
+    let more = one_more_made p c.args.state.now c.loop-change.state changes n c.loop-change.deleted.items c.loop-change.invariant.made c.requires.plain.apart some change (λ d. get_or_default changes n d no_change some)
     (changes_within p c.args.operator c.requires.operator changes effects c.task.ensures.well_ranged n no_change some)
     (changes_fit p c.args.operator c.requires.operator changes effects c.task.ensures.well_ranged n no_change some)
     (changes_basic p c.args.operator c.requires.operator changes effects c.task.ensures.layered n no_change some)
-    c.replace.new.gone.items (subst (λ f. Replaces c.loop-change.state f c.loop-change.gone.items c.replace.new.gone.items) c.fact.ensures c.replace.ensures.gone) in
+    c.replace.new.deleted.items (subst (λ f. Replaces c.loop-change.state f c.loop-change.deleted.items c.replace.new.deleted.items) c.fact.ensures c.replace.ensures.deleted) in
     let now = c.replace.ensures.state ∙ ap (λ (f : Fact). set c.loop-change.state f.var f.value) c.fact.ensures in
     record {
-      made = subst (MadeSoFar p c.args.state.now changes (n + 1) c.replace.new.gone.items) (sym now) more;
+      made = subst (MadeSoFar p c.args.state.now changes (n + 1) c.replace.new.deleted.items) (sym now) more;
       room = (let before = c.loop-change.invariant.room in let after = c.replace.ensures.room in omega arith);
     }

@@ -8,7 +8,7 @@ use Rattle.sas_meaning.proofs.Forced.{state_set}
 use Rattle.sas_run.specs.Given.{given_to}
 use Rattle.sas_run.proofs.Ranges.{no_effect, change_within}
 use Rattle.sas_run.proofs.Giving.{fewer_on_effects, one_more_taken, written_same, all_taken}
-use Rattle.sas_run.proofs.Gone.{GoneSoFar, gone_nothing, gone_more, gone_few, gone_in_the_end}
+use Rattle.sas_run.proofs.Deleted.{DeletedSoFar, nothing_deleted, deleted_more, deleted_few, deleted_in_the_end}
 use Rattle.sas_run.proofs.NextStates.{effects_basic}
 use Rattle.sas_run.proofs.steps.write_given.Goals as goal
 use Rattle.sas_run.proofs.steps.write_given.Goals.{in-Some, in_default}
@@ -34,18 +34,18 @@ loop-effect-preserved g c =
           let state-is : c.match-as_slice-var.state ≡ set s v value = w.state-is ∙ w.replace.ensures.state in
           let one = inv.on_effects.one_each in
           let len = inv.state.one_each in
-          rw (given-is, state-is, w.gone-is) record {
+          rw (given-is, state-is, w.deleted-is) record {
             state = state_set p s v value inv.state (inv.on_effects.value v value at);
             on_effects = fewer_on_effects given v (omega arith) p o inv.on_effects;
             taken = one_more_taken given v (omega arith) o n on inv.taken;
             written = λ var. written_same given v (omega arith) s value (omega arith) at var ∙ inv.written var;
-            gone = gone_more p given c.args.state.now s c.loop-effect.gone.items inv.gone v value (omega arith) (omega arith) at basic exists w.replace.new.gone.items w.replace.ensures.gone;
-            few = (let more = gone_few s (record { var = v; value = value }) c.loop-effect.gone.items w.replace.new.gone.items w.replace.ensures.gone in let few = inv.few in omega arith);
+            deleted = deleted_more p given c.args.state.now s c.loop-effect.deleted.items inv.deleted v value (omega arith) (omega arith) at basic exists w.replace.new.deleted.items w.replace.ensures.deleted;
+            few = (let more = deleted_few s (record { var = v; value = value }) c.loop-effect.deleted.items w.replace.new.deleted.items w.replace.ensures.deleted in let few = inv.few in omega arith);
             room = (let before = inv.room in let after = w.replace.ensures.room in omega arith);
           })
       | in_default w ↦
           (let none : given_to given v ≡ None = read ∙ w.in_default.is in
-          rw (w.given-is, w.state-is, w.gone-is) record {
+          rw (w.given-is, w.state-is, w.deleted-is) record {
             state = inv.state;
             on_effects = inv.on_effects;
             taken = λ k lt. elim (cases_eq k n) [
@@ -53,7 +53,7 @@ loop-effect-preserved g c =
               | inr ne ↦ inv.taken k (omega arith)
             ];
             written = inv.written;
-            gone = inv.gone;
+            deleted = inv.deleted;
             few = (let few = inv.few in omega arith);
             room = inv.room;
           })
@@ -65,14 +65,14 @@ loop-effect-init g c = record {
   on_effects = c.requires.given_to;
   taken = λ k lt. absurd (omega arith);
   written = λ var. refl;
-  gone = subst (GoneSoFar c.args.task.now c.args.given.now c.args.state.now c.args.state.now) (sym c.requires.empty) (gone_nothing c.args.task.now c.args.given.now c.args.state.now);
+  deleted = subst (DeletedSoFar c.args.task.now c.args.given.now c.args.state.now c.args.state.now) (sym c.requires.empty) (nothing_deleted c.args.task.now c.args.given.now c.args.state.now);
   few = omega (arith, ap length c.requires.empty);
   room = omega arith;
 }
 
-pub returns-clause-gone : goal.returns-clause-gone
-returns-clause-gone g c =
-    gone_in_the_end c.args.task.now c.loop-effect.given c.args.state.now c.loop-effect.state c.loop-effect.gone.items c.loop-effect.invariant.gone
+pub returns-clause-deleted : goal.returns-clause-deleted
+returns-clause-deleted g c =
+    deleted_in_the_end c.args.task.now c.loop-effect.given c.args.state.now c.loop-effect.state c.loop-effect.deleted.items c.loop-effect.invariant.deleted
 
 pub effect_change-var-requires-clause-operator : goal.effect_change-var-requires-clause-operator
 effect_change-var-requires-clause-operator g c = c.requires.operator

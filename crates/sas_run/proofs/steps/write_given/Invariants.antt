@@ -4,7 +4,7 @@ use Rattle.std.specs.Prelude.{vec_capacity}
 use Rattle.sas_core.specs.Grounded.{operator_at, effect_at}
 use Rattle.sas_core.specs.Variables.{IsState}
 use Rattle.sas_run.specs.Given.{given_to, value_after, IsGivenTo}
-use Rattle.sas_run.proofs.Gone.{GoneSoFar}
+use Rattle.sas_run.proofs.Deleted.{DeletedSoFar}
 use Rattle.sas_run.proofs.steps.write_given.Given as goal
 
 abbrev pub invariant-loop-effect : goal.invariant-loop-effect
@@ -13,7 +13,7 @@ invariant-loop-effect g l = record {
   on_effects : IsGivenTo l.task (operator_at l.task l.operator) l.given;
   taken : (k : ℕ) → k < l.effect → given_to l.given (effect_at (operator_at l.task l.operator) k).var ≡ None;
   written : (var : ℕ) → value_after l.given l.state var ≡ value_after l.fn.given l.fn.state var;
-  gone : GoneSoFar l.task l.given l.fn.state l.state l.gone.items;
-  few : length l.gone.items ≤ l.effect;
-  room : vec_capacity l.fn.gone ≤ vec_capacity l.gone;
+  deleted : DeletedSoFar l.task l.given l.fn.state l.state l.deleted.items;
+  few : length l.deleted.items ≤ l.effect;
+  room : vec_capacity l.fn.deleted ≤ vec_capacity l.deleted;
 }

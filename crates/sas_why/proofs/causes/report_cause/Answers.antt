@@ -1,6 +1,6 @@
 -- One behind the other.
 use Rattle.std.proofs.lemmas.Result.{on_ok_weaker}
-use Rattle.sas_reasons.specs.Runs.{last_state}
+use Rattle.sas_run.specs.Runs.{last_state}
 use Rattle.sas_reasons.specs.Cause.{is_given, TellsGivers}
 use Rattle.sas_why.proofs.Composing.{first_lines, first_plain, plain_can_tell, more_can_tell, cause_added}
 use Rattle.sas_why.proofs.causes.report_cause.Goals as goal

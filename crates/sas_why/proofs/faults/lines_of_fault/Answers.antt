@@ -10,7 +10,8 @@ use Rattle.sas_wording.specs.declared.line.Line.TheVariants.{Step}
 use Rattle.sas_reasons.specs.Lines.{TellsBehind}
 use Rattle.sas_reasons.specs.WhyPlan.{TellsLike, TellsOperators, TellsConflict, TellsFault, cost_lines}
 use Rattle.sas_why.specs.Report.{TellsOnce}
-use Rattle.sas_why.proofs.Behind.{ends, behind, operators_exist, conflict_clashes, last_is, operators_are, operators_as_many}
+use Rattle.sas_run.proofs.Runs.{operators_exist}
+use Rattle.sas_why.proofs.Behind.{ends, behind, conflict_clashes, last_is, operators_are, operators_as_many}
 use Rattle.sas_why.proofs.faults.lines_of_fault.Goals as goal
 
 pub blocked-requires : goal.blocked-requires

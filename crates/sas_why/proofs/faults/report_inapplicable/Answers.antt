@@ -8,7 +8,7 @@ use Rattle.sas_core.specs.declared.parts.Fact.{Fact}
 use Rattle.sas_core.specs.Grounded.{operator_at}
 use Rattle.sas_meaning.specs.Steps.{preconditions}
 use Rattle.sas_reasons.specs.Lines.{TellsEach}
-use Rattle.sas_reasons.specs.Runs.{last_state}
+use Rattle.sas_run.specs.Runs.{last_state}
 use Rattle.sas_reasons.specs.Cause.{fails, IsCause}
 use Rattle.sas_reasons.specs.WhyPlan.{failing}
 use Rattle.sas_wording.specs.declared.line.Line.TheVariants.{Operator}

@@ -8,25 +8,24 @@ use Rattle.sas_why.proofs.second_pass.note_step.Goals as goal
 
 pub note-requires-clause-places : goal.note-requires-clause-places
 note-requires-clause-places g c =
-    let goes = c.in_ok-go_on.ensures in
+    let advances = c.advance.ensures.advances in
     let fits = c.state.ensures.fits in
-    let many = ap length c.state.ensures.now ∙ fits.one_each ∙ ap (λ (p : Parts). length p.variables) goes.task in
+    let many = ap length c.state.ensures.now ∙ fits.one_each ∙ ap (λ (p : Parts). length p.variables) advances.task in
     subst (λ n. HavePlaces n c.args.notes.now.changes) (sym many) c.requires.places
 
 pub note-requires-clause-cover : goal.note-requires-clause-cover
 note-requires-clause-cover g c =
-    let old = c.args.course.now in
-    let new = c.go_on.new.self in
-    let goes = c.in_ok-go_on.ensures in
-    let state = subst (λ (p : Parts). IsState p.variables new.state) goes.task c.state.ensures.fits in
-    rw (c.requires.values, c.state.ensures.now, c.gone.ensures, c.touched_among-touched.ensures, c.touched.ensures)
-    (covers old.task old.state new.state new.gone new.touched c.args.derived.now state goes.told c.requires.derived)
+    let old = c.args.execution.now in
+    let new = c.advance.new.self in
+    let advances = c.advance.ensures.advances in
+    let state = subst (λ (p : Parts). IsState p.variables new.state) advances.task c.state.ensures.fits in
+    rw (c.requires.values, c.state.ensures.now, c.deleted.ensures, c.touched_among-touched.ensures, c.touched.ensures)
+    (covers old.task old.state new.state new.deleted new.touched c.args.derived.now state advances.changes c.requires.derived)
 
-pub returns-clause-ok : goal.returns-clause-ok
-returns-clause-ok g c = record {
-  operator = c.in_ok-operator.operator;
-  chosen = c.in_ok-operator.ensures.chosen;
-  goes = c.in_ok-go_on.ensures;
-  other = c.other_with-other.ensures;
+pub returns-clause-notes : goal.returns-clause-notes
+returns-clause-notes g c = record {
+  operator = c.advance.result;
+  advances = c.advance.ensures.advances;
+  other = c.other_with-notes.ensures;
   changes = rw (c.requires.step, c.state.ensures.now) at c.note.ensures;
 }

@@ -8,7 +8,6 @@ use Rattle.sas_lines.specs.Lines.{text}
 use Rattle.sas_output.specs.Pieces.{Piece, Puts, PutsOrBreaks}
 use Rattle.sas_output.proofs.Putting.{breaks_with_more, puts_then_either}
 use Rattle.sas_trace.specs.Trace.{change_lines}
-use Rattle.sas_trace.proofs.Passing.{is_continued}
 use Rattle.sas_trace.proofs.tracing.Tracer.push_step.Goals as goal
 
 behind : (p : Parts) (told s s' x : List ℕ) (a b c : Option (List ℕ)) (q r t : Piece) (result : Result ⊤ Short) → told ≡ s
@@ -16,18 +15,13 @@ behind : (p : Parts) (told s s' x : List ℕ) (a b c : Option (List ℕ)) (q r t
 behind p told s s' x a b c q r t result is first second =
     puts_then_either a b q r x c t (text (change_lines p s s')) result first (subst (λ (l : List ℕ). PutsOrBreaks b c r t (text (change_lines p l s')) result) is second)
 
-pub unwrap-requires : goal.unwrap-requires
-unwrap-requires g c =
-    let w = c.requires.goes in
-    is_continued c.args.task.now c.args.course.now c.go_on.new.self c.go_on.result c.args.again.operator w.0 c.requires.task c.go_on.ensures w.1
-
 pub returns-in_err-push_step_line-clause-puts : goal.returns-in_err-push_step_line-clause-puts
 returns-in_err-push_step_line-clause-puts g c =
     let p = err_from_is_err_and c.from_residual.result c.from_residual.ensures.1 in
-    let changes = text (change_lines c.args.task.now c.args.course.now.state c.go_on.new.self.state) in
-    rw (p.1, p.2) (breaks_with_more _ _ _ c.push_step_line.new.pieces _ changes _ c.in_err-push_step_line.ensures.puts)
+    let changes = text (change_lines c.args.task.now c.args.execution.now.state c.advance-operator.new.self.state) in
+    rw (p.1, p.2) (breaks_with_more _ _ _ c.push_step_line.new.pieces _ changes _ (rw c.advance-operator.ensures.advances.by at c.in_err-push_step_line.ensures.puts))
 
 pub returns-clause-puts : goal.returns-clause-puts
 returns-clause-puts g c =
-    behind c.args.task.now c.args.self.now.told.items c.args.course.now.state c.go_on.new.self.state _ _ _ _ _ _ _ _ c.requires.told
-    c.in_ok-push_step_line.ensures.puts c.push_changes.ensures.puts
+    behind c.args.task.now c.args.self.now.told.items c.args.execution.now.state c.advance-operator.new.self.state _ _ _ _ _ _ _ _ c.requires.told
+    (rw c.advance-operator.ensures.advances.by at c.in_ok-push_step_line.ensures.puts) c.push_changes.ensures.puts

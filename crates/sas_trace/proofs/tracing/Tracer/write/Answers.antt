@@ -2,25 +2,21 @@
 use Rattle.std.proofs.Common.{[], ◌∙◌, ap, length, flat_map, append-nil, Err}
 use Rattle.std.specs.List.{range_with_len}
 use Rattle.std.proofs.lemmas.Result.{err_from_is_err_and}
-use Rattle.sas_core.specs.declared.parts.Parts.{Parts}
 use Rattle.sas_lines.specs.Lines.{text}
 use Rattle.sas_output.proofs.Putting.{no_failure, breaks_with_more, puts_then, puts_then_breaks, puts_then_either}
+use Rattle.sas_run.specs.Runs.{state_at}
 use Rattle.sas_trace.specs.Trace.{step_lines}
+use Rattle.sas_trace.proofs.Standing.{stands_fits}
 use Rattle.sas_trace.proofs.StepTexts.{whole_puts}
 use Rattle.sas_trace.proofs.tracing.Tracer.write.Goals as goal
 
 pub push_initial_lines-requires-clause-state : goal.push_initial_lines-requires-clause-state
 push_initial_lines-requires-clause-state g c =
-    let fits = c.state.ensures.fits in
-    ap length c.state.ensures.now ∙ fits.one_each ∙ ap (λ (p : Parts). length p.variables) c.requires.way.2.task
+    let w = c.requires.stands in
+    ap length c.state.ensures.now ∙ stands_fits c.args.task.now w.0 c.args.execution.now c.args.self.now.told.items w.1
 
 pub push_steps-requires-clause-out : goal.push_steps-requires-clause-out
 push_steps-requires-clause-out g c = no_failure _ c.in_ok-push_initial_lines.ensures.note
-
-pub push_steps-requires-clause-way : goal.push_steps-requires-clause-way
-push_steps-requires-clause-way g c =
-    let w = c.requires.way in
-    rw c.as_slice.ensures.value (w.0, w.1.goes, w.2)
 
 pub push-requires : goal.push-requires
 push-requires g c = no_failure _ c.in_ok-push_steps.ensures.note
@@ -32,46 +28,37 @@ pub returns-clause-note : goal.returns-clause-note
 returns-clause-note g c = c.flush.ensures.note
 
 pub returns-in_err-push_initial_lines-clause-puts : goal.returns-in_err-push_initial_lines-clause-puts
-returns-in_err-push_initial_lines-clause-puts g c =
-    let w = c.requires.way in
+returns-in_err-push_initial_lines-clause-puts g c run stands =
     let p = err_from_is_err_and c.from_residual.result c.from_residual.ensures.1 in
-    let judged = c.args.judged.now in
-    let behind = judged.verdict.text.items in
-    let steps = text (flat_map (step_lines c.args.task.now w.0) (range_with_len 0 (length judged.operators.items))) in
+    let steps = text (flat_map (step_lines c.args.task.now run) (range_with_len 0 (length run.steps))) in
     let broken = rw c.state.ensures.now at c.in_err-push_initial_lines.ensures.puts in
-    let more = breaks_with_more _ _ _ c.push_initial_lines.new.pieces _ behind _ (breaks_with_more _ _ _ c.push_initial_lines.new.pieces _ steps _ broken) in
-    (w.0, w.1, rw (p.1, p.2) (whole_puts c.args.task.now w.0 (length judged.operators.items) c.args.course.now.state behind w.2.state w.1.goes.way.made _ _ _ c.push_initial_lines.new.pieces (Err _) more))
+    let more = breaks_with_more _ _ _ c.push_initial_lines.new.pieces _ c.args.behind.now _ (breaks_with_more _ _ _ c.push_initial_lines.new.pieces _ steps _ broken) in
+    let first = stands.executes.state ∙ ap (state_at run) c.requires.start in
+    rw (p.1, p.2) (whole_puts c.args.task.now run c.args.execution.now.state c.args.behind.now first _ _ _ c.push_initial_lines.new.pieces (Err _) more)
 
 pub returns-in_err-push_steps-clause-puts : goal.returns-in_err-push_steps-clause-puts
-returns-in_err-push_steps-clause-puts g c =
-    let w = c.requires.way in
+returns-in_err-push_steps-clause-puts g c run stands =
     let from = c.from_residual-in_err-push_steps in
     let p = err_from_is_err_and from.result from.ensures.1 in
-    let judged = c.args.judged.now in
-    let behind = judged.verdict.text.items in
     let front = rw c.state.ensures.now at c.in_ok-push_initial_lines.ensures.puts in
-    let broken = puts_then_breaks _ _ _ _ _ _ _ _ front ((rw c.as_slice.ensures.value at c.in_err-push_steps.ensures.puts) w.0 w.1.goes w.2) in (
-      w.0,
-      w.1,
-      rw (p.1, p.2) (whole_puts c.args.task.now w.0 (length judged.operators.items) c.args.course.now.state behind w.2.state w.1.goes.way.made _ _ _ c.push_steps.new.self.pieces (Err _)
-          (breaks_with_more _ _ _ c.push_steps.new.self.pieces _ behind _ broken)),
-    )
+    let broken = puts_then_breaks _ _ _ _ _ _ _ _ front (c.in_err-push_steps.ensures.puts run stands) in
+    let first = stands.executes.state ∙ ap (state_at run) c.requires.start in
+    rw (p.1, p.2) (whole_puts c.args.task.now run c.args.execution.now.state c.args.behind.now first _ _ _ c.push_steps.new.self.pieces (Err _)
+    (breaks_with_more _ _ _ c.push_steps.new.self.pieces _ c.args.behind.now _ broken))
 
 pub returns-in_err-push-clause-puts : goal.returns-in_err-push-clause-puts
-returns-in_err-push-clause-puts g c =
-    let w = c.requires.way in
+returns-in_err-push-clause-puts g c run stands =
     let from = c.from_residual-in_err-push in
     let p = err_from_is_err_and from.result from.ensures.1 in
-    let judged = c.args.judged.now in
-    let front = puts_then _ _ _ _ _ _ _ _ (rw c.state.ensures.now at c.in_ok-push_initial_lines.ensures.puts) ((rw c.as_slice.ensures.value at c.in_ok-push_steps.ensures.puts) w.0 w.1.goes w.2) in
-    let broken = puts_then_breaks _ _ _ _ _ _ _ _ front (rw c.as_slice-2.ensures.value at c.in_err-push.ensures.puts) in
-    (w.0, w.1, rw (p.1, p.2) (whole_puts c.args.task.now w.0 (length judged.operators.items) c.args.course.now.state judged.verdict.text.items w.2.state w.1.goes.way.made _ _ _ c.push.new.self (Err _) broken))
+    let front = puts_then _ _ _ _ _ _ _ _ (rw c.state.ensures.now at c.in_ok-push_initial_lines.ensures.puts) (c.in_ok-push_steps.ensures.puts run stands) in
+    let broken = puts_then_breaks _ _ _ _ _ _ _ _ front c.in_err-push.ensures.puts in
+    let first = stands.executes.state ∙ ap (state_at run) c.requires.start in
+    rw (p.1, p.2) (whole_puts c.args.task.now run c.args.execution.now.state c.args.behind.now first _ _ _ c.push.new.self (Err _) broken)
 
 pub returns-clause-puts : goal.returns-clause-puts
-returns-clause-puts g c =
-    let w = c.requires.way in
-    let judged = c.args.judged.now in
-    let front = puts_then _ _ _ _ _ _ _ _ (rw c.state.ensures.now at c.in_ok-push_initial_lines.ensures.puts) ((rw c.as_slice.ensures.value at c.in_ok-push_steps.ensures.puts) w.0 w.1.goes w.2) in
-    let put = puts_then _ _ _ _ _ _ _ _ front (rw c.as_slice-2.ensures.value at c.in_ok-push.ensures.puts) in
+returns-clause-puts g c run stands =
+    let front = puts_then _ _ _ _ _ _ _ _ (rw c.state.ensures.now at c.in_ok-push_initial_lines.ensures.puts) (c.in_ok-push_steps.ensures.puts run stands) in
+    let put = puts_then _ _ _ _ _ _ _ _ front c.in_ok-push.ensures.puts in
     let flushed = puts_then_either _ _ _ _ _ _ _ [] _ put c.flush.ensures.puts in
-    (w.0, w.1, whole_puts c.args.task.now w.0 (length judged.operators.items) c.args.course.now.state judged.verdict.text.items w.2.state w.1.goes.way.made _ _ _ _ _ (rw append-nil at flushed))
+    let first = stands.executes.state ∙ ap (state_at run) c.requires.start in
+    whole_puts c.args.task.now run c.args.execution.now.state c.args.behind.now first _ _ _ _ _ (rw append-nil at flushed)

@@ -1,0 +1,77 @@
+-- How a plan ends: at a step that stops, or behind the last one.
+use Rattle.std.proofs.Common.{◌≡◌, ℕ, ◌+◌, ◌-◌, ◌<◌, List, [], length, take, drop, get_or, Option, Some, None, sym, ◌∙◌, ap, subst, arith}
+use Rattle.std.proofs.lemmas.List.{take_all}
+use Rattle.sas_core.specs.declared.parts.Parts.{Parts}
+use Rattle.sas_core.specs.PlanParts.{PlanParts}
+use Rattle.sas_run.specs.declared.plan_check.PlanFault.{PlanFault}
+use Rattle.sas_run.specs.declared.plan_check.PlanFault.TheVariants.{Memory, NoOperator, NotApplicable, Conflict, GoalMissed, CostDiffers}
+use Rattle.sas_run.specs.Plans.{LeadsTo, IsValid}
+use Rattle.sas_run.specs.Running.{StopsAt, IsJudged}
+use Rattle.sas_run.specs.Runs.{Run, IsRunOf, steps_before, EndsBy, IsEnding}
+use Rattle.sas_run.specs.Verdicts.{ComesTo, IsFaultOf}
+use Rattle.sas_run.proofs.Going.{around, length_of_take}
+use Rattle.sas_run.proofs.Runs.{some_run}
+
+-- where step k + 1 stops, that is the fault of the plan
+module _ (p : Parts) (plan : PlanParts) (k : ℕ) (lt : k < length plan.steps) (operators s : List ℕ) (leads : LeadsTo p (take k plan.steps) operators s) where
+  abbrev name : List ℕ
+  name = get_or plan.steps k []
+
+  comes : (step : ℕ) → step ≡ k + 1 → ComesTo p plan.steps step s name
+  comes step is = record {
+    before = take k plan.steps;
+    behind = drop (k + 1) plan.steps;
+    whole = around plan.steps k [] lt;
+    place = is ∙ ap (λ n. n + 1) (sym (length_of_take plan.steps k lt));
+    operators = operators;
+    leads = leads;
+  }
+
+  is_fault : (fault : PlanFault) → StopsAt p s name (k + 1) fault → IsFaultOf p plan fault
+  is_fault (NoOperator step) stops = (s, name, comes step stops.0, stops.1)
+  is_fault (NotApplicable step) stops = (s, name, comes step stops.0, stops.1, stops.2)
+  is_fault (Conflict step operator) stops = (s, name, comes step stops.0, stops.1, stops.2)
+  is_fault (GoalMissed index) stops = absurd stops
+  is_fault (CostDiffers sum) stops = absurd stops
+  is_fault Memory stops = absurd stops
+
+  at_step : (step : ℕ) → step ≡ k + 1 → take k plan.steps ≡ take (step - 1) plan.steps
+  at_step step is = ap (λ n. take n plan.steps) (let e : k ≡ step - 1 = omega arith in e)
+
+  before : (fault : PlanFault) → StopsAt p s name (k + 1) fault → take k plan.steps ≡ steps_before plan fault
+  before (NoOperator step) stops = at_step step stops.0
+  before (NotApplicable step) stops = at_step step stops.0
+  before (Conflict step operator) stops = at_step step stops.0
+  before (GoalMissed index) stops = absurd stops
+  before (CostDiffers sum) stops = absurd stops
+  before Memory stops = absurd stops
+
+  pub stops_there : (fault : PlanFault) → StopsAt p s name (k + 1) fault → IsEnding p plan operators (Some fault)
+  stops_there fault stops =
+      let w = some_run p (take k plan.steps) operators s leads in
+      let made : length w.0.steps ≡ k = ap length w.2 ∙ length_of_take plan.steps k lt in
+      (w.0, record { through = w.1; front = w.2 ∙ ap (λ n. take n plan.steps) (sym made) }, (is_fault fault stops, w.2 ∙ before fault stops), w.3)
+
+-- behind the last step it is judged
+module _ (p : Parts) (plan : PlanParts) (operators s : List ℕ) (leads : LeadsTo p plan.steps operators s) where
+  ends : (run : Run) → run.steps ≡ plan.steps → run.operators ≡ operators → (fault : Option PlanFault) → IsJudged p operators s plan.cost fault → EndsBy p plan run fault
+  ends run whole by None is = (subst (λ os. IsValid p plan os) (sym by) (record { last = s; leads = leads; goal = is.0; cost = is.1 }), whole)
+  ends run whole by (Some (GoalMissed index)) is = ((operators, s, leads, is), whole)
+  ends run whole by (Some (CostDiffers sum)) is = ((operators, s, leads, is.0, is.1, is.2), whole)
+  ends run whole by (Some (NoOperator step)) is = absurd is
+  ends run whole by (Some (NotApplicable step)) is = absurd is
+  ends run whole by (Some (Conflict step operator)) is = absurd is
+  ends run whole by (Some Memory) is = absurd is
+
+  pub judged_there : (fault : Option PlanFault) → IsJudged p operators s plan.cost fault → IsEnding p plan operators fault
+  judged_there fault is =
+      let w = some_run p plan.steps operators s leads in
+      let front = w.2 ∙ sym (take_all (length w.0.steps) plan.steps (omega (arith, ap length w.2))) in
+      (w.0, record { through = w.1; front = front }, ends w.0 w.2 w.3 fault is, w.3)
+
+-- so the plan is valid, or it has this fault
+pub ends_valid : (p : Parts) (plan : PlanParts) (operators : List ℕ) → IsEnding p plan operators None → IsValid p plan operators
+ends_valid p plan operators w = subst (λ os. IsValid p plan os) w.3 w.2.0
+
+pub ends_faulty : (p : Parts) (plan : PlanParts) (operators : List ℕ) (fault : PlanFault) → IsEnding p plan operators (Some fault) → IsFaultOf p plan fault
+ends_faulty p plan operators fault w = w.2.0

@@ -1,0 +1,205 @@
+-- An execution goes on along its run.
+use Rattle.std.proofs.Common.{◌≡◌, ℕ, ◌+◌, ◌<◌, ◌≤◌, List, [], length, get_or, Option, None, Result, Ok, Err, refl, sym, ◌∙◌, ap, subst, inl, inr, arith, rules}
+use Rattle.std.specs.Prelude.{vec_capacity}
+use Rattle.std.specs.Result.{IsOk}
+use Rattle.std.proofs.lemmas.Bool.{cases_lt}
+use Rattle.std.proofs.lemmas.List.{get_or-take, get_or_default, length-take}
+use Rattle.sas_core.specs.declared.parts.Parts.{Parts}
+use Rattle.sas_core.specs.Grounded.{operator_at}
+use Rattle.sas_core.specs.PlanParts.{PlanParts}
+use Rattle.sas_core.specs.Variables.{IsState}
+use Rattle.sas_meaning.specs.Layers.{IsLayered}
+use Rattle.sas_meaning.specs.Reachable.{IsInitial}
+use Rattle.sas_meaning.specs.Steps.{Step}
+use Rattle.sas_meaning.proofs.Unique.{step_is_one}
+use Rattle.sas_names.specs.Chains.{IsChain, HaveChains}
+use Rattle.sas_names.specs.Named.{IsNamed}
+use Rattle.sas_names.specs.Names.{AreFirsts, IsNextNamed}
+use Rattle.sas_run.specs.declared.plan_check.PlanFault.{PlanFault}
+use Rattle.sas_run.specs.declared.progress.Progress.{Progress}
+use Rattle.sas_run.specs.declared.stepper.Stepper.{Stepper}
+use Rattle.sas_run.specs.declared.steps.StepFault.{StepFault}
+use Rattle.sas_run.specs.Executions.{Executed, next_name, next_operator, Executes, IsFound, Advances, executed_of, IsExecuting}
+use Rattle.sas_run.specs.Running.{GoesOn, Steps}
+use Rattle.sas_run.specs.Stepping.{IsPrepared, ListsChanges}
+use Rattle.sas_run.proofs.NextStates.{fault_is_conflict}
+use Rattle.sas_run.specs.Runs.{Run, state_at, IsRunOf, IsEnding}
+use Rattle.sas_run.proofs.Runs.{still, still_goes, state_fits, first_state, run_goes}
+
+-- before the first step no step is known
+pub executes_none : (e : Executed) → IsInitial e.task e.state → e.operators ≡ [] → e.made ≡ 0 → Executes (still e.state) e
+executes_none e starts none made = record {
+  of_plan = record { through = still_goes e.task e.state starts; front = refl };
+  operators = sym none;
+  within = omega (arith, made);
+  state = sym (ap (λ k. state_at (still e.state) k) made);
+}
+
+module _ (run : Run) (e : Executed) (executes : Executes run e) where
+  pub as_many : length e.operators ≡ length run.steps
+  as_many = sym (ap length executes.operators) ∙ executes.of_plan.through.operators
+
+  pub executed_fits : IsState e.task.variables e.state
+  executed_fits = subst (IsState e.task.variables) (sym executes.state) (state_fits e.task run executes.of_plan.through e.made (omega (arith, executes.within, as_many)))
+
+  -- where no step is known its state is the initial one
+  module _ (none : e.operators ≡ []) where
+    pub none_made : e.made ≡ 0
+    none_made = omega (arith, executes.within, ap length none)
+
+    pub none_initial : IsInitial e.task e.state
+    none_initial =
+        let leads = executes.of_plan.through.leads 0 (omega arith) in
+        subst (IsInitial e.task) (sym (executes.state ∙ (ap (state_at run) none_made ∙ leads.goes))) leads.starts
+
+  -- ---- the next step
+
+  module _ (left : e.made < length e.operators) where
+    within : e.made < length run.steps
+    within = omega (arith, as_many)
+
+    pub name_is : get_or run.steps e.made [] ≡ next_name e
+    name_is = ap (λ names. get_or names e.made []) executes.of_plan.front ∙ get_or-take (length run.steps) e.plan.steps e.made [] within
+
+    module _ (layered : IsLayered e.task) where
+      -- the next step goes on, by its operator, to the next state of the run
+      pub next_goes : GoesOn e.task e.state (next_name e) (next_operator e) (state_at run (e.made + 1))
+      next_goes =
+          let next = state_at run (e.made + 1) in
+          subst (λ s. GoesOn e.task s (next_name e) (next_operator e) next) (sym executes.state)
+          (subst (λ name. GoesOn e.task (state_at run e.made) name (next_operator e) next) name_is
+          (subst (λ o. GoesOn e.task (state_at run e.made) (get_or run.steps e.made []) o next) (ap (λ (os : List ℕ). get_or os e.made 0) executes.operators)
+          (run_goes e.task run executes.of_plan.through layered e.made within)))
+
+      -- and so does the execution
+      pub goes_along : (operator : ℕ) (new : Executed) → Advances e operator new → Executes run new
+      goes_along operator new advances = record {
+        of_plan = subst (λ p. IsRunOf p new.plan run) (sym advances.task) (subst (λ plan. IsRunOf e.task plan run) (sym advances.of_plan) executes.of_plan);
+        operators = executes.operators ∙ sym advances.operators;
+        within = omega (arith, advances.made, ap length advances.operators);
+        state = step_is_one e.task e.state (operator_at e.task (next_operator e)) new.state (state_at run (e.made + 1)) layered
+            (subst (λ o. Step e.task e.state (operator_at e.task o) new.state) advances.by advances.step) next_goes.step
+            ∙ ap (state_at run) (sym advances.made);
+      }
+
+      -- ---- the operators of its name
+
+      module _ (found : List ℕ) (nexts : List (Option ℕ)) (firsts : AreFirsts e.task e.plan.steps found) (chains : HaveChains e.task found nexts) where
+        -- its name was found, as an operator has it
+        found_next : e.made < length found
+        found_next = elim (cases_lt e.made (length found)) [
+          | inl lt ↦ lt
+          | inr ge ↦
+              let early : length found < length run.steps = omega (arith, within) in
+              let on = run_goes e.task run executes.of_plan.through layered (length found) early in
+              let name : get_or run.steps (length found) [] ≡ get_or e.plan.steps (length found) [] =
+              ap (λ names. get_or names (length found) []) executes.of_plan.front ∙ get_or-take (length run.steps) e.plan.steps (length found) [] early in
+              absurd (firsts.behind (omega (arith, early, many)) (get_or run.operators (length found) 0) (omega arith)
+              (subst (λ its. IsNamed e.task its (get_or run.operators (length found) 0)) name on.chosen.of_name))
+        ]
+          where
+            many : length run.steps ≤ length e.plan.steps
+            many = omega (arith, ap length executes.of_plan.front, length-take (length run.steps) e.plan.steps)
+
+        -- so the next operator of each that has it is known
+        pub chain_next : IsChain e.task (next_operator e) nexts
+        chain_next other named =
+            let same : (operator_at e.task (next_operator e)).name ≡ (operator_at e.task (get_or found e.made 0)).name =
+            next_goes.chosen.of_name.named ∙ sym (firsts.each e.made found_next).of_name.named in
+            subst (λ name. IsNextNamed e.task name (other + 1) (get_or nexts other None)) (sym same)
+            (chains e.made found_next other (subst (λ name. IsNamed e.task name other) same named))
+
+-- ---- where the plan ends
+
+-- once its steps have been made up to the fault, the execution is back at its start
+pub back : (e new : Executed) (fault : Option PlanFault) → IsLayered e.task → new.task ≡ e.task → new.plan ≡ e.plan → e.made ≡ 0 → new.made ≡ e.made
+    → IsInitial e.task new.state → IsEnding e.task e.plan new.operators fault → IsFound e.task e.plan fault new
+back e new fault layered task plan none same starts (run, of_plan, ends, by) = record {
+  task = task;
+  of_plan = plan;
+  made = same ∙ none;
+  run = run;
+  executes = record {
+    of_plan = subst (λ p. IsRunOf p new.plan run) (sym task) (subst (λ its. IsRunOf e.task its run) (sym plan) of_plan);
+    operators = by;
+    within = omega (arith, same, none);
+    state = first_state e.task run of_plan.through new.state layered starts ∙ ap (state_at run) (sym (same ∙ none));
+  };
+  ends = ends;
+}
+
+-- ---- the parts of an execution
+
+-- an operator that has a step makes it
+pub makes_step : (p : Parts) (s : List ℕ) (operator : ℕ) (s' : List ℕ) (result : Result (Unit {0}) StepFault) (next : List ℕ)
+    → Step p s (operator_at p operator) next → Steps p s operator s' result → IsOk result
+makes_step p s operator s' (Ok _) next step steps = search rules
+makes_step p s operator s' (Err fault) next step steps = absurd (fault_is_conflict s (operator_at p operator) fault step.applicable steps.0 step.agree)
+
+module _ {E : Type 0} {Ready : E → Parts → Type 0} {Follows : E → Parts → List ℕ → Type 0} {p : Parts} {plan : PlanParts} {stepper : Stepper E}
+    {found : List ℕ} {nexts : List (Option ℕ)} {progress : Progress} {made : ℕ}
+    (executing : IsExecuting Ready Follows p plan stepper found nexts progress made) (layered : IsLayered p) where
+  abbrev e : Executed
+  e = executed_of p plan stepper progress made
+
+  -- the next step, by the operator that stands at its place
+  module _ (left : made < length progress.operators.items) (operator : ℕ) (stands : operator ≡ get_or progress.operators.items made operator) where
+    is_next : operator ≡ next_operator e
+    is_next = stands ∙ get_or_default progress.operators.items made operator 0 left
+
+    pub step_goes : GoesOn p progress.state (next_name e) operator (state_at executing.run (made + 1))
+    step_goes = subst (λ o. GoesOn p progress.state (next_name e) o (state_at executing.run (made + 1))) (sym is_next)
+        (next_goes executing.run e executing.executes left layered)
+
+    pub step_chain : IsChain p operator nexts
+    step_chain = subst (λ o. IsChain p o nexts) (sym is_next) (chain_next executing.run e executing.executes left layered found nexts executing.firsts executing.chains)
+
+    -- it was made
+    module _ (stepper' : Stepper E) (state : List ℕ) (step : Step p progress.state (operator_at p operator) state)
+        (lists : ListsChanges p progress.state state stepper'.deleted.items stepper'.touched) where
+      abbrev after : Progress
+      after = record { state = state; operators = progress.operators }
+
+      pub step_advances : Advances e operator (executed_of p plan stepper' after (made + 1))
+      step_advances = record {
+        task = refl;
+        of_plan = refl;
+        operators = refl;
+        made = refl;
+        by = is_next;
+        chosen = step_goes.chosen;
+        step = step;
+        changes = lists;
+      }
+
+      pub step_along : (run : Run) → Executes run e → Executes run (executed_of p plan stepper' after (made + 1))
+      step_along run executes = goes_along run e executes left layered operator (executed_of p plan stepper' after (made + 1)) step_advances
+
+      pub goes_ahead : IsPrepared Ready p stepper' → Follows stepper'.evaluator p state → IsExecuting Ready Follows p plan stepper' found nexts after (made + 1)
+      goes_ahead prepared follows = record {
+        prepared = prepared;
+        follows = follows;
+        firsts = executing.firsts;
+        chains = executing.chains;
+        room = executing.room;
+        run = executing.run;
+        executes = step_along executing.run executing.executes;
+      }
+
+  -- the plan was executed up to its fault
+  module _ (none : progress.operators.items ≡ []) (stepper' : Stepper E) (progress' : Progress) (fault : Option PlanFault) (starts : IsInitial p progress'.state)
+      (ending : IsEnding p plan progress'.operators.items fault) where
+    pub goes_back : IsFound p plan fault (executed_of p plan stepper' progress' made)
+    goes_back = back e (executed_of p plan stepper' progress' made) fault layered refl refl (none_made executing.run e executing.executes none) refl starts ending
+
+    pub goes_anew : IsPrepared Ready p stepper' → Follows stepper'.evaluator p progress'.state → length plan.steps ≤ vec_capacity progress'.operators
+        → IsExecuting Ready Follows p plan stepper' found nexts progress' made
+    goes_anew prepared follows room = record {
+      prepared = prepared;
+      follows = follows;
+      firsts = executing.firsts;
+      chains = executing.chains;
+      room = room;
+      run = goes_back.run;
+      executes = goes_back.executes;
+    }

@@ -1,0 +1,20 @@
+-- No step is known so far.
+use Rattle.std.proofs.Common.{refl}
+use Rattle.sas_run.specs.Executions.{executed_of}
+use Rattle.sas_run.proofs.Executing.{executes_none}
+use Rattle.sas_run.proofs.Runs.{still}
+use Rattle.sas_run.proofs.execution.Execution.new.Goals as goal
+
+pub invariant_of-result : goal.invariant_of-result
+invariant_of-result g c =
+    let progress = c.in_ok-progress.progress in
+    record {
+      prepared = c.new-2.ensures.prepared;
+      follows = c.in_ok-progress.ensures.follows;
+      firsts = c.in_ok-found.ensures.firsts;
+      chains = c.in_ok-found.ensures.chains;
+      room = rw c.steps.ensures at c.in_ok-progress.ensures.room;
+      run = still progress.state;
+      executes = executes_none (executed_of c.args.layered.now (g.P.Stepwise.says c.args.plan.now) c.new-2.new.stepper progress 0)
+          c.in_ok-progress.ensures.initial c.in_ok-progress.ensures.empty refl;
+    }

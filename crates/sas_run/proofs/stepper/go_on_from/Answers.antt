@@ -1,0 +1,111 @@
+-- The effects, and what settles them from the state before.
+use Rattle.std.proofs.Common.{arith, Err, ◌≡◌, ◌≢◌, ◌⊎◌, ℕ, ◌∷◌, List, [], is_some, sym, ◌∙◌, ap, subst, inl, inr}
+use Rattle.std.specs.List.{All}
+use Rattle.std.proofs.lemmas.Bool.{cases_eq}
+use Rattle.std.proofs.lemmas.Result.{err_from_is_err_and}
+use Rattle.std.proofs.lemmas.List.Elements.{All-nil, All-cons, Contains-append_left, Contains-append_right, Contains-push}
+use Rattle.sas_core.specs.declared.parts.Fact.{Fact}
+use Rattle.sas_core.specs.declared.parts.Parts.{Parts}
+use Rattle.sas_core.specs.Grounded.{operator_at}
+use Rattle.sas_meaning.specs.declared.touched.Touched.{Touched}
+use Rattle.sas_meaning.specs.Following.{HaveGone}
+use Rattle.sas_meaning.specs.Settled.{SameBasic}
+use Rattle.sas_meaning.specs.Touched.{TellsChanges}
+use Rattle.sas_meaning.proofs.Layers.{layer_cases}
+use Rattle.sas_run.specs.Stepping.{HasFactOn, ListsChanges}
+use Rattle.sas_run.specs.Running.{Steps}
+use Rattle.sas_run.proofs.Going.{passed_on}
+use Rattle.sas_run.proofs.NextStates.{effects_basic, step_from_applied}
+use Rattle.sas_run.proofs.stepper.go_on_from.Goals as goal
+
+pub settle_on-requires-clause-follows : goal.settle_on-requires-clause-follows
+settle_on-requires-clause-follows g c = (
+  c.args.state.now,
+  c.requires.follows,
+  subst (λ (deleted : List Fact). HaveGone c.args.layered.now deleted c.args.state.now c.apply.new.state) (sym c.as_slice.ensures.value) c.in_ok-apply.ensures.deleted,
+)
+
+pub returns-clause-steps : goal.returns-clause-steps
+returns-clause-steps g c =
+    let p = c.args.layered.now in
+    step_from_applied p c.args.state.now (operator_at p c.args.operator) c.apply.new.state c.settle_on.new.state
+    (effects_basic p c.args.operator c.task.ensures.layered c.requires.operator) c.in_ok-apply.ensures.applies c.settle_on.ensures.settles
+
+-- ---- what is listed
+
+of_one : (facts : List Fact) (var : ℕ) → HasFactOn facts var ⊎ All (λ (f : Fact). f.var ≢ var) facts
+of_one [] var = inr (All-nil (λ (f : Fact). f.var ≢ var))
+of_one (fact ∷ facts) var = elim (cases_eq fact.var var) [
+  | inl e ↦ inl (fact, Contains-append_left (fact ∷ []) facts fact (Contains-push [] fact), e)
+  | inr ne ↦ elim (of_one facts var) [
+    | inl there ↦ inl (there.0, Contains-append_right (fact ∷ []) facts there.0 there.1, there.2)
+    | inr none ↦ inr (All-cons (λ (f : Fact). f.var ≢ var) fact facts ne none)
+  ]
+]
+
+-- from s the effects lead to m, which is settled in s'
+lists_step : (p : Parts) (s m s' : List ℕ) (deleted : List Fact) (touched : Touched) → HaveGone p deleted s m → SameBasic p m s' → TellsChanges p s s' touched → ListsChanges p s s' deleted touched
+lists_step p s m s' deleted touched have basic tells = record {
+  basic = have.basic;
+  exist = have.exist;
+  held = have.held;
+  once = have.once;
+  derived = tells.only;
+  each = λ var. elim (layer_cases p var) [
+    | inl b ↦ elim (of_one deleted var) [
+      | inl there ↦ inr (inl there)
+      | inr none ↦ inl (sym (basic var b) ∙ have.others var none)
+    ]
+    | inr on ↦ elim (tells.each var (ap is_some on.1)) [
+      | inl same ↦ inl same
+      | inr may ↦ inr (inr (ap is_some on.1, may))
+    ]
+  ];
+}
+
+pub returns-clause-lists : goal.returns-clause-lists
+returns-clause-lists g c =
+    let p = c.args.layered.now in
+    let s = c.args.state.now in
+    let deleted = c.apply.new.deleted.items in
+    lists_step p s c.apply.new.state c.settle_on.new.state deleted c.settle_on.new.touched c.in_ok-apply.ensures.deleted c.settle_on.ensures.settles.basic
+    (c.settle_on.ensures.told s c.requires.follows (subst (λ (facts : List Fact). HaveGone p facts s c.apply.new.state) (sym c.as_slice.ensures.value) c.in_ok-apply.ensures.deleted))
+
+pub apply-requires-clause-clean : goal.apply-requires-clause-clean
+apply-requires-clause-clean g c = c.requires.prepared.clean
+
+pub apply-requires-clause-room : goal.apply-requires-clause-room
+apply-requires-clause-room g c = c.requires.prepared.room c.args.operator c.requires.operator
+
+pub returns-in_err-apply-clause-prepared : goal.returns-in_err-apply-clause-prepared
+returns-in_err-apply-clause-prepared g c = record {
+  ready = c.requires.prepared.ready;
+  clean = c.apply.ensures.clean;
+  room = λ operator lt. omega (arith, c.requires.prepared.room operator lt, c.apply.ensures.room);
+}
+
+pub returns-in_err-apply-clause-steps : goal.returns-in_err-apply-clause-steps
+returns-in_err-apply-clause-steps g c =
+    let told : c.from_residual.result ≡ Err c.in_err-apply.field-0.0 =
+    passed_on c.from_residual.result c.in_err-apply.field-0.0 (err_from_is_err_and c.from_residual.result c.from_residual.ensures.1) in
+    subst (Steps c.args.layered.now c.args.state.now c.args.operator c.apply.new.state) (sym told) c.in_err-apply.ensures.applies
+
+pub returns-in_err-apply-clause-follows : goal.returns-in_err-apply-clause-follows
+returns-in_err-apply-clause-follows g c =
+    subst (λ (s : List ℕ). g.E.Settle.follows c.args.stepper.now.evaluator c.args.layered.now s) (sym c.in_err-apply.ensures.applies.1) c.requires.follows
+
+pub settle_on-requires-clause-ready : goal.settle_on-requires-clause-ready
+settle_on-requires-clause-ready g c = c.requires.prepared.ready
+
+pub settle_on-requires-clause-state : goal.settle_on-requires-clause-state
+settle_on-requires-clause-state g c = c.in_ok-apply.ensures.applies.state
+
+pub returns-clause-prepared : goal.returns-clause-prepared
+returns-clause-prepared g c = record {
+  ready = c.settle_on.ensures.ready;
+  clean = c.apply.ensures.clean;
+  room = λ operator lt. omega (arith, c.requires.prepared.room operator lt, c.apply.ensures.room);
+}
+
+pub returns-clause-follows : goal.returns-clause-follows
+returns-clause-follows g c = c.settle_on.ensures.follows

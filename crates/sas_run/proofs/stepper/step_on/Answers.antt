@@ -1,0 +1,10 @@
+-- The effects, and what settles them.
+use Rattle.sas_core.specs.Grounded.{operator_at}
+use Rattle.sas_run.proofs.NextStates.{effects_basic, step_from_applied}
+use Rattle.sas_run.proofs.stepper.step_on.Goals as goal
+
+pub returns-clause-steps : goal.returns-clause-steps
+returns-clause-steps g c =
+    let p = c.args.layered.now in
+    step_from_applied p c.args.state.now (operator_at p c.args.operator) c.apply.new.state c.settle.new.state
+    (effects_basic p c.args.operator c.task.ensures.layered c.requires.operator) c.in_ok-apply.ensures.applies c.settle.ensures.settles

@@ -1,7 +1,0 @@
--- No operator so far has more effects.
-use Rattle.std.proofs.Common.{ℕ, ◌<◌, ◌≤◌, length}
-use Rattle.sas_core.specs.Grounded.{operator_at}
-use Rattle.sas_run.proofs.walker.most_effects.Given as goal
-
-abbrev pub invariant-loop-operator : goal.invariant-loop-operator
-invariant-loop-operator g l = (other : ℕ) → other < l.operator → length (operator_at l.task other).effects ≤ l.most

@@ -1,0 +1,94 @@
+-- Executions of plans.
+use Rattle.std.specs.Prelude.{◌≡◌, ℕ, ◌+◌, ◌≤◌, [], List, length, Option, slice_index, slice_index_or, vec_capacity}
+use Rattle.sas_core.specs.declared.parts.Fact.{Fact}
+use Rattle.sas_core.specs.declared.parts.Parts.{Parts}
+use Rattle.sas_core.specs.Grounded.{operator_at}
+use Rattle.sas_core.specs.PlanParts.{PlanParts}
+use Rattle.sas_meaning.specs.declared.touched.Touched.{Touched}
+use Rattle.sas_meaning.specs.Steps.{Step}
+use Rattle.sas_names.specs.Chains.{HaveChains}
+use Rattle.sas_names.specs.Names.{AreFirsts}
+use Rattle.sas_run.specs.declared.plan_check.PlanFault.{PlanFault}
+use Rattle.sas_run.specs.declared.progress.Progress.{Progress}
+use Rattle.sas_run.specs.declared.stepper.Stepper.{Stepper}
+use Rattle.sas_run.specs.Plans.{IsChosen}
+use Rattle.sas_run.specs.Runs.{Run, state_at, IsRunOf, EndsBy}
+use Rattle.sas_run.specs.Stepping.{IsPrepared, ListsChanges}
+
+-- the task, the plan, the operators of the steps that are known to go through, how many of these
+-- steps have been made, and the state to which they led; then what the last one changed: the facts
+-- that it made false, and the derived variables that may have changed
+pub record Executed : Type 0 where
+  pub task : Parts
+  pub plan : PlanParts
+  pub operators : List ℕ
+  pub made : ℕ
+  pub state : List ℕ
+  pub deleted : List Fact
+  pub touched : Touched
+
+-- the name of the next step; behind the last one, no bytes
+abbrev pub next_name : Executed → List ℕ
+next_name e = slice_index_or e.plan.steps e.made []
+
+-- the operator of the next step
+abbrev pub next_operator : Executed → ℕ
+next_operator e = slice_index e.operators e.made
+
+-- no step is known to go through so far
+pub record IsNew (p : Parts) (plan : PlanParts) (e : Executed) : Type 0 where
+  pub task : e.task ≡ p
+  pub of_plan : e.plan ≡ plan
+  pub operators : e.operators ≡ []
+
+-- the steps that are known to go through are those of this run, and the first ones have been made
+pub record Executes (run : Run) (e : Executed) : Type 0 where
+  pub of_plan : IsRunOf e.task e.plan run
+  pub operators : run.operators ≡ e.operators
+  pub within : e.made ≤ length e.operators
+  pub state : e.state ≡ state_at run e.made
+
+-- the plan ends so behind the steps of a run, and the execution is back before the first of them
+pub record IsFound (p : Parts) (plan : PlanParts) (fault : Option PlanFault) (e : Executed)
+    : Type 0 where
+  pub task : e.task ≡ p
+  pub of_plan : e.plan ≡ plan
+  pub made : e.made ≡ 0
+  pub run : Run
+  pub executes : Executes run e
+  pub ends : EndsBy p plan run fault
+
+-- the next step was made, by its operator, and this is what it changed
+pub record Advances (old : Executed) (operator : ℕ) (new : Executed) : Type 0 where
+  pub task : new.task ≡ old.task
+  pub of_plan : new.plan ≡ old.plan
+  pub operators : new.operators ≡ old.operators
+  pub made : new.made ≡ old.made + 1
+  pub by : operator ≡ next_operator old
+  pub chosen : IsChosen old.task old.state (next_name old) operator
+  pub step : Step old.task old.state (operator_at old.task operator) new.state
+  pub changes : ListsChanges old.task old.state new.state new.deleted new.touched
+
+-- what a contract says of the parts of an execution
+abbrev pub executed_of : {E : Type 0} → Parts → PlanParts → Stepper E → Progress → ℕ → Executed
+executed_of p plan stepper progress made = record {
+  task = p;
+  plan = plan;
+  operators = progress.operators.items;
+  made = made;
+  state = progress.state;
+  deleted = stepper.deleted.items;
+  touched = stepper.touched;
+}
+
+-- what the next steps need is at hand
+pub record IsExecuting {E : Type 0} (Ready : E → Parts → Type 0)
+    (Follows : E → Parts → List ℕ → Type 0) (p : Parts) (plan : PlanParts) (stepper : Stepper E)
+    (found : List ℕ) (nexts : List (Option ℕ)) (progress : Progress) (made : ℕ) : Type 0 where
+  pub prepared : IsPrepared Ready p stepper
+  pub follows : Follows stepper.evaluator p progress.state
+  pub firsts : AreFirsts p plan.steps found
+  pub chains : HaveChains p found nexts
+  pub room : length plan.steps ≤ vec_capacity progress.operators
+  pub run : Run
+  pub executes : Executes run (executed_of p plan stepper progress made)

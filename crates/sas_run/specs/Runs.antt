@@ -1,0 +1,55 @@
+-- Runs: steps that go through from the initial state, with their operators and states.
+use Rattle.std.specs.Prelude.{◌≡◌, ℕ, ◌+◌, ◌-◌, ◌≤◌, List, [], length, take, slice_index_or, Option, Some, None}
+use Rattle.sas_core.specs.declared.parts.Parts.{Parts}
+use Rattle.sas_core.specs.PlanParts.{PlanParts}
+use Rattle.sas_run.specs.declared.plan_check.PlanFault.{PlanFault}
+use Rattle.sas_run.specs.declared.plan_check.PlanFault.TheVariants.{Memory, NoOperator, NotApplicable}
+use Rattle.sas_run.specs.declared.plan_check.PlanFault.TheVariants.{Conflict, GoalMissed, CostDiffers}
+use Rattle.sas_run.specs.Plans.{LeadsTo, IsValid}
+use Rattle.sas_run.specs.Verdicts.{IsFaultOf}
+
+-- The names of n steps, their operators, and the states s0 to sn: s0 is the initial state, and step
+-- i leads from state i - 1 to state i.
+pub record Run : Type 0 where
+  pub steps : List (List ℕ)
+  pub operators : List ℕ
+  pub states : List (List ℕ)
+
+-- the state with this number; behind the last one, no values
+abbrev pub state_at : Run → ℕ → List ℕ
+state_at run number = slice_index_or run.states number []
+
+-- the state to which all steps lead
+abbrev pub last_state : Run → List ℕ
+last_state run = state_at run (length run.steps)
+
+-- the steps go through: for each k the first k of them lead from the initial state to state k
+pub record GoesThrough (p : Parts) (run : Run) : Type 0 where
+  pub operators : length run.operators ≡ length run.steps
+  pub states : length run.states ≡ length run.steps + 1
+  pub leads : (k : ℕ) → k ≤ length run.steps
+      → LeadsTo p (take k run.steps) (take k run.operators) (state_at run k)
+
+-- its steps are the first ones of the plan, and they go through
+pub record IsRunOf (p : Parts) (plan : PlanParts) (run : Run) : Type 0 where
+  pub through : GoesThrough p run
+  pub front : run.steps ≡ take (length run.steps) plan.steps
+
+-- the steps that go through before the plan has this fault
+abbrev pub steps_before : PlanParts → PlanFault → List (List ℕ)
+steps_before plan (NoOperator step) = take (step - 1) plan.steps
+steps_before plan (NotApplicable step) = take (step - 1) plan.steps
+steps_before plan (Conflict step operator) = take (step - 1) plan.steps
+steps_before plan (GoalMissed index) = plan.steps
+steps_before plan (CostDiffers sum) = plan.steps
+steps_before plan Memory = plan.steps
+
+-- the plan has this fault, and these steps go through before it; or it has none and is valid
+abbrev pub EndsBy : Parts → PlanParts → Run → Option PlanFault → Type 0
+EndsBy p plan run (Some fault) = IsFaultOf p plan fault × (run.steps ≡ steps_before plan fault)
+EndsBy p plan run None = IsValid p plan run.operators × (run.steps ≡ plan.steps)
+
+-- the steps of a run go through by these operators, and the plan ends so
+abbrev pub IsEnding : Parts → PlanParts → List ℕ → Option PlanFault → Type 0
+IsEnding p plan operators fault = (run : Run) × IsRunOf p plan run × EndsBy p plan run fault
+    × (run.operators ≡ operators)

@@ -1,0 +1,44 @@
+-- What makes steps is ready for a task, and what it lists of a step.
+use Rattle.std.specs.Prelude.{◌≡◌, ◌≢◌, ◌⊎◌, ℕ, ◌<◌, ◌≤◌, List, length, All, Contains, slice_index, vec_capacity, count_by, is_some}
+use Rattle.std.specs.List.{AllPairs}
+use Rattle.sas_core.specs.declared.parts.Fact.{Fact}
+use Rattle.sas_core.specs.declared.parts.Parts.{Parts}
+use Rattle.sas_core.specs.declared.parts.Variable.{Variable}
+use Rattle.sas_core.specs.Grounded.{operator_at}
+use Rattle.sas_core.specs.Variables.{IsDerived}
+use Rattle.sas_meaning.specs.declared.touched.Touched.{Touched}
+use Rattle.sas_meaning.specs.Layers.{IsBasic}
+use Rattle.sas_meaning.specs.States.{AllHold}
+use Rattle.sas_meaning.specs.Touched.{MayHaveChanged}
+use Rattle.sas_run.specs.declared.stepper.Stepper.{Stepper}
+use Rattle.sas_run.specs.Given.{IsClean}
+
+-- its evaluator is ready, nothing is given, and there is room for a fact of each effect of an
+-- operator
+pub record IsPrepared {E : Type 0} (Ready : E → Parts → Type 0) (p : Parts) (w : Stepper E)
+    : Type 0 where
+  pub ready : Ready w.evaluator p
+  pub clean : IsClean p w.given
+  pub room : (operator : ℕ) → operator < length p.operators
+      → length (operator_at p operator).effects ≤ vec_capacity w.deleted
+
+-- how many derived variables the task has
+abbrev pub derived_count : Parts → ℕ
+derived_count p = count_by (λ (v : Variable). is_some v.layer) p.variables
+
+-- one of the facts is on the variable
+abbrev pub HasFactOn : List Fact → ℕ → Type 0
+HasFactOn facts var = (fact : Fact) × Contains facts fact × (fact.var ≡ var)
+
+-- These are listed for a step from s to s'. The deleted facts held in s. They are on basic
+-- variables, no two on the same one, and the variables on the list are derived. Each variable whose
+-- value differs is of a deleted fact, or it is derived and may have changed.
+pub record ListsChanges (p : Parts) (s s' : List ℕ) (deleted : List Fact) (touched : Touched)
+    : Type 0 where
+  pub basic : All (λ (f : Fact). IsBasic p f.var) deleted
+  pub exist : All (λ (f : Fact). f.var < length p.variables) deleted
+  pub held : AllHold (slice_index s) deleted
+  pub once : AllPairs (λ (f g : Fact). f.var ≢ g.var) deleted
+  pub derived : All (IsDerived p.variables) touched.vars.items
+  pub each : (var : ℕ) → (slice_index s' var ≡ slice_index s var)
+      ⊎ (HasFactOn deleted var ⊎ (IsDerived p.variables var × MayHaveChanged touched var))

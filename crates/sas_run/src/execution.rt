@@ -1,0 +1,191 @@
+// Executions of plans.
+ghost use Rattle.std.specs.Prelude.{◌≡◌, ◌<◌, [], length, IfOk};
+ghost use Rattle.sas_core.specs.Variables.{IsState};
+ghost use Rattle.sas_run.specs.Running.{IsLaterIfAny};
+ghost use Rattle.sas_run.specs.Runs.{Run};
+ghost use Rattle.sas_run.specs.Executions.{IsNew, Executes, IsFound, Advances, next_operator};
+
+use crate::plan_check::{PlanFault, find_fault};
+use crate::progress::Progress;
+use crate::runner::later_applicable;
+use crate::stepper::{Stepper, go_back, go_on_from, stepper_listing};
+use sas_core::{Fact, Grounded, Stepwise};
+use sas_meaning::{Layered, Settle, State, Touched};
+use sas_names::StepOperators;
+use std::alloc::{AllocError, Global};
+use std::marker::Model;
+
+/// Executes a plan step by step from the initial state. First it finds the plan's fault, and so which steps go through; then these
+/// can be made once more, one after another. In a contract its value is the task, the plan, the operators of the steps that are
+/// known to go through, how many of them have been made, the state to which they led, and what the last one changed.
+pub struct Execution<'t, 'p, E: Settle<T> + Drop, T: Grounded, P: Stepwise> {
+    layered: &'t Layered<T>,
+    plan: &'p P,
+    stepper: Stepper<E>,
+    found: StepOperators,
+    progress: Progress,
+    made: usize,
+}
+
+impl<'t, 'p, E: Settle<T> + Drop, T: Grounded, P: Stepwise> Drop for Execution<'t, 'p, E, T, P> {
+    fn drop(self) {
+        let Execution {
+            layered: _,
+            plan: _,
+            stepper,
+            found,
+            progress,
+            made: _,
+        } = self;
+        drop(stepper);
+        drop(found);
+        drop(progress);
+    }
+}
+
+impl<'t, 'p, E: Settle<T> + Drop, T: Grounded, P: Stepwise> Model for Execution<'t, 'p, E, T, P> {
+    ghost use Rattle.sas_run.specs.Executions.{Executed, executed_of, IsExecuting};
+
+    ghost Value = { Executed };
+
+    ghost view = { λ e. executed_of e.layered.now (P.says e.plan.now) e.stepper e.progress e.made };
+
+    ghost invariant = { λ e. IsExecuting E.ready E.follows e.layered.now (P.says e.plan.now)
+        e.stepper e.found.firsts.items e.found.next.items e.progress e.made };
+}
+
+impl<'t, 'p, E: Settle<T> + Drop, T: Grounded, P: Stepwise> Execution<'t, 'p, E, T, P> {
+    /// Returns the execution of the plan in the task, before its first step, with an evaluator that is ready for the task. All
+    /// memory that the steps need is reserved here.
+    pub fn new(
+        alloc: Global,
+        layered: &'t Layered<T>,
+        evaluator: E,
+        plan: &'p P,
+    ) -> Result<Execution<'t, 'p, E, T, P>, AllocError>
+        requires { E.ready evaluator layered.now }
+        ensures { IfOk result (IsNew layered.now (P.says plan.now)) }
+    {
+        let Ok(mut stepper) = stepper_listing(alloc, layered, evaluator) else {
+            return Err(AllocError);
+        };
+        let found = StepOperators::new(alloc, layered, plan)?;
+        let progress = Progress::new(alloc, layered, &mut stepper, plan.steps())?;
+        Ok(Execution {
+            layered,
+            plan,
+            stepper,
+            found,
+            progress,
+            made: 0,
+        })
+    }
+
+    /// Returns the task. It takes no memory.
+    pub fn layered(&self) -> &'t Layered<T>
+        ensures { result.now ≡ self.now.task }
+    {
+        self.layered
+    }
+
+    /// Returns the operators of the steps that are known to go through. It takes no memory.
+    pub fn operators(&self) -> &[u32]
+        ensures { result.now ≡ self.now.operators }
+    {
+        self.progress.operators.as_slice()
+    }
+
+    /// Returns the state to which the steps led that have been made. It takes no memory.
+    pub fn state(&self) -> &State
+        ensures now { result.now ≡ self.now.state }
+        ensures fits { IsState self.now.task.variables self.now.state }
+    {
+        &self.progress.state
+    }
+
+    /// Returns the facts that the last step made false. It takes no memory.
+    pub fn deleted(&self) -> &[Fact]
+        ensures { result.now ≡ self.now.deleted }
+    {
+        self.stepper.deleted.as_slice()
+    }
+
+    /// Returns which derived variables may have changed in the last step. It takes no memory.
+    pub fn touched(&self) -> &Touched
+        ensures { result.now ≡ self.now.touched }
+    {
+        &self.stepper.touched
+    }
+
+    /// Makes the plan's steps up to its fault, and goes back to its start. Returns the fault, if it has one. Then the operators of
+    /// all steps that go through are known. It takes no memory.
+    pub fn find_fault(&mut self) -> Option<PlanFault>
+        requires { self.old.operators ≡ [] }
+        ensures { IsFound self.old.task self.old.plan result self.new }
+    {
+        // By its contract the task is well ranged and layered.
+        let _ = self.layered.task();
+        let found = self.found.found();
+        let fault = find_fault(
+            self.layered,
+            &mut self.stepper,
+            self.plan,
+            found,
+            &mut self.progress,
+        );
+        go_back(self.layered, &mut self.stepper, &mut self.progress.state);
+        fault
+    }
+
+    /// Returns the lowest operator above that of the next step that has its name and is applicable, too, if there is one. It takes
+    /// no memory.
+    pub fn later(&self) -> Option<u32>
+        requires { self.now.made < length self.now.operators }
+        ensures { IsLaterIfAny self.now.task self.now.state (next_operator self.now) result }
+    {
+        // By its contract the task is well ranged and layered.
+        let _ = self.layered.task();
+        later_applicable(
+            self.layered,
+            self.found.nexts(),
+            &self.progress.state,
+            self.progress.operators[self.made],
+        )
+    }
+
+    /// Makes the next of the steps that go through, and returns its operator. Then what it changed is listed. It takes no memory.
+    pub fn advance(&mut self) -> u32
+        requires { self.old.made < length self.old.operators }
+        ensures advances { Advances self.old result self.new }
+        ensures run { (run : Run) → Executes run self.old → Executes run self.new }
+    {
+        // By its contract the task is well ranged and layered.
+        let _ = self.layered.task();
+        let operator = self.progress.operators[self.made];
+        go_on_from(
+            self.layered,
+            &mut self.stepper,
+            operator,
+            &mut self.progress.state,
+        )
+        .unwrap();
+        self.made += 1;
+        operator
+    }
+
+    /// Returns the operators of the steps that are known to go through, and the state to which those led that have been made.
+    pub fn into_parts(self) -> (Vec<u32>, State)
+        ensures operators { result.0.items ≡ self.entry.operators }
+        ensures state { result.1 ≡ self.entry.state }
+    {
+        let Execution {
+            layered: _,
+            plan: _,
+            stepper: _,
+            found: _,
+            progress,
+            made: _,
+        } = self;
+        (progress.operators, progress.state)
+    }
+}

@@ -1,0 +1,110 @@
+// How far a plan was executed, what its next step means, and what fails behind the last one.
+ghost use Rattle.std.specs.Prelude.{◌≡◌, ◌<◌, ◌≤◌, ℕ, [], length, All, IfOk, IfErr, vec_capacity};
+ghost use Rattle.sas_core.specs.Grounded.{operator_at};
+ghost use Rattle.sas_core.specs.Variables.{IsState};
+ghost use Rattle.sas_meaning.specs.Reachable.{IsInitial};
+ghost use Rattle.sas_names.specs.Chains.{IsChain};
+ghost use Rattle.sas_names.specs.Names.{IsFirst};
+ghost use Rattle.sas_run.specs.Plans.{IsChosen, cost_of_all};
+ghost use Rattle.sas_run.specs.Running.{StopsAt, IsJudged};
+ghost use Rattle.sas_run.specs.Stepping.{IsPrepared};
+
+use crate::holding::first_missed;
+use crate::plan_check::PlanFault;
+use crate::runner::first_applicable;
+use crate::stepper::{Stepper, initial_of};
+use sas_core::Grounded;
+use sas_meaning::{Layered, Settle, State};
+use std::alloc::{AllocError, Global};
+
+/// How far a plan was executed: the state, and the operators of the steps so far.
+#[derive(Drop)]
+pub struct Progress {
+    pub state: State,
+    pub operators: Vec<u32>,
+}
+
+impl Progress {
+    /// Returns the progress before the first step, in the initial state, with room for the operators of this many steps.
+    pub(crate) fn new<E: Settle<T> + Drop, T: Grounded>(
+        alloc: Global,
+        layered: &Layered<T>,
+        stepper: &mut Stepper<E>,
+        steps: usize,
+    ) -> Result<Progress, AllocError>
+        requires prepared { IsPrepared E.ready layered.now stepper.old }
+        ensures prepared { IsPrepared E.ready layered.now stepper.new }
+        ensures initial { IfOk result (λ p. IsInitial layered.now p.state) }
+        ensures follows { IfOk result (λ p. E.follows stepper.new.evaluator layered.now p.state) }
+        ensures empty { IfOk result (λ p. p.operators.items ≡ []) }
+        ensures room { IfOk result (λ p. steps ≤ vec_capacity p.operators) }
+    {
+        let operators = Vec::with_capacity(alloc, steps)?;
+        let state = initial_of(alloc, layered, stepper)?;
+        Ok(Progress { state, operators })
+    }
+}
+
+/// The next step of a plan: the lowest operator of its name, and its number, counted from 1.
+#[derive(Clone, Copy, Debug)]
+pub struct NextStep {
+    pub first: u32,
+    pub number: usize,
+}
+
+/// Returns the operator that the next step means in the state. `nexts` has for each operator of its name the next
+/// one.
+#[inline(always)]
+pub fn choose<T: Grounded>(
+    layered: &Layered<T>,
+    nexts: &[Option<u32>],
+    state: &State,
+    next: NextStep,
+) -> Result<u32, PlanFault>
+    requires first { IsFirst layered.now next.first }
+    requires chain { IsChain layered.now next.first nexts.now }
+    requires state { IsState layered.now.variables state.now }
+    ensures ok { IfOk result (IsChosen layered.now state.now
+        (operator_at layered.now next.first).name) }
+    ensures err { IfErr result (StopsAt layered.now state.now
+        (operator_at layered.now next.first).name next.number) }
+{
+    match first_applicable(layered, nexts, state, next.first) {
+        Some(operator) => Ok(operator),
+        None => Err(PlanFault::NotApplicable { step: next.number }),
+    }
+}
+
+/// Returns what fails of a plan of this cost whose steps were all made: a fact of the goal, or else the cost, which isn't the sum of
+/// the operators' costs. Returns none if the plan is valid.
+pub fn judge_last<T: Grounded>(
+    layered: &Layered<T>,
+    progress: &Progress,
+    cost: u64,
+) -> Option<PlanFault>
+    requires state { IsState layered.now.variables progress.now.state }
+    requires exist { All (λ (o : ℕ). o < length layered.now.operators) progress.now.operators.items }
+    ensures { IsJudged layered.now progress.now.operators.items progress.now.state cost result }
+{
+    if let Some(index) = first_missed(&progress.state, layered.task().goal()) {
+        let index = index as u32;
+        return Some(PlanFault::GoalMissed { index });
+    }
+    let sum = cost_of(layered, progress.operators.as_slice());
+    if sum != u128::from(cost) {
+        return Some(PlanFault::CostDiffers { sum });
+    }
+    None
+}
+
+/// Returns the sum of the operators' costs.
+fn cost_of<T: Grounded>(task: &Layered<T>, operators: &[u32]) -> u128
+    requires exist { All (λ operator. operator < length task.now.operators) operators.now }
+    ensures { result ≡ cost_of_all task.now operators.now }
+{
+    let mut sum = 0u128;
+    for operator in operators {
+        sum += u128::from(task.cost(*operator));
+    }
+    sum
+}

@@ -1,0 +1,246 @@
+// What makes the steps of a task, one after another.
+ghost use Rattle.std.specs.Prelude.{◌≡◌, ◌<◌, ◌≤◌, ℕ, length, IfOk, IfErr, OnOk, vec_capacity};
+ghost use Rattle.sas_core.specs.Grounded.{operator_at};
+ghost use Rattle.sas_core.specs.Variables.{IsState};
+ghost use Rattle.sas_meaning.specs.Reachable.{IsInitial};
+ghost use Rattle.sas_run.specs.Given.{IsClean};
+ghost use Rattle.sas_run.specs.Plans.{IsApplicable};
+ghost use Rattle.sas_run.specs.Running.{Steps};
+ghost use Rattle.sas_run.specs.Stepping.{IsPrepared, ListsChanges, derived_count};
+
+use crate::steps::{StepFault, apply};
+use sas_core::{Fact, Grounded, Items};
+use sas_meaning::{Layered, Settle, State, Touched};
+use std::alloc::{AllocError, Global};
+
+/// An evaluator, and the memory that a step uses.
+pub struct Stepper<E> {
+    pub evaluator: E,
+    /// For each variable, the value to which the effects that fire in a step set it. Between two steps there is none.
+    pub given: Items<Option<u32>>,
+    /// Facts that the last step made false.
+    pub deleted: Vec<Fact>,
+    /// The derived variables that may have changed in the last step, if it went on from the one before.
+    pub touched: Touched,
+}
+
+impl<E: Drop> Drop for Stepper<E> {
+    fn drop(self) {
+        let Stepper {
+            evaluator,
+            given,
+            deleted,
+            touched,
+        } = self;
+        drop(evaluator);
+        drop(given);
+        drop(deleted);
+        drop(touched);
+    }
+}
+
+/// Returns a stepper with this evaluator, which doesn't list the derived variables that may have changed. All memory that steps
+/// need is reserved here. If it is refused, the evaluator is returned unchanged.
+pub fn stepper_for<E: Settle<T> + Drop, T: Grounded>(
+    alloc: Global,
+    layered: &Layered<T>,
+    evaluator: E,
+) -> Result<Stepper<E>, (E, AllocError)>
+    requires { E.ready evaluator layered.now }
+    ensures prepared { IfOk result (λ s. IsPrepared E.ready layered.now s) }
+    ensures handed_back { IfErr result (λ e. e.0 ≡ evaluator) }
+{
+    stepper_with(alloc, layered, evaluator, Touched::none(alloc))
+}
+
+/// Returns a stepper with this evaluator, which lists the derived variables that may have changed. There is room for as many as
+/// the task has. All memory that steps need is reserved here. If it is refused, the evaluator is returned unchanged.
+pub fn stepper_listing<E: Settle<T> + Drop, T: Grounded>(
+    alloc: Global,
+    layered: &Layered<T>,
+    evaluator: E,
+) -> Result<Stepper<E>, (E, AllocError)>
+    requires { E.ready evaluator layered.now }
+    ensures prepared { IfOk result (λ s. IsPrepared E.ready layered.now s) }
+    ensures room { IfOk result (λ s. vec_capacity s.touched.vars ≡ derived_count layered.now) }
+    ensures handed_back { IfErr result (λ e. e.0 ≡ evaluator) }
+{
+    match Touched::with_room(alloc, count_derived(layered)) {
+        Ok(touched) => stepper_with(alloc, layered, evaluator, touched),
+        Err(error) => Err((evaluator, error)),
+    }
+}
+
+/// Returns a stepper with this evaluator, which notes on this list which derived variables may have changed.
+fn stepper_with<E: Settle<T> + Drop, T: Grounded>(
+    alloc: Global,
+    layered: &Layered<T>,
+    evaluator: E,
+    touched: Touched,
+) -> Result<Stepper<E>, (E, AllocError)>
+    requires { E.ready evaluator layered.now }
+    ensures prepared { IfOk result (λ s. IsPrepared E.ready layered.now s) }
+    ensures touched { IfOk result (λ s. s.touched ≡ touched) }
+    ensures handed_back { IfErr result (λ e. e.0 ≡ evaluator) }
+{
+    let deleted = match Vec::with_capacity(alloc, most_effects(layered)) {
+        Ok(deleted) => deleted,
+        Err(error) => return Err((evaluator, error)),
+    };
+    match nothing_given(alloc, layered) {
+        Ok(given) => Ok(Stepper {
+            evaluator,
+            given,
+            deleted,
+            touched,
+        }),
+        Err(error) => Err((evaluator, error)),
+    }
+}
+
+/// Returns the initial state, which is the state of the state section, settled.
+pub fn initial_of<E: Settle<T> + Drop, T: Grounded>(
+    alloc: Global,
+    layered: &Layered<T>,
+    stepper: &mut Stepper<E>,
+) -> Result<State, AllocError>
+    requires prepared { IsPrepared E.ready layered.now stepper.old }
+    ensures prepared { IsPrepared E.ready layered.now stepper.new }
+    ensures initial { IfOk result (λ s. IsInitial layered.now s) }
+    ensures follows { IfOk result (λ s. E.follows stepper.new.evaluator layered.now s) }
+{
+    let mut state = State::of_section(alloc, layered.task())?;
+    stepper.evaluator.settle(layered, &mut state);
+    Ok(state)
+}
+
+/// Sets the state to the initial one again. It takes no memory.
+pub fn go_back<E: Settle<T> + Drop, T: Grounded>(
+    layered: &Layered<T>,
+    stepper: &mut Stepper<E>,
+    state: &mut State,
+)
+    requires prepared { IsPrepared E.ready layered.now stepper.old }
+    requires state { IsState layered.now.variables state.old }
+    ensures prepared { IsPrepared E.ready layered.now stepper.new }
+    ensures initial { IsInitial layered.now state.new }
+    ensures follows { E.follows stepper.new.evaluator layered.now state.new }
+{
+    set_section(layered, state);
+    stepper.evaluator.settle(layered, state);
+}
+
+/// Gives each variable its value in the state section.
+fn set_section<T: Grounded>(task: &Layered<T>, state: &mut State)
+    requires { IsState task.now.variables state.old }
+    ensures section { state.new ≡ task.now.init }
+    ensures fits { IsState task.now.variables state.new }
+{
+    // By its contract the task is well ranged and layered.
+    let _ = task.task();
+    for var in 0..task.variables() {
+        let value = task.initial_value(var);
+        state.set(Fact { var, value });
+    }
+}
+
+/// Makes the step of the operator, which is applicable, from any state. If there is none, leaves the state as it was, and
+/// returns the fault. It takes no memory.
+pub fn step_on<E: Settle<T> + Drop, T: Grounded>(
+    layered: &Layered<T>,
+    stepper: &mut Stepper<E>,
+    operator: u32,
+    state: &mut State,
+) -> Result<(), StepFault>
+    requires prepared { IsPrepared E.ready layered.now stepper.old }
+    requires operator { operator < length layered.now.operators }
+    requires state { IsState layered.now.variables state.old }
+    requires applicable { IsApplicable state.old (operator_at layered.now operator) }
+    ensures prepared { IsPrepared E.ready layered.now stepper.new }
+    ensures steps { Steps layered.now state.old operator state.new result }
+{
+    // By its contract the task is well ranged and layered.
+    let _ = layered.task();
+    apply(
+        layered,
+        operator,
+        &mut stepper.given,
+        &mut stepper.deleted,
+        state,
+    )?;
+    stepper.evaluator.settle(layered, state);
+    Ok(())
+}
+
+/// Makes the step as `step_on` does, from the state that the evaluator settled last. What the step doesn't change is not
+/// settled anew, as far as the evaluator goes on from there. The stepper then lists what the step changed.
+#[inline(always)]
+pub fn go_on_from<E: Settle<T> + Drop, T: Grounded>(
+    layered: &Layered<T>,
+    stepper: &mut Stepper<E>,
+    operator: u32,
+    state: &mut State,
+) -> Result<(), StepFault>
+    requires prepared { IsPrepared E.ready layered.now stepper.old }
+    requires operator { operator < length layered.now.operators }
+    requires state { IsState layered.now.variables state.old }
+    requires applicable { IsApplicable state.old (operator_at layered.now operator) }
+    requires follows { E.follows stepper.old.evaluator layered.now state.old }
+    ensures prepared { IsPrepared E.ready layered.now stepper.new }
+    ensures steps { Steps layered.now state.old operator state.new result }
+    ensures follows { E.follows stepper.new.evaluator layered.now state.new }
+    ensures lists { OnOk result (ListsChanges layered.now state.old state.new
+        stepper.new.deleted.items stepper.new.touched) }
+{
+    // By its contract the task is well ranged and layered.
+    let _ = layered.task();
+    apply(
+        layered,
+        operator,
+        &mut stepper.given,
+        &mut stepper.deleted,
+        state,
+    )?;
+    stepper.evaluator.settle_on(
+        layered,
+        stepper.deleted.as_slice(),
+        state,
+        &mut stepper.touched,
+    );
+    Ok(())
+}
+
+/// Returns a list that holds no value for any variable of the task.
+fn nothing_given<T: Grounded>(
+    alloc: Global,
+    task: &Layered<T>,
+) -> Result<Items<Option<u32>>, AllocError>
+    ensures { IfOk result (λ given. IsClean task.now given) }
+{
+    Ok(Items::from_vec(vec![in alloc; None; task.variables() as usize]?))
+}
+
+/// Returns how many effects an operator of the task has at most.
+fn most_effects<T: Grounded>(task: &Layered<T>) -> usize
+    ensures { (operator : ℕ) → operator < length task.now.operators
+        → length (operator_at task.now operator).effects ≤ result }
+{
+    let mut most = 0;
+    for operator in 0..task.operators() {
+        most = most.max(task.effects(operator) as usize);
+    }
+    most
+}
+
+/// Returns how many derived variables the task has.
+fn count_derived<T: Grounded>(task: &Layered<T>) -> usize
+    ensures { result ≡ derived_count task.now }
+{
+    let mut count = 0;
+    for var in 0..task.variables() {
+        if task.layer(var).is_some() {
+            count += 1;
+        }
+    }
+    count
+}

@@ -1,0 +1,23 @@
+-- How far a trace has come.
+use Rattle.std.specs.Prelude.{◌≡◌, ℕ, List}
+use Rattle.sas_core.specs.declared.parts.Parts.{Parts}
+use Rattle.sas_core.specs.PlanParts.{PlanParts}
+use Rattle.sas_output.specs.declared.told.Told.{Told}
+use Rattle.sas_output.specs.Ending.{output_told}
+use Rattle.sas_run.specs.Executions.{Executed, Executes}
+use Rattle.sas_run.specs.Runs.{Run}
+use Rattle.sas_trace.specs.Traced.{EndsWith}
+
+-- the first steps of the run were made, and these are the values that were told
+pub record StandsAt (p : Parts) (run : Run) (e : Executed) (told : List ℕ) : Type 0 where
+  pub task : e.task ≡ p
+  pub executes : Executes run e
+  pub values : told ≡ e.state
+
+-- this is the answer about the plan, and none of the steps that go through was made since
+pub record HasVerdict (p : Parts) (plan : PlanParts) (run : Run) (verdict : Told) (e : Executed)
+    : Type 0 where
+  pub task : e.task ≡ p
+  pub made : e.made ≡ 0
+  pub executes : Executes run e
+  pub ends : EndsWith p plan run (output_told verdict)

@@ -1,0 +1,11 @@
+-- The step is noted for the facts so far.
+use Rattle.std.proofs.Common.{ℕ, ◌<◌, get_or}
+use Rattle.sas_core.specs.declared.parts.Fact.{Fact}
+use Rattle.sas_why.specs.Noting.{NotedAt, NotesSome}
+use Rattle.sas_why.proofs.changes.Changes.note_deleted.Given as goal
+
+abbrev pub invariant-loop-fact : goal.invariant-loop-fact
+invariant-loop-fact l = record {
+  some : NotesSome l.step l.state l.initial.self l.self;
+  noted : (j : ℕ) (d : Fact) → j < l.fact-index → NotedAt l.step l.state l.initial.self l.self (get_or l.deleted j d).var;
+}
