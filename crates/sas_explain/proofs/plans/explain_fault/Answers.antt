@@ -1,5 +1,5 @@
 use Rattle.std.proofs.Common.{subst, refl}
-use Rattle.sas_why.specs.Retracing.{EndsBy}
+use Rattle.sas_run.specs.Runs.{EndsBy}
 use Rattle.sas_explain.proofs.plans.explain_fault.Goals as goal
 
 pub returns : goal.returns
