@@ -15,12 +15,12 @@ accepted p plan operators valid (Ok (Valid told)) is = inl ((operators, valid), 
 accepted p plan operators valid (Ok (Refused verdict reasons)) is = absurd is
 accepted p plan operators valid (Err error) is = tt
 
-pub returns-in-Ok : goal.returns-in-Ok
-returns-in-Ok c =
+pub returns-in-None : goal.returns-in-None
+returns-in-None c =
     let p = c.args.task.now in
     let plan = c.args.plan.now in
     let starts = c.in_ok-execution.ensures in
-    let found = c.in-Ok.ensures.valid in
-    let valid = subst (λ (q : PlanParts). IsValid p q found.0) starts.of_plan
-    (subst (λ (q : Parts). IsValid q c.in_ok-execution.execution.plan found.0) starts.task found.1) in
-    accepted p plan found.0 valid c.accept.result c.accept.ensures
+    let found = c.in-None.ensures in
+    let valid = subst (λ (q : PlanParts). IsValid p q found.run.operators) starts.of_plan
+    (subst (λ (q : Parts). IsValid q c.in_ok-execution.execution.plan found.run.operators) starts.task found.ends.0) in
+    accepted p plan found.run.operators valid c.accept.result c.accept.ensures
