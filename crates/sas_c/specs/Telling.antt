@@ -8,7 +8,7 @@ use Rattle.sas_output.specs.declared.ending.ToolFault.TheVariants.{Memory, Read,
 use Rattle.sas_output.specs.Ending.{Output}
 use Rattle.sas_outputs.specs.Headline.{Headline, Invariants}
 
--- the number of an answer that is told
+-- the number of an answer that is written
 abbrev pub number_of_status : Status → ℕ
 number_of_status Yes = 0
 number_of_status No = 1
@@ -20,9 +20,8 @@ number_of_fault Memory = 3
 number_of_fault Read = 3
 number_of_fault (Write written) = 3
 
--- What a call tells by its number, by `size`, and by the caller's memory for the answer, in which
--- `before` stood and now stands `room`. `Out` is asked which output is the right one, or whether
--- there is none.
+-- What a call returns: its number, `size`, and the caller's memory for the answer, which held
+-- `before` and now holds `room`. `Out` holds of the right output, or of none if there is none.
 pub record Tells (Out : Option Output → Type 0) (before room : List ℕ) (size number : ℕ)
     : Type 0 where
   -- 0 and 1: the output's text stands at the front of the room, and the number is its status
@@ -31,7 +30,7 @@ pub record Tells (Out : Option Output → Type 0) (before room : List ℕ) (size
       × (output.status ≡ status)
       × (size ≡ length output.text)
       × (take size room ≡ output.text)
-  -- 2: it is longer than the room, and its length is told
+  -- 2: it is longer than the room, and `size` is its length
   pub longer : number ≡ 2 → (output : Output)
       × Out (Some output)
       × (size ≡ length output.text)
@@ -44,8 +43,8 @@ pub record Tells (Out : Option Output → Type 0) (before room : List ℕ) (size
   pub same : 2 ≤ number → room ≡ before
   pub as_long : length room ≡ length before
 
--- Where an answer is told about the bytes b of the task and c of the plan, `plan valid` stands in
--- the room exactly if the plan solves the task at the cost that is told, and exactly then it is yes.
+-- If an answer about the bytes b of the task and c of the plan is written, `plan valid` stands in
+-- the room exactly if the plan solves the task at that cost, and exactly then the answer is yes.
 abbrev pub TellsHeadline : List ℕ → List ℕ → List ℕ → ℕ → ℕ → Type 0
 TellsHeadline b c room size number = (status : Status) → number ≡ number_of_status status
     → Headline b c (λ line. take size room ≡ line) status
@@ -54,12 +53,12 @@ TellsHeadline b c room size number = (status : Status) → number ≡ number_of_
 abbrev pub EndsInLine : List ℕ → List ℕ → Type 0
 EndsInLine bytes line = (front : List (List ℕ)) × (bytes ≡ text front ++ line)
 
--- Where an answer is told behind a trace, the same holds of the last line in the room.
+-- If an answer is written behind a trace, the same holds of the last line in the room.
 abbrev pub TellsLastLine : List ℕ → List ℕ → List ℕ → ℕ → ℕ → Type 0
 TellsLastLine b c room size number = (status : Status) → number ≡ number_of_status status
     → Headline b c (EndsInLine (take size room)) status
 
--- Where an answer is told about the mutex groups of the task b, `group K exclusive` is a line of it
+-- If an answer is written about the mutex groups of the task b, `group K exclusive` is a line of it
 -- only if group K is an invariant of the task.
 abbrev pub TellsInvariants : List ℕ → List ℕ → ℕ → ℕ → Type 0
 TellsInvariants b room size number = (status : Status) → number ≡ number_of_status status

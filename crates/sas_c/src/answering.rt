@@ -21,7 +21,7 @@ pub struct Asked<'b> {
 }
 
 impl<'b> Asked<'b> {
-    /// Asks this about these bytes.
+    /// Returns this request about these bytes.
     pub fn new(request: Request, task: &'b [u8], plan: &'b [u8]) -> Asked<'b>
         ensures request { result.request ≡ request }
         ensures task { result.task.now ≡ task.now }
@@ -35,7 +35,7 @@ impl<'b> Asked<'b> {
     }
 }
 
-/// Tells the answer to the request.
+/// Writes the answer to the request.
 pub fn answer(alloc: Global, asked: Asked<'_>, room: &mut [u8], size: &mut usize) -> u32
     ensures { Tells (Out asked.entry.request asked.entry.task.now asked.entry.plan.now)
         room.old room.new size.new result }
@@ -49,7 +49,7 @@ pub fn answer(alloc: Global, asked: Asked<'_>, room: &mut [u8], size: &mut usize
     }
 }
 
-/// Tells the answer to the request, with the reasons for a no.
+/// Writes the answer to the request, with the reasons for a no.
 pub fn answer_why(alloc: Global, asked: Asked<'_>, room: &mut [u8], size: &mut usize) -> u32
     ensures { Tells (OutWhy asked.entry.request asked.entry.task.now asked.entry.plan.now)
         room.old room.new size.new result }
@@ -63,7 +63,7 @@ pub fn answer_why(alloc: Global, asked: Asked<'_>, room: &mut [u8], size: &mut u
     }
 }
 
-/// Tells the answer about the plan, behind its trace.
+/// Writes the answer about the plan, behind its trace.
 pub fn answer_trace(
     alloc: Global,
     task: &[u8],

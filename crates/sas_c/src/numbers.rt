@@ -1,14 +1,14 @@
-// How an answer is told as a number.
+// How an answer is returned as a number.
 ghost use Rattle.std.specs.Prelude.{◌≡◌};
 ghost use Rattle.sas_c.specs.Telling.{number_of_fault, number_of_status};
 
 use sas_output::{Status, ToolFault};
 
-/// The answer is told, and is yes.
+/// The answer is written, and is yes.
 pub const YES: u32 = 0;
-/// The answer is told, and is no, or a file is refused.
+/// The answer is written, and is no, or a file is refused.
 pub const NO: u32 = 1;
-/// The answer is longer than the caller's memory for it. How long it is, is told.
+/// The answer is longer than the caller's memory for it. Its length is written.
 pub const ROOM_TOO_SHORT: u32 = 2;
 /// Memory was refused.
 pub const OUT_OF_MEMORY: u32 = 3;

@@ -73,7 +73,7 @@ pub extern "C" fn sas_task_free(alloc: Global, task: &mut SasTask)
     drop(task.take(alloc));
 }
 
-/// Holds the task, and tells that it is layered. All memory is asked for before anything is told.
+/// Holds the task, and writes that it is layered. All memory is allocated before anything is written.
 fn hold(
     alloc: Global,
     task: &mut SasTask,
@@ -93,7 +93,7 @@ fn hold(
     }
 }
 
-/// Tells that the task is layered, and holds it if there is room to tell that.
+/// Writes that the task is layered, and holds it if there is room for that.
 fn tell_held(task: &mut SasTask, prepared: Box<Prepared>, room: &mut [u8], size: &mut usize) -> u32
     requires { task.old.pointer.task ≡ None }
     ensures tells { Tells (λ output. output ≡ layers_verdict None)
@@ -110,7 +110,7 @@ fn tell_held(task: &mut SasTask, prepared: Box<Prepared>, room: &mut [u8], size:
     number
 }
 
-/// Tells whether the plan solves the task.
+/// Writes whether the plan solves the task.
 fn judge(
     alloc: Global,
     prepared: &mut Prepared,

@@ -6,7 +6,7 @@ ghost use Rattle.sas_c.specs.Telling.{Tells};
 use crate::numbers::{ROOM_TOO_SHORT, number_of};
 use sas_output::{Status, Told};
 
-/// Tells an answer with this text and this status. Returns the status as a number, or that the text is longer than the room.
+/// Writes an answer with this text and this status. Returns the status as a number, or that the text is longer than the room.
 pub fn tell(text: &[u8], status: Status, room: &mut [u8], size: &mut usize) -> u32
     ensures { Tells (λ output. output ≡ Some (record { text = text.now; status = status }))
         room.old room.new size.new result }
@@ -18,7 +18,7 @@ pub fn tell(text: &[u8], status: Status, room: &mut [u8], size: &mut usize) -> u
     }
 }
 
-/// Tells an answer that is at hand, and lets it go.
+/// Writes an answer, and drops it.
 pub fn tell_told(told: Told, room: &mut [u8], size: &mut usize) -> u32
     ensures { Tells (λ output. output ≡ Some (output_told told))
         room.old room.new size.new result }
@@ -28,7 +28,7 @@ pub fn tell_told(told: Told, room: &mut [u8], size: &mut usize) -> u32
     number
 }
 
-/// Copies the text to the front of the room, if it fits. Its length is told either way. Nothing else in the room changes.
+/// Copies the text to the front of the room, if it fits. `size` gets its length in any case. Nothing else in the room changes.
 fn copy(text: &[u8], room: &mut [u8], size: &mut usize) -> bool
     ensures size { size.new ≡ length text.now }
     ensures same { length room.new ≡ length room.old }

@@ -25,7 +25,7 @@ pub data FileLine : Type 0 where
   Found : List ℕ → Bool → FileLine
   -- it was an empty line
   EmptyLine : FileLine
-  -- what stands behind the last line end, in the same way
+  -- what follows the last line end, in the same way
   Unfinished : List ℕ → Bool → FileLine
   -- nothing stands there
   EndOfFile : FileLine

@@ -28,7 +28,7 @@ pub record LetsStay (Counts : List Fact → Type 0) (o : Operator) (group : List
   pub no_clash : Clash Counts (preconditions o ++ e.conditions ++ other ∷ []) → ⊥
   pub stays : IsRemoved o (preconditions o ++ e.conditions ++ other ∷ []) other → ⊥
 
--- the effect of which a failure is told
+-- the effect of a failure
 abbrev pub effect_of : Failure → ℕ
 effect_of (SetsTwo effect other) = effect
 effect_of (MayStay effect place) = effect

@@ -24,8 +24,8 @@ pub record KeptBelow (p : Parts) (kept : List Bool) (operator effect place : ℕ
       → Contains (group_at p place) (sets (effect_at (operator_at p operator) lower))
       → KeepsWithItself p kept operator lower place
 
--- no reason is told yet for this verdict on the group: it is exclusive, or an operator from this one
--- on breaks it; if this one does, it isn't by an effect below this place
+-- no reason was found yet for this verdict on the group: it is exclusive, or an operator from this
+-- one on breaks it; if this one does, it isn't by an effect below this place
 abbrev pub IsPending : Parts → List Bool → ℕ → ℕ → ℕ → Verdict → Type 0
 IsPending p kept operator effect place Exclusive = Unit {0}
 IsPending p kept operator effect place Derived = ⊥
@@ -33,7 +33,7 @@ IsPending p kept operator effect place Initial = ⊥
 IsPending p kept operator effect place (Broken breaking) = (operator ≤ breaking)
     × ((breaking ≡ operator) → KeptBelow p kept operator effect place)
 
--- what is told for the verdict on the group, as far as operators and effects were looked at
+-- what was found for the verdict on the group, as far as operators and effects were looked at
 abbrev pub IsReasonSoFar : Parts → List Bool → ℕ → ℕ → ℕ → Verdict → Option Reason → Type 0
 IsReasonSoFar p kept operator effect place verdict None =
     IsPending p kept operator effect place verdict
@@ -46,7 +46,7 @@ pub record AreReasonsSoFar (p : Parts) (kept : List Bool) (operator effect : ℕ
   pub are : (place : ℕ) → place < length p.groups → IsReasonSoFar p kept operator effect place
       (verdict_at verdicts place) (reason_at reasons place)
 
--- a reason is asked for: the operator breaks the group at this place, and none is told yet
+-- the reason is to be found: the operator breaks the group at this place, and none was found yet
 pub record IsAsked (operator : ℕ) (verdicts : List Verdict) (reasons : List (Option Reason))
     (place : ℕ) : Type 0 where
   pub breaks : verdict_at verdicts place ≡ Broken operator

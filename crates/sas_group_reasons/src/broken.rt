@@ -27,7 +27,7 @@ pub struct Greatest {
     pub marks: Marks,
 }
 
-/// Tells, of each group that an operator breaks, the operator's first failure to keep it under the family and the group itself.
+/// Finds, for each group that an operator breaks, the operator's first failure to keep it under the family and the group itself.
 /// Each operator that breaks a group is marked.
 pub fn tell_failures<T: Grounded>(
     indexed: &IndexedTask<'_, '_, T>,
@@ -53,7 +53,7 @@ pub fn tell_failures<T: Grounded>(
     }
 }
 
-/// Tells the first failure of the operator to keep each group that it breaks.
+/// Finds the first failure of the operator to keep each group that it breaks.
 fn tell_failures_of<T: Grounded>(
     indexed: &IndexedTask<'_, '_, T>,
     operator: u32,
@@ -84,8 +84,8 @@ fn tell_failures_of<T: Grounded>(
     }
 }
 
-/// Tells the first failure of the effect to keep each group of which a reason is asked for. What is known where it fires is noted
-/// once for all of them; if that clashes, it never fires.
+/// Finds the first failure of the effect to keep each group whose reason is to be found. What is known where it fires is noted once
+/// for all of them; if that clashes, it never fires.
 fn tell_failures_at<T: Grounded>(
     firing: &Firing<'_, '_, T>,
     verdicts: &[Verdict],
@@ -123,7 +123,7 @@ fn tell_failures_at<T: Grounded>(
     forget_known(firing.task, firing.index, &premises, &mut greatest.marks);
 }
 
-/// Returns whether a reason is asked for of one of these groups.
+/// Returns whether the reason of one of these groups is to be found.
 fn some_asked(
     groups: &[u32],
     operator: u32,
@@ -143,7 +143,7 @@ fn some_asked(
     false
 }
 
-/// Returns whether a reason is asked for of the group: the operator breaks it, and none is told yet.
+/// Returns whether the reason of the group is to be found: the operator breaks it, and none was found yet.
 fn is_asked(group: u32, operator: u32, verdicts: &[Verdict], reasons: &[Option<Reason>]) -> bool
     requires verdicts { group < length verdicts.now }
     requires reasons { group < length reasons.now }
@@ -153,8 +153,8 @@ fn is_asked(group: u32, operator: u32, verdicts: &[Verdict], reasons: &[Option<R
     verdicts[group as usize] == Verdict::Broken { operator } && reasons[group as usize].is_none()
 }
 
-/// Tells the first failure of the effect to keep each of these groups, which have the fact that it sets, if a reason is asked
-/// for, by what is noted.
+/// Finds the first failure of the effect to keep each of these groups, which have the fact that it sets, if its reason is to be
+/// found, by what is noted.
 fn tell_groups<T: Grounded>(
     firing: &Firing<'_, '_, T>,
     groups: &[u32],
@@ -182,7 +182,7 @@ fn tell_groups<T: Grounded>(
     }
 }
 
-/// Tells the first failure of the effect to keep the group, which has the fact that it sets, if a reason is asked for, by what
+/// Finds the first failure of the effect to keep the group, which has the fact that it sets, if its reason is to be found, by what
 /// is noted.
 fn tell_group<T: Grounded>(
     firing: &Firing<'_, '_, T>,

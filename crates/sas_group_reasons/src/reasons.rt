@@ -18,7 +18,7 @@ use sas_mutex::{Marks, exclusive_of};
 use std::alloc::{AllocError, Global};
 
 /// Returns, for each group of the task, in their order, the reason for the joint verdict on it, or none if it is exclusive. All
-/// memory is asked for before the operators are gone through.
+/// memory is allocated before the operators are gone through.
 pub fn group_reasons<T: Grounded>(
     alloc: Global,
     layered: &Layered<T>,
@@ -30,7 +30,7 @@ pub fn group_reasons<T: Grounded>(
     // By the contract of this call the task is well ranged.
     let _ = layered.task();
     let mut reasons = first_reasons(alloc, layered, verdicts)?;
-    // Where no operator breaks a group, all is told.
+    // Where no operator breaks a group, all is found.
     if !some_broken(verdicts) {
         return Ok(reasons.into_vec());
     }
@@ -45,7 +45,7 @@ pub fn group_reasons<T: Grounded>(
     Ok(reasons.into_vec())
 }
 
-/// Tells the reason of each group that an operator breaks, over the index of the task.
+/// Finds the reason of each group that an operator breaks, over the index of the task.
 fn tell_breaking<T: Grounded>(
     alloc: Global,
     indexed: &IndexedTask<'_, '_, T>,

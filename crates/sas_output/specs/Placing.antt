@@ -1,7 +1,7 @@
 -- Bytes that are placed into others, over what stands there.
 use Rattle.std.specs.Prelude.{◌≡◌, ℕ, ◌≤◌, List, ◌++◌, length, take, Option, MatchOption}
 
--- The first bytes, up to `at`, stay, these stand behind them, and end here.
+-- The first bytes, up to `at`, stay, these follow them, and end here.
 pub record Places (old new : List ℕ) (at : ℕ) (bytes : List ℕ) (end : ℕ) : Type 0 where
   pub front : take end new ≡ take at old ++ bytes
   pub within : end ≤ length new

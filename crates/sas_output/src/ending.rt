@@ -7,7 +7,7 @@ use thiserror::Error;
 /// The status of an answer: the answer in one word.
 #[derive(Clone, Copy, Debug, PartialEq, Eq)]
 pub enum Status {
-    /// The file is a text of its format. Where that was asked, the task is layered, the plan is valid, and all groups are
+    /// The file is a text of its format. If the request requires it, the task is layered, the plan is valid, and all groups are
     /// exclusive. The answer was written.
     Yes,
     /// A file is refused, or the plan isn't valid, or a group isn't shown to be exclusive. This answer was written.

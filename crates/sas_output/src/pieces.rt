@@ -15,9 +15,8 @@ use std::marker::Model;
 /// The most bytes that are held back.
 const PIECE: usize = 65_536;
 
-/// A text that is written in pieces: the bytes of it that are held back, and how many bytes were written before them. Only
-/// `new` asks for memory. The bytes that are held stand first in the piece, up to `end`. What stands behind them means
-/// nothing.
+/// A text that is written in pieces: the bytes of it that are held back, and how many bytes were written before them. Only `new`
+/// takes memory. The bytes that are held stand first in the piece, up to `end`. What follows them means nothing.
 #[derive(Drop)]
 pub struct Pieces {
     piece: Vec<u8>,
@@ -33,7 +32,7 @@ impl Model for Pieces {
 
     ghost view = { λ p. record { held = take p.end p.piece.items; written = p.written } };
 
-    // The piece is as long as it was made, so that holding a byte asks for no memory.
+    // The piece is as long as it was made, so that holding a byte takes no memory.
     ghost invariant = { λ p. (length p.piece.items ≡ 65536) × (p.end ≤ 65536) };
 }
 
@@ -128,7 +127,7 @@ impl Pieces {
         }
     }
 
-    /// Holds this line and its end, LF, likewise.
+    /// Holds this line and its end, LF, in the same way.
     #[inline(always)]
     pub(crate) fn hold_numbered(&mut self, line: Numbered<'_>) -> bool
         ensures yes { IsTrue result

@@ -1,6 +1,6 @@
-// A line of words that is placed into a piece, if there is room for it. This is the fast way, for most lines: nothing is
-// written to a device in between, so that only want of room can end it early. It is compiled into its callers, which
-// know the first word and how many there are.
+// A line of words that is placed into a piece, if there is room for it. This is the fast way, for most lines: nothing is written to
+// a device in between, so that only too little room can end it early. It is compiled into its callers, which know the first word
+// and how many there are.
 ghost use Rattle.std.specs.Prelude.{◌≡◌, ◌<◌, ◌≤◌, ◌+◌, ◌/◌, ◌%◌, [], ◌∷◌, ◌++◌};
 ghost use Rattle.std.specs.Prelude.{decimal, flat_map, length, replicate};
 ghost use Rattle.sas_output.specs.Placing.{PlacesOrLeaves};
@@ -24,7 +24,7 @@ pub(crate) fn place(piece: &mut [u8], at: usize, bytes: &[u8]) -> Option<usize>
     Some(end)
 }
 
-/// Places one byte likewise.
+/// Places one byte in the same way.
 #[inline(always)]
 fn place_byte(piece: &mut [u8], at: usize, byte: u8) -> Option<usize>
     requires { at ≤ length piece.old }
@@ -38,7 +38,7 @@ fn place_byte(piece: &mut [u8], at: usize, byte: u8) -> Option<usize>
     Some(at + 1)
 }
 
-/// Places a space and the bytes likewise.
+/// Places a space and the bytes in the same way.
 #[inline(always)]
 fn place_behind_space(piece: &mut [u8], at: usize, bytes: &[u8]) -> Option<usize>
     requires { at ≤ length piece.old }
@@ -51,7 +51,7 @@ fn place_behind_space(piece: &mut [u8], at: usize, bytes: &[u8]) -> Option<usize
     place(piece, behind_space, bytes)
 }
 
-/// Places a space and the number likewise, which has one digit or two.
+/// Places a space and the number, which has one digit or two, in the same way.
 #[inline(always)]
 fn place_short(piece: &mut [u8], at: usize, number: u64) -> Option<usize>
     requires at { at ≤ length piece.old }
@@ -72,7 +72,7 @@ fn place_short(piece: &mut [u8], at: usize, number: u64) -> Option<usize>
     Some(at + 3)
 }
 
-/// Places two digits likewise, those of a number below 100.
+/// Places the two digits of a number below 100 in the same way.
 #[inline(always)]
 fn place_pair(piece: &mut [u8], at: usize, number: u64) -> Option<usize>
     requires at { at ≤ length piece.old }
@@ -89,7 +89,7 @@ fn place_pair(piece: &mut [u8], at: usize, number: u64) -> Option<usize>
     Some(at + 2)
 }
 
-/// Places a space and the number likewise, which may have many digits.
+/// Places a space and the number, which may have many digits, in the same way.
 fn place_long(piece: &mut [u8], at: usize, number: u64) -> Option<usize>
     requires { at ≤ length piece.old }
     ensures length { length piece.new ≡ length piece.old }
@@ -100,7 +100,7 @@ fn place_long(piece: &mut [u8], at: usize, number: u64) -> Option<usize>
     place_behind_space(piece, at, digits)
 }
 
-/// Places a space and the number likewise, which has at most four digits.
+/// Places a space and the number, which has at most four digits, in the same way.
 #[inline(always)]
 fn place_small(piece: &mut [u8], at: usize, number: u64) -> Option<usize>
     requires at { at ≤ length piece.old }
@@ -117,7 +117,7 @@ fn place_small(piece: &mut [u8], at: usize, number: u64) -> Option<usize>
     place_pair(piece, behind_hundreds, number % 100)
 }
 
-/// Places a space and the number likewise, which has five to eight digits.
+/// Places a space and the number, which has five to eight digits, in the same way.
 fn place_middle(piece: &mut [u8], at: usize, number: u64) -> Option<usize>
     requires at { at ≤ length piece.old }
     requires large { 10000 ≤ number }
@@ -135,7 +135,7 @@ fn place_middle(piece: &mut [u8], at: usize, number: u64) -> Option<usize>
     place_pair(piece, behind_hundreds, number % 100)
 }
 
-/// Places a space and the number likewise. Most numbers have at most four digits, and these are written at once.
+/// Places a space and the number in the same way. Most numbers have at most four digits, and these are written at once.
 #[inline(always)]
 fn place_number(piece: &mut [u8], at: usize, number: u64) -> Option<usize>
     requires { at ≤ length piece.old }
@@ -151,7 +151,7 @@ fn place_number(piece: &mut [u8], at: usize, number: u64) -> Option<usize>
     place_long(piece, at, number)
 }
 
-/// Places a space and the word likewise.
+/// Places a space and the word in the same way.
 #[inline(always)]
 fn place_word(piece: &mut [u8], at: usize, word: Word<'_>) -> Option<usize>
     requires { at ≤ length piece.old }
@@ -164,7 +164,7 @@ fn place_word(piece: &mut [u8], at: usize, word: Word<'_>) -> Option<usize>
     }
 }
 
-/// Places these words likewise, with a space in front of each.
+/// Places these words in the same way, with a space in front of each.
 #[inline(always)]
 fn place_rest(piece: &mut [u8], at: usize, words: &[Word<'_>]) -> Option<usize>
     requires { at ≤ length piece.old }
@@ -182,7 +182,7 @@ fn place_rest(piece: &mut [u8], at: usize, words: &[Word<'_>]) -> Option<usize>
     Some(end)
 }
 
-/// Places the spaces in front of a line likewise.
+/// Places the spaces in front of a line in the same way.
 #[inline(always)]
 fn place_spaces(piece: &mut [u8], at: usize, indent: Indent) -> Option<usize>
     requires { at ≤ length piece.old }
@@ -196,7 +196,7 @@ fn place_spaces(piece: &mut [u8], at: usize, indent: Indent) -> Option<usize>
     }
 }
 
-/// Places the line and its end, LF, likewise.
+/// Places the line and its end, LF, in the same way.
 #[inline(always)]
 pub(crate) fn place_line(piece: &mut [u8], at: usize, line: Words<'_>) -> Option<usize>
     requires { at ≤ length piece.old }
@@ -216,7 +216,7 @@ pub(crate) fn place_line(piece: &mut [u8], at: usize, line: Words<'_>) -> Option
     place_byte(piece, behind_rest, b'\n')
 }
 
-/// Places a line of a word, three numbers and a name likewise.
+/// Places a line of a word, three numbers and a name in the same way.
 #[inline(always)]
 pub(crate) fn place_numbered(piece: &mut [u8], at: usize, line: Numbered<'_>) -> Option<usize>
     requires { at ≤ length piece.old }

@@ -16,7 +16,7 @@ pub struct Told {
 }
 
 impl Told {
-    /// Writes the text, and returns its status. It asks for no memory. Not to be called after a failure.
+    /// Writes the text, and returns its status. It takes no memory. Not to be called after a failure.
     pub fn write<W: Write>(&self, out: &mut Watched<W>) -> Result<Status, ToolFault>
         requires { out.old.failed ≡ false }
         ensures ends { Ends (λ output. output ≡ Some (output_told self.now))

@@ -37,7 +37,7 @@ pub record Solves (b c line : List ℕ) : Type 0 where
   pub printed : line ≡ valid_line (length plan.steps) plan.cost
 
 -- What a run says that judged the bytes c as a plan for the task b, and ended with this status.
--- `Sent` is asked which bytes went out.
+-- `Sent` holds of the written bytes.
 pub record Headline (b c : List ℕ) (Sent : List ℕ → Type 0) (status : Status) : Type 0 where
   -- `plan valid: S steps, cost C` went out exactly if the inputs say so
   pub line : (steps cost : ℕ) → Sent (valid_line steps cost) ↔ Solves b c (valid_line steps cost)
@@ -53,7 +53,7 @@ pub record HasInvariant (b : List ℕ) (place : ℕ) : Type 0 where
   pub exists : place < length task.groups
   pub invariant : IsInvariant task (group_at task place)
 
--- What a run says that judged the mutex groups of the task b. `Sent` is asked which bytes went out.
+-- What a run says that judged the mutex groups of the task b. `Sent` holds of the written bytes.
 pub record Invariants (b : List ℕ) (Sent : List ℕ → Type 0) : Type 0 where
   -- where `group K exclusive` is a line of what went out, group K is an invariant
   pub line : (place : ℕ) (out : List ℕ) → Sent out

@@ -48,7 +48,7 @@ refusal name fault =
     (word_of fault.kind)
 
 -- the output about what the file of this name is read as: an answer about its value, or the
--- refusal. `IsAnswer` is asked which outputs are answers about a value
+-- refusal. `IsAnswer` holds of the outputs that are answers about a value
 abbrev pub IsAnswerOrRefusal : {V : Type 0} → List ℕ → (V → Output → Type 0) → Result V Fault
     → Option Output → Type 0
 IsAnswerOrRefusal name IsAnswer (Ok value) output =
@@ -86,7 +86,7 @@ CheckOut = FileOut task_format (codes "task") CheckAnswer
 abbrev pub MutexOut : List ℕ → Option Output → Type 0
 MutexOut = FileOut task_format (codes "task") MutexAnswer
 
--- `Verdict` is asked which outputs are answers about a plan of a layered task.
+-- `Verdict` holds of the outputs that are answers about a plan of a layered task.
 module _ (Verdict : Parts → PlanParts → Output → Type 0) where
   -- the output about the plan's bytes for a layered task
   abbrev pub VerdictOut : Parts → List ℕ → Option Output → Type 0

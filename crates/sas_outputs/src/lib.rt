@@ -5,7 +5,7 @@ mod refusals;
 
 pub use refusals::refuse_file;
 
-/// What is asked.
+/// A request.
 #[derive(Clone, Copy, Debug, PartialEq, Eq)]
 pub enum Request {
     /// The summary of a task.

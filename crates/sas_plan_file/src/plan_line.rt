@@ -24,7 +24,7 @@ pub struct StepAhead<'a> {
     pub taken: usize,
 }
 
-/// Returns what stands behind the front, where the line begins with it.
+/// Returns what follows the front, if the line begins with it.
 fn behind<'a>(line: &'a [u8], front: &[u8]) -> Option<&'a [u8]>
     ensures { MatchOption result (BeginsWith front.now line.now → ⊥)
         (λ rest. line.now ≡ front.now ++ rest.now) }

@@ -42,8 +42,7 @@ impl PlanReader {
         self.reader.feed(piece)
     }
 
-    /// Returns the plan, once all has come, or the fault. It takes no memory: want of memory is returned only where
-    /// `feed` returned it.
+    /// Returns the plan, once all has come, or the fault. It takes no memory: `Memory` is returned only if `feed` returned it.
     pub fn finish(self) -> Result<Plan, Fault>
         ensures { Finishes plan_view self result }
     {

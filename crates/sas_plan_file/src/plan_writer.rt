@@ -38,7 +38,7 @@ fn push_cost(out: &mut Vec<u8>, n: u64, kind: CostKind) -> Result<(), AllocError
     push_line(out, words_of(kind))
 }
 
-/// Returns the text of a plan: its lines, each ended by LF. An `Err` is returned only for want of memory.
+/// Returns the text of a plan: its lines, each ended by LF. An `Err` is returned only if it is out of memory.
 pub fn encode_plan(alloc: Global, plan: &Plan) -> Result<Vec<u8>, AllocError>
     ensures { IfOk result (λ t. t.items ≡ text (lines_of plan_format plan.now)) }
 {

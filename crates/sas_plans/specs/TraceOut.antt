@@ -11,7 +11,7 @@ TraceOut = PlanOutBy TraceVerdict plain_refusal
 
 -- ---- laws
 
--- behind the trace stands the output of `plan` for the same inputs, with the same status
+-- the output of `plan` for the same inputs follows the trace, with the same status
 abbrev pub EndsAsPlan : Type 0
 EndsAsPlan = (b c : List ℕ) (traced : Output) → TraceOut b c (Some traced)
     → (plain : Output) × Out Plan b c (Some plain) × (front : List ℕ)

@@ -1,4 +1,4 @@
-// A task that is read once from bytes in memory, and then asked about plans in memory.
+// A task that is read once from bytes in memory, and for which plans in memory are then judged.
 ghost use Rattle.std.specs.Prelude.{◌≡◌, Some, None, IfOk, IsErrOf};
 ghost use Rattle.sas_answers.specs.Answers.{VerdictAnswer};
 ghost use Rattle.sas_output.specs.Ending.{output_told};

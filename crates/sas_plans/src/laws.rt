@@ -13,8 +13,8 @@ pub fn judge_laws()
     ensures long { NoneJudgeIsLong }
 {}
 
-/// What holds of traces: behind one stands the output of `plan`, with the same status; there is one output over the same inputs, and
-/// it can't have nothing; there is none only where an input passes the limit.
+/// What holds of traces: the output of `plan` follows one, with the same status; there is one output over the same inputs, and it
+/// can't have nothing; there is none only where an input passes the limit.
 pub fn trace_output_laws()
     ensures plan { EndsAsPlan }
     ensures one { OneTraceOutput }

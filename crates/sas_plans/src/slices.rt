@@ -53,7 +53,8 @@ impl<'p> PlanInputs for PlanSlices<'p> {
     }
 }
 
-/// Judges many plans of one task as `judge` does, all in memory, and returns the answer. `Write` is want of memory for its text.
+/// Judges many plans of one task as `judge` does, all in memory, and returns the answer. `Write` means that it is out of memory for
+/// its text.
 pub fn judge_slices(alloc: Global, task: &[u8], plans: &[PlanBytes<'_>]) -> Result<Told, JudgeFault>
     requires { All IsLabel (labels_of plans.now) }
     ensures output { IfOk result (λ told. JudgeOut (labels_of plans.now) task.now

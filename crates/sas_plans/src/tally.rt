@@ -28,7 +28,7 @@ impl Tally {
         }
     }
 
-    /// Adds the plan with this number, which stands behind those so far. It has a cost if it is valid.
+    /// Adds the plan with this number, which comes after those so far. It has a cost if it is valid.
     pub fn add(&mut self, number: usize, cost: Option<u64>)
         requires { self.old.valid < usize.MAX }
         ensures { (all : List Judged) (judged : Judged) → Tallies self.old all

@@ -22,11 +22,11 @@ use sas_trace::write_trace;
 use std::alloc::Global;
 use std::io::{Read, Write};
 
-/// Traces the plan: answers as `plan` does, and where the plan is judged, tells in front what its steps do, up to the first that
-/// doesn't go through: each variable's initial value, then for each step its operator, what that costs, and each variable whose value
-/// it changed. Nothing is written before the verdict is known; then the steps are gone through once more, and all memory was asked for
-/// before. At `Write` the first bytes of the answer were written, and `written` is their number where that is less than 2^64; at any
-/// other fault nothing was. Not to be called with a device that has failed.
+/// Traces the plan: answers as `plan` does, and if the plan is judged, first writes what its steps do, up to the first that doesn't
+/// go through: each variable's initial value, then for each step its operator, what that costs, and each variable whose value it
+/// changed. Nothing is written before the verdict is known; then the steps are gone through once more, and all memory was allocated
+/// before. At `Write` the first bytes of the answer were written, and `written` is their number where that is less than 2^64; at
+/// any other fault nothing was. Not to be called with a device that has failed.
 ///
 /// The theorem, `output`, holds for every reader whose bytes are known, as that of `run`.
 pub fn trace<T: Read, P: Read, W: Write>(

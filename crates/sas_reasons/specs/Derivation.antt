@@ -57,7 +57,7 @@ pub record IsGivenBy (p : Parts) (s : List ℕ) (var rule : ℕ) : Type 0 where
   pub stands : Stands p s var layer (before + 1)
   pub lowest : IsLowest (FiresNext p s var layer before) rule
 
--- a condition of the rule asks for another value of this derived variable than its default
+-- a condition of the rule requires another value of this derived variable than its default
 pub record RestsOn (p : Parts) (rule var : ℕ) : Type 0 where
   pub condition : Fact
   pub among : Contains (rule_at p rule).conditions condition

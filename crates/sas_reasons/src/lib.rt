@@ -1,4 +1,4 @@
-//! Why a plan isn't valid: what is told behind a verdict that says no.
+//! Why a plan isn't valid: the lines that follow a verdict that says no.
 #![tactic(auto)]
 
 mod laws;

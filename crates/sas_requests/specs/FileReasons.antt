@@ -1,4 +1,4 @@
--- Why a file is refused: the lines that stand behind its refusal.
+-- Why a file is refused: the lines that follow its refusal.
 use Rattle.std.specs.Prelude.{◌≡◌, ℕ, List, [], length, take, nat_lt, Option, Some, None, Result, Ok, Err}
 use Rattle.sas_core.specs.declared.parts.Parts.{Parts}
 use Rattle.sas_core.specs.FirstFault.{first_fault}

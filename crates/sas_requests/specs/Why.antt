@@ -50,7 +50,7 @@ HasNoReasons request b c = (o : Option Output) → OutWhy request b c o → Out 
 
 -- ---- the same answer
 
--- whether a line tells a reason: whether it begins with two spaces
+-- whether a line is a reason: whether it begins with two spaces
 abbrev pub is_reason : List ℕ → Bool
 is_reason line = begins (codes "  ") line
 

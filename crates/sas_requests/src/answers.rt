@@ -71,8 +71,8 @@ pub fn answer_to<T: Read, P: Read>(
     }
 }
 
-/// Writes an answer, and returns its status. An `Err` is a failed write or want of memory; at want of memory nothing was
-/// written. Not to be called after a failure.
+/// Writes an answer, and returns its status. An `Err` is a failed write, or `Memory`; then nothing was written. Not to be called
+/// after a failure.
 pub fn write_answer<W: Write>(
     alloc: Global,
     answer: &Answer,

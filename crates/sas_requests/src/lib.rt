@@ -81,12 +81,12 @@ pub fn run<T: Read, P: Read, W: Write>(
     written
 }
 
-/// Answers the request about the inputs as `run` does, and tells the reasons for a no: behind the line that says why a plan
-/// isn't valid, why a task isn't layered, or why a file is refused, and behind that of each mutex group that isn't exclusive, stand
-/// lines that begin with two spaces. The status is that of `run`, where it is `Yes` so is the text, and where it is `No` the text of
-/// `run` is left when these lines are taken away (`explain_laws`). All memory is asked for before the first byte is written. At
-/// `Write` the first bytes of the answer were written; `written` is their number where that is less than 2^64, and so of each
-/// answer without reasons. Not to be called with a device that has failed.
+/// Answers the request about the inputs as `run` does, with the reasons for a no. Lines that begin with two spaces follow the line
+/// that says that a plan isn't valid, that a task isn't layered, that a file is refused, or that a mutex group isn't exclusive. The
+/// status is that of `run`, where it is `Yes` so is the text, and where it is `No` the text of `run` is left when these lines are
+/// taken away (`explain_laws`). All memory is allocated before the first byte is written. At `Write` the first bytes of the answer
+/// were written; `written` is their number where that is less than 2^64, and so of each answer without reasons. Not to be called
+/// with a device that has failed.
 pub fn explain<T: Read, P: Read, W: Write>(
     alloc: Global,
     request: Request,

@@ -1,4 +1,4 @@
-// Whether a plan solves a task. Both are read, the plan only where it is asked for.
+// Whether a plan solves a task. Both are read, the plan only if it is needed.
 ghost use Rattle.std.specs.Prelude.{◌≡◌, Some, IfOk, IfErr, false};
 ghost use Rattle.sas_answers.specs.Answers.{VerdictAnswer, layers_refusal};
 ghost use Rattle.sas_requests.specs.Answering.{AnswersFile, AnswersFiles, output_of};

@@ -55,8 +55,8 @@ impl From<AllocError> for PlanFault {
 }
 
 impl<'a, E: Settle<T> + Drop, T: Grounded> Runner<'a, E, T> {
-    /// Checks whether the plan is valid, and returns its operators and its cost, or its fault. A step means the
-    /// lowest-numbered operator of its name that is applicable. All memory is asked for before the first step.
+    /// Checks whether the plan is valid, and returns its operators and its cost, or its fault. A step means the lowest-numbered
+    /// operator of its name that is applicable. All memory is allocated before the first step.
     pub fn check_plan<P: Stepwise>(&mut self, alloc: Global, plan: &P) -> Result<Valid, PlanFault>
         ensures valid { IfOk result (λ v. IsValid self.old (P.says plan.now) v.operators.items) }
         ensures cost { IfOk result (λ v. v.cost ≡ (P.says plan.now).cost) }
@@ -94,8 +94,8 @@ pub fn check_named<E: Settle<T> + Drop, T: Grounded, P: Stepwise>(
     check_found(alloc, named.task, stepper, plan, found)
 }
 
-/// Checks whether the plan of the task is valid, as `Runner::check_plan` does, with an evaluator that is ready for the task. It keeps
-/// nothing of the task, so it is for one plan. All memory is asked for before the first step.
+/// Checks whether the plan of the task is valid, as `Runner::check_plan` does, with an evaluator that is ready for the task. It
+/// keeps nothing of the task, so it is for one plan. All memory is allocated before the first step.
 pub fn check_once<E: Settle<T> + Drop, T: Grounded, P: Stepwise>(
     alloc: Global,
     layered: &Layered<T>,
@@ -143,7 +143,7 @@ pub fn check_found<E: Settle<T> + Drop, T: Grounded, P: Stepwise>(
 }
 
 /// Makes the plan's steps in turn, up to its fault, and returns that, if it has one. `found` has what their names mean. Adds the
-/// operators of the steps that go through, for which there is room. Without an allocator it can ask for no memory.
+/// operators of the steps that go through, for which there is room. Without an allocator it can't allocate.
 pub fn find_fault<E: Settle<T> + Drop, T: Grounded, P: Stepwise>(
     layered: &Layered<T>,
     stepper: &mut Stepper<E>,

@@ -24,7 +24,7 @@ module _ {K : Type 0} (keeps : List (List ℕ) → SoFar → K → Type 0) where
     pub tracked : track tracker_start leads.items ≡ tracker_of m.judge
     pub kept : keeps lines so_far m.kept
 
-  -- it keeps what is asked for where nothing has come
+  -- it keeps what it should where nothing has come
   abbrev pub IsFresh : K → Type 0
   IsFresh kept = (alloc : Global) × keeps [] (nothing_yet alloc) kept
 

@@ -1,4 +1,4 @@
-// Stores what is asked for of the lines of a task file.
+// Stores what is needed of the lines of a task file.
 ghost use Rattle.std.specs.Prelude.{◌≡◌, ◌++◌, ◌∷◌, [], List, ℕ, OnOk, IfErr};
 
 use sas_core::Items;
@@ -18,7 +18,7 @@ pub trait Keeper: Drop {
     ghost use Rattle.sas_task_line.specs.TaskEvents.{after};
     ghost use Rattle.sas_task_judge.specs.Sections.{KeepsVariable, KeepsGroup, KeepsOperator, KeepsRule};
 
-    /// The keeper holds what it is asked to keep of these lines, with which so much of a task has come.
+    /// The keeper holds what it has to keep of these lines, with which so much of a task has come.
     ghost keeps: { List (List ℕ) → SoFar → Self → Type 0 };
 
     /// Keeps what the next line adds. It may move it out of `said`.
@@ -39,8 +39,8 @@ pub trait Keeper: Drop {
         })
     }
 
-    /// Keeps the mutex group that stands first in the bytes likewise, where it is quick to see that it may stand there
-    /// for variables with these ranges.
+    /// Keeps the mutex group that stands first in the bytes in the same way, where it is quick to see that it may stand there for
+    /// variables with these ranges.
     fn keep_group(&mut self, ranges: &Items<u32>, bytes: &[u8]) -> Result<Front, Kind>
         ensures { KeepsGroup keeps ranges.now bytes.now self.old self.new result }
     {
@@ -56,7 +56,7 @@ pub trait Keeper: Drop {
         Ok(Front::EMPTY)
     }
 
-    /// Keeps the rule that stands first in the bytes likewise.
+    /// Keeps the rule that stands first in the bytes in the same way.
     fn keep_rule(&mut self, ranges: &Items<u32>, bytes: &[u8]) -> Result<Front, Kind>
         ensures { KeepsRule keeps ranges.now bytes.now self.old self.new result }
     {

@@ -1,4 +1,4 @@
-// Takes the lines of a task file: it judges each, and keeps what is asked for of what they hold.
+// Takes the lines of a task file: it judges each, and keeps what is needed of what they hold.
 ghost use Rattle.std.specs.Prelude.{◌≡◌, ◌≢◌};
 
 use crate::keeper::Keeper;
@@ -56,7 +56,7 @@ impl<K: Keeper> TaskMachine<K> {
         }
     }
 
-    /// Notes which word of a line is wrong that was refused. Returns the kind of its fault, or that of want of memory.
+    /// Notes which word of a line is wrong that was refused. Returns the kind of its fault, or `Memory`.
     #[cold]
     fn refuse(&mut self, line: &[u8], kind: Kind) -> Kind
         ensures kind { result ≢ Kind.Memory → result ≡ kind }
@@ -83,7 +83,7 @@ impl<K: Keeper> TaskMachine<K> {
         Ok(kept.front)
     }
 
-    /// Lets the keeper keep the mutex group that is due likewise.
+    /// Lets the keeper keep the mutex group that is due in the same way.
     fn group_ahead(&mut self, bytes: &[u8]) -> Result<Front, Kind>
         requires { SectionDue self.old.judge Section.Group }
         ensures { AcceptsAhead (LedBy K.keeps) self.old bytes.now self.new result }
@@ -95,7 +95,7 @@ impl<K: Keeper> TaskMachine<K> {
         Ok(front)
     }
 
-    /// Lets the keeper keep the operator that is due likewise.
+    /// Lets the keeper keep the operator that is due in the same way.
     fn operator_ahead(&mut self, bytes: &[u8]) -> Result<Front, Kind>
         requires { SectionDue self.old.judge Section.Operator }
         ensures { AcceptsAhead (LedBy K.keeps) self.old bytes.now self.new result }
@@ -107,7 +107,7 @@ impl<K: Keeper> TaskMachine<K> {
         Ok(front)
     }
 
-    /// Lets the keeper keep the rule that is due likewise.
+    /// Lets the keeper keep the rule that is due in the same way.
     fn rule_ahead(&mut self, bytes: &[u8]) -> Result<Front, Kind>
         requires { SectionDue self.old.judge Section.Rule }
         ensures { AcceptsAhead (LedBy K.keeps) self.old bytes.now self.new result }

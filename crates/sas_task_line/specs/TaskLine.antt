@@ -6,7 +6,7 @@ use Rattle.sas_reader.specs.Faults.{IsOfBytes}
 use Rattle.sas_reader.specs.System.{Takes, Judged}
 use Rattle.sas_task_format.specs.TaskFormat.{TaskLine, TaskSlot, task_line_bytes, task_format, TaskLineFits}
 
--- a fault that a line has: not that the input ends, nor a failed read, nor want of memory
+-- a fault that a line has: not that the input ends, nor a failed read, nor refused memory
 abbrev pub IsOfLine : Kind → Type 0
 IsOfLine kind = IsOfBytes kind × (kind ≢ kinds.Memory)
 

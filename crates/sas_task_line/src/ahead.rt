@@ -1,5 +1,5 @@
-// The first line of some bytes, read straight off these, where it is quick to see that it ends with LF and holds what
-// is asked for. All else is left to the functions that are given the line by itself, and report its fault.
+// The first line of some bytes, read straight off these, where it is quick to see that it ends with LF and holds what is expected.
+// All else is left to the functions that are given the line by itself, and report its fault.
 ghost use Rattle.std.specs.Prelude.{◌≡◌, ◌+◌, ◌<◌, ◌++◌, length, IfSome};
 ghost use Rattle.std.specs.Fmt.{decimal};
 ghost use Rattle.sas_core.specs.Names.{IsName};

@@ -1,4 +1,4 @@
-// The first word of a line whose number may not stand there. It is asked for where a line is refused, and only then.
+// The first word of a line whose number may not stand there. It is looked up only if a line is refused.
 ghost use Rattle.std.specs.Prelude.{◌≡◌, ◌<◌, ◌^◌, ◌-◌, length, [], ◌∷◌, true, false, Option, Some, IfOk};
 ghost use Rattle.sas_task_format.specs.TaskFormat.{fact_slot, effect_slot, head_slot};
 ghost use Rattle.sas_task_line.specs.FirstWrong.{first_wrong, value_of, old_of, variable_in, fact_words_in, change_words_in, effect_words_in, FirstWrong};
@@ -147,7 +147,7 @@ pub fn wrong_in_fact(ranges: &Items<u32>, line: &[u8]) -> Option<WrongWord>
     }
 }
 
-/// Reads the line as the head of a rule likewise.
+/// Reads the line as the head of a rule in the same way.
 pub fn wrong_in_head(ranges: &Items<u32>, line: &[u8]) -> Option<WrongWord>
     ensures { FirstWrong ranges.now head_slot line.now result }
 {
@@ -157,7 +157,7 @@ pub fn wrong_in_head(ranges: &Items<u32>, line: &[u8]) -> Option<WrongWord>
     }
 }
 
-/// Reads the line as an effect likewise. The effect is stored.
+/// Reads the line as an effect in the same way. The effect is stored.
 pub fn wrong_in_effect(
     effect: &mut Effect,
     ranges: &Items<u32>,

@@ -30,7 +30,7 @@ abbrev pub ReadsTask : {D A : Type 0} → (D → Option (List ℕ)) → (List �
 ReadsTask left Gives old new result =
     ReadsOrExplains task_format fault_in found_in HasReason left Gives old new result
 
--- the machine stands behind a fault that is about these lines and this text
+-- the machine stands after a fault that is about these lines and this text
 abbrev pub StandsRefused : {K : Type 0} → (List (List ℕ) → SoFar → K → Type 0)
     → List (List ℕ) → List ℕ → Kind → TaskMachine K → Type 0
 StandsRefused {K} keeps =

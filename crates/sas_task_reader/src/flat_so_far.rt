@@ -229,7 +229,7 @@ impl FlatSoFar {
         })
     }
 
-    /// Takes the mutex group that stands first in the bytes likewise. Returns how long its lines are.
+    /// Takes the mutex group that stands first in the bytes in the same way. Returns how long its lines are.
     fn group_ahead(&mut self, ranges: &Items<u32>, bytes: &[u8]) -> Result<Front, AllocError>
         ensures took { IfOk result (λ front. 0 < front.bytes
             → (facts : List Fact) × GroupAhead ranges.now bytes.now facts front
@@ -247,7 +247,7 @@ impl FlatSoFar {
         Ok(front)
     }
 
-    /// Takes the operator that stands first in the bytes likewise.
+    /// Takes the operator that stands first in the bytes in the same way.
     fn operator_ahead(&mut self, ranges: &Items<u32>, bytes: &[u8]) -> Result<Front, AllocError>
         ensures took { IfOk result (λ front. 0 < front.bytes
             → (o : Operator) × OperatorAhead ranges.now bytes.now o front
@@ -270,7 +270,7 @@ impl FlatSoFar {
         Ok(found.front)
     }
 
-    /// Takes the rule that stands first in the bytes likewise.
+    /// Takes the rule that stands first in the bytes in the same way.
     fn rule_ahead(&mut self, ranges: &Items<u32>, bytes: &[u8]) -> Result<Front, AllocError>
         ensures took { IfOk result (λ front. 0 < front.bytes
             → (r : Rule) × RuleAhead ranges.now bytes.now r front

@@ -35,7 +35,7 @@ pub fn variable_front(bytes: &[u8], gathered: &mut Gathered) -> Result<Option<Va
     }))
 }
 
-/// Returns how many lines and bytes the mutex group takes up that stands first in the bytes, likewise.
+/// Returns how many lines and bytes the mutex group takes up that stands first in the bytes, in the same way.
 pub fn group_front(
     ranges: &Items<u32>,
     bytes: &[u8],
@@ -48,7 +48,7 @@ pub fn group_front(
     Ok(group_found(ranges, bytes, gathered)?)
 }
 
-/// Returns how many lines and bytes the operator takes up that stands first in the bytes, likewise.
+/// Returns how many lines and bytes the operator takes up that stands first in the bytes, in the same way.
 pub fn operator_front(
     ranges: &Items<u32>,
     bytes: &[u8],
@@ -64,7 +64,7 @@ pub fn operator_front(
     Ok(Some(found.front))
 }
 
-/// Returns how many lines and bytes the rule takes up that stands first in the bytes, likewise.
+/// Returns how many lines and bytes the rule takes up that stands first in the bytes, in the same way.
 pub fn rule_front(
     ranges: &Items<u32>,
     bytes: &[u8],

@@ -14,8 +14,8 @@ use sas_task_line::SoFar;
 use std::alloc::Global;
 use std::io::Read;
 
-/// Reads a task from a device: in pieces of at most 4,096 bytes, to its end or to the first fault. A failed read is
-/// reported as `Kind::Read`, want of memory as `Kind::Memory`. Not to be called with a device that has failed.
+/// Reads a task from a device: in pieces of at most 4,096 bytes, to its end or to the first fault. A failed read is reported as
+/// `Kind::Read`, and that memory was refused as `Kind::Memory`. Not to be called with a device that has failed.
 ///
 /// The clauses about bytes are about those that the device makes known (`remaining`). A reader over memory makes them
 /// known. A file or standard input makes none known, and then the clauses state only that there are such bytes.

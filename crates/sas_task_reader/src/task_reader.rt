@@ -48,8 +48,7 @@ impl TaskReader {
         self.reader.feed(piece)
     }
 
-    /// Returns the task, once all has come, or the fault. It takes no memory: want of memory is returned only where
-    /// `feed` returned it.
+    /// Returns the task, once all has come, or the fault. It takes no memory: `Memory` is returned only if `feed` returned it.
     pub fn finish(self) -> Result<Task, Fault>
         ensures { Finishes task_view self result }
     {

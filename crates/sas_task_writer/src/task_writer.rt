@@ -88,7 +88,7 @@ fn push_fact(out: &mut Vec<u8>, fact: &Fact) -> Result<(), AllocError>
     push_number(out, u128::from(fact.value))
 }
 
-/// Appends the words of some facts, each fact followed by a space, as more words stand behind them.
+/// Appends the words of some facts, each fact followed by a space, as more words follow.
 fn push_conditions(out: &mut Vec<u8>, facts: &Items<Fact>) -> Result<(), AllocError>
     ensures { OnOk result
         (out.new.items ≡ out.old.items ++ spaced (flat_map fact_words facts.now)) }
@@ -241,7 +241,7 @@ fn push_goal(out: &mut Vec<u8>, facts: &Items<Fact>) -> Result<(), AllocError>
     push_word(out, b"end_goal")
 }
 
-/// Returns the text of a task: its lines, each ended by LF. An `Err` is returned only for want of memory.
+/// Returns the text of a task: its lines, each ended by LF. An `Err` is returned only if it is out of memory.
 pub fn encode_task(alloc: Global, task: &Task) -> Result<Vec<u8>, AllocError>
     ensures { IfOk result (λ t. t.items ≡ text (lines_of task_format task.now)) }
 {

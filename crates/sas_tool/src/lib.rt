@@ -1,4 +1,4 @@
-//! The tool: the words that ask for a request, the devices of its inputs, and how the program ends.
+//! The tool: the arguments, the devices of its inputs, and how the program ends.
 #![tactic(auto)]
 
 mod plan_files;

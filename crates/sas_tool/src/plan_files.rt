@@ -1,4 +1,4 @@
-// The plan files that the words name, opened one after another.
+// The plan files that the arguments name, opened one after another.
 ghost use Rattle.std.specs.Prelude.{◌↔◌, ◌≤◌, All, IsTrue};
 ghost use Rattle.sas_plans.specs.Inputs.{IsLabel};
 ghost use Rattle.sas_tool.specs.Labels.{times_named};
@@ -9,10 +9,10 @@ use sas_plans::{PlanInputs, is_label};
 use std::fs;
 use std::rt::Files;
 
-/// The word that names standard input.
+/// The argument that names standard input.
 pub const STANDARD_INPUT: &str = "-";
 
-/// Plan files, by the words that name them, which are their labels.
+/// Plan files, by the arguments that name them, which are their labels.
 #[derive(Clone, Copy)]
 pub struct PlanFiles<'p, R> {
     pub rt: &'p R,
@@ -30,7 +30,7 @@ impl<'p, R: Files + Input> PlanInputs for PlanFiles<'p, R> {
     // What a file holds isn't known before it is read.
     ghost bytes = { λ plans number. None };
 
-    // The words stay as they were. Which files can be opened isn't known before, but that standard input can.
+    // The arguments stay as they were. Which files can be opened isn't known before, but that standard input can.
     ghost open_gives = { λ before number given after. (after ≡ before)
         × OpensAs (slice_index_or (labels_of before.labels.now) number []) given };
 

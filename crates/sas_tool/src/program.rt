@@ -1,4 +1,4 @@
-// The program: its words, its devices and how it ends.
+// The program: its arguments, its devices and how it ends.
 ghost use Rattle.std.specs.Prelude.{◌≡◌, false};
 
 use crate::plan_files::{PlanFiles, are_labels, name_input_twice};
@@ -18,7 +18,7 @@ const YES: u8 = 0;
 /// The exit status where the answer is no.
 const NO: u8 = 1;
 
-/// The exit status where the words aren't understood.
+/// The exit status for invalid arguments.
 const NOT_UNDERSTOOD: u8 = 2;
 
 /// The exit status at any other fault.
@@ -42,10 +42,10 @@ struct Places<F> {
     third: Option<F>,
 }
 
-/// Runs the program. In this order: its words, opening its inputs, the run, and flushing standard output. The first of
-/// these that fails is reported by a line on standard error; a failure to write that line is ignored. The exit
-/// status is 0 for yes, 1 for no, 2 for words that aren't understood, and 3 otherwise. A read of standard
-/// input that is closed at the start fails, and so does a write to standard output that is.
+/// Runs the program. In this order: its arguments, opening its inputs, the run, and flushing standard output. The first of these
+/// that fails is reported by a line on standard error; a failure to write that line is ignored. The exit status is 0 for yes, 1 for
+/// no, 2 for invalid arguments, and 3 otherwise. A read of standard input that is closed at the start fails, and so does a write to
+/// standard output that is.
 pub fn start<R: AllocGlobal + Env + Files + Input + Print + Eprint>(rt: &R) -> ExitCode {
     let job = match job_of_words(rt) {
         Ok(job) => job,
@@ -65,7 +65,7 @@ fn run_job<R: AllocGlobal + Files + Input + Print + Eprint>(rt: &R, job: Job) ->
     }
 }
 
-/// Opens a task, a plan or both, and answers what is asked of them. It isn't inlined, nor is `run_plans`: what is inlined together
+/// Opens a task, a plan or both, and answers the request about them. It isn't inlined, nor is `run_plans`: what is inlined together
 /// would keep the buffers of both on the stack.
 #[inline(never)]
 fn run_files<R: AllocGlobal + Files + Input + Print + Eprint>(
@@ -146,7 +146,7 @@ fn stop_at<R: Eprint>(rt: &R, fault: InputFault, labels: &[String], number: usiz
     }
 }
 
-/// Returns the job that the words ask for, or the exit status where they ask for none.
+/// Returns the job of the arguments, or the exit status if they have none.
 fn job_of_words<R: AllocGlobal + Env + Eprint>(rt: &R) -> Result<Job, ExitCode> {
     let words = match env::args(rt) {
         Ok(words) => words,
@@ -166,7 +166,7 @@ fn job_of_words<R: AllocGlobal + Env + Eprint>(rt: &R) -> Result<Job, ExitCode> 
     }
 }
 
-/// Ends where the words can't be had as text.
+/// Ends if the arguments aren't text.
 fn not_text<R: Eprint>(rt: &R, kind: ErrorKind) -> ExitCode {
     match kind {
         ErrorKind::OutOfMemory => stop(rt, FAULT, OUT_OF_MEMORY),

@@ -1,4 +1,4 @@
-// The words of the command line.
+// The arguments of the command line.
 use crate::Request;
 use clap::error::ErrorKind;
 use clap::{Arg, ArgAction, ArgMatches, Command, Error};
@@ -7,7 +7,7 @@ use std::alloc::{AllocError, Global};
 /// The program's version.
 const VERSION: &str = "1.1.0";
 
-/// The flag that asks for reasons.
+/// The flag for reasons.
 const WHY: &str = "why";
 
 /// What stands below each help.
@@ -26,7 +26,7 @@ pub enum Source {
     File(String),
 }
 
-/// What is asked of a task, a plan or both.
+/// What is requested of a task, a plan or both.
 #[derive(Clone, Copy, Debug, PartialEq, Eq)]
 pub enum Asked {
     /// The answer to a request.
@@ -37,7 +37,7 @@ pub enum Asked {
     Trace,
 }
 
-/// What the words ask for.
+/// What the arguments request.
 #[derive(PartialEq, Eq, Drop)]
 pub enum Job {
     /// Something about a task, a plan or both. An input that isn't read has no source.
@@ -46,19 +46,19 @@ pub enum Job {
         task: Option<Source>,
         plan: Option<Source>,
     },
-    /// Whether many plans solve a task. The words that name them are their labels.
+    /// Whether many plans solve a task. The arguments that name them are their labels.
     Plans {
         task: Option<Source>,
         labels: Vec<String>,
     },
 }
 
-/// Why the words are no job.
+/// Why the arguments are no job.
 #[derive(Drop)]
 pub enum WordsFault {
-    /// They aren't understood, or ask for help; the error has the text for the user.
+    /// The arguments are invalid, or request help; the error has the text for the user.
     Refused(Error),
-    /// Standard input is asked for twice.
+    /// Standard input is named twice.
     InputTwice,
     /// Memory was refused.
     Memory,
@@ -70,7 +70,7 @@ impl From<AllocError> for WordsFault {
     }
 }
 
-/// Returns the job that the words ask for. The first word is the program's name.
+/// Returns the job of the arguments. The first one is the program's name.
 pub fn command(alloc: Global, words: Vec<String>) -> Result<Job, WordsFault> {
     match grammar(alloc)?.try_get_matches_from(words.as_slice()) {
         Ok(matches) => job_of(alloc, &matches)?.with_one_input(),
@@ -107,7 +107,7 @@ struct Words {
     name: &'static str,
     about: &'static str,
     over: Over,
-    /// Whether reasons can be asked for.
+    /// Whether it can be called with the flag for reasons.
     why: bool,
 }
 
@@ -163,7 +163,7 @@ const REQUESTS: [Words; 8] = [
     },
 ];
 
-/// Returns the grammar of the words that are understood.
+/// Returns the grammar of the arguments.
 fn grammar<'a>(alloc: Global) -> Result<Command<'a>, AllocError> {
     let mut program = Command::new(alloc, "sas")
         .about("Reads, checks and validates task files and plan files of Fast Downward")
@@ -176,7 +176,7 @@ fn grammar<'a>(alloc: Global) -> Result<Command<'a>, AllocError> {
 }
 
 impl Words {
-    /// Returns the grammar of the words of the request.
+    /// Returns the grammar of the arguments of the request.
     fn command<'a>(&self, alloc: Global) -> Result<Command<'a>, AllocError> {
         let mut request = Command::new(alloc, self.name)
             .about(self.about)
@@ -219,7 +219,7 @@ fn the_plans<'a>(alloc: Global) -> Arg<'a> {
         .help("The plan files; one of them may be - for standard input")
 }
 
-/// Returns the job of words that were understood. Without a request, it is the steps of the plan on standard input.
+/// Returns the job of valid arguments. Without a request, it is the steps of the plan on standard input.
 fn job_of(alloc: Global, matches: &ArgMatches<'_>) -> Result<Job, AllocError> {
     match matches.subcommand() {
         Some((name, inner)) => job_named(alloc, name, inner),
@@ -245,7 +245,7 @@ fn job_named(alloc: Global, name: &str, matches: &ArgMatches<'_>) -> Result<Job,
     }
 }
 
-/// Returns what is asked of the request, by its flag.
+/// Returns the request with or without reasons, by its flag.
 fn by_flag(request: Request, matches: &ArgMatches<'_>) -> Asked {
     if matches.get_flag(WHY) {
         Asked::Explanation(request)
@@ -294,7 +294,7 @@ fn job_over_many(alloc: Global, matches: &ArgMatches<'_>) -> Result<Job, AllocEr
     Ok(Job::Plans { task, labels })
 }
 
-/// Returns the words that name the plans.
+/// Returns the arguments that name the plans.
 fn labels_of(alloc: Global, matches: &ArgMatches<'_>) -> Result<Vec<String>, AllocError> {
     let mut labels = Vec::new(alloc);
     if let Some(words) = matches.get_strs("PLAN") {

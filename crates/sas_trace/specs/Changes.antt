@@ -1,4 +1,4 @@
--- How the changes of a step are told.
+-- How the changes of a step are printed.
 use Rattle.std.specs.Prelude.{◌≡◌, ◌⊎◌, ℕ, ◌<◌, if◌then◌else◌, List, [], ◌∷◌, ◌++◌, length, All, Contains, slice_index}
 use Rattle.sas_core.specs.declared.parts.Parts.{Parts}
 use Rattle.sas_trace.specs.Trace.{is_changed, change_line}

@@ -14,13 +14,13 @@ use Rattle.sas_run.specs.Runs.{Run, state_at, GoesThrough}
 use Rattle.sas_trace.specs.Trace.{variables_of, changed}
 use Rattle.sas_trace.specs.Traced.{TraceVerdict}
 
--- the facts that step k + 1 of a run brings, as the lines of its changes tell them
+-- the facts that step k + 1 of a run brings, as the lines of its changes have them
 abbrev pub facts_told : Parts → Run → ℕ → List Fact
 facts_told p run k = map (λ var. record { var = var; value = slice_index (state_at run (k + 1)) var })
     (changed p (state_at run k) (state_at run (k + 1)))
 
 -- the values that a reader of a trace has behind the first k steps: those of the initial lines,
--- with what the changes tell written over them in turn
+-- with the changes written over them in turn
 abbrev pub replayed : Parts → Run → ℕ → List ℕ
 replayed p run zero = map (slice_index (state_at run 0)) (variables_of p)
 replayed p run (suc k) =
@@ -31,14 +31,14 @@ abbrev pub Replays : Type 0
 Replays = (p : Parts) (run : Run) (k : ℕ) → WellRanged p → GoesThrough p run → k ≤ length run.steps
     → replayed p run k ≡ state_at run k
 
--- behind the trace stands the answer that there is without it, and its status is that of both
+-- the answer that there is without it follows the trace, and its status is that of both
 abbrev pub EndsWithVerdict : Type 0
 EndsWithVerdict = (p : Parts) (plan : PlanParts) (output : Output) → TraceVerdict p plan output
     → (verdict : Output) × VerdictAnswer p plan verdict × (front : List ℕ)
     × (output.text ≡ front ++ verdict.text)
     × (output.status ≡ verdict.status)
 
--- the costs of a valid plan's steps, as their lines tell them, add up to its cost
+-- the costs of a valid plan's steps, as their lines have them, add up to its cost
 abbrev pub CostsAddUp : Type 0
 CostsAddUp = (p : Parts) (plan : PlanParts) (output : Output) (trace : TraceVerdict p plan output)
     → output.status ≡ Yes → sum_by (cost_of p) trace.run.operators ≡ plan.cost

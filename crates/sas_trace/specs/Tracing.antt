@@ -8,7 +8,7 @@ use Rattle.sas_run.specs.Executions.{Executed, Executes}
 use Rattle.sas_run.specs.Runs.{Run}
 use Rattle.sas_trace.specs.Traced.{EndsWith}
 
--- the first steps of the run were made, and these are the values that were told
+-- the first steps of the run were made, and these are the values that were printed
 pub record StandsAt (p : Parts) (run : Run) (e : Executed) (told : List ℕ) : Type 0 where
   pub task : e.task ≡ p
   pub executes : Executes run e

@@ -8,7 +8,7 @@ use sas_core::{Fact, Grounded, Stepwise};
 use sas_meaning::{Settle, State};
 use sas_run::Execution;
 
-/// Lists the variables whose values in the state of the execution aren't those that were told, in no order. Returns whether
+/// Lists the variables whose values in the state of the execution aren't those that were printed, in no order. Returns whether
 /// these are all: not so where any may have changed, or the list has too little room. It takes no memory. Only what the last step
 /// may have changed is looked at.
 pub fn list_changes<E: Settle<T> + Drop, T: Grounded, P: Stepwise>(
@@ -31,7 +31,7 @@ pub fn list_changes<E: Settle<T> + Drop, T: Grounded, P: Stepwise>(
     }
 }
 
-/// Adds the variables of the facts whose values in the state aren't those that were told. Returns whether there is room for
+/// Adds the variables of the facts whose values in the state aren't those that were printed. Returns whether there is room for
 /// them.
 fn list_deleted(listed: &mut Vec<u32>, told: &[u32], state: &State, deleted: &[Fact]) -> bool
     requires fits { length told.now ≡ length state.now }
@@ -48,7 +48,7 @@ fn list_deleted(listed: &mut Vec<u32>, told: &[u32], state: &State, deleted: &[F
     true
 }
 
-/// Adds those of the variables whose values in the state aren't those that were told. Returns whether there is room for them.
+/// Adds those of the variables whose values in the state aren't those that were printed. Returns whether there is room for them.
 fn list_touched(listed: &mut Vec<u32>, told: &[u32], state: &State, touched: &[u32]) -> bool
     requires fits { length told.now ≡ length state.now }
     requires exist { All (λ var. var < length state.now) touched.now }
@@ -64,7 +64,7 @@ fn list_touched(listed: &mut Vec<u32>, told: &[u32], state: &State, touched: &[u
     true
 }
 
-/// Adds the variable if its value in the state isn't the one that was told. Returns whether there is room for it.
+/// Adds the variable if its value in the state isn't the one that was printed. Returns whether there is room for it.
 fn list_variable(listed: &mut Vec<u32>, told: &[u32], state: &State, var: u32) -> bool
     requires fits { length told.now ≡ length state.now }
     requires exists { var < length state.now }

@@ -21,7 +21,7 @@ use std::io::Write;
 
 /// Writes the answer about a plan of the task with its trace in front, in pieces, and returns its status. The plan is judged first;
 /// then its steps are gone through once more. If an `Err` isn't a failed write, it is `Memory`, and nothing was written: all memory
-/// is asked for before the first byte. Not to be called after a failure.
+/// is allocated before the first byte. Not to be called after a failure.
 pub fn write_trace<W: Write>(
     alloc: Global,
     task: &Layered<FlatTask>,

@@ -23,11 +23,11 @@ use sas_run::Execution;
 use std::alloc::{AllocError, Global};
 use std::io::Write;
 
-/// A trace that is being written. Only `new` asks for memory.
+/// A trace that is being written. Only `new` takes memory.
 #[derive(Drop)]
 pub struct Tracer {
     pub pieces: Pieces,
-    /// The values of the variables, as they were told so far.
+    /// The values of the variables, as they were printed so far.
     pub told: Vec<u32>,
     /// Variables that the last step changed. There is room for as many as the task has.
     pub listed: Vec<u32>,
@@ -149,8 +149,8 @@ impl Tracer {
         }
     }
 
-    /// Adds the lines of the variables that are listed, where their values in the state aren't those that were told. All others
-    /// have the values that were told.
+    /// Adds the lines of the variables that are listed, where their values in the state aren't those that were printed. All others
+    /// have the values that were printed.
     fn push_listed<W: Write>(
         &mut self,
         out: &mut Watched<W>,
@@ -175,7 +175,7 @@ impl Tracer {
         Ok(())
     }
 
-    /// Adds the lines of all variables whose values in the state aren't those that were told.
+    /// Adds the lines of all variables whose values in the state aren't those that were printed.
     fn push_all<W: Write>(
         &mut self,
         out: &mut Watched<W>,
@@ -197,7 +197,7 @@ impl Tracer {
         Ok(())
     }
 
-    /// Adds the line of the variable, if its value in the state isn't the one that was told.
+    /// Adds the line of the variable, if its value in the state isn't the one that was printed.
     fn push_change<W: Write>(
         &mut self,
         out: &mut Watched<W>,

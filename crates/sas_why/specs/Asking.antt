@@ -1,4 +1,4 @@
--- Which rules ask for values of which derived variables.
+-- Which rules require values of which derived variables.
 use Rattle.std.specs.Prelude.{◌≡◌, ℕ, ◌<◌, List, [], length, All, Contains, slice_index_or}
 use Rattle.sas_core.specs.declared.parts.Fact.{Fact}
 use Rattle.sas_core.specs.declared.parts.Parts.{Parts}
@@ -32,7 +32,7 @@ pub record AddsAsked (p : Parts) (rule : ℕ) (before after : List (Entry ℕ)) 
 abbrev pub asking_at : List (List ℕ) → ℕ → List ℕ
 asking_at asking var = slice_index_or asking var []
 
--- under each derived variable the rules are listed that ask for its values
+-- under each derived variable the rules are listed that require its values
 pub record IsAskingIndex (p : Parts) (asking : List (List ℕ)) : Type 0 where
   pub one_each : length asking ≡ length p.variables
   pub only : (var : ℕ) → All (λ rule. rule < length p.rules) (asking_at asking var)

@@ -1,4 +1,4 @@
-// Which rules ask for values of which derived variables.
+// Which rules require values of which derived variables.
 ghost use Rattle.std.specs.Prelude.{◌<◌, length, IfOk, OnOk};
 ghost use Rattle.sas_why.specs.Asking.{AddsAsked, IsAskingIndex};
 
@@ -20,7 +20,7 @@ pub fn asking_rules<T: Grounded>(alloc: Global, task: &Layered<T>) -> Result<Lis
     Lists::by_key(alloc, entries.as_slice(), task.variables() as usize)
 }
 
-/// Adds the rule under each derived variable for which one of its conditions asks.
+/// Adds the rule under each derived variable of which one of its conditions requires a value.
 fn push_asked<T: Grounded>(
     task: &Layered<T>,
     rule: u32,

@@ -19,8 +19,8 @@ pub struct Origin {
     pub rule: u32,
 }
 
-/// The rounds of all layers, which are gone side by side: what a rule asks of a lower layer is known from the state. In the
-/// first round each rule is looked at, and from then on only rules that ask for a variable that was just reached.
+/// The rounds of all layers, which are gone side by side: what a rule requires on a lower layer is known from the state. In the
+/// first round each rule is looked at, and from then on only rules that require a variable that was just reached.
 #[derive(Drop)]
 struct Rounds {
     /// How many rounds are over.
@@ -29,7 +29,7 @@ struct Rounds {
     origins: Vec<Option<Origin>>,
     /// For each rule, how many of its first conditions are known to hold.
     passed: Vec<usize>,
-    /// For each derived variable, the rules that ask for its values.
+    /// For each derived variable, the rules that require its values.
     asking: Lists<u32>,
     /// The rules that are to be looked at in the next round.
     next: Vec<u32>,

@@ -22,7 +22,7 @@ pub struct Notes {
 }
 
 /// Makes the steps of the plan, which has this fault, once more, and notes since when each variable has its value, and which other
-/// operator a step may mean. The execution found the fault, and is at its start. All memory is asked for before the first step.
+/// operator a step may mean. The execution found the fault, and is at its start. All memory is allocated before the first step.
 pub fn retrace<E: Settle<T> + Drop, T: Grounded, P: Stepwise>(
     alloc: Global,
     mut execution: Execution<'_, '_, E, T, P>,

@@ -95,7 +95,7 @@ fn say_given<P: Print>(rt: &P, out: &mut Watched<ToldWriter<'_>>, bytes: &[u8]) 
     }
 }
 
-/// Calls `write_out` likewise: `TURNS|BYTES`. It could show the same, and a count of bytes that didn't go out.
+/// Calls `write_out` in the same way: `TURNS|BYTES`. It could show the same, and a count of bytes that didn't go out.
 fn write_out_told<R: AllocGlobal + Print>(rt: &R, words: &[u8]) {
     let (turns, bytes) = cut(words, b'|');
     let mut out = Watched::new(ToldWriter::new(rt.alloc(), turns));

@@ -23,7 +23,7 @@ pub fn call_of_lines<R: AllocGlobal + Print>(
     Ok(true)
 }
 
-/// Makes the call if it is one of these, which may want memory. Returns whether it is.
+/// Makes the call if it is one of these, which may be out of memory. Returns whether it is.
 fn call_wanting<R: AllocGlobal + Print>(rt: &R, asked: &Asked<'_>) -> Result<bool, AllocError> {
     match asked.call {
         "feed-lines" => feed_lines(rt, asked.number, asked.bytes)?,
@@ -128,8 +128,7 @@ fn feed_two<P: Print>(rt: &P, pieces: &[u8], lines: &mut Lines) {
     }
 }
 
-/// Calls `push_number` behind a text that fills its memory: `TEXT|NUMBER`. It could show that a call always wants
-/// memory.
+/// Calls `push_number` behind a text that fills its memory: `TEXT|NUMBER`. It could show that a call is always out of memory.
 fn append_number<R: AllocGlobal + Print>(
     rt: &R,
     count: usize,
@@ -145,7 +144,7 @@ fn append_number<R: AllocGlobal + Print>(
     Ok(())
 }
 
-/// Calls `push_line` likewise: `TEXT|LINE`. It could show the same.
+/// Calls `push_line` in the same way: `TEXT|LINE`. It could show the same.
 fn append_line<R: AllocGlobal + Print>(
     rt: &R,
     count: usize,

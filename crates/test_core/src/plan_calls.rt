@@ -39,7 +39,7 @@ fn list_of(alloc: Global, bytes: &[u8]) -> Result<Items<u8>, AllocError> {
     Ok(list)
 }
 
-/// Calls the methods of `Items`, each once. It could show that one of them always wants memory.
+/// Calls the methods of `Items`, each once. It could show that one of them is always out of memory.
 fn say_items<R: AllocGlobal + Print>(rt: &R, bytes: &[u8]) -> Result<(), AllocError> {
     let list = list_of(rt.alloc(), bytes)?;
     say_number(rt, "items", list.len() as u64);
@@ -125,7 +125,7 @@ fn say_bad_name<R: AllocGlobal + Print>(
     Ok(())
 }
 
-/// Calls `encode_plan`. It could show that the call always wants memory.
+/// Calls `encode_plan`. It could show that the call is always out of memory.
 fn say_encoded<R: AllocGlobal + Print>(
     rt: &R,
     count: usize,

@@ -1,5 +1,4 @@
-// Calls of `sas_core` on tasks and their parts. The parts are those of a file, which stands behind changes of them and
-// a `|`.
+// Calls of `sas_core` on tasks and their parts. The parts are those of a file, which follows changes of them and a `|`.
 use crate::changes::change_all;
 use sas_core::{Parts, PartsFault, Task};
 use sas_text::encode_task;
@@ -145,7 +144,7 @@ fn say_made<R: AllocGlobal + Print>(
     }
 }
 
-/// Calls `encode_task`. It could show that it always wants memory.
+/// Calls `encode_task`. It could show that it is always out of memory.
 fn encode<R: AllocGlobal + Print>(rt: &R, count: usize, task: &Task) -> Result<(), AllocError> {
     spend(rt.alloc(), count)?;
     say_text(rt, encode_task(rt.alloc(), task));

@@ -57,8 +57,8 @@ fn say_laws<P: Print>(out: &P) {
     say(out, "laws");
 }
 
-/// Reads a file from a device, and prints what came of it. It could show that the call always wants memory, or an
-/// answer that changes without it.
+/// Reads a file from a device, and prints what came of it. It could show that the call is always out of memory, or an answer that
+/// changes without it.
 fn read<R: AllocGlobal + Print>(
     rt: &R,
     count: usize,
@@ -90,7 +90,7 @@ fn read_told<R: AllocGlobal + Print>(rt: &R, way: Way, text: &[u8]) {
     say_either(rt, failed, "failed", "not failed");
 }
 
-/// Returns how many bytes of a file are asked for at a time, at most.
+/// Returns how many bytes of a file are read at a time, at most.
 fn longest_read(way: Way) -> usize {
     match way {
         Way::Plan | Way::Task => 4096,
@@ -98,8 +98,7 @@ fn longest_read(way: Way) -> usize {
     }
 }
 
-/// Prints whether no more bytes of a file are asked for at a time than the way allows. It could show a reader with a larger
-/// buffer.
+/// Prints whether no more bytes of a file are read at a time than the way allows. It could show a reader with a larger buffer.
 fn say_longest<R: AllocGlobal + Print>(rt: &R, way: Way, file: &[u8]) {
     let longest = Cell::new(0usize);
     let (read, _) = read_from(rt.alloc(), way, NotingReader::new(file, &longest));

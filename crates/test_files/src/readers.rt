@@ -37,7 +37,7 @@ pub fn way_of(name: &str) -> Way {
     }
 }
 
-/// Returns the fault of want of memory behind a reader.
+/// Returns the fault of a reader that is out of memory.
 fn wanting(_error: AllocError) -> Fault {
     Fault {
         line: 1,

@@ -84,7 +84,7 @@ fn say_opened<P: Print>(out: &P, notes: &Notes) {
     }
 }
 
-/// Calls `judge` over these inputs. It could show that it always wants memory, or writes before its answer is whole.
+/// Calls `judge` over these inputs. It could show that it is always out of memory, or writes before its answer is whole.
 fn judge_whole<R: AllocGlobal + Print>(
     rt: &R,
     count: usize,
@@ -125,7 +125,7 @@ fn judge_into<R: AllocGlobal + Print>(rt: &R, bytes: &[u8]) -> Result<(), AllocE
     Ok(())
 }
 
-/// Prints whether no more than 65,536 bytes of the inputs are asked for at a time. It could show a reader with a larger buffer.
+/// Prints whether no more than 65,536 bytes of the inputs are read at a time. It could show a reader with a larger buffer.
 fn judge_longest<R: AllocGlobal + Print>(rt: &R, given: &Given<'_>) -> Result<(), AllocError> {
     let notes = Notes::new();
     let task = NotingReader::new(given.task, &notes.longest);
@@ -224,8 +224,8 @@ fn is_ended_by_front<'x>(
     )
 }
 
-/// Returns the length of the first front of the task with another result where its device then fails. It could show a failure
-/// that is taken for the end, or is told of a plan.
+/// Returns the length of the first front of the task with another result where its device then fails. It could show a failure that
+/// is taken for the end, or is reported of a plan.
 fn wrong_task_front(alloc: Global, given: &Given<'_>) -> Result<Option<usize>, AllocError> {
     for length in 0..=given.task.len() {
         let front = &given.task[..length];
@@ -299,7 +299,7 @@ fn wrong_room(alloc: Global, given: &Given<'_>) -> Result<Option<usize>, AllocEr
     Ok(None)
 }
 
-/// Calls `judge_slices` over these bytes. It could show that it always wants memory, and inputs that are exchanged.
+/// Calls `judge_slices` over these bytes. It could show that it is always out of memory, and inputs that are exchanged.
 fn judge_in_memory<R: AllocGlobal + Print>(rt: &R, given: &Given<'_>) -> Result<(), AllocError> {
     let plans = in_memory(rt.alloc(), given.plans.as_slice())?;
     say_slices(rt, given.task, plans.as_slice());
@@ -307,7 +307,7 @@ fn judge_in_memory<R: AllocGlobal + Print>(rt: &R, given: &Given<'_>) -> Result<
     Ok(())
 }
 
-/// Returns the plans as bytes in memory: those that their devices are told.
+/// Returns the plans as bytes in memory: those that their devices return.
 fn in_memory<'a>(alloc: Global, plans: &[GivenPlan<'a>]) -> Result<Vec<PlanBytes<'a>>, AllocError> {
     let mut slices = Vec::new(alloc);
     for plan in plans {

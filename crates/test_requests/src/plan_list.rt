@@ -10,8 +10,8 @@ use std::io;
 use std::io::Read;
 use test_words::{ToldReader, cut};
 
-/// A plan: its label, and what its device returns. That is these bytes, and then what the device is told, as `ToldReader`
-/// describes. A plan can't be opened that is told `?` alone.
+/// A plan: its label, and what its device returns. That is these bytes, and then how the device goes on, as `ToldReader` describes.
+/// A plan with `?` alone can't be opened.
 #[derive(Clone, Copy)]
 pub struct GivenPlan<'a> {
     pub label: &'a [u8],
@@ -26,8 +26,8 @@ pub struct Given<'a> {
     pub plans: Vec<GivenPlan<'a>>,
 }
 
-/// Returns what some bytes give: plans, a `|` and a task. Between plans stands `&`, and each is its label, `:` and what its
-/// device is told. There are none where there are no bytes.
+/// Returns what some bytes give: plans, a `|` and a task. Between plans stands `&`, and each is its label, `:` and how its device
+/// goes on. There are none where there are no bytes.
 pub fn given_in(alloc: Global, bytes: &[u8]) -> Result<Given<'_>, AllocError> {
     let (words, task) = cut(bytes, b'|');
     let mut plans = Vec::new(alloc);
@@ -128,7 +128,7 @@ impl<'a> PlanInputs for PlanList<'a> {
 
     ghost labels = { λ list. labels_of list.plans.now };
 
-    // What a device is told isn't what it returns.
+    // How a device goes on isn't what it returns.
     ghost bytes = { λ list number. None };
 
     // The list stays as it was. Which plans are opened is in its notes.

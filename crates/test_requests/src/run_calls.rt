@@ -39,7 +39,7 @@ pub fn call_of_tool<R: AllocGlobal + Print>(rt: &R, asked: &Asked<'_>) -> Result
     Ok(true)
 }
 
-/// What is asked: an answer, with the reasons for a no or without them, or the trace of a plan.
+/// What is requested: an answer, with the reasons for a no or without them, or the trace of a plan.
 #[derive(Clone, Copy)]
 enum Question {
     Answer(Request),
@@ -47,7 +47,7 @@ enum Question {
     Trace,
 }
 
-/// Returns the question of this name: `trace`, or that of a request, with `-why` behind it where reasons are asked for.
+/// Returns the request of this name: `trace`, or another, with `-why` behind it for reasons.
 fn question_of(name: &str) -> Question {
     if name == "trace" {
         return Question::Trace;
@@ -131,7 +131,7 @@ fn answer_over<T: Read + Drop, P: Read + Drop, W: Write>(
     (result, out.into_device())
 }
 
-/// Calls one of them over these inputs, and a writer that then fails behind so many bytes. It could show that it always wants
+/// Calls one of them over these inputs, and a writer that then fails behind so many bytes. It could show that it is always out of
 /// memory, writes before its answer is whole, or writes where the answer is empty.
 fn run_whole<R: AllocGlobal + Print>(
     rt: &R,
@@ -201,8 +201,7 @@ fn run_into<R: AllocGlobal + Print>(rt: &R, question: Question, bytes: &[u8]) {
     say_exactly(rt, &result, written.kept());
 }
 
-/// Prints whether no more than 65,536 bytes of the inputs are asked for at a time. It could show a reader with a larger
-/// buffer.
+/// Prints whether no more than 65,536 bytes of the inputs are read at a time. It could show a reader with a larger buffer.
 fn run_longest<R: AllocGlobal + Print>(
     rt: &R,
     question: Question,

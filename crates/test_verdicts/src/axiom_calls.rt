@@ -11,9 +11,9 @@ use test_words::{
     task_of,
 };
 
-/// Calls `Layered::new` of the task of a file, and prints whether it is layered, or its fault. The file is known to be
-/// a task. It could show a definition that takes a task whose layers are broken or refuses another, an order of faults
-/// that isn't that of the file, or that the call always wants memory.
+/// Calls `Layered::new` of the task of a file, and prints whether it is layered, or its fault. The file is known to be a task. It
+/// could show a definition that takes a task whose layers are broken or refuses another, an order of faults that isn't that of the
+/// file, or that the call is always out of memory.
 pub fn new_layered<R: AllocGlobal + Print>(
     rt: &R,
     count: usize,
@@ -104,9 +104,8 @@ pub fn say_state<P: Print>(out: &P, state: &Result<State, StateFault>) {
     }
 }
 
-/// Calls `State::of` such values, and prints what the state holds of a fact, before and after it is set:
-/// `VALUES;FACT|FILE`. It could show a definition of states that takes a value too many or one out of its range, or
-/// that the call always wants memory.
+/// Calls `State::of` such values, and prints what the state holds of a fact, before and after it is set: `VALUES;FACT|FILE`. It
+/// could show a definition of states that takes a value too many or one out of its range, or that the call is always out of memory.
 pub fn new_state<R: AllocGlobal + Print>(
     rt: &R,
     count: usize,
@@ -175,8 +174,7 @@ pub fn settled<E: Settle<Task>>(
     Ok(state)
 }
 
-/// Calls `Worklist::new`, and prints a state that it settles: `STATE|FILE`. It could show that the call always wants
-/// memory.
+/// Calls `Worklist::new`, and prints a state that it settles: `STATE|FILE`. It could show that the call is always out of memory.
 pub fn new_worklist<R: AllocGlobal + Print>(
     rt: &R,
     asked: &Asked<'_>,

@@ -1,4 +1,4 @@
-// Calls with an evaluator of the kind that is asked for.
+// Calls with an evaluator of the kind that is requested.
 ghost use Rattle.std.specs.Prelude.{IfOk};
 ghost use Rattle.sas_axioms.specs.Worklist.{IsReadyFor};
 

@@ -4,8 +4,7 @@ use sas_core::Task;
 use std::alloc::{AllocError, Global};
 use test_words::{Asked, cut, task_of};
 
-/// Returns what stands before a `|`, and the file behind it. Of some calls the bytes are the file, and nothing else is
-/// asked.
+/// Returns what comes before a `|`, and the file behind it. For some calls the bytes are only the file.
 pub fn words_and_file<'a>(asked: &Asked<'a>) -> (&'a [u8], &'a [u8]) {
     match asked.call {
         "layered" | "check-groups" | "counted-steps" | "new-runner" | "initial" => {

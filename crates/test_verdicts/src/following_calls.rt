@@ -48,16 +48,16 @@ impl<'a, P: Print, E: Settle<Task> + Drop> Settle<Task> for Telling<'a, P, E> {
     }
 }
 
-/// A state that is followed, and what is told of its changes.
+/// A state that is followed, and what is reported of its changes.
 #[derive(Drop)]
 struct Followed {
     state: State,
     touched: Touched,
 }
 
-/// Settles a state, and goes on from it: `STATE;FACT,FACT;FACT,FACT|FILE`. Two facts on different basic variables are set
-/// at a time, whether they held or not, and the evaluator is told that those of their variables which held have gone. It
-/// could show an evaluator that stays where it was, and one that takes a fact for gone which has come back.
+/// Settles a state, and goes on from it: `STATE;FACT,FACT;FACT,FACT|FILE`. Two facts on different basic variables are set at a
+/// time, whether they held or not, and the evaluator is given those facts of their variables that held. It could show an evaluator
+/// that stays where it was, and one that takes a fact for gone which has come back.
 pub fn follow<R: AllocGlobal + Print, E: Settle<Task>>(
     rt: &R,
     evaluator: &mut E,

@@ -6,9 +6,9 @@ use sas_mutex::{Facts, Verdict, check_group, check_groups};
 use std::alloc::AllocError;
 use test_words::{cut, fact_of, number_in, say, spend};
 
-/// Calls `check_groups` of a layered task, and `check_group` of each of its groups. It could show a definition by which
-/// an operator has to keep groups that no step of it breaks or doesn't have to keep others, a family that isn't the
-/// greatest, an operator that isn't the lowest, or that the call always wants memory.
+/// Calls `check_groups` of a layered task, and `check_group` of each of its groups. It could show a definition by which an operator
+/// has to keep groups that no step of it breaks or doesn't have to keep others, a family that isn't the greatest, an operator that
+/// isn't the lowest, or that the call is always out of memory.
 pub fn judge_groups<R: AllocGlobal + Print>(
     rt: &R,
     count: usize,
@@ -63,7 +63,7 @@ pub fn say_facts<P: Print>(out: &P, words: &[u8], task: &Task) {
     }
 }
 
-/// Prints the facts of the operator, with the effects and the fact that are asked for.
+/// Prints the facts of the operator, with the effects and the fact that are named.
 fn say_each<P: Print>(out: &P, operator: &Operator, words: &[u8]) {
     let (first, words) = cut(words, b';');
     let (second, extra) = cut(words, b';');

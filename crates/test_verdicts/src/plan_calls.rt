@@ -6,9 +6,9 @@ use sas_run::{PlanFault, Runner, Valid};
 use std::alloc::{AllocError, Global};
 use test_words::{plan_of, say, say_number, say_want, spend};
 
-/// Calls `check_plan` of the plan of a file, and prints its answer behind the initial state. It could show a definition
-/// of valid plans that takes the last operator of a name and not the first, passes over a fact of the goal, or adds up
-/// cost lines under metric 0; and that the call always wants memory.
+/// Calls `check_plan` of the plan of a file, and prints its answer behind the initial state. It could show a definition of valid
+/// plans that takes the last operator of a name and not the first, passes over a fact of the goal, or adds up cost lines under
+/// metric 0; and that the call is always out of memory.
 pub fn check_plan<R: AllocGlobal + Print, E: Settle<Task> + Drop>(
     rt: &R,
     count: usize,

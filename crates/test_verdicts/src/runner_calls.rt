@@ -1,5 +1,4 @@
-// Calls of `sas_run` on runners: what a name means in a state, steps, and the goal. What is asked stands before a `|`
-// and a file.
+// Calls of `sas_run` on runners: what a name means in a state, steps, and the goal. The calls come before a `|` and a file.
 ghost use Rattle.std.specs.Prelude.{◌<◌, length, IfOk, IfSome};
 ghost use Rattle.sas_axioms.specs.Worklist.{IsReadyFor};
 ghost use Rattle.sas_core.specs.Variables.{IsState};
@@ -58,9 +57,9 @@ fn call_of_runner<R: AllocGlobal + Print, E: Settle<Task> + Drop>(
     }
 }
 
-/// Makes calls of a runner in turn, from the initial state on: `CALLS|FILE`, with `;` between the calls. It could show
-/// a definition of steps by which an effect that doesn't fire asks for no old value, effects take place one after
-/// another, or the last of two that conflict counts; or one of choices that compares only how names begin.
+/// Makes calls of a runner in turn, from the initial state on: `CALLS|FILE`, with `;` between the calls. It could show a definition
+/// of steps by which an effect that doesn't fire requires no old value, effects take place one after another, or the last of two
+/// that conflict counts; or one of choices that compares only how names begin.
 fn make_steps<R: AllocGlobal + Print, E: Settle<Task> + Drop>(
     rt: &R,
     calls: &[u8],
@@ -205,7 +204,7 @@ fn say_counted<R: AllocGlobal + Print, E: Settle<Task> + Drop>(
     Ok(())
 }
 
-/// Calls `Runner::new`, and prints the initial state. It could show that the call always wants memory.
+/// Calls `Runner::new`, and prints the initial state. It could show that the call is always out of memory.
 pub fn new_runner<R: AllocGlobal + Print>(
     rt: &R,
     count: usize,
@@ -260,7 +259,7 @@ fn settles<E: Settle<Task> + Drop>(alloc: Global, layered: &Layered<Task>, evalu
     state.values() == other.values()
 }
 
-/// Calls `initial`, and once more where memory is refused. It could show that the call always wants memory.
+/// Calls `initial`, and once more where memory is refused. It could show that the call is always out of memory.
 fn say_initial<R: AllocGlobal + Print, E: Settle<Task> + Drop>(
     rt: &R,
     count: usize,

@@ -1,4 +1,4 @@
-// What standard input asks for.
+// What standard input requests.
 ghost use Rattle.std.specs.Prelude.{◌≤◌, length, IfSome};
 
 use std::alloc::{AllocError, Global};
@@ -31,13 +31,13 @@ fn fill<R: Read>(input: &mut R, buffer: &mut [u8]) -> Option<usize>
     Some(filled)
 }
 
-/// Returns what the input asks for, which is read into the buffer.
+/// Returns what the input requests, which is read into the buffer.
 pub fn asked_by<'a, R: Read>(input: &mut R, buffer: &'a mut [u8]) -> Option<Asked<'a>> {
     let filled = fill(input, buffer)?;
     asked_in(&buffer[..filled])
 }
 
-/// Returns what some bytes ask for.
+/// Returns what some bytes request.
 fn asked_in(given: &[u8]) -> Option<Asked<'_>> {
     let (line, bytes) = cut(given, b'\n');
     let (call, words) = str::from_utf8(line).ok()?.split_once(' ')?;
@@ -50,7 +50,7 @@ fn asked_in(given: &[u8]) -> Option<Asked<'_>> {
     })
 }
 
-/// Returns what stands before the first such byte, and what stands behind it: nothing where there is none.
+/// Returns what comes before the first such byte, and what follows it: nothing if there is none.
 pub fn cut(bytes: &[u8], separator: u8) -> (&[u8], &[u8]) {
     match bytes.iter().position(|&byte| byte == separator) {
         Some(at) => (&bytes[..at], &bytes[at + 1..]),

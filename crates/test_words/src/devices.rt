@@ -43,7 +43,7 @@ impl<'a> Read for ToldReader<'a> {
     }
 }
 
-/// Returns the failure that these bytes ask for, or `None` where they ask for none.
+/// Returns the failure that these bytes describe, or `None`.
 fn failure(told: &[u8]) -> Option<ErrorKind> {
     match told {
         [b'!'] => Some(ErrorKind::Other),

@@ -1,12 +1,11 @@
-//! What the programs share that make calls of the libraries for tests: what standard input asks for, and how an answer
-//! is printed. `sas` uses none of it.
+//! What the programs share that make calls of the libraries for tests: what standard input requests, and how an answer is printed.
+//! `sas` uses none of it.
 //!
-//! The first line of the input is the name of a call, for some calls a word that names its kind, and a number. Behind
-//! it stand the bytes that the call is about. The program makes so many allocations before the call: where a certain
-//! allocation of the process is refused, the number so decides which one of the call that is. The answer is `before`
-//! where an allocation before the call was refused. It is `wanting` where the call wants memory and all that has to
-//! hold then holds. It begins with `WRONG` where something isn't as it has to be. The comment at each call names the
-//! mistake that it could show and that a proof can't.
+//! The first line of the input is the name of a call, for some calls a word that names its kind, and a number. The bytes that the
+//! call is about follow. The program makes so many allocations before the call: where a certain allocation of the process is
+//! refused, the number so decides which one of the call that is. The answer is `before` where an allocation before the call was
+//! refused. It is `wanting` where the call is out of memory and all that has to hold then holds. It begins with `WRONG` where
+//! something isn't as it has to be. The comment at each call names the mistake that it could show and that a proof can't.
 #![tactic(auto)]
 
 mod asked;

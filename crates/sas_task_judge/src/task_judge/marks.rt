@@ -1,4 +1,4 @@
-// Where the judge stands and what is due there. It is asked for where a line is refused, and only then.
+// Where the judge stands and what is due there. It is looked up only if a line is refused.
 ghost use Rattle.std.specs.Prelude.{◌≡◌, ◌-◌, IfOk};
 ghost use Rattle.std.specs.Prelude.{slice_index_or};
 ghost use Rattle.sas_task_line.specs.FirstWrong.{FirstWrong};
