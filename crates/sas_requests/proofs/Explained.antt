@@ -25,7 +25,7 @@ use Rattle.sas_task_format.proofs.TaskSections.{less, is_less}
 use Rattle.sas_task_format.specs.TaskReasons.{IsTaskReason}
 use Rattle.sas_task_reader.specs.declared.task_refusal.TaskRefusal.{TaskRefusal}
 use Rattle.sas_file_reasons.specs.FileLine.{FileLine}
-use Rattle.sas_file_reasons.specs.Reasons.{task_reasons, plan_reasons, file_lines}
+use Rattle.sas_file_reasons.specs.Reasons.{task_reasons, plan_reasons, file_text}
 use Rattle.sas_requests.specs.Explaining.{FileOutWhy, IsRefusedWith, task_refusal_reasons, plan_refusal_reasons}
 use Rattle.sas_requests.specs.FileReasons.{FaultReasons, told, past_limit, TellsTask, TellsPlan}
 use Rattle.sas_outputs.specs.Output.{refusal}
@@ -74,7 +74,7 @@ module _ {D V I S A R : Type 0} (left : D → Option (List ℕ)) (F : Format V I
     -- the kind of a fault that is refused
     worded_kind : (o : Output) → IsRefusedWith name (fault r) reasons o → IsTold (fault r).kind
     worded_kind o is =
-        let (plain, refused, same) = some_of (file_lines reasons) (refusal name (fault r)) o (sym is) in (
+        let (plain, refused, same) = some_of (file_text reasons) (refusal name (fault r)) o (sym is) in (
           refused_kind (fault r).kind Read _ plain refl refused,
           refused_kind (fault r).kind TooLong _ plain refl refused,
           refused_kind (fault r).kind Memory _ plain refl refused,

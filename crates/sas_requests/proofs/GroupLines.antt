@@ -1,30 +1,23 @@
 -- Each line behind that of a group tells a reason; and what is left of the lines of groups when reasons are taken away.
-use Rattle.std.proofs.Common.{◌≡◌, ℕ, suc, ◌+◌, ◌<◌, List, [], ◌∷◌, ◌++◌, length, get_or, codes, refl, ap, subst, ◌∙◌, arith, Bool, Option, Some, None}
+use Rattle.std.proofs.Common.{◌≡◌, ℕ, suc, ◌+◌, ◌<◌, List, [], ◌∷◌, ◌++◌, length, get_or, refl, ap, subst, ◌∙◌, arith, Bool, Option, Some, None}
 use Rattle.std.specs.Prelude.{not, filter, if◌then◌else◌}
 use Rattle.std.specs.List.{AllByRecursion}
 use Rattle.std.specs.Option.{option_map_or}
-use Rattle.sas_core.specs.declared.parts.Fact.{Fact}
 use Rattle.sas_core.specs.declared.parts.Parts.{Parts}
+use Rattle.sas_core.specs.WellRanged.{WellRanged}
 use Rattle.sas_lines.specs.Lines.{text, lines}
 use Rattle.sas_lines.proofs.Splitting.{Plain, lines-text}
-use Rattle.sas_reader.proofs.Plain.{plain_bytes}
 use Rattle.sas_task_format.proofs.TaskSections.{all_map}
 use Rattle.sas_groups.specs.declared.verdict.Verdict.{Verdict}
 use Rattle.sas_groups.specs.declared.verdict.Verdict.TheVariants.{Exclusive, Derived, Initial, Broken}
-use Rattle.sas_group_reasons.specs.declared.reason.Failure.{Failure}
-use Rattle.sas_group_reasons.specs.declared.reason.Failure.TheVariants.{SetsTwo, MayStay}
 use Rattle.sas_group_reasons.specs.declared.reason.Reason.{Reason}
-use Rattle.sas_group_reasons.specs.declared.reason.Reason.TheVariants.{OnDerived, HoldsTwo, Breaks}
 use Rattle.sas_group_reasons.specs.Reasons.{IsReasonIfAny, reason_at}
 use Rattle.sas_output.specs.declared.ending.Status.TheVariants.{Yes}
 use Rattle.sas_answers.specs.GroupWords.{group_line, verdict_lines_from, verdict_lines, groups_status}
-use Rattle.sas_wording.specs.Facts.{fact_words}
-use Rattle.sas_task_reasons.specs.WhyGroups.{fact_line, holds_line, stays_line, member_at, failure_lines, reason_lines, group_lines, why_lines_from, why_lines}
+use Rattle.sas_task_reasons.specs.WhyGroups.{reason_lines, why_group, group_lines, why_lines_from, why_lines}
 use Rattle.sas_task_reasons.proofs.GroupAnswers.{no_reason}
 use Rattle.sas_requests.specs.Why.{is_reason, without_reasons}
-use Rattle.sas_requests.proofs.PlainNames.{HasPlainNames}
-use Rattle.sas_requests.proofs.ReasonLines.{IsReason, AreReasons, two_spaces, plain_fact}
-use Rattle.sas_requests.proofs.LayerLines.{operator, effect}
+use Rattle.sas_requests.proofs.ReasonLines.{IsReason, AreReasons, lines_tell}
 use Rattle.sas_requests.proofs.ToldLines.{kept_first, plain_told, plain_reason, group_told}
 
 all_both : {A : Type 0} (P : A → Type 0) (a b : List A) → AllByRecursion P a → AllByRecursion P b → AllByRecursion P (a ++ b)
@@ -44,34 +37,13 @@ none_if_exclusive : (p : Parts) (group : ℕ) (found : Option Reason) → IsReas
 none_if_exclusive p group None is = refl
 none_if_exclusive p group (Some reason) is = absurd (no_reason reason is.told)
 
-module _ (p : Parts) (names : HasPlainNames p) where
-  -- ---- the lines of a reason
-
-  fact_tells : (f : Fact) → IsReason (fact_line p f)
-  fact_tells f = two_spaces (codes "fact" ∷ fact_words p f.var f.value) (plain_bytes (codes "fact") refl, plain_fact p names f.var f.value)
-
-  holds_tells : (f : Fact) → IsReason (holds_line p f)
-  holds_tells f = two_spaces (codes "holds" ∷ fact_words p f.var f.value) (plain_bytes (codes "holds") refl, plain_fact p names f.var f.value)
-
-  stays_tells : (f : Fact) → IsReason (stays_line p f)
-  stays_tells f = two_spaces (codes "may stay" ∷ fact_words p f.var f.value) (plain_bytes (codes "may stay") refl, plain_fact p names f.var f.value)
-
-  failure_tells : (group place : ℕ) (failure : Failure) → AreReasons (failure_lines p group place failure)
-  failure_tells group place (SetsTwo first second) = (operator p names place, (effect p names place first, (effect p names place second, tt)))
-  failure_tells group place (MayStay first member) = (operator p names place, (effect p names place first, (stays_tells (member_at p group member), tt)))
-
-  reason_tells : (group : ℕ) (reason : Reason) → AreReasons (reason_lines p group reason)
-  reason_tells group (OnDerived f) = (fact_tells f, tt)
-  reason_tells group (HoldsTwo f g) = (holds_tells f, (holds_tells g, tt))
-  reason_tells group (Breaks place failure) = failure_tells group place failure
-
-  pub any_tells : (group : ℕ) (found : Option Reason) → AreReasons (option_map_or (reason_lines p group) found [])
-  any_tells group None = tt
-  any_tells group (Some reason) = reason_tells group reason
+module _ (p : Parts) (ranged : WellRanged p) where
+  pub any_tells : (group : ℕ) (found : Option Reason) → AreReasons (why_group p group found)
+  any_tells group found = lines_tell p [] ranged tt (option_map_or (reason_lines p group) found [])
 
   module _ (reasons : List (Option Reason)) where
     abbrev pub behind : ℕ → List (List ℕ)
-    behind group = option_map_or (reason_lines p group) (reason_at reasons group) []
+    behind group = why_group p group (reason_at reasons group)
 
     -- ---- the lines of the text
 

@@ -1,5 +1,5 @@
 -- A group that is reported as exclusive is an invariant of a task that the bytes are a text of.
-use Rattle.std.proofs.Common.{◌≡◌, ℕ, suc, ◌+◌, ◌<◌, ◌^◌, List, [], ◌∷◌, ◌++◌, length, get_or, drop, codes, append_assoc, append-nil, true, ◌⊎◌, refl, sym, ap, subst, ◌∙◌, arith, Option, Some, None, Result, Ok, Err, inl, inr}
+use Rattle.std.proofs.Common.{◌≡◌, ℕ, suc, ◌+◌, ◌<◌, ◌^◌, List, [], ◌∷◌, ◌++◌, length, map, get_or, drop, codes, append_assoc, append-nil, true, ◌⊎◌, refl, sym, ap, subst, ◌∙◌, arith, Option, Some, None, Result, Ok, Err, inl, inr}
 use Rattle.std.specs.Fmt.{decimal}
 use Rattle.std.specs.List.{AllByRecursion, Contains}
 use Rattle.std.specs.Io.KnownBytes.{Appends}
@@ -18,8 +18,7 @@ use Rattle.sas_lines.proofs.Words.{same_first, NoSpace-decimal, own_decimal}
 use Rattle.sas_reader.specs.declared.fault.Fault.{Fault}
 use Rattle.sas_reader.specs.Limit.{most_bytes}
 use Rattle.sas_reader.specs.Format.{Reads, ReadsAs}
-use Rattle.sas_reader.specs.System.{IsPlain}
-use Rattle.sas_reader.proofs.Plain.{plain, plain-decimal, plain_bytes, plain-append}
+use Rattle.sas_reader.proofs.Plain.{plain_bytes}
 use Rattle.sas_task_format.specs.TaskFormat.{task_format}
 use Rattle.sas_groups.specs.declared.verdict.Verdict.{Verdict}
 use Rattle.sas_groups.specs.declared.verdict.Verdict.TheVariants.{Exclusive, Derived, Initial, Broken}
@@ -31,6 +30,7 @@ use Rattle.sas_outputs.specs.Headline.{HasInvariant, Invariants}
 use Rattle.sas_answers.specs.GroupWords.{verdict_words, group_line, verdict_lines_from, verdict_lines}
 use Rattle.sas_answers.specs.LayerWords.{layer_words, layers_line}
 use Rattle.sas_answers.specs.Answers.{layers_refusal, GroupsAnswer, LayeredGroupsAnswer, MutexAnswer}
+use Rattle.sas_wording.specs.Line.{line_bytes}
 use Rattle.sas_task_reasons.specs.LayerReasons.{layer_reasons}
 use Rattle.sas_task_reasons.specs.WhyGroups.{why_lines_from, why_lines, WhyGroupsAnswer}
 use Rattle.sas_task_reasons.specs.WhyLayers.{why_refusal, WhyLayeredGroups, WhyMutexAnswer}
@@ -39,33 +39,18 @@ use Rattle.sas_output.specs.Ending.{Output}
 use Rattle.sas_outputs.specs.Output.{word_of, refusal, refusal_line, IsAnswerOrRefusal, FileOut}
 use Rattle.sas_requests.specs.Why.{is_reason}
 use Rattle.sas_outputs.proofs.Headlines.{sent_same}
-use Rattle.sas_requests.proofs.PlainNames.{HasPlainNames, plain_names}
-use Rattle.sas_requests.proofs.ReasonLines.{IsReason, AreReasons}
-use Rattle.sas_requests.proofs.LayerLines.{layer_reasons_tell}
+use Rattle.sas_requests.proofs.ReasonLines.{IsReason, AreReasons, lines_tell}
 use Rattle.sas_requests.proofs.GroupLines.{any_tells, behind, lines_of_groups}
 use Rattle.sas_outputs.proofs.PlainLines.{file_words, file_plain, kind_plain}
-use Rattle.sas_requests.proofs.ToldLines.{IsTold, lines_of_first, layer_told}
+use Rattle.sas_requests.proofs.ToldLines.{IsTold, plain_told as plain_line, lines_of_first, layer_told, group_told}
 use Rattle.sas_outputs.proofs.WordedLines.{worded}
 use Rattle.sas_requests.proofs.WhyAnswers.{why_is}
 
 -- ---- the lines of verdicts
 
-plain_words : (verdict : Verdict) → IsPlain (verdict_words verdict)
-plain_words Exclusive = plain_bytes (codes "exclusive") refl
-plain_words Derived = plain_bytes (codes "derived") refl
-plain_words Initial = plain_bytes (codes "not shown: initial state") refl
-plain_words (Broken operator) = plain-append (codes "not shown: operator ") (decimal operator) (plain_bytes (codes "not shown: operator ") refl) (plain-decimal operator)
-
-plain_line : (place : ℕ) (verdict : Verdict) → IsPlain (group_line place verdict)
-plain_line place verdict =
-    plain-append (codes "group " ++ decimal place ++ codes " ") (verdict_words verdict)
-    (plain-append (codes "group " ++ decimal place) (codes " ")
-    (plain-append (codes "group ") (decimal place) (plain_bytes (codes "group ") refl) (plain-decimal place)) (plain_bytes (codes " ") refl))
-    (plain_words verdict)
-
 lines_plain : (n : ℕ) (verdicts : List Verdict) → AllByRecursion Plain (verdict_lines_from n verdicts)
 lines_plain n [] = tt
-lines_plain n (v ∷ verdicts) = (plain (group_line n v) (plain_line n v), lines_plain (n + 1) verdicts)
+lines_plain n (v ∷ verdicts) = (plain_line (group_line n v) (group_told n v), lines_plain (n + 1) verdicts)
 
 -- ---- which line says that a group is exclusive
 
@@ -164,18 +149,18 @@ alone_says_none : (words out : List ℕ) → IsTold (codes "task refused: " ++ w
 alone_says_none words out told is = subst SaysNone (append-nil ((codes "task refused: " ++ words) ++ 10 ∷ []) ∙ sym is) (refusal_says_none words [] told tt)
 
 -- with reasons behind the lines of groups, too
-module _ (p : Parts) (names : HasPlainNames p) (reasons : List (Option Reason)) where
+module _ (p : Parts) (ranged : WellRanged p) (reasons : List (Option Reason)) where
   why_said : (n place : ℕ) (verdicts : List Verdict) → n + length verdicts < 2 ^ 64 → Contains (why_lines_from p reasons n verdicts) (group_line place Exclusive) → IsSaid n place verdicts
   why_said n place [] few h = absurd (contains_none (group_line place Exclusive) h)
   why_said n place (v ∷ verdicts) few h =
-      let its = behind p names reasons n in
+      let its = behind p ranged reasons n in
       let later = why_lines_from p reasons (n + 1) verdicts in
       elim (contains_cases (group_line n v) (its ++ later) (group_line place Exclusive) h) [
         | inl here ↦
             (let same = same_line n place v (omega arith) here in
             record { behind = 0; is = omega (arith, same.0); below = omega arith; exclusive = same.1 })
         | inr others ↦ elim (Contains-append_cases its later (group_line place Exclusive) others) [
-          | inl among ↦ absurd (reasons_apart its (any_tells p names n (reason_at reasons n)) place among)
+          | inl among ↦ absurd (reasons_apart its (any_tells p ranged n (reason_at reasons n)) place among)
           | inr more ↦ said_later n place v verdicts (why_said (n + 1) place verdicts (omega arith) more)
         ]
       ]
@@ -184,12 +169,11 @@ why_verdicts : (p : Parts) (o : Output) → WellRanged p → WhyGroupsAnswer p o
 why_verdicts p o ranged (verdicts, reasons, joint, are, e) =
     let few = ranged.groups.count in
     let one_each = joint.one_each in
-    let names = plain_names p ranged in
-    let are_lines : lines o.text ≡ why_lines p verdicts reasons = ap (λ (x : Output). lines x.text) e ∙ lines_of_groups p names reasons verdicts in
+    let are_lines : lines o.text ≡ why_lines p verdicts reasons = ap (λ (x : Output). lines x.text) e ∙ lines_of_groups p ranged reasons verdicts in
     record {
       verdicts = verdicts;
       are = joint;
-      said = λ place has. why_said p names reasons 0 place verdicts (omega arith) (subst (λ (ls : List (List ℕ)). Contains ls (group_line place Exclusive)) are_lines has);
+      said = λ place has. why_said p ranged reasons 0 place verdicts (omega arith) (subst (λ (ls : List (List ℕ)). Contains ls (group_line place Exclusive)) are_lines has);
     }
 
 -- the refusal of a file
@@ -212,9 +196,9 @@ why_says_none : (p : Parts) (fault : LayerFault) (o : Output) → WellRanged p �
 why_says_none p fault o ranged told =
     let (plain_one, is, same) = why_is p fault o told in
     let w = worded (layer_words fault) layers_line plain_one is in
-    let reasons = layer_reasons p fault in
+    let reasons = map (line_bytes p []) (layer_reasons p fault) in
     let whole : o.text ≡ layers_line w.said ++ text reasons = ap (λ (x : Output). x.text) same ∙ ap (λ (t : List ℕ). t ++ text reasons) w.text in
-    subst SaysNone (sym whole) (refusal_says_none w.said reasons (layer_told fault w.said w.among) (layer_reasons_tell p (plain_names p ranged) fault))
+    subst SaysNone (sym whole) (refusal_says_none w.said reasons (layer_told fault w.said w.among) (lines_tell p [] ranged tt (layer_reasons p fault)))
 
 -- ---- answers about groups
 

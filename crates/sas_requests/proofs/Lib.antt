@@ -5,9 +5,7 @@ mod SummaryLengths
 mod ShortOutputs
 mod WhyAnswers
 mod WhyLaws
-mod PlainNames
 mod ReasonLines
-mod LayerLines
 mod ToldLines
 mod GroupLines
 mod SameAnswers

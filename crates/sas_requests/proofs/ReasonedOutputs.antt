@@ -25,9 +25,9 @@ use Rattle.sas_outputs.specs.Output.{word_of, refusal, refusal_line}
 use Rattle.sas_requests.specs.Why.{is_reason, without_reasons, OutOfRead, OutWhy, IsSameAnswer, SameAnswer, OneWhyOutput, SomeWhyOutput, NoneWhyIsLong}
 use Rattle.sas_outputs.proofs.Headlines.{sent_same, headline_of}
 use Rattle.sas_requests.proofs.InvariantGroups.{why_groups, invariants_of, reasons_apart}
-use Rattle.sas_requests.proofs.ReasonLines.{AreReasons}
+use Rattle.sas_requests.proofs.ReasonLines.{AreReasons, file_lines_tell}
 use Rattle.sas_requests.proofs.RefusalReasons.{no_reasons, none_of, some_of, IsFileRefusal, stand_behind}
-use Rattle.sas_requests.proofs.RefusalLaws.{one_reasons, some_reasons, file_lines_tell}
+use Rattle.sas_requests.proofs.RefusalLaws.{one_reasons, some_reasons}
 use Rattle.sas_requests.proofs.SameAnswers.{same_of_read}
 use Rattle.sas_outputs.proofs.PlainLines.{file_words, file_plain, kind_plain}
 use Rattle.sas_requests.proofs.ToldLines.{IsTold, stays, first_stays, lines_of_first}
@@ -42,16 +42,16 @@ one_why request b c o p x y =
     let reasons = one_reasons request b c x.reasons y.reasons x.are_reasons y.are_reasons in
     let read = one_of_read request b c x.of_read y.of_read x.is_out y.is_out in
     x.whole
-    ∙ (ap (λ (r : List FileLine). option_map (with_reasons (file_lines r)) x.of_read) reasons
-    ∙ (ap (λ (q : Option Output). option_map (with_reasons (file_lines y.reasons)) q) read ∙ sym y.whole))
+    ∙ (ap (λ (r : List FileLine). option_map (with_reasons (file_text r)) x.of_read) reasons
+    ∙ (ap (λ (q : Option Output). option_map (with_reasons (file_text y.reasons)) q) read ∙ sym y.whole))
 
 pub some_why : SomeWhyOutput
 some_why request b c none =
     some_of_read request b c (λ q out. some_reasons request b c (λ reasons why.
-    none (option_map (with_reasons (file_lines reasons)) q) (record { of_read = q; reasons = reasons; is_out = out; are_reasons = why; whole = refl })))
+    none (option_map (with_reasons (file_text reasons)) q) (record { of_read = q; reasons = reasons; is_out = out; are_reasons = why; whole = refl })))
 
 pub long_why : NoneWhyIsLong
-long_why request b c out = long_of_read request b c (subst (OutOfRead request b c) (none_of (file_lines out.reasons) out.of_read out.whole) out.is_out)
+long_why request b c out = long_of_read request b c (subst (OutOfRead request b c) (none_of (file_text out.reasons) out.of_read out.whole) out.is_out)
 
 -- ---- the refusal of a file is one line
 
@@ -103,9 +103,9 @@ refusal_line_of o refused = elim refused.1 [
 
 -- ---- the same answer
 
-module _ (o told : Output) (reasons : List FileLine) (whole : o ≡ with_reasons (file_lines reasons) told) where
+module _ (o told : Output) (reasons : List FileLine) (whole : o ≡ with_reasons (file_text reasons) told) where
   as_it_was : reasons ≡ [] → o ≡ told
-  as_it_was none = whole ∙ (ap (λ (r : List FileLine). with_reasons (file_lines r) told) none ∙ no_reasons told)
+  as_it_was none = whole ∙ (ap (λ (r : List FileLine). with_reasons (file_text r) told) none ∙ no_reasons told)
 
   module _ (l : IsRefusalLine told) where
     says_no : o.status ≡ No
@@ -128,8 +128,8 @@ module _ (o told : Output) (reasons : List FileLine) (whole : o ≡ with_reasons
 
 module _ (request : Request) (b c : List ℕ) (o : Output) (out : OutWhy request b c (Some o)) where
   -- the output of what was read, behind which the reasons stand
-  came : (told : Output) × (out.of_read ≡ Some told) × (o ≡ with_reasons (file_lines out.reasons) told)
-  came = some_of (file_lines out.reasons) out.of_read o out.whole
+  came : (told : Output) × (out.of_read ≡ Some told) × (o ≡ with_reasons (file_text out.reasons) told)
+  came = some_of (file_text out.reasons) out.of_read o out.whole
 
   came_out : OutOfRead request b c (Some came.0)
   came_out = subst (OutOfRead request b c) came.1 out.is_out

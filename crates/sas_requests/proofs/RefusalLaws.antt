@@ -1,5 +1,5 @@
--- Why a file is refused: one set of lines, always some, and each line tells a reason.
-use Rattle.std.proofs.Common.{◌≡◌, ◌≢◌, ℕ, List, [], ◌∷◌, length, take, refl, sym, ap, subst, ◌∙◌, inl, inr, Option, Some, None, Result, Ok, Err, true}
+-- Why a file is refused: one list of reasons, and always some.
+use Rattle.std.proofs.Common.{◌≡◌, ◌≢◌, ℕ, List, [], ◌∷◌, length, take, refl, sym, ap, subst, ◌∙◌, inl, inr, Option, Some, None, Result, Ok, Err}
 use Rattle.std.specs.Prelude.{nat_lt}
 use Rattle.sas_core.specs.declared.parts.Parts.{Parts}
 use Rattle.sas_core.specs.FirstFault.{first_fault}
@@ -27,16 +27,12 @@ use Rattle.sas_task_format.proofs.MarkLaws.{one_task_reason}
 use Rattle.sas_task_format.proofs.SomeReason.{some_task_reason}
 use Rattle.sas_task_format.proofs.TaskGrammar.{task_grammar}
 use Rattle.sas_task_format.proofs.TaskLaws.{task_laws_hold}
-use Rattle.sas_file_reasons.specs.FileLine.{FileLine, file_line_bytes}
-use Rattle.sas_file_reasons.specs.Laws.{IsReasonLine}
-use Rattle.sas_file_reasons.specs.Reasons.{task_reasons, file_lines}
-use Rattle.sas_file_reasons.proofs.ReasonLines.{file_lines_are_reasons}
+use Rattle.sas_file_reasons.specs.FileLine.{FileLine}
+use Rattle.sas_file_reasons.specs.Reasons.{task_reasons}
 use Rattle.sas_outputs.specs.declared.Request.{Request}
 use Rattle.sas_outputs.specs.declared.Request.TheVariants.{Show, Print, Steps, Check, Plan, Mutex}
 use Rattle.sas_requests.specs.FileReasons.{FaultReasons, told, past_limit, ReadReasons, FileReasons, TellsTask, TellsPlan, LayersFileReasons, JudgedFileReasons, FilesReasons, RefusalReasons}
-use Rattle.sas_requests.specs.Why.{is_reason}
 use Rattle.sas_outputs.proofs.Outputs.{Worded, plan_worded, task_worded}
-use Rattle.sas_requests.proofs.ReasonLines.{IsReason, AreReasons}
 
 pub task_telling : AboutLaws task_format
 task_telling = about_laws_of task_format TaskLineFits process_node task_start task_grammar
@@ -168,12 +164,3 @@ some_reasons Steps b c = some_plan c
 some_reasons Check b c = some_task b
 some_reasons Plan b c = some_files b c
 some_reasons Mutex b c = some_task b
-
--- ---- each line tells a reason
-
-one_reason : (line : List ℕ) → IsReasonLine line → IsReason line
-one_reason line l = record { plain = l.plain; tells = subst (λ (bytes : List ℕ). is_reason bytes ≡ true) (sym l.spaces) refl }
-
-pub file_lines_tell : (reasons : List FileLine) → AreReasons (file_lines reasons)
-file_lines_tell [] = tt
-file_lines_tell (line ∷ reasons) = (one_reason (file_line_bytes line) (file_lines_are_reasons line), file_lines_tell reasons)

@@ -1,5 +1,5 @@
 -- An output with the reasons of what was read is the same answer as the output without them.
-use Rattle.std.proofs.Common.{◌≡◌, ℕ, ◌+◌, ◌<◌, List, ◌++◌, length, get_or, arith, codes, refl, sym, ap, subst, ◌∙◌, inl, inr, Option, Some, None, Result, Ok, Err}
+use Rattle.std.proofs.Common.{◌≡◌, ℕ, ◌+◌, ◌<◌, List, [], ◌++◌, length, map, get_or, arith, codes, refl, sym, ap, subst, ◌∙◌, inl, inr, Option, Some, None, Result, Ok, Err}
 use Rattle.sas_core.specs.declared.parts.Parts.{Parts}
 use Rattle.sas_core.specs.FirstFault.{first_fault}
 use Rattle.sas_core.specs.PlanParts.{PlanParts}
@@ -28,14 +28,13 @@ use Rattle.sas_answers.specs.PlanWords.{fault_words, invalid_line}
 use Rattle.sas_task_reasons.specs.LayerReasons.{layer_reasons}
 use Rattle.sas_task_reasons.specs.WhyGroups.{why_lines}
 use Rattle.sas_task_reasons.specs.WhyLayers.{why_refusal, why_verdict, WhyCheckAnswer, WhyLayeredGroups, WhyMutexAnswer}
+use Rattle.sas_wording.specs.Line.{line_bytes, reasons_text}
 use Rattle.sas_explain.specs.Verdict.{WhyVerdict, Explains}
 use Rattle.sas_outputs.specs.declared.Request.{Request}
 use Rattle.sas_outputs.specs.declared.Request.TheVariants.{Show, Print, Steps, Check, Plan, Mutex}
 use Rattle.sas_outputs.specs.Output.{Out, IsAnswerOrRefusal, FileOut, LayersOut, JudgedOut, plain_refusal, ShowAnswer, PrintAnswer}
 use Rattle.sas_requests.specs.Why.{without_reasons, IsSameAnswer, OutOfRead}
-use Rattle.sas_requests.proofs.PlainNames.{plain_names, plain_steps}
-use Rattle.sas_requests.proofs.ReasonLines.{why_tells}
-use Rattle.sas_requests.proofs.LayerLines.{layer_reasons_tell}
+use Rattle.sas_requests.proofs.ReasonLines.{lines_tell}
 use Rattle.sas_requests.proofs.GroupLines.{groups_kept, all_exclusive}
 use Rattle.sas_requests.proofs.ToldLines.{IsToldText, stays, first_stays, AreRefusalsTold, task_refusals_told, plan_refusals_told, layer_told, layers_told, verdict_told}
 use Rattle.sas_outputs.proofs.WordedLines.{worded}
@@ -85,8 +84,8 @@ refused_same : (p : Parts) (fault : LayerFault) (o : Output) → WellRanged p �
 refused_same p fault o ranged told =
     let (plain, is, same) = why_is p fault o told in
     let w = worded (layer_words fault) layers_line plain is in
-    let reasons = layer_reasons p fault in
-    let are = layer_reasons_tell p (plain_names p ranged) fault in
+    let reasons = map (line_bytes p []) (layer_reasons p fault) in
+    let are = lines_tell p [] ranged tt (layer_reasons p fault) in
     let left = first_stays (codes "task refused: " ++ w.said) reasons (layer_told fault w.said w.among) are in
     let whole : o.text ≡ layers_line w.said ++ text reasons = ap (λ (x : Output). x.text) same ∙ ap (λ (t : List ℕ). t ++ text reasons) w.text in (
       plain,
@@ -118,7 +117,7 @@ mutex_same p None o ranged (verdicts, reasons, joint, are, is) =
       record {
         status = ap (λ (x : Output). x.status) is;
         yes = λ is_yes. whole ∙ ap (λ (ls : List (List ℕ)). text ls) (all_exclusive p reasons 0 verdicts (reasons_from p verdicts reasons joint are) is_yes);
-        no = λ _. ap without_reasons whole ∙ groups_kept p (plain_names p ranged) reasons verdicts;
+        no = λ _. ap without_reasons whole ∙ groups_kept p ranged reasons verdicts;
       },
     )
 mutex_same p (Some fault) o ranged is = refused_same p fault o ranged is
@@ -141,12 +140,12 @@ task_same IsAnswer Why each b (Err fault) o reads is = (o, is, itself o (told_st
 explained_same : (p : Parts) (plan : PlanParts) (fault : PlanFault) (o : Output) → WellRanged p → WellNamed plan → (e : Explains p plan fault o.text) → o.status ≡ No → IsSameAnswer e.verdict o
 explained_same p plan fault o ranged named e is_no =
     let w = worded (fault_words plan.cost fault) invalid_line e.verdict e.told in
-    let reasons = why_tells p plan fault e.reasons (plain_names p ranged) (plain_steps plan.steps named.steps) e.why in
-    let left = first_stays (codes "plan invalid: " ++ w.said) e.reasons (verdict_told plan.cost fault w.said w.among) reasons in
+    let reasons = lines_tell p plan.steps ranged named.steps e.reasons in
+    let left = first_stays (codes "plan invalid: " ++ w.said) (map (line_bytes p plan.steps) e.reasons) (verdict_told plan.cost fault w.said w.among) reasons in
     record {
       status = is_no ∙ sym w.status;
       yes = λ is_yes. absurd (let apart : Yes ≡ No = sym is_yes ∙ w.status in cc);
-      no = λ _. ap without_reasons (e.whole ∙ ap (λ (t : List ℕ). t ++ text e.reasons) w.text) ∙ (left ∙ sym w.text);
+      no = λ _. ap without_reasons (e.whole ∙ ap (λ (t : List ℕ). t ++ reasons_text p plan.steps e.reasons) w.text) ∙ (left ∙ sym w.text);
     }
 
 module _ (c : List ℕ) (p : Parts) (ranged : WellRanged p) where

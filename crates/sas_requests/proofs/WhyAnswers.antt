@@ -1,6 +1,6 @@
 -- What is said of a plan with reasons: one thing, and always something; and that it is valid exactly where it is. And what is said
 -- of a task that isn't layered.
-use Rattle.std.proofs.Common.{◌≡◌, ℕ, ◌<◌, List, ◌++◌, get_or, refl, sym, ap, subst, ◌∙◌, inl, inr, Some, None, Option, arith}
+use Rattle.std.proofs.Common.{◌≡◌, ℕ, ◌<◌, List, [], ◌++◌, get_or, refl, sym, ap, subst, ◌∙◌, inl, inr, Some, None, Option, arith}
 use Rattle.std.specs.Prelude.{option_map}
 use Rattle.std.proofs.lemmas.Option.{none-some}
 use Rattle.sas_core.specs.declared.parts.Parts.{Parts}
@@ -20,6 +20,8 @@ use Rattle.sas_answers.specs.PlanWords.{valid_line, fault_words, invalid_line}
 use Rattle.sas_task_reasons.specs.LayerReasons.{layer_reasons}
 use Rattle.sas_task_reasons.specs.WhyLayers.{with_reasons, why_refusal}
 use Rattle.sas_task_reasons.proofs.TaskAnswers.{refused_why}
+use Rattle.sas_wording.specs.declared.line.Line.{Line}
+use Rattle.sas_wording.specs.Line.{reasons_text}
 use Rattle.sas_reasons.proofs.WhyPlan.{one_why, some_why}
 use Rattle.sas_explain.specs.Verdict.{WhyVerdict, Explains}
 use Rattle.sas_outputs.proofs.Headlines.{TellsValid}
@@ -37,7 +39,7 @@ line_apart words behind steps cost e = not_same 105 118 (omega arith) (sym (ap (
 explained_apart : (p : Parts) (plan : PlanParts) (fault : PlanFault) (bytes : List ℕ) (steps cost : ℕ) → Explains p plan fault bytes → bytes ≡ valid_line steps cost → ⊥
 explained_apart p plan fault bytes steps cost e is =
     let w = worded (fault_words plan.cost fault) invalid_line e.verdict e.told in
-    line_apart w.said (text e.reasons) steps cost (ap (λ (t : List ℕ). t ++ text e.reasons) (sym w.text) ∙ (sym e.whole ∙ is))
+    line_apart w.said (reasons_text p plan.steps e.reasons) steps cost (ap (λ (t : List ℕ). t ++ reasons_text p plan.steps e.reasons) (sym w.text) ∙ (sym e.whole ∙ is))
 
 -- ---- one answer
 
@@ -47,8 +49,8 @@ explained_one p plan fault a b layered x y =
     let verdict : x.verdict ≡ y.verdict = cc in
     let reasons = one_why p plan fault x.reasons y.reasons layered x.why y.why in
     x.whole
-    ∙ (ap (λ (v : Output). v.text ++ text x.reasons) verdict
-    ∙ (ap (λ (lines : List (List ℕ)). y.verdict.text ++ text lines) reasons ∙ sym y.whole))
+    ∙ (ap (λ (v : Output). v.text ++ reasons_text p plan.steps x.reasons) verdict
+    ∙ (ap (λ (lines : List Line). y.verdict.text ++ reasons_text p plan.steps lines) reasons ∙ sym y.whole))
 
 same_output : (o q : Output) → o.text ≡ q.text → o.status ≡ q.status → o ≡ q
 same_output o q text status =
@@ -85,7 +87,7 @@ explained : (p : Parts) (plan : PlanParts) (fault : PlanFault) → IsLayered p �
 explained p plan fault layered is =
     let told = some_told p plan fault is in
     let why = some_why p plan fault layered is in (
-      record { text = told.0.text ++ text why.0; status = No },
+      record { text = told.0.text ++ reasons_text p plan.steps why.0; status = No },
       inr (fault, is, record { verdict = told.0; told = told.1; reasons = why.0; why = why.1; whole = refl }, refl),
     )
 
@@ -108,19 +110,19 @@ why_tells_valid = record {
 
 -- ---- a task that isn't layered
 
-why_of : (p : Parts) (fault : LayerFault) (found : Option Output) (o : Output) → layers_refusal fault ≡ found → option_map (with_reasons (layer_reasons p fault)) found ≡ Some o
-    → (plain : Output) × (layers_refusal fault ≡ Some plain) × (o ≡ with_reasons (layer_reasons p fault) plain)
+why_of : (p : Parts) (fault : LayerFault) (found : Option Output) (o : Output) → layers_refusal fault ≡ found → option_map (with_reasons (reasons_text p [] (layer_reasons p fault))) found ≡ Some o
+    → (plain : Output) × (layers_refusal fault ≡ Some plain) × (o ≡ with_reasons (reasons_text p [] (layer_reasons p fault)) plain)
 why_of p fault None o is told = absurd (none-some o told)
-why_of p fault (Some plain) o is told = (plain, is, let same : with_reasons (layer_reasons p fault) plain ≡ o = cc in sym same)
+why_of p fault (Some plain) o is told = (plain, is, let same : with_reasons (reasons_text p [] (layer_reasons p fault)) plain ≡ o = cc in sym same)
 
 -- its refusal is the one without reasons, with them behind
-pub why_is : (p : Parts) (fault : LayerFault) (o : Output) → why_refusal p fault ≡ Some o → (plain : Output) × (layers_refusal fault ≡ Some plain) × (o ≡ with_reasons (layer_reasons p fault) plain)
+pub why_is : (p : Parts) (fault : LayerFault) (o : Output) → why_refusal p fault ≡ Some o → (plain : Output) × (layers_refusal fault ≡ Some plain) × (o ≡ with_reasons (reasons_text p [] (layer_reasons p fault)) plain)
 why_is p fault o told = why_of p fault (layers_refusal fault) o refl told
 
 refusal_is : (p : Parts) (fault : LayerFault) (o : Output) → why_refusal p fault ≡ Some o → IsRefusal fault o
 refusal_is p fault o told =
     let (plain, is, same) = why_is p fault o told in
-    record { plain = plain; is = is; status = ap (λ (x : Output). x.status) same; behind = text (layer_reasons p fault); text = ap (λ (x : Output). x.text) same }
+    record { plain = plain; is = is; status = ap (λ (x : Output). x.status) same; behind = reasons_text p [] (layer_reasons p fault); text = ap (λ (x : Output). x.text) same }
 
 pub why_refuses : Refuses why_refusal
 why_refuses = record { some = λ p fault plain is. (_, refused_why p fault plain is); told = refusal_is }

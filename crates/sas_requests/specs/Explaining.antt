@@ -11,7 +11,7 @@ use Rattle.sas_plan_file.specs.PlanFormat.{plan_format}
 use Rattle.sas_task_format.specs.TaskFormat.{task_format}
 use Rattle.sas_task_reader.specs.declared.task_refusal.TaskRefusal.{TaskRefusal}
 use Rattle.sas_file_reasons.specs.FileLine.{FileLine}
-use Rattle.sas_file_reasons.specs.Reasons.{task_reasons, plan_reasons, file_lines}
+use Rattle.sas_file_reasons.specs.Reasons.{task_reasons, plan_reasons, file_text}
 use Rattle.sas_output.specs.Ending.{Output}
 use Rattle.sas_task_reasons.specs.WhyLayers.{with_reasons}
 use Rattle.sas_requests.specs.FileReasons.{FileReasons, TellsTask, TellsPlan}
@@ -26,7 +26,7 @@ module _ {V I S : Type 0} (F : Format V I S)
     pub reasons : List FileLine
     pub is_out : FileOut F name IsAnswer bytes of_read
     pub are_reasons : FileReasons F Tells bytes reasons
-    pub whole : output ≡ option_map (with_reasons (file_lines reasons)) of_read
+    pub whole : output ≡ option_map (with_reasons (file_text reasons)) of_read
 
 abbrev pub TaskOutWhy : (Parts → Output → Type 0) → List ℕ → Option Output → Type 0
 TaskOutWhy = FileOutWhy task_format TellsTask (codes "task")
@@ -37,7 +37,7 @@ PlanOutWhy = FileOutWhy plan_format TellsPlan (codes "plan")
 -- the output refuses the file of this name for the fault, with these reasons behind
 abbrev pub IsRefusedWith : List ℕ → Fault → List FileLine → Output → Type 0
 IsRefusedWith name fault reasons output =
-    option_map (with_reasons (file_lines reasons)) (refusal name fault) ≡ Some output
+    option_map (with_reasons (file_text reasons)) (refusal name fault) ≡ Some output
 
 -- the reasons of a refusal
 abbrev pub task_refusal_reasons : TaskRefusal → List FileLine

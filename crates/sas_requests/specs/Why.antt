@@ -1,12 +1,12 @@
 -- What the program prints with `--why`: the output without it, and reasons behind a no.
-use Rattle.std.specs.Prelude.{◌≡◌, ℕ, Bool, not, List, filter, codes, Option, Some, None, option_map}
+use Rattle.std.specs.Prelude.{◌≡◌, ℕ, Bool, not, List, take, filter, bytes_eq, codes}
+use Rattle.std.specs.Prelude.{Option, Some, None, option_map}
 use Rattle.sas_lines.specs.Lines.{text, lines}
 use Rattle.sas_output.specs.declared.ending.Status.TheVariants.{Yes, No}
 use Rattle.sas_output.specs.Ending.{Output}
-use Rattle.sas_reasons.specs.Lines.{begins}
 use Rattle.sas_task_format.specs.TaskFormat.{task_format}
 use Rattle.sas_file_reasons.specs.FileLine.{FileLine}
-use Rattle.sas_file_reasons.specs.Reasons.{file_lines}
+use Rattle.sas_file_reasons.specs.Reasons.{file_text}
 use Rattle.sas_task_reasons.specs.WhyLayers.{with_reasons, why_refusal, WhyCheckAnswer, WhyMutexAnswer}
 use Rattle.sas_explain.specs.Verdict.{WhyVerdict}
 use Rattle.sas_outputs.specs.declared.Request.{Request}
@@ -42,7 +42,7 @@ pub record OutWhy (request : Request) (b c : List ℕ) (output : Option Output) 
   pub reasons : List FileLine
   pub is_out : OutOfRead request b c of_read
   pub are_reasons : RefusalReasons request b c reasons
-  pub whole : output ≡ option_map (with_reasons (file_lines reasons)) of_read
+  pub whole : output ≡ option_map (with_reasons (file_text reasons)) of_read
 
 -- the answer has no reasons: it is the one without
 abbrev pub HasNoReasons : Request → List ℕ → List ℕ → Type 0
@@ -52,7 +52,7 @@ HasNoReasons request b c = (o : Option Output) → OutWhy request b c o → Out 
 
 -- whether a line is a reason: whether it begins with two spaces
 abbrev pub is_reason : List ℕ → Bool
-is_reason line = begins (codes "  ") line
+is_reason line = bytes_eq (take 2 line) (codes "  ")
 
 -- the lines of a text but for its reasons, each ended by LF
 abbrev pub without_reasons : List ℕ → List ℕ
