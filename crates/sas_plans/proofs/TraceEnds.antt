@@ -3,6 +3,7 @@ use Rattle.std.proofs.Common.{◌≡◌, ◌≢◌, ℕ, ◌⊎◌, false, List,
 use Rattle.std.specs.Prelude.{◌↔◌, ◌||◌, IsTrue, IfErr, IsErrOf}
 use Rattle.std.specs.Io.KnownBytes.{Consumes}
 use Rattle.sas_core.specs.declared.parts.Parts.{Parts}
+use Rattle.sas_core.specs.PlanParts.{PlanParts}
 use Rattle.sas_core.specs.FirstFault.{first_fault}
 use Rattle.sas_meaning.specs.declared.layered.LayerFault.{LayerFault}
 use Rattle.sas_meaning.specs.declared.layered.LayerFault.TheVariants as layer_fault
@@ -15,6 +16,7 @@ use Rattle.sas_reader.specs.declared.fault.Kind.TheVariants as kinds
 use Rattle.sas_reader.specs.Devices.{ValueOf, ReadsAll}
 use Rattle.sas_reader.specs.Format.{Format}
 use Rattle.sas_reader.proofs.Known.{known_answer, known_fault}
+use Rattle.sas_plan_file.specs.PlanFormat.{plan_format}
 use Rattle.sas_task_format.specs.TaskFormat.{task_format}
 use Rattle.sas_output.specs.declared.ending.Status.{Status}
 use Rattle.sas_output.specs.declared.ending.ToolFault.{ToolFault}
@@ -25,7 +27,7 @@ use Rattle.sas_answers.specs.Answers.{layers_refusal}
 use Rattle.sas_outputs.specs.Output.{IsLayeredText, refusal, FileOut, VerdictOut, plain_refusal}
 use Rattle.sas_outputs.proofs.Outputs.{refused_kind, reading_of_refusal, takes_nothing}
 use Rattle.sas_outputs.proofs.PlanOutputs.{NoAnswer, RefusedOut, told_fault, first_alone, second_alone, refused_out, judged_out, unlayered_out}
-use Rattle.sas_trace.specs.Traced.{TraceVerdict}
+use Rattle.sas_trace.specs.Traced.{TraceVerdict, IsTraced}
 use Rattle.sas_plans.specs.TraceOut.{TraceOut}
 use Rattle.sas_plans.specs.TraceSteps.{EndsFile}
 
@@ -86,6 +88,22 @@ module _ (Sent : List ℕ → Type 0) where
               );
           reads = (λ e. read.note.0 (reads.0 e), λ t. reads.1 (read.note.1 t));
         }
+
+  -- a plan that was read is traced
+  module _ {D : Type 0} (left : D → Option (List ℕ)) (p : Parts) (plan : PlanParts) (old new : Device D) where
+    traced_out : (c : List ℕ) → ValueOf plan_format c plan → (o : Option Output) → IsTraced p plan o → VerdictOut TraceVerdict p c o
+    traced_out c value (Some o) is = (Ok plan, value, (o, is, refl))
+    traced_out c value None is = absurd is
+
+    pub ends_traced : (r : Result Status ToolFault) (Q : Type 0) → ReadsAll left plan_format (ValueOf plan_format) old new (Ok plan) → EndsCounting (IsTraced p plan) Sent r
+        → IfErr r (λ e. IsWrite e ⊎ ((e ≡ tool_fault.Memory) × Q)) → EndsFile left (VerdictOut TraceVerdict p) Sent old new r
+    ends_traced r Q read told starved = record {
+      output = λ c known. ends_by (IsTraced p plan) (VerdictOut TraceVerdict p c) r (λ _. traced_out c (known_answer left plan_format (ValueOf plan_format) old new plan c read known)) told;
+      taken = λ decided.
+          let (c, consumed, value) = read.read in
+          (c, consumed.0, ends_by (IsTraced p plan) (VerdictOut TraceVerdict p c) r (λ _. traced_out c value) told);
+      reads = (λ e. absurd (memory_alone r tool_fault.Read Q (λ m. absurd cc) (λ w. w) starved e), λ t. absurd (read.note.1 t));
+    }
 
   -- ---- a task and a plan
 

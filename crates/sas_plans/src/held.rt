@@ -34,8 +34,8 @@ pub fn open_task(alloc: Global, bytes: &[u8]) -> Result<Opening, ToolFault>
     let mut device = Watched::new(bytes);
     let read = match read_flat_task(alloc, &mut device) {
         Ok(read) => read,
-        Err(fault) => {
-            return match refuse_file(alloc, "task", fault) {
+        Err(refusal) => {
+            return match refuse_file(alloc, "task", refusal.fault) {
                 Ok(told) => Ok(Opening::Refused(told)),
                 Err(why) => Err(why),
             };
@@ -64,7 +64,7 @@ pub fn judge_bytes(
 {
     match flat_plan_of(alloc, plan) {
         Ok(read) => Ok(answer_by(alloc, held, &read)?),
-        Err(fault) => refuse_file(alloc, "plan", fault),
+        Err(refusal) => refuse_file(alloc, "plan", refusal.fault),
     }
 }
 

@@ -114,7 +114,7 @@ fn answer_about<T: Read, S: PlanInputs>(
 {
     let read = match read_flat_task(alloc, task) {
         Ok(read) => read,
-        Err(fault) => return refuse_task(alloc, fault),
+        Err(refusal) => return refuse_task(alloc, refusal.fault),
     };
     match Layered::new(alloc, read) {
         Ok(layered) => judge_plans(alloc, layered, plans),

@@ -59,7 +59,7 @@ pub fn trace<T: Read, P: Read, W: Write>(
 {
     let read = match read_flat_task(alloc, task) {
         Ok(read) => read,
-        Err(fault) => return write_refusal(alloc, "task", fault, out),
+        Err(refusal) => return write_refusal(alloc, "task", refusal.fault, out),
     };
     match Layered::new(alloc, read) {
         Ok(layered) => {
@@ -94,7 +94,7 @@ fn trace_layered<P: Read, W: Write>(
             drop(read);
             ended
         }
-        Err(fault) => write_refusal(alloc, "plan", fault, out),
+        Err(refusal) => write_refusal(alloc, "plan", refusal.fault, out),
     }
 }
 

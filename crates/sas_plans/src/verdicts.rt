@@ -102,7 +102,7 @@ fn judge_device<P: Read>(
 {
     match read_flat_plan(alloc, plan) {
         Ok(read) => Ok(verdict_by(alloc, held, &read)?),
-        Err(fault) => refuse_plan(alloc, fault),
+        Err(refusal) => refuse_plan(alloc, refusal.fault),
     }
 }
 

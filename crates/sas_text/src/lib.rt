@@ -4,9 +4,11 @@
 
 pub use sas_flat::Outline;
 pub use sas_plan_file::{
-    PlanReader, encode_plan, plan_laws, read_flat_plan, read_plan, read_plan_text,
+    PlanReader, PlanRefusal, encode_plan, plan_laws, read_flat_plan, read_plan, read_plan_text,
 };
-pub use sas_reader::{Fault, Kind, LIMIT};
-pub use sas_task_format::task_laws;
-pub use sas_task_reader::{TaskReader, read_flat_task, read_outline, read_task, read_task_text};
+pub use sas_reader::{Fault, Found, Kind, LIMIT};
+pub use sas_task_format::{Due, FixedWord, Location, Mark, WrongWord, task_laws};
+pub use sas_task_reader::{
+    TaskReader, TaskRefusal, read_flat_task, read_outline, read_task, read_task_text,
+};
 pub use sas_task_writer::encode_task;

@@ -6,8 +6,9 @@ use crate::parts_text::{text_of_flat_plan, text_of_flat_task, text_of_outline};
 use sas_core::{Plan, Task};
 use sas_lines::Watched;
 use sas_text::{
-    Fault, Kind, PlanReader, TaskReader, encode_plan, encode_task, read_flat_plan, read_flat_task,
-    read_outline, read_plan, read_plan_text, read_task, read_task_text,
+    Fault, Kind, PlanReader, PlanRefusal, TaskReader, TaskRefusal, encode_plan, encode_task,
+    read_flat_plan, read_flat_task, read_outline, read_plan, read_plan_text, read_task,
+    read_task_text,
 };
 use std::alloc::{AllocError, Global};
 use std::io::Read;
@@ -45,6 +46,16 @@ fn wanting(_error: AllocError) -> Fault {
     }
 }
 
+/// Returns the fault of a plan that is refused.
+fn plan_fault(refusal: PlanRefusal) -> Fault {
+    refusal.fault
+}
+
+/// Returns the fault of a task that is refused.
+fn task_fault(refusal: TaskRefusal) -> Fault {
+    refusal.fault
+}
+
 /// Returns the text of a plan.
 fn text_of_plan(alloc: Global, plan: &Plan) -> Result<Vec<u8>, Fault> {
     encode_plan(alloc, plan).map_err(wanting)
@@ -73,21 +84,24 @@ fn task_of<D: Read>(alloc: Global, device: &mut Watched<D>) -> Result<Vec<u8>, F
 fn outline_of<D: Read>(alloc: Global, device: &mut Watched<D>) -> Result<Vec<u8>, Fault>
     requires { device.old.failed ≡ false }
 {
-    text_of_outline(alloc, &read_outline(alloc, device)?).map_err(wanting)
+    let outline = read_outline(alloc, device).map_err(task_fault)?;
+    text_of_outline(alloc, &outline).map_err(wanting)
 }
 
 /// Reads a flat plan, and returns what it holds, as a text.
 fn flat_plan_of<D: Read>(alloc: Global, device: &mut Watched<D>) -> Result<Vec<u8>, Fault>
     requires { device.old.failed ≡ false }
 {
-    text_of_flat_plan(alloc, &read_flat_plan(alloc, device)?).map_err(wanting)
+    let plan = read_flat_plan(alloc, device).map_err(plan_fault)?;
+    text_of_flat_plan(alloc, &plan).map_err(wanting)
 }
 
 /// Reads a flat task, and returns what it holds, as a text.
 fn flat_task_of<D: Read>(alloc: Global, device: &mut Watched<D>) -> Result<Vec<u8>, Fault>
     requires { device.old.failed ≡ false }
 {
-    text_of_flat_task(alloc, &read_flat_task(alloc, device)?).map_err(wanting)
+    let task = read_flat_task(alloc, device).map_err(task_fault)?;
+    text_of_flat_task(alloc, &task).map_err(wanting)
 }
 
 /// Reads a file from a device, and returns its text.
@@ -96,9 +110,9 @@ fn read_device<D: Read>(alloc: Global, way: Way, device: &mut Watched<D>) -> Res
 {
     match way {
         Way::Plan => plan_of(alloc, device),
-        Way::PlanText => read_plan_text(alloc, device),
+        Way::PlanText => read_plan_text(alloc, device).map_err(plan_fault),
         Way::Task => task_of(alloc, device),
-        Way::TaskText => read_task_text(alloc, device),
+        Way::TaskText => read_task_text(alloc, device).map_err(task_fault),
         Way::Outline => outline_of(alloc, device),
         Way::FlatPlan => flat_plan_of(alloc, device),
         Way::FlatTask => flat_task_of(alloc, device),
