@@ -1,5 +1,4 @@
 pub mod Facts
 pub mod Laws
 pub mod Line
-pub mod Lines
 pub mod Wording

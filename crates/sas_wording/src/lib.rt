@@ -3,14 +3,11 @@
 
 mod laws;
 mod line;
-mod lines;
 mod names;
 mod pushing;
 mod wording;
 
 pub use laws::line_laws;
 pub use line::Line;
-pub use lines::{Deed, push_count, push_deed, push_fact, push_named, push_words};
 pub use names::{Named, given_by, operator_name, set_by, value_name};
 pub use pushing::{push_lines, write_reasons};
-pub use wording::Start;
