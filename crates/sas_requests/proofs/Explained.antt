@@ -26,7 +26,7 @@ use Rattle.sas_task_format.specs.TaskReasons.{IsTaskReason}
 use Rattle.sas_task_reader.specs.declared.task_refusal.TaskRefusal.{TaskRefusal}
 use Rattle.sas_file_reasons.specs.FileLine.{FileLine}
 use Rattle.sas_file_reasons.specs.Reasons.{task_reasons, plan_reasons, file_text}
-use Rattle.sas_requests.specs.Explaining.{FileOutWhy, IsRefusedWith, task_refusal_reasons, plan_refusal_reasons}
+use Rattle.sas_requests.specs.Explaining.{FileOutWhy, IsRefusedWith, task_refusal_lines, plan_refusal_lines}
 use Rattle.sas_requests.specs.FileReasons.{FaultReasons, told, past_limit, TellsTask, TellsPlan}
 use Rattle.sas_outputs.specs.Output.{refusal}
 use Rattle.sas_outputs.proofs.Outputs.{refused_kind, too_long_else, reading_of_refusal}
@@ -157,7 +157,7 @@ more_is true n h = sym (less 64 n (h.0 refl))
 more_is false n h = not_true (nat_lt 64 n) (λ t. h.1 (is_less 64 n t))
 
 -- what a refusal tells of a task, and of a plan
-pub task_refusal_tells : (r : TaskRefusal) (accepted : List (List ℕ)) (text : List ℕ) → IsFoundOf text r.found → IsTaskReason (r.fault).kind accepted text r.mark r.word → TellsTask (r.fault).kind accepted text (task_refusal_reasons r)
+pub task_refusal_tells : (r : TaskRefusal) (accepted : List (List ℕ)) (text : List ℕ) → IsFoundOf text r.found → IsTaskReason (r.fault).kind accepted text r.mark r.word → TellsTask (r.fault).kind accepted text (task_refusal_lines r)
 task_refusal_tells r accepted text is reason = record {
   mark = r.mark;
   word = r.word;
@@ -167,7 +167,7 @@ task_refusal_tells r accepted text is reason = record {
       ∙ ap (λ (more : Bool). task_reasons (r.fault).kind r.mark r.word (take 64 text) more) (more_is (r.found).more (length text) is.longer);
 }
 
-pub plan_refusal_tells : (r : PlanRefusal) (accepted : List (List ℕ)) (text : List ℕ) → IsFoundOf text r.found → TellsPlan (r.fault).kind accepted text (plan_refusal_reasons r)
+pub plan_refusal_tells : (r : PlanRefusal) (accepted : List (List ℕ)) (text : List ℕ) → IsFoundOf text r.found → TellsPlan (r.fault).kind accepted text (plan_refusal_lines r)
 plan_refusal_tells r accepted text is =
     ap (λ (bytes : List ℕ). plan_reasons (r.fault).kind bytes (r.found).more) is.front
     ∙ ap (λ (more : Bool). plan_reasons (r.fault).kind (take 64 text) more) (more_is (r.found).more (length text) is.longer)

@@ -39,10 +39,10 @@ abbrev pub IsRefusedWith : List ℕ → Fault → List FileLine → Output → T
 IsRefusedWith name fault reasons output =
     option_map (with_reasons (file_text reasons)) (refusal name fault) ≡ Some output
 
--- the reasons of a refusal
-abbrev pub task_refusal_reasons : TaskRefusal → List FileLine
-task_refusal_reasons r =
+-- the lines of reasons for a refusal
+abbrev pub task_refusal_lines : TaskRefusal → List FileLine
+task_refusal_lines r =
     task_reasons (r.fault).kind r.mark r.word (bytes_of r.found) (r.found).more
 
-abbrev pub plan_refusal_reasons : PlanRefusal → List FileLine
-plan_refusal_reasons r = plan_reasons (r.fault).kind (bytes_of r.found) (r.found).more
+abbrev pub plan_refusal_lines : PlanRefusal → List FileLine
+plan_refusal_lines r = plan_reasons (r.fault).kind (bytes_of r.found) (r.found).more

@@ -2,7 +2,7 @@
 ghost use Rattle.std.specs.Prelude.{◌≡◌, ◌↔◌, codes, IfOk, IfErr, IsErrOf};
 ghost use Rattle.sas_output.specs.Ending.{IsWrite};
 ghost use Rattle.sas_requests.specs.Answering.{output_of};
-ghost use Rattle.sas_requests.specs.Explaining.{IsRefusedWith, plan_refusal_reasons, task_refusal_reasons};
+ghost use Rattle.sas_requests.specs.Explaining.{IsRefusedWith, plan_refusal_lines, task_refusal_lines};
 
 use crate::ToolFault;
 use crate::answers::Answer;
@@ -16,7 +16,7 @@ use std::alloc::Global;
 /// Returns the refusal of a task for its fault, with the reasons, or why the run ends at it.
 pub fn explain_task_refusal(alloc: Global, refused: TaskRefusal) -> Result<Answer, ToolFault>
     ensures ok { IfOk result (λ a.
-        IsRefusedWith (codes "task") refused.fault (task_refusal_reasons refused) (output_of a)) }
+        IsRefusedWith (codes "task") refused.fault (task_refusal_lines refused) (output_of a)) }
     ensures long { IsErrOf result ToolFault.TooLong ↔ (refused.fault.kind ≡ Kind.TooLong) }
     ensures read { IsErrOf result ToolFault.Read ↔ (refused.fault.kind ≡ Kind.Read) }
     ensures writes { IfErr result (λ e. IsWrite e → ⊥) }
@@ -35,7 +35,7 @@ pub fn explain_task_refusal(alloc: Global, refused: TaskRefusal) -> Result<Answe
 /// Returns the refusal of a plan for its fault, with the reasons, or why the run ends at it.
 pub fn explain_plan_refusal(alloc: Global, refused: PlanRefusal) -> Result<Answer, ToolFault>
     ensures ok { IfOk result (λ a.
-        IsRefusedWith (codes "plan") refused.fault (plan_refusal_reasons refused) (output_of a)) }
+        IsRefusedWith (codes "plan") refused.fault (plan_refusal_lines refused) (output_of a)) }
     ensures long { IsErrOf result ToolFault.TooLong ↔ (refused.fault.kind ≡ Kind.TooLong) }
     ensures read { IsErrOf result ToolFault.Read ↔ (refused.fault.kind ≡ Kind.Read) }
     ensures writes { IfErr result (λ e. IsWrite e → ⊥) }

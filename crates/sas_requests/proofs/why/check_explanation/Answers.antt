@@ -2,7 +2,7 @@ use Rattle.std.proofs.Common.{codes}
 use Rattle.sas_reader.specs.Devices.{ValueOf}
 use Rattle.sas_task_format.specs.TaskFormat.{task_format}
 use Rattle.sas_task_reader.specs.TaskRefusal.{fault_in, found_in, HasReason}
-use Rattle.sas_requests.specs.Explaining.{task_refusal_reasons}
+use Rattle.sas_requests.specs.Explaining.{task_refusal_lines}
 use Rattle.sas_requests.specs.FileReasons.{TellsTask}
 use Rattle.sas_requests.proofs.Explained.{explains_value, explains_refusal, task_refusal_tells}
 use Rattle.sas_requests.proofs.RefusalLaws.{task_telling}
@@ -17,5 +17,5 @@ returns g c =
 pub returns-in-Err : goal.returns-in-Err
 returns-in-Err g c =
     explains_refusal g.R.Read.remaining task_format task_telling TellsTask (ValueOf task_format) fault_in found_in HasReason (codes "task") WhyCheckAnswer
-    c.in-Err.refusal (task_refusal_reasons c.in-Err.refusal) (task_refusal_tells c.in-Err.refusal) _ _ c.in-Err.ensures c.explain_task_refusal.result
+    c.in-Err.refusal (task_refusal_lines c.in-Err.refusal) (task_refusal_tells c.in-Err.refusal) _ _ c.in-Err.ensures c.explain_task_refusal.result
     c.explain_task_refusal.ensures.ok c.explain_task_refusal.ensures.long.0 c.explain_task_refusal.ensures.read c.explain_task_refusal.ensures.writes

@@ -2,7 +2,7 @@ use Rattle.std.proofs.Common.{codes}
 use Rattle.sas_reader.specs.Devices.{ValueOf}
 use Rattle.sas_plan_file.specs.PlanFormat.{plan_format}
 use Rattle.sas_plan_file.specs.PlanRefusal.{fault_of, found_of, nothing_else}
-use Rattle.sas_requests.specs.Explaining.{plan_refusal_reasons}
+use Rattle.sas_requests.specs.Explaining.{plan_refusal_lines}
 use Rattle.sas_requests.specs.FileReasons.{TellsPlan}
 use Rattle.sas_requests.proofs.Explained.{explains_value, explains_refusal, plan_refusal_tells}
 use Rattle.sas_requests.proofs.RefusalLaws.{plan_telling}
@@ -25,5 +25,5 @@ returns-in-Explained g c =
 pub returns-in-Err : goal.returns-in-Err
 returns-in-Err g c =
     explains_refusal g.P.Read.remaining plan_format plan_telling TellsPlan (ValueOf plan_format) fault_of found_of nothing_else (codes "plan") (WhyVerdict c.args.layered)
-    c.in-Err.refusal (plan_refusal_reasons c.in-Err.refusal) (λ accepted text is other. plan_refusal_tells c.in-Err.refusal accepted text is) _ _ c.in-Err.ensures c.explain_plan_refusal.result
+    c.in-Err.refusal (plan_refusal_lines c.in-Err.refusal) (λ accepted text is other. plan_refusal_tells c.in-Err.refusal accepted text is) _ _ c.in-Err.ensures c.explain_plan_refusal.result
     c.explain_plan_refusal.ensures.ok c.explain_plan_refusal.ensures.long.0 c.explain_plan_refusal.ensures.read c.explain_plan_refusal.ensures.writes

@@ -4,7 +4,7 @@ use Rattle.sas_reader.specs.Devices.{ValueOf}
 use Rattle.sas_task_format.specs.TaskFormat.{task_format}
 use Rattle.sas_task_reader.specs.TaskRefusal.{fault_in, found_in, HasReason}
 use Rattle.sas_outputs.specs.declared.Request.TheVariants.{Plan}
-use Rattle.sas_requests.specs.Explaining.{TaskOutWhy, PlanOutWhy, task_refusal_reasons}
+use Rattle.sas_requests.specs.Explaining.{TaskOutWhy, PlanOutWhy, task_refusal_lines}
 use Rattle.sas_requests.specs.FileReasons.{TellsTask}
 use Rattle.sas_requests.specs.Why.{OutWhy}
 use Rattle.sas_requests.proofs.Explained.{plain_read, explains_refusal, task_refusal_tells}
@@ -18,7 +18,7 @@ pub returns-in-Err : goal.returns-in-Err
 returns-in-Err g c =
     refused_files_by g.T.Read.remaining g.P.Read.remaining (OutWhy Plan) (TaskOutWhy NoAnswer) refused_why _ _ _ c.explain_task_refusal.result c.requires.plan
     (explains_refusal g.T.Read.remaining task_format task_telling TellsTask (ValueOf task_format) fault_in found_in HasReason (codes "task") NoAnswer
-    c.in-Err.refusal (task_refusal_reasons c.in-Err.refusal) (task_refusal_tells c.in-Err.refusal) _ _ c.in-Err.ensures c.explain_task_refusal.result
+    c.in-Err.refusal (task_refusal_lines c.in-Err.refusal) (task_refusal_tells c.in-Err.refusal) _ _ c.in-Err.ensures c.explain_task_refusal.result
     c.explain_task_refusal.ensures.ok c.explain_task_refusal.ensures.long.0 c.explain_task_refusal.ensures.read c.explain_task_refusal.ensures.writes)
 
 pub returns-in-Ok-new : goal.returns-in-Ok-new
