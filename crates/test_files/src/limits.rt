@@ -39,5 +39,8 @@ fn fault_of<M: Machine>(reader: Reader<M>, bytes: &[u8]) -> Option<Fault> {
     if let Err(fault) = reader.feed(bytes) {
         return Some(fault);
     }
-    reader.finish().err()
+    match reader.finish() {
+        Ok(_machine) => None,
+        Err(refused) => Some(refused.into_fault()),
+    }
 }
