@@ -1,4 +1,4 @@
--- The first step that isn't a name, and that there is one only where not each step is a name.
+-- The first step that isn't a name: it exists only if not every step is a name.
 use Rattle.std.proofs.Common.{◌≡◌, ℕ, suc, ◌+◌, ◌<◌, Bool, false, List, [], ◌∷◌, ◌++◌, length, length-take, take, drop, get_or, sym, ◌∙◌, ap, subst, arith}
 use Rattle.std.specs.List.{AllByRecursion}
 use Rattle.std.proofs.lemmas.Bool.{false≢true}

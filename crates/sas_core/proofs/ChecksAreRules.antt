@@ -1,4 +1,5 @@
--- No check of some parts fails exactly where they are well ranged: section by section, each check and its rule.
+-- All checks of a task pass if and only if its parts are well ranged: each section's checks are
+-- equivalent to its rules.
 use Rattle.std.proofs.Common.{◌≡◌, ℕ, zero, suc, ◌^◌, ◌<◌, Bool, true, false, not, ◌==◌, nat_lt, if◌then◌else◌, ◌↔◌, List, [], ◌∷◌, ◌++◌, length, flat_map, slice_index, Option, Some, None, refl, arith, ltb-true, lt-ltb, eqb-true, eq-eqb}
 use Rattle.std.specs.List.{AllByRecursion}
 use Rattle.std.proofs.lemmas.Bool.Decides.{nat_tests}

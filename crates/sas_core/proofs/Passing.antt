@@ -1,4 +1,5 @@
--- Where no check of a row fails: a check and its rule, and some checks behind others.
+-- When a sequence of checks passes: a single check and its rule, and two sequences one after the
+-- other.
 use Rattle.std.proofs.Common.{◌≡◌, ◌↔◌, Bool, true, false, if◌then◌else◌, List, [], ◌∷◌, ◌++◌, Option, Some, None, refl}
 use Rattle.sas_core.specs.FirstFault.{Check, first_fault, check}
 

@@ -1,4 +1,4 @@
--- What a search for LF and CR says of the bytes.
+-- What the result of a search for LF and CR means for the bytes.
 use Rattle.std.proofs.Common.{◌≡◌, ℕ, Bool, true, false, not, ◌&&◌, ◌||◌, ◌==◌, List, Option, Some, None, get_or, refl, sym, ◌∙◌, ap, arith}
 use Rattle.std.specs.List.{list_all}
 use Rattle.std.specs.Option.{is_some}

@@ -1,4 +1,4 @@
--- Each part's equality decides whether the parts are the same, and so does that of the whole.
+-- The equality of each type of parts, and of a whole task, decides whether the values are the same.
 use Rattle.std.proofs.Common.{◌≡◌, ℕ, Bool, ◌&&◌, Option, Some, None, refl, ap, nat_eq, List}
 use Rattle.std.specs.Bool.{Decides, beq}
 use Rattle.std.specs.Option.{option_eq}

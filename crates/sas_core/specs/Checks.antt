@@ -1,4 +1,4 @@
--- The rules of a task file as tests in the order of the file, each with the fault that it reports.
+-- The rules of a task file as checks in the order of the file, each with the fault that it reports.
 use Rattle.std.specs.Prelude.{◌≡◌, ℕ, ◌↔◌, ◌==◌, Bool, not, nat_lt}
 use Rattle.std.specs.Prelude.{List, [], ◌++◌, length, zip, Option, Some, None}
 use Rattle.std.specs.List.{list_all}
@@ -20,7 +20,7 @@ use Rattle.sas_core.specs.WellRanged.{WellRanged}
 abbrev pub name_checks : List ℕ → List (Check PartsFault)
 name_checks name = check (is_name name) BadName
 
--- an optional number, which a file writes as -1 where there is none
+-- an optional number; a file writes -1 for none
 abbrev pub signed_checks : Option ℕ → List (Check PartsFault)
 signed_checks None = []
 signed_checks (Some n) = check (is_number n) BadNumber
@@ -35,7 +35,7 @@ variable_checks v =
 abbrev pub fact_checks : List Variable → Fact → List (Check PartsFault)
 fact_checks variables fact = check (fact_exists variables fact) BadFact
 
--- what an effect or a rule changes: the old value of its variable, if there is one, and the new one
+-- the old value of the variable, if given, and its new value
 abbrev pub change_checks : List Variable → ℕ → Option ℕ → ℕ → List (Check PartsFault)
 change_checks variables var None new = check (has_value variables var new) BadFact
 change_checks variables var (Some old) new =
@@ -56,7 +56,7 @@ abbrev pub rule_checks : List Variable → Rule → List (Check PartsFault)
 rule_checks variables r =
     listed TooMany (fact_checks variables) r.conditions ++ change_checks variables r.var r.old r.new
 
--- whether each value is in the range of the variable at its place
+-- whether each value is in the range of the variable with the same index
 abbrev pub values_in_range : List Variable → List ℕ → Bool
 values_in_range variables values =
     list_all (λ (p : Variable × ℕ). nat_lt p.1 (length p.0.values)) (zip variables values)
@@ -66,7 +66,7 @@ state_checks variables values =
     check (length values == length variables) InitLength
     ++ check (values_in_range variables values) BadFact
 
--- all the checks of some parts, section by section
+-- all checks of a task, section by section
 abbrev pub checks : Parts → List (Check PartsFault)
 checks p =
     check (not (length p.variables == 0)) NoVariable
@@ -77,6 +77,6 @@ checks p =
     ++ listed TooMany (operator_checks p.variables) p.operators
     ++ listed TooMany (rule_checks p.variables) p.rules
 
--- the parts are well ranged exactly where no check fails
+-- parts are well ranged if and only if all checks pass
 abbrev pub ChecksAreTheRules : Type 0
 ChecksAreTheRules = (p : Parts) → (first_fault (checks p) ≡ None) ↔ WellRanged p

@@ -1,4 +1,4 @@
--- The contents of a task, item by item. Each item is named by its place, counted from 0.
+-- The contents of a task, item by item. Each item is identified by its index, counted from 0.
 use Rattle.std.specs.Prelude.{ℕ, List, [], slice_index_or, None}
 use Rattle.sas_core.specs.declared.parts.Fact.{Fact}
 use Rattle.sas_core.specs.declared.parts.Effect.{Effect}
@@ -6,21 +6,21 @@ use Rattle.sas_core.specs.declared.parts.Operator.{Operator}
 use Rattle.sas_core.specs.declared.parts.Rule.{Rule}
 use Rattle.sas_core.specs.declared.parts.Parts.{Parts}
 
--- the operator at this place; behind the last operator, one with no name and no effect
+-- the operator with this index; past the last operator, one without name and effects
 abbrev pub operator_at : Parts → ℕ → Operator
 operator_at p operator =
     slice_index_or p.operators operator (record { name = []; prevail = []; effects = []; cost = 0 })
 
--- the effect at this place; behind the last effect, one that sets variable 0 to value 0
+-- the effect with this index; past the last effect, one that sets variable 0 to value 0
 abbrev pub effect_at : Operator → ℕ → Effect
 effect_at o effect =
     slice_index_or o.effects effect (record { conditions = []; var = 0; old = None; new = 0 })
 
--- the rule at this place; behind the last rule, one that sets variable 0 to value 0
+-- the rule with this index; past the last rule, one that sets variable 0 to value 0
 abbrev pub rule_at : Parts → ℕ → Rule
 rule_at p rule =
     slice_index_or p.rules rule (record { conditions = []; var = 0; old = None; new = 0 })
 
--- the mutex group at this place; behind the last group, the empty group
+-- the mutex group with this index; past the last group, the empty group
 abbrev pub group_at : Parts → ℕ → List Fact
 group_at p group = slice_index_or p.groups group []

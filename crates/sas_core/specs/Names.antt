@@ -1,4 +1,4 @@
--- Names: of variables, values and operators, and so of the steps of a plan.
+-- Names of variables, values and operators, and therefore of the steps of a plan.
 use Rattle.std.specs.Prelude.{ℕ, Bool, ◌&&◌, not, List, length, ◌==◌, IsTrue}
 use Rattle.std.specs.List.{list_all}
 
@@ -6,8 +6,8 @@ use Rattle.std.specs.List.{list_all}
 abbrev pub is_plain : ℕ → Bool
 is_plain byte = not (byte == 10) && not (byte == 13)
 
--- a name has at least one byte, and no LF and no CR; every other byte is allowed, also a space at
--- the end
+-- a name has at least one byte and contains neither LF nor CR; any other byte is allowed, even a
+-- space at the end
 abbrev pub is_name : List ℕ → Bool
 is_name bytes = not (length bytes == 0) && list_all is_plain bytes
 

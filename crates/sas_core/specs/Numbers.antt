@@ -1,4 +1,4 @@
--- Which numbers may occur in a file.
+-- Which numbers a file may contain.
 use Rattle.std.specs.Prelude.{ℕ, ◌^◌, ◌<◌, Bool, nat_lt, Option, IfSome}
 
 -- a number is at most 2,147,483,647
@@ -8,7 +8,7 @@ IsNumber n = n < 2 ^ 31
 abbrev pub is_number : ℕ → Bool
 is_number n = nat_lt n (2 ^ 31)
 
--- an optional number, which a file writes as -1 where there is none
+-- an optional number; a file writes -1 for none
 abbrev pub IsSigned : Option ℕ → Type 0
 IsSigned n = IfSome n IsNumber
 

@@ -2,8 +2,8 @@
 use Rattle.std.specs.Prelude.{ℕ, List}
 use Rattle.sas_core.specs.declared.plan.CostKind.{CostKind}
 
--- the names of its steps in order, the cost on its last line, and the words behind that cost (unit
--- or general cost), for which no verdict asks
+-- the names of the steps in order, the cost on the last line, and the text after that cost (unit or
+-- general cost), which has no effect on verdicts
 pub record PlanParts : Type 0 where
   pub steps : List (List ℕ)
   pub cost : ℕ

@@ -1,16 +1,16 @@
--- Which parts are those of a plan.
+-- Which contents a plan may have.
 use Rattle.std.specs.Prelude.{◌≡◌, ℕ, ◌+◌, List, ◌∷◌, ◌++◌, length}
 use Rattle.std.specs.List.{AllByRecursion}
 use Rattle.sas_core.specs.Names.{IsName}
 use Rattle.sas_core.specs.Numbers.{IsPlanCost}
 use Rattle.sas_core.specs.PlanParts.{PlanParts}
 
--- each step is a name, and the cost is one that a plan file can contain
+-- each step is a name, and the cost fits into a plan file
 pub record WellNamed (p : PlanParts) : Type 0 where
   pub steps : AllByRecursion IsName p.steps
   pub cost : IsPlanCost p.cost
 
--- the first step that isn't a name, counted from 1
+-- the number of the first step that isn't a name, counted from 1
 pub record IsFirstBadName (steps : List (List ℕ)) (step : ℕ) : Type 0 where
   pub before : List (List ℕ)
   pub bad : List ℕ

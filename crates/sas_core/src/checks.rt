@@ -15,12 +15,12 @@ use crate::items::Items;
 use crate::names::is_name;
 use crate::parts::{Effect, Fact, Operator, Parts, Rule, Variable};
 
-/// A rule of a task file that some parts break.
+/// The rule of the file format that some parts violate.
 #[derive(Clone, Copy, Debug, PartialEq, Eq)]
 pub enum PartsFault {
-    /// There is no variable.
+    /// The task has no variable.
     NoVariable,
-    /// There are more than 2,147,483,647 of something, so their number can't be written.
+    /// A list has more than 2,147,483,647 items, so its length can't be written.
     TooMany,
     /// A name is empty, or contains LF or CR.
     BadName,
@@ -28,14 +28,13 @@ pub enum PartsFault {
     BadNumber,
     /// A variable has no value.
     BadRange,
-    /// A fact or a change is on a variable that doesn't exist, or has a value that doesn't exist. Or a value of the state
-    /// section isn't in the range of its variable.
+    /// A fact, an effect or a rule names a variable or a value that doesn't exist, or a value in the state section is out of range.
     BadFact,
     /// The state section doesn't have exactly one value for each variable.
     InitLength,
 }
 
-/// A piece of a task file that is checked in the order of the file.
+/// A part of a task file that can be checked.
 trait Checked {
     ghost use Rattle.std.specs.Prelude.{◌≡◌, List};
     ghost use Rattle.std.specs.Result.{result_err};
@@ -43,15 +42,15 @@ trait Checked {
     ghost use Rattle.sas_core.specs.declared.parts.Variable.{Variable};
     ghost use Rattle.sas_core.specs.FirstFault.{Check, first_fault};
 
-    /// Its checks in a task with these variables, in order.
+    /// The checks of this part in a task with these variables, in the order of the file.
     ghost checks_of: { List Variable → Self → List (Check PartsFault) };
 
-    /// Checks it in order, and returns the first fault.
+    /// Runs these checks and returns the first fault.
     fn check_among(&self, variables: &Items<Variable>) -> Result<(), PartsFault>
         ensures { result_err result ≡ first_fault (checks_of variables.now self.now) };
 }
 
-/// Checks the number of items, then each item in turn.
+/// Checks the length of the list, then each item in order.
 fn check_list<T: Checked>(variables: &Items<Variable>, items: &Items<T>) -> Result<(), PartsFault>
     ensures { result_err result ≡ first_fault
         (listed TooMany (T.checks_of variables.now) items.now) }
@@ -63,7 +62,7 @@ fn check_list<T: Checked>(variables: &Items<Variable>, items: &Items<T>) -> Resu
     Ok(())
 }
 
-/// Checks the parts in the order of the file, and returns the first fault.
+/// Checks the parts in the order of the file and returns the first fault.
 pub fn check_parts(parts: &Parts) -> Result<(), PartsFault>
     ensures { result_err result ≡ first_fault (checks parts.now) }
 {
@@ -133,7 +132,7 @@ fn check_state(variables: &Items<Variable>, values: &Items<u32>) -> Result<(), P
     check(values_in_range(variables, values), PartsFault::BadFact)
 }
 
-/// Returns whether each value is in the range of the variable at its place.
+/// Returns whether each value is in the range of the variable with the same index.
 fn values_in_range(variables: &Items<Variable>, values: &Items<u32>) -> bool
     ensures { result ≡ values_in_range variables.now values.now }
 {
@@ -170,7 +169,7 @@ impl Checked for Rule {
     }
 }
 
-/// Checks the variable with its old value, if there is one, and then with its new value.
+/// Checks the variable with its old value, if any, and then with its new value.
 fn check_change(
     variables: &Items<Variable>,
     var: u32,
@@ -185,7 +184,7 @@ fn check_change(
     check(has_value(variables, var, new), PartsFault::BadFact)
 }
 
-/// Returns whether the variable exists and has the value.
+/// Returns whether the variable exists and has this value.
 pub fn has_value(variables: &Items<Variable>, var: u32, value: u32) -> bool
     ensures { result ≡ spec.has_value variables.now var value }
 {
@@ -201,7 +200,7 @@ fn check_number(n: u32) -> Result<(), PartsFault>
     check(is_number(n as usize), PartsFault::BadNumber)
 }
 
-/// Returns the fault if there is no item.
+/// Returns the fault if the list is empty.
 fn check_some<T>(items: &Items<T>, fault: PartsFault) -> Result<(), PartsFault>
     ensures { result_err result ≡ first_fault (check (not (length items.now == 0)) fault) }
 {
@@ -214,14 +213,14 @@ fn check_count<T>(items: &Items<T>) -> Result<(), PartsFault>
     check(is_number(items.len()), PartsFault::TooMany)
 }
 
-/// Returns whether the number may occur in a file: whether it is at most 2,147,483,647.
+/// Returns whether a file may contain this number: at most 2,147,483,647.
 fn is_number(n: usize) -> bool
     ensures { result ≡ is_number n }
 {
     n <= i32::MAX as usize
 }
 
-/// Returns the fault if the test fails.
+/// Returns the fault if `passes` is false.
 pub fn check<F: Copy>(passes: bool, fault: F) -> Result<(), F>
     ensures { result_err result ≡ first_fault (check passes fault) }
 {

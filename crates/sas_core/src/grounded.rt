@@ -1,12 +1,12 @@
-// The contents of a grounded task, however it is stored.
+// How a grounded task is read, regardless of how it is stored.
 ghost use Rattle.std.specs.Prelude.{◌≡◌, ◌<◌, length};
 ghost use Rattle.sas_core.specs.Grounded as spec;
 ghost use Rattle.sas_core.specs.WellRanged.{OperatorFits};
 
 use crate::{Effect, Fact, Operator, Rule, Task};
 
-/// What an effect or a rule changes: its variable gets the new value. The old value, if there is one, is the value that the
-/// variable is required to have before.
+/// The change that an effect or a rule makes: variable `var` gets the value `new`. If `old` is given, the variable must have that value
+/// before.
 #[derive(Clone, Copy, Debug, PartialEq, Eq)]
 pub struct Change {
     pub var: u32,
@@ -15,7 +15,7 @@ pub struct Change {
 }
 
 impl Change {
-    /// Returns the fact that it sets.
+    /// Returns the fact that becomes true.
     pub fn fact(self) -> Fact
         ensures { result ≡ record { var = self.var; value = self.new } }
     {
@@ -26,8 +26,8 @@ impl Change {
     }
 }
 
-/// A grounded task. Everything that interprets a task reads it through these calls. The parts of a task file that the task
-/// represents are the value `says`. Variables, operators, effects, rules and groups are named by their place, from 0 on.
+/// A grounded task. All code that interprets a task reads it through these methods. `says` is the contents of the task file that the task
+/// represents. Variables, operators, effects, rules and groups are identified by their index, counted from 0.
 pub trait Grounded {
     ghost use Rattle.std.specs.Prelude.{◌≡◌, ◌<◌, length, slice_index, IfSome};
     ghost use Rattle.sas_core.specs.declared.parts.Parts.{Parts};
@@ -38,10 +38,10 @@ pub trait Grounded {
     ghost use Rattle.sas_core.specs.Variables.{range_of, layer_of};
     ghost use Rattle.sas_core.specs.WellRanged.{WellRanged};
 
-    /// The parts that the task represents.
+    /// The contents of the task file that this task represents.
     ghost says: { Self → Parts };
 
-    /// Returns the number of variables. The parts that the task represents are well ranged.
+    /// Returns the number of variables. The contents of the task are well ranged.
     fn variables(&self) -> u32
         ensures count { result ≡ length (says self.now).variables }
         ensures well_ranged { WellRanged (says self.now) };
@@ -54,26 +54,26 @@ pub trait Grounded {
     fn operators(&self) -> u32
         ensures { result ≡ length (says self.now).operators };
 
-    /// Returns the number of rules.
+    /// Returns the number of rules (axioms).
     fn rules(&self) -> u32
         ensures { result ≡ length (says self.now).rules };
 
-    /// Returns the number of the variable's values.
+    /// Returns the number of values of the variable.
     fn range(&self, var: u32) -> u32
         requires { var < length (says self.now).variables }
         ensures { result ≡ range_of (says self.now).variables var };
 
-    /// Returns the layer of a derived variable. A basic variable has none.
+    /// Returns the axiom layer of a derived variable, or `None` for a basic variable.
     fn layer(&self, var: u32) -> Option<u32>
         requires { var < length (says self.now).variables }
         ensures { result ≡ layer_of (says self.now).variables var };
 
-    /// Returns the variable's value in the state section. The value of a derived variable there is its default.
+    /// Returns the value of the variable in the state section. For a derived variable this is its default.
     fn initial_value(&self, var: u32) -> u32
         requires { var < length (says self.now).variables }
         ensures { result ≡ slice_index (says self.now).init var };
 
-    /// Returns the facts of the goal.
+    /// Returns the goal facts.
     fn goal(&self) -> &[Fact]
         ensures { result.now ≡ (says self.now).goal };
 
@@ -87,12 +87,12 @@ pub trait Grounded {
         requires { operator < length (says self.now).operators }
         ensures { result.now ≡ (operator_at (says self.now) operator).name };
 
-    /// Returns the operator's cost: the number on its cost line under metric 1, and 1 under metric 0.
+    /// Returns the cost of the operator: the number on its cost line with metric 1, and 1 with metric 0.
     fn cost(&self, operator: u32) -> u32
         requires { operator < length (says self.now).operators }
         ensures { result ≡ cost_of (says self.now) operator };
 
-    /// Returns the number on the operator's cost line, whatever the metric.
+    /// Returns the number on the operator's cost line, regardless of the metric.
     fn cost_line(&self, operator: u32) -> u32
         requires { operator < length (says self.now).operators }
         ensures { result ≡ (operator_at (says self.now) operator).cost };
@@ -114,15 +114,15 @@ pub trait Grounded {
         ensures { result.now
             ≡ (effect_at (operator_at (says self.now) operator) effect).conditions };
 
-    /// Returns what the operator's effect changes.
+    /// Returns the change that the operator's effect makes.
     fn effect_change(&self, operator: u32, effect: u32) -> Change
         requires operator { operator < length (says self.now).operators }
         requires effect { effect < length (operator_at (says self.now) operator).effects }
         ensures { result
             ≡ effect_change (effect_at (operator_at (says self.now) operator) effect) };
 
-    /// Returns what the operator's effects change, in order, if none of them has a condition and a task stores the changes one after
-    /// another. A step is made faster by them. A task need not have them: the calls above say the same.
+    /// Returns the changes of all effects of the operator, in order. `None` is always allowed. A task returns the changes if no effect has
+    /// conditions and they are stored consecutively, which makes steps faster.
     fn plain_changes(&self, operator: u32) -> Option<&[Change]>
         requires { operator < length (says self.now).operators }
         ensures { IfSome result (λ changes.
@@ -137,7 +137,7 @@ pub trait Grounded {
         requires { rule < length (says self.now).rules }
         ensures { result.now ≡ (rule_at (says self.now) rule).conditions };
 
-    /// Returns what the rule changes.
+    /// Returns the change that the rule makes.
     fn rule_change(&self, rule: u32) -> Change
         requires { rule < length (says self.now).rules }
         ensures { result ≡ rule_change (rule_at (says self.now) rule) };

@@ -1,4 +1,4 @@
-// A list whose contracts mention its items alone.
+// A list whose value in contracts is the list of its items, without its capacity.
 ghost use Rattle.std.specs.Prelude.{◌≡◌, List, [], ◌∷◌, ◌++◌, ◌<◌, length, slice_set, OnOk, OnErr, IsTrue, ◌↔◌};
 ghost use Rattle.std.specs.Slice.{IsItemAt};
 ghost use Rattle.std.specs.Cmp.Lexicographic.{pointwise, lists_per, lists_equiv};
@@ -6,8 +6,7 @@ ghost use Rattle.std.specs.Cmp.Lexicographic.{pointwise, lists_per, lists_equiv}
 use std::alloc::{AllocError, Global};
 use std::marker::Model;
 
-/// A growing list. In a contract its value is the list of its items. So two lists have the same value if their items are the
-/// same, whatever capacity is reserved behind these.
+/// A growing list. In a contract its value is the list of its items, so the capacity doesn't matter when two lists are compared.
 #[derive(Debug, Drop)]
 pub struct Items<T> {
     items: Vec<T>,
@@ -19,7 +18,7 @@ impl<T> Model for Items<T> {
     ghost view = { λ a. a.items.items };
 }
 
-/// Two lists are equal if they have the same length and their items are equal in pairs.
+/// Two lists are equal if they have the same length and equal items in the same order.
 impl<T: PartialEq> PartialEq for Items<T> {
     ghost eq = { pointwise T.eq };
 
@@ -43,7 +42,7 @@ impl<T> From<Vec<T>> for Items<T> {
 }
 
 impl<T> Items<T> {
-    /// Returns an empty list. It takes no memory.
+    /// Returns an empty list. Allocates no memory.
     pub fn new(alloc: Global) -> Self
         ensures { result ≡ [] }
     {
@@ -52,14 +51,14 @@ impl<T> Items<T> {
         }
     }
 
-    /// Returns the list of the vector's items. It takes no memory.
+    /// Returns the list of the vector's items. Allocates no memory.
     pub fn from_vec(items: Vec<T>) -> Self
         ensures { result ≡ items.items }
     {
         Items { items }
     }
 
-    /// Returns the vector of the items. It takes no memory.
+    /// Returns the items as a vector. Allocates no memory.
     pub fn into_vec(self) -> Vec<T>
         ensures { result.items ≡ self }
     {
@@ -81,14 +80,14 @@ impl<T> Items<T> {
         self.items.len()
     }
 
-    /// Returns whether there is no item.
+    /// Returns whether the list is empty.
     pub fn is_empty(&self) -> bool
         ensures { IsTrue result ↔ (self.now ≡ []) }
     {
         self.items.is_empty()
     }
 
-    /// Returns the item at the index, counted from 0, if there is one.
+    /// Returns the item at this index (from 0), or `None` if the list is too short.
     pub fn get(&self, index: usize) -> Option<&T>
         ensures { IsItemAt self.now index result }
     {
@@ -97,7 +96,7 @@ impl<T> Items<T> {
 }
 
 impl<T: Drop> Items<T> {
-    /// Adds an item at the end. After an `Err` the list is as it was, and the item is dropped.
+    /// Appends an item. On `Err` (out of memory) the list is unchanged and the item is dropped.
     pub fn push(&mut self, item: T) -> Result<(), AllocError>
         ensures ok { OnOk result (self.new ≡ self.old ++ item ∷ []) }
         ensures err { OnErr result (self.new ≡ self.old) }
@@ -106,7 +105,7 @@ impl<T: Drop> Items<T> {
         Ok(())
     }
 
-    /// Replaces the item at the index, counted from 0. The old item is dropped.
+    /// Replaces the item at this index (from 0). The old item is dropped.
     pub fn set(&mut self, index: usize, item: T)
         requires { index < length self.old }
         ensures { self.new ≡ slice_set self.old index item }
@@ -114,7 +113,7 @@ impl<T: Drop> Items<T> {
         self.items[index] = item;
     }
 
-    /// Removes all items and keeps the memory.
+    /// Removes all items but keeps the memory.
     pub fn clear(&mut self)
         ensures { self.new ≡ [] }
     {
@@ -123,7 +122,7 @@ impl<T: Drop> Items<T> {
 }
 
 impl<T: Copy> Items<T> {
-    /// Adds copies of the items at the end, in order. After an `Err` the list is as it was.
+    /// Appends copies of the items, in order. On `Err` (out of memory) the list is unchanged.
     pub fn extend_from_slice(&mut self, items: &[T]) -> Result<(), AllocError>
         ensures ok { OnOk result (self.new ≡ self.old ++ items.now) }
         ensures err { OnErr result (self.new ≡ self.old) }

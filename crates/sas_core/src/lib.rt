@@ -1,5 +1,5 @@
-//! The contents of the two file formats: the types, which of their values may occur in a file, and how a task and a plan are
-//! read, however they are stored.
+//! Tasks and plans as plain data: their types, which values a file may contain, and the traits by which tasks and plans are read regardless
+//! of how they are stored.
 #![tactic(auto)]
 
 mod checks;

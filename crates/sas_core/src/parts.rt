@@ -1,14 +1,14 @@
-// The contents of a task file as plain data. Only a `Task` is known to follow the rules of the format.
+// The contents of a task file as plain data. `Parts` may violate rules of the format; a `Task` can't.
 use crate::items::Items;
 
-/// A variable and one of its values, each by its place, counted from 0.
+/// A fact: a variable and one of its values, each given by its index, counted from 0.
 #[derive(Clone, Copy, Debug, PartialEq, Eq, PartialOrd, Ord, Hash)]
 pub struct Fact {
     pub var: u32,
     pub value: u32,
 }
 
-/// A variable. A basic variable has no layer. A derived variable is on a layer, and rules set its value.
+/// A variable. A basic variable has no layer. A derived variable has an axiom layer, and rules set its value.
 #[derive(Debug, PartialEq, Eq, Drop)]
 pub struct Variable {
     pub name: Items<u8>,
@@ -17,8 +17,8 @@ pub struct Variable {
     pub values: Items<Items<u8>>,
 }
 
-/// An effect: where its conditions hold, the variable gets the new value. The old value, if there is one, is a precondition
-/// of the operator: it has to hold before the operator's step, whether the effect fires or not.
+/// A conditional effect: if its conditions hold, the variable gets the new value. The old value, if given, is a precondition of the
+/// operator, even if the effect doesn't fire.
 #[derive(Debug, PartialEq, Eq, Drop)]
 pub struct Effect {
     pub conditions: Items<Fact>,
@@ -27,7 +27,7 @@ pub struct Effect {
     pub new: u32,
 }
 
-/// An operator: its prevail conditions, its effects and the number on its cost line.
+/// An operator: its name, its prevail conditions, its effects and the number on its cost line.
 #[derive(Debug, PartialEq, Eq, Drop)]
 pub struct Operator {
     pub name: Items<u8>,
@@ -36,7 +36,7 @@ pub struct Operator {
     pub cost: u32,
 }
 
-/// A rule for a derived variable (an axiom): where its conditions hold, the variable gets the new value.
+/// A rule (axiom) for a derived variable: if its conditions hold, the variable gets the new value.
 #[derive(Debug, PartialEq, Eq, Drop)]
 pub struct Rule {
     pub conditions: Items<Fact>,
@@ -45,15 +45,15 @@ pub struct Rule {
     pub new: u32,
 }
 
-/// All contents of a task file, in the order of its sections.
+/// The contents of a task file, in the order of its sections.
 #[derive(Debug, PartialEq, Eq, Drop)]
 pub struct Parts {
-    /// Whether cost lines count (metric 1), or each operator costs 1 (metric 0).
+    /// True for metric 1 (an operator costs the number on its cost line), false for metric 0 (each operator costs 1).
     pub metric: bool,
     pub variables: Items<Variable>,
     /// The mutex groups.
     pub groups: Items<Items<Fact>>,
-    /// The state section: a value for each variable. The value of a derived variable is its default.
+    /// The state section: the value of each variable in order. For a derived variable this is its default.
     pub init: Items<u32>,
     pub goal: Items<Fact>,
     pub operators: Items<Operator>,

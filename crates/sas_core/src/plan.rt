@@ -1,4 +1,4 @@
-// Plans: the names of their steps, and their cost.
+// Plans: the names of their steps and their cost.
 ghost use Rattle.std.specs.Prelude.{◌≡◌, IfOk, IfErr, IfSome, IfNone, IsOk, ◌↔◌};
 ghost use Rattle.std.specs.List.{AllByRecursion};
 ghost use Rattle.sas_core.specs.Names.{IsName};
@@ -9,7 +9,7 @@ use crate::items::Items;
 use crate::names::is_name;
 use std::marker::Model;
 
-/// The words behind the cost on a plan's last line. They are kept, and no verdict depends on them.
+/// The text after the cost on the last line of a plan. It is preserved but has no effect on verdicts.
 #[derive(Clone, Copy, Debug, PartialEq, Eq)]
 pub enum CostKind {
     /// `(unit cost)`
@@ -18,13 +18,13 @@ pub enum CostKind {
     General,
 }
 
-/// The first step of a plan that isn't a name, counted from 1.
+/// The first step of a plan that isn't a name. `step` counts from 1.
 #[derive(Clone, Copy, Debug, PartialEq, Eq)]
 pub struct BadName {
     pub step: usize,
 }
 
-/// A plan: each step is a name. Two plans are equal if their steps, their costs and the words behind the costs are equal.
+/// A plan in which each step is a name. Two plans are equal if their steps, costs and cost kinds are equal.
 #[derive(Debug, PartialEq, Eq, Drop)]
 pub struct Plan {
     steps: Items<Items<u8>>,
@@ -46,8 +46,8 @@ impl Model for Plan {
 }
 
 impl Plan {
-    /// Returns the plan of these steps if each of them is a name. Otherwise returns the steps unchanged, and the first step
-    /// that isn't a name. It takes no memory.
+    /// Returns the plan with these steps if each is a name. Otherwise returns the steps unchanged and the first step that isn't a name.
+    /// Allocates no memory.
     pub fn new(
         steps: Items<Items<u8>>,
         cost: u64,
@@ -64,7 +64,7 @@ impl Plan {
         }
     }
 
-    /// Returns the plan of these steps, where each of them is known to be a name. It takes no memory and checks no step.
+    /// Returns the plan with these steps, which must all be names. Allocates no memory and checks no step.
     pub fn of_names(steps: Items<Items<u8>>, cost: u64, kind: CostKind) -> Plan
         requires { AllByRecursion IsName steps }
         ensures { result ≡ record { steps = steps; cost = cost; kind = kind } }
@@ -80,14 +80,14 @@ impl Plan {
         &self.steps
     }
 
-    /// Returns the cost on the plan's last line.
+    /// Returns the cost on the last line of the plan.
     pub fn cost(&self) -> u64
         ensures { result ≡ self.now.cost }
     {
         self.cost
     }
 
-    /// Returns the words behind the cost.
+    /// Returns which text follows the cost on the last line.
     pub fn kind(&self) -> CostKind
         ensures { result ≡ self.now.kind }
     {

@@ -1,16 +1,16 @@
-// The contents of a plan, however it is stored.
+// How a plan is read, regardless of how it is stored.
 ghost use Rattle.std.specs.Prelude.{◌≡◌};
 
 use crate::Plan;
 
-/// A plan, however it is stored, read step by step. The parts of a plan file that the plan represents are the value `says`.
-/// Steps are named by their place, counted from 0.
+/// A plan that is read step by step, regardless of how it is stored. `says` is the contents of the plan file that the plan represents.
+/// Steps are identified by their index, counted from 0.
 pub trait Stepwise {
     ghost use Rattle.std.specs.Prelude.{◌≡◌, ◌<◌, length};
     ghost use Rattle.sas_core.specs.PlanParts.{PlanParts};
     ghost use Rattle.sas_core.specs.Stepwise.{step_at};
 
-    /// The parts that the plan represents.
+    /// The contents of the plan file that this plan represents.
     ghost says: { Self → PlanParts };
 
     /// Returns the number of steps.
@@ -22,7 +22,7 @@ pub trait Stepwise {
         requires { index < length (says self.now).steps }
         ensures { result.now ≡ step_at (says self.now) index };
 
-    /// Returns the cost on the plan's last line.
+    /// Returns the cost on the last line of the plan.
     fn cost(&self) -> u64
         ensures { result ≡ (says self.now).cost };
 }

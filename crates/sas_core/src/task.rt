@@ -1,4 +1,4 @@
-// Tasks: parts that follow all the rules of a task file.
+// Tasks: parts that satisfy all rules of a task file.
 ghost use Rattle.std.specs.Prelude.{◌≡◌, ◌<◌, ◌↔◌, length, IsTrue, IsOk, IfOk, IfErr, option_map};
 ghost use Rattle.std.specs.Result.{result_err};
 ghost use Rattle.sas_core.specs.Checks.{checks, ChecksAreTheRules};
@@ -11,7 +11,7 @@ use crate::checks::{PartsFault, check_parts, has_value};
 use crate::parts::{Fact, Parts};
 use std::marker::Model;
 
-/// A task: its parts are well ranged, so they follow all the rules of a task file. Two tasks are equal if their parts are.
+/// A task whose parts are well ranged, that is, satisfy all rules of a task file. Two tasks are equal if their parts are equal.
 #[derive(Debug, PartialEq, Eq, Drop)]
 pub struct Task {
     parts: Parts,
@@ -31,21 +31,21 @@ impl Model for Task {
 }
 
 impl Task {
-    /// Returns the task of these parts if they are well ranged. Otherwise returns the parts unchanged, and their first fault
-    /// in the order of the file. It takes no memory.
+    /// Returns the task with these parts if they are well ranged. Otherwise returns the parts unchanged and their first fault in the order
+    /// of the file. Allocates no memory.
     ///
     /// The order of the checks is:
-    /// - `NoVariable`, and the number of variables.
-    /// - For each variable its name, its layer, `BadRange` where it has no value, the number of its values, and their names.
-    /// - The number of groups, and for each group the number of its facts, and these facts.
-    /// - `InitLength`, and the values of the state section.
-    /// - The number of facts of the goal, and these facts.
-    /// - The number of operators, and for each operator its name, the number of its prevail conditions, these conditions, the
-    ///   number of its effects, these effects, and its cost.
-    /// - The number of rules, and these rules.
+    /// - `NoVariable`, then the number of variables.
+    /// - For each variable its name, its layer, `BadRange` if it has no value, the number of its values, and their names.
+    /// - The number of groups, and for each group the number of its facts and these facts.
+    /// - `InitLength`, then the values of the state section.
+    /// - The number of goal facts and these facts.
+    /// - The number of operators, and for each operator its name, the number of its prevail conditions, these conditions, the number of its
+    ///   effects, these effects, and its cost.
+    /// - The number of rules and these rules.
     ///
-    /// The fault of a number of items is `TooMany`. In an effect or a rule the number of its conditions and these conditions
-    /// are checked first. Then its variable is checked with its old value, if there is one, and with its new value.
+    /// A list that is too long is reported as `TooMany`. In an effect or a rule the number of conditions and the conditions are checked
+    /// first, then the variable with its old value, if any, then the variable with its new value.
     pub fn new(parts: Parts) -> Result<Task, (Parts, PartsFault)>
         ensures well_ranged { IsOk result ↔ WellRanged parts }
         ensures task { IfOk result (λ t. t ≡ parts) }
@@ -58,7 +58,7 @@ impl Task {
         }
     }
 
-    /// Returns the task of these parts, where they are known to be well ranged. It takes no memory and checks no part.
+    /// Returns the task with these parts, which must be well ranged. Allocates no memory and checks nothing.
     pub fn of_parts(parts: Parts) -> Task
         requires { WellRanged parts }
         ensures { result ≡ parts }
@@ -66,7 +66,7 @@ impl Task {
         Task { parts }
     }
 
-    /// Returns the task's parts.
+    /// Returns the parts of the task.
     pub fn parts(&self) -> &Parts
         ensures parts { result.now ≡ self.now }
         ensures well_ranged { WellRanged self.now }
@@ -74,7 +74,7 @@ impl Task {
         &self.parts
     }
 
-    /// Turns the task into its parts. It takes no memory.
+    /// Converts the task into its parts. Allocates no memory.
     pub fn into_parts(self) -> Parts
         ensures parts { result ≡ self }
         ensures well_ranged { WellRanged self }
@@ -83,7 +83,7 @@ impl Task {
         parts
     }
 
-    /// Returns the operator's cost: the number on its cost line under metric 1, and 1 under metric 0.
+    /// Returns the cost of the operator: the number on its cost line with metric 1, and 1 with metric 0.
     pub fn cost(&self, operator: u32) -> u32
         requires { operator < length self.now.operators }
         ensures { result ≡ cost_of self.now operator }
@@ -95,7 +95,7 @@ impl Task {
         }
     }
 
-    /// Returns the number of the variable's values.
+    /// Returns the number of values of the variable.
     pub fn range(&self, var: u32) -> u32
         requires { var < length self.now.variables }
         ensures { result ≡ range_of self.now.variables var }
@@ -103,7 +103,7 @@ impl Task {
         self.parts.variables.as_slice()[var as usize].values.len() as u32
     }
 
-    /// Returns whether the variable is derived: whether it has a layer.
+    /// Returns whether the variable is derived, that is, has a layer.
     pub fn derived(&self, var: u32) -> bool
         requires { var < length self.now.variables }
         ensures { IsTrue result ↔ IsDerived self.now.variables var }
@@ -113,7 +113,7 @@ impl Task {
             .is_some()
     }
 
-    /// Returns whether the fact's variable exists and has the fact's value.
+    /// Returns whether the fact's variable exists and has this value.
     pub fn has_fact(&self, fact: Fact) -> bool
         ensures { IsTrue result ↔ FactExists self.now.variables fact }
     {
@@ -121,7 +121,7 @@ impl Task {
     }
 }
 
-/// Ensures a law: parts are well ranged exactly where none of their checks fails.
+/// Law: parts are well ranged if and only if all their checks pass.
 pub fn task_laws()
     ensures { ChecksAreTheRules }
 {}

@@ -1,4 +1,4 @@
--- The first of the items that fails decides.
+-- The first item that fails determines the fault.
 use Rattle.std.proofs.Common.{rules, ◌≡◌, ◌∙◌, Some}
 use Rattle.std.specs.Result.{result_err}
 use Rattle.sas_core.proofs.FirstFaults.{pass_before_first, pass_before_next, fails_at, pass_all}

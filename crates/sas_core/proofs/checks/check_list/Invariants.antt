@@ -1,4 +1,4 @@
--- The items so far pass.
+-- All items so far pass.
 use Rattle.sas_core.proofs.FirstFaults.{PassBefore}
 use Rattle.sas_core.proofs.checks.check_list.Given as goal
 

@@ -1,4 +1,4 @@
--- The first section that fails decides.
+-- The first section that fails determines the fault.
 use Rattle.std.proofs.Common.{rules, ◌≡◌, ◌∙◌, Some}
 use Rattle.std.specs.Result.{result_err}
 use Rattle.sas_core.specs.Checks.{checks}

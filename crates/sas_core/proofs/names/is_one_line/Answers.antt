@@ -1,4 +1,4 @@
--- The search for LF and CR finds none exactly where each byte is plain.
+-- The search for LF and CR finds nothing if and only if each byte is plain.
 use Rattle.sas_core.proofs.PlainBytes.{is_none-search}
 use Rattle.sas_core.proofs.names.is_one_line.Goals as goal
 

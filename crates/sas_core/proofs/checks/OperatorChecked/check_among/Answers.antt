@@ -1,4 +1,4 @@
--- The first part that fails decides.
+-- The first part that fails determines the fault.
 use Rattle.std.proofs.Common.{rules, ◌≡◌, ◌∙◌, Some}
 use Rattle.std.specs.Result.{result_err}
 use Rattle.sas_core.specs.Checks.{operator_checks}

@@ -1,4 +1,4 @@
--- A step that isn't a name was found, so not each step is a name.
+-- A step that isn't a name was found, so not every step is a name.
 use Rattle.std.proofs.Common.{rules}
 use Rattle.std.proofs.lemmas.Bool.{false≢true}
 use Rattle.sas_core.proofs.BadNames.{bad-not_names}

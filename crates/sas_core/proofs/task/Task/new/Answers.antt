@@ -1,4 +1,4 @@
--- No check of the parts fails exactly where they are well ranged.
+-- All checks pass if and only if the parts are well ranged.
 use Rattle.std.proofs.Common.{◌≡◌, Some, None, refl, sym, ◌∙◌, rules}
 use Rattle.std.proofs.lemmas.Bool.{false≢true}
 use Rattle.sas_core.proofs.ChecksAreRules.{checks_are_the_rules}
