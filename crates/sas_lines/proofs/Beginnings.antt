@@ -1,4 +1,4 @@
--- What stands first in some bytes: a line, lines.
+-- The first line and the first lines of some bytes.
 use Rattle.std.proofs.Common.{◌≡◌, ℕ, ◌+◌, List, [], ◌∷◌, ◌++◌, length, length-append, take, refl, sym, ap, ◌∙◌, append_assoc, arith}
 use Rattle.std.proofs.lemmas.List.{take_at, length_push}
 use Rattle.std.specs.List.{AllByRecursion}

@@ -1,4 +1,4 @@
--- What a feed makes of what was pending and of what it takes.
+-- How a feed combines the pending bytes with those that it takes.
 use Rattle.std.proofs.Common.{◌≡◌, ℕ, ◌+◌, ◌≤◌, Bool, true, false, List, [], ◌∷◌, ◌++◌, length, take, drop, sym, arith, ap, subst, ◌∙◌, append_assoc, if◌then◌else◌}
 use Rattle.std.proofs.lemmas.List.{take_all, length-take}
 use Rattle.sas_lines.specs.Parts.{StandsFirst}

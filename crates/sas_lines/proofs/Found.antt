@@ -1,4 +1,4 @@
--- Where a search for a separator stops, and a CR before a line's end.
+-- Where a search for a separator stops, and a CR before LF.
 use Rattle.std.proofs.Common.{◌≡◌, ℕ, zero, suc, ◌+◌, ◌<◌, ◌≢◌, List, [], ◌∷◌, ◌++◌, length, get_or, take, drop, refl, sym, ap, ◌∙◌, arith, inl, inr}
 use Rattle.std.proofs.lemmas.Bool.{eq-eqb, ne_eqb, eqb-true}
 use Rattle.std.proofs.lemmas.Bool.Decides.{eqb_tells}

@@ -1,4 +1,4 @@
--- What stands between separators, by what stands at the end.
+-- The parts of bytes between separators, derived from the last part.
 use Rattle.std.proofs.Common.{◌≡◌, ℕ, Bool, true, false, cond, eqb, List, [], ◌∷◌, ◌++◌, refl, sym, ap, subst, ◌∙◌}
 use Rattle.std.proofs.lemmas.Bool.{ne_eqb, eq-eqb, eqb-false}
 use Rattle.sas_lines.specs.Parts.{Without, onto_first, parts}

@@ -1,4 +1,4 @@
--- The parts between single spaces, as the inverse of joining; decimals hold no space.
+-- Splitting at single spaces is the inverse of joining; a decimal contains no space.
 use Rattle.std.proofs.Common.{◌≡◌, ℕ, zero, suc, ◌+◌, ◌<◌, ◌≤◌, ◌^◌, ◌≢◌, Bool, true, false, cond, eqb, List, [], ◌∷◌, ◌++◌, length, refl, sym, ap, ◌∙◌, arith, Option, Some, None, inl, inr}
 use Rattle.std.specs.List.{AllByRecursion}
 use Rattle.std.specs.Prelude.{◌/◌, ◌%◌, nat_lt}

@@ -3,7 +3,7 @@ use Rattle.std.specs.Prelude.{ℕ, List, [], Option, Some}
 use Rattle.sas_lines.specs.declared.inputs.Opened.{Opened}
 use Rattle.sas_lines.specs.declared.inputs.Opened.TheVariants as opened
 
--- what an input has left: what its file or its standard input has, or nothing
+-- the bytes that an input has left: those of its file or of standard input, or none
 abbrev pub left_of : {F I : Type 0} → (F → Option (List ℕ)) → (I → Option (List ℕ)) → Opened F I
     → Option (List ℕ)
 left_of of_file of_standard (opened.File file) = of_file file

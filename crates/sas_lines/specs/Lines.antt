@@ -1,17 +1,17 @@
--- Lines: every byte list is some complete lines, each with its line end, and a rest without LF. The
--- bytes `one LF two CR LF three` are the lines `one` and `two` and the rest `three`.
+-- Lines: any bytes are a sequence of complete lines, each with its line end, and a rest without LF.
+-- The bytes `one LF two CR LF three` are the lines `one` and `two` and the rest `three`.
 use Rattle.std.specs.Prelude.{◌≡◌, ◌≢◌, ◌⊎◌, ℕ, ◌==◌, if◌then◌else◌, List, [], ◌∷◌, ◌++◌}
 use Rattle.std.specs.List.{flat_map, AllByRecursion}
 use Rattle.sas_lines.specs.Parts.{parts}
 
--- a line without its line end, from what stands before its LF: one CR directly before the LF
--- belongs to the end
+-- a line without its line end, given the bytes before its LF: a CR directly before the LF is part
+-- of the line end
 abbrev pub without_return : List ℕ → List ℕ
 without_return [] = []
 without_return (b ∷ []) = if b == 13 then [] else b ∷ []
 without_return (b ∷ c ∷ bytes) = b ∷ without_return (c ∷ bytes)
 
--- each part but the last is a line
+-- each part except the last is a line
 abbrev pub lines_among : List (List ℕ) → List (List ℕ)
 lines_among [] = []
 lines_among (part ∷ []) = []
@@ -27,7 +27,7 @@ rest_among (part ∷ next ∷ parts) = rest_among (next ∷ parts)
 unfoldable pub lines : List ℕ → List (List ℕ)
 lines bytes = lines_among (parts 10 bytes)
 
--- what follows the last LF
+-- the bytes after the last LF
 unfoldable pub unfinished : List ℕ → List ℕ
 unfinished bytes = rest_among (parts 10 bytes)
 
@@ -35,18 +35,18 @@ unfinished bytes = rest_among (parts 10 bytes)
 abbrev pub text : List (List ℕ) → List ℕ
 text lines = flat_map (λ line. line ++ 10 ∷ []) lines
 
--- the bytes end no line
+-- the bytes contain no LF
 abbrev pub NoEnd : List ℕ → Type 0
 NoEnd bytes = AllByRecursion (λ b. b ≢ 10) bytes
 
--- the bytes are these lines, each ended by LF or by CR LF, and then the rest
+-- the bytes are these lines, each ended by LF or CR LF, followed by the rest
 abbrev pub EndedLines : List (List ℕ) → List ℕ → List ℕ → Type 0
 EndedLines [] rest bytes = bytes ≡ rest
 EndedLines (line ∷ more) rest bytes = (behind : List ℕ)
     × ((bytes ≡ line ++ 10 ∷ behind) ⊎ (bytes ≡ line ++ 13 ∷ 10 ∷ behind))
     × EndedLines more rest behind
 
--- a law: any bytes are their complete lines, each with its end, and then their rest, without LF
+-- law: any bytes are their complete lines, each with its line end, followed by a rest without LF
 abbrev pub BytesAreEndedLines : Type 0
 BytesAreEndedLines = (bytes : List ℕ) → EndedLines (lines bytes) (unfinished bytes) bytes
     × NoEnd (unfinished bytes)

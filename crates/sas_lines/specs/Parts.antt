@@ -1,4 +1,4 @@
--- What stands between separators. These parts have nothing to do with the `Parts` of a task.
+-- The parts of bytes between separators. They are unrelated to the `Parts` of a task.
 use Rattle.std.specs.Prelude.{◌≡◌, ◌≢◌, ℕ, ◌<◌, ◌==◌, if◌then◌else◌, Option, Some, None}
 use Rattle.std.specs.Prelude.{List, [], ◌∷◌, length, take, slice_index}
 use Rattle.std.specs.List.{AllByRecursion}
@@ -8,26 +8,27 @@ use Rattle.std.specs.Borrow.{Bor}
 abbrev pub Without : ℕ → List ℕ → Type 0
 Without separator bytes = AllByRecursion (λ b. b ≢ separator) bytes
 
--- the first separator stands at this place
+-- the first separator has this index
 pub record StandsFirst (separator : ℕ) (bytes : List ℕ) (place : ℕ) : Type 0 where
   pub within : place < length bytes
   pub before : Without separator (take place bytes)
   pub here : slice_index bytes place ≡ separator
 
--- the byte in front of the first part
+-- prepends the byte to the first part
 abbrev pub onto_first : ℕ → List (List ℕ) → List (List ℕ)
 onto_first byte [] = (byte ∷ []) ∷ []
 onto_first byte (part ∷ parts) = (byte ∷ part) ∷ parts
 
--- the parts of the bytes before, between and behind the separators, in order: k separators give
--- k + 1 parts, some perhaps empty. Between spaces `a  b` has the parts `a`, the empty one and `b`.
+-- the parts of the bytes before, between and after the separators, in order: k separators give k +
+-- 1 parts, some of which may be empty. Split at spaces, `a  b` has the parts `a`, the empty one and
+-- `b`.
 unfoldable pub parts : ℕ → List ℕ → List (List ℕ)
 parts separator [] = [] ∷ []
 parts separator (byte ∷ bytes) =
     if byte == separator then [] ∷ parts separator bytes
     else onto_first byte (parts separator bytes)
 
--- the parts of the bytes that may be there
+-- the parts of optional bytes; no bytes have no parts
 abbrev pub parts_within : ℕ → Option (Bor (List ℕ)) → List (List ℕ)
 parts_within separator None = []
 parts_within separator (Some bytes) = parts separator bytes.now

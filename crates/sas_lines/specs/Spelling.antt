@@ -1,21 +1,21 @@
--- How numbers are spelled, alone and several on a line. `decimal n` is the digit of n below 10,
--- else `decimal (n / 10)` and then the digit of n % 10.
+-- How numbers are written, alone and several on a line. `decimal n` is a single digit for n below
+-- 10, else `decimal (n / 10)` followed by the digit of n % 10.
 use Rattle.std.specs.Prelude.{◌≡◌, ℕ, ◌+◌, ◌/◌, ◌%◌, ◌^◌, ◌<◌, ◌≤◌, List, [], ◌∷◌, ◌++◌, Option, Some, None, codes}
 use Rattle.std.specs.Fmt.{decimal}
 
--- a signed number in its bytes, where `-1` represents none
+-- a signed number as bytes; `-1` stands for none
 abbrev pub signed_decimal : Option ℕ → List ℕ
 signed_decimal None = codes "-1"
 signed_decimal (Some n) = decimal n
 
--- words with one space between each two
+-- words separated by single spaces
 abbrev pub joined : List (List ℕ) → List ℕ
 joined [] = []
 joined (word ∷ []) = word
 joined (word ∷ next ∷ words) = word ++ 32 ∷ joined (next ∷ words)
 
--- `decimal` in plain recursion, at every number of 128 bits: one digit below 10, else the decimal
--- of a tenth and one digit more
+-- `decimal` as a plain recursion, for each number of 128 bits: a digit if below 10, else the
+-- decimal of a tenth followed by a digit
 abbrev pub SpellingIsDecimal : Type 0
 SpellingIsDecimal =
     ((n : ℕ) → n < 10 → decimal n ≡ (48 + n) ∷ [])

@@ -1,4 +1,4 @@
-// Devices that note a failure.
+// Readers and writers that remember whether they failed.
 ghost use Rattle.std.specs.Prelude.{◌≡◌, ◌≤◌, ◌<◌, ◌↔◌, [], take, length};
 ghost use Rattle.std.specs.Prelude.{true, false, OnOk, IfOk, IfErr, IsErr, IsTrue};
 ghost use Rattle.std.specs.Io.KnownBytes.{ReadConsumes, WriteAppends, Appends};
@@ -11,14 +11,14 @@ use std::marker::Model;
 #[derive(Clone, Copy, Debug, PartialEq, Eq)]
 pub struct Failed;
 
-/// The device failed when it had taken the first `written` bytes.
+/// The device failed after it had taken the first `written` bytes.
 #[derive(Clone, Copy, Debug, PartialEq, Eq)]
 pub struct Short {
     pub written: usize,
 }
 
-/// A reader or a writer, with a note whether a read or a write through it has failed. Any error of the device is a
-/// failure, `ErrorKind::Interrupted` too, and so is a write that takes none of at least one byte. Nothing else is.
+/// A reader or a writer that remembers whether a read or a write has failed. Each error of the device is a failure, even
+/// `ErrorKind::Interrupted`. A write of at least one byte that takes no byte is a failure, too.
 #[derive(Drop)]
 pub struct Watched<D> {
     device: D,
@@ -32,7 +32,7 @@ impl<D> Model for Watched<D> {
 }
 
 impl<D> Watched<D> {
-    /// Makes a device through which no read or write has failed yet.
+    /// Wraps a device. No read or write has failed yet.
     pub fn new(device: D) -> Watched<D>
         ensures device { result.device ≡ device }
         ensures note { result.failed ≡ false }
@@ -43,7 +43,7 @@ impl<D> Watched<D> {
         }
     }
 
-    /// Notes a failure.
+    /// Records a failure.
     fn fail(&mut self) -> Failed
         ensures device { self.new.device ≡ self.old.device }
         ensures note { self.new.failed ≡ true }
@@ -52,14 +52,14 @@ impl<D> Watched<D> {
         Failed
     }
 
-    /// Returns whether a read or a write through it has failed.
+    /// Returns whether a read or a write has failed.
     pub fn failed(&self) -> bool
         ensures { result ≡ self.now.failed }
     {
         self.failed
     }
 
-    /// Returns the device, without the note.
+    /// Returns the wrapped device.
     pub fn into_device(self) -> D
         ensures { result ≡ self.device }
     {
@@ -68,8 +68,8 @@ impl<D> Watched<D> {
 }
 
 impl<R: Read> Watched<R> {
-    /// Makes one read. Returns how many bytes of `buffer` it filled, 0 at the end of the input. An `Err` is a failure of
-    /// the device, which is noted. Not to be called after a failure.
+    /// Reads once. Returns the number of bytes stored in `buffer`, which is 0 at the end of the input. `Err` means that the device failed,
+    /// which is recorded. Must not be called after a failure.
     pub fn take(&mut self, buffer: &mut [u8]) -> Result<usize, Failed>
         requires { self.old.failed ≡ false }
         ensures bound { IfOk result (λ n. n ≤ length buffer.new) }
@@ -85,8 +85,8 @@ impl<R: Read> Watched<R> {
 }
 
 impl<W: Write> Watched<W> {
-    /// Makes one write. Returns how many of the bytes the device took, at least one unless there are none. An `Err` is a
-    /// failure of the device, which is noted. Not to be called after a failure.
+    /// Writes once. Returns how many of the bytes the device took: at least one, unless `bytes` is empty. `Err` means that the device
+    /// failed, which is recorded. Must not be called after a failure.
     pub fn give(&mut self, bytes: &[u8]) -> Result<usize, Failed>
         requires { self.old.failed ≡ false }
         ensures bound { IfOk result (λ n. n ≤ length bytes.now) }
@@ -102,8 +102,8 @@ impl<W: Write> Watched<W> {
     }
 }
 
-/// Writes all the bytes, in as many writes as it takes. At a failure exactly the first `written` bytes went out. With
-/// no bytes no write is made. Not to be called after a failure.
+/// Writes all bytes, in as many writes as needed. On `Err` exactly the first `written` bytes were written. If `bytes` is empty, nothing is
+/// written. Must not be called after a failure.
 #[tactic(auto, using(crate::proofs::Sent::sent_more))]
 pub fn write_out<W: Write>(out: &mut Watched<W>, bytes: &[u8]) -> Result<(), Short>
     requires { out.old.failed ≡ false }

@@ -1,15 +1,15 @@
-// What a program reads from.
+// The inputs of a program.
 use std::io::{Read, Result};
 
-/// An input that was opened: a file, standard input, or nothing where there is none to read. A read of it is a read of
-/// that file or of standard input. Of nothing each read returns 0 bytes.
+/// An input that was opened: a file, standard input, or an empty input. A read is one read of the file or of standard input. The empty
+/// input returns 0 bytes.
 #[derive(Drop)]
 pub enum Opened<F, I> {
     /// A file.
     File(F),
     /// Standard input.
     Standard(I),
-    /// No bytes.
+    /// An empty input.
     Nothing,
 }
 

@@ -1,4 +1,4 @@
-//! Lines and numbers of a text, and devices that note a failure.
+//! Lines and numbers in a text, and readers and writers that remember a failure.
 #![tactic(auto)]
 
 mod devices;

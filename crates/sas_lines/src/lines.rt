@@ -1,4 +1,4 @@
-// The lines of a stream, however it is cut into pieces.
+// Splits a stream that arrives in pieces into lines.
 ghost use Rattle.std.specs.Prelude.{◌≡◌, ◌<◌, [], ◌∷◌, ◌++◌, take, false, true};
 ghost use Rattle.std.specs.Prelude.{IfOk, OnErr, IfSome, IfNone, if◌then◌else◌};
 ghost use Rattle.sas_lines.specs.Lines.{lines, unfinished, without_return, NoEnd};
@@ -10,21 +10,21 @@ use crate::separators::first_place;
 use std::alloc::{AllocError, Global};
 use std::marker::Model;
 
-/// What a feed took: the number of bytes of its piece, and whether they complete a line.
+/// What a call of `feed` took: the number of bytes, and whether they complete a line.
 #[derive(Clone, Copy, Debug, PartialEq, Eq)]
 pub struct Fed {
     pub taken: usize,
     pub complete: bool,
 }
 
-/// The first line of some bytes, without its end, and how many of the bytes it takes with its end.
+/// The first line of some bytes without its line end, and the number of bytes that it takes including its line end.
 #[derive(Clone, Copy, Debug, PartialEq, Eq)]
 pub struct FirstLine<'a> {
     pub line: &'a [u8],
     pub taken: usize,
 }
 
-/// Returns the line without one CR at its end, if there is one: that CR belongs to the line's end.
+/// Returns the line without a CR at its end, since that CR is part of the line end.
 #[tactic(auto, using(crate::proofs::Found::return_at, crate::proofs::Found::no_return_at))]
 fn without_return(line: &[u8]) -> &[u8]
     ensures { result.now ≡ without_return line.now }
@@ -35,7 +35,7 @@ fn without_return(line: &[u8]) -> &[u8]
     }
 }
 
-/// Returns the first line of the bytes, or `None` where no LF has come.
+/// Returns the first line of the bytes, or `None` if they contain no LF.
 pub fn first_line(bytes: &[u8]) -> Option<FirstLine<'_>>
     ensures some { IfSome result (λ first. LineStandsFirst bytes.now first.line.now first.taken) }
     ensures none { IfNone result (NoEnd bytes.now) }
@@ -47,7 +47,7 @@ pub fn first_line(bytes: &[u8]) -> Option<FirstLine<'_>>
     })
 }
 
-/// Clears the bytes if they are a complete line. The next line reuses their memory.
+/// Clears the bytes if they are a complete line. The next line reuses the memory.
 fn let_line_go(held: &mut Vec<u8>, complete: bool)
     ensures { held.new.items ≡ (if complete then [] else held.old.items) }
 {
@@ -56,7 +56,7 @@ fn let_line_go(held: &mut Vec<u8>, complete: bool)
     }
 }
 
-/// Removes one CR from the end, if there is one: it belongs to the line's end.
+/// Removes a CR from the end of the line, since it is part of the line end.
 #[tactic(auto, using(crate::proofs::Found::front_without_return))]
 fn drop_return(line: &mut Vec<u8>)
     ensures { line.new.items ≡ without_return line.old.items }
@@ -65,7 +65,7 @@ fn drop_return(line: &mut Vec<u8>)
     line.truncate(kept);
 }
 
-/// Takes a text in pieces, cut anywhere, and returns it line by line.
+/// Takes a text in pieces, cut anywhere, and returns its lines.
 #[derive(Debug, Drop)]
 pub struct Lines {
     held: Vec<u8>,
@@ -88,7 +88,7 @@ impl Model for Lines {
 }
 
 impl Lines {
-    /// Makes a `Lines` that has taken nothing yet. It takes no memory.
+    /// Returns a `Lines` without any input. Allocates no memory.
     pub fn new(alloc: Global) -> Self
         ensures line { result.line ≡ [] }
         ensures pending { result.pending ≡ [] }
@@ -99,13 +99,13 @@ impl Lines {
         }
     }
 
-    /// Takes the bytes of `piece` up to and with its first LF, or all of them if there is none. An `Err` is returned
-    /// only for want of memory, and then nothing was taken.
+    /// Takes the bytes of `piece` up to and including its first LF, or all of them if there is none. `Err` means out of memory; nothing was
+    /// taken then.
     #[tactic(auto, using(crate::proofs::Feeding::feeding))]
     pub fn feed(&mut self, piece: &[u8]) -> Result<Fed, AllocError>
-        // Up to and with the first LF, or all.
+        // Up to and including the first LF, or all bytes.
         ensures taken { IfOk result (λ fed. TakesLine piece.now fed.taken fed.complete) }
-        // What was pending and what was taken are together the completed line and its end, or what is pending now.
+        // The pending bytes and the bytes taken form the completed line with its end, or the new pending bytes.
         ensures lines { IfOk result
             (λ fed. lines (self.old.pending ++ take fed.taken piece.now)
             ≡ completed fed.complete self.new.line) }
@@ -134,7 +134,7 @@ impl Lines {
         })
     }
 
-    /// Returns the line that the last feed completed, without its end. It is empty where the feed completed none.
+    /// Returns the line that the last feed completed, without its line end. It is empty if no line was completed.
     pub fn line(&self) -> &[u8]
         ensures { result.now ≡ self.now.line }
     {
@@ -142,8 +142,7 @@ impl Lines {
         if self.complete { line } else { &[] }
     }
 
-    /// Returns the bytes that have come since the last LF. They may end in a CR that belongs to a line's end, if LF
-    /// comes next.
+    /// Returns the bytes since the last LF. They may end with a CR, which is part of the line end if LF follows.
     pub fn pending(&self) -> &[u8]
         ensures { result.now ≡ self.now.pending }
     {
@@ -152,7 +151,7 @@ impl Lines {
     }
 }
 
-/// What holds of lines: any bytes are their complete lines, each ended by LF or by CR LF, and then the rest, which has no LF.
+/// Law: any bytes consist of their complete lines, each ended by LF or CR LF, and a rest without LF.
 pub fn lines_law()
     ensures { BytesAreEndedLines }
 {}

@@ -1,21 +1,21 @@
-// The parts of a line between single spaces.
+// Splits a line at its spaces.
 ghost use Rattle.std.specs.Prelude.{◌≡◌, ◌∷◌};
 ghost use Rattle.sas_lines.specs.Parts.{parts, parts_within};
 
 use std::marker::Model;
 
-/// Returns what stands before the first space, and what stands behind it, if there is one.
+/// Returns the bytes before the first space, and the bytes after it (`None` if there is no space).
 fn cut(line: &[u8]) -> (&[u8], Option<&[u8]>)
     ensures { parts 32 line.now ≡ result.0.now ∷ parts_within 32 result.1 }
 {
-    // The next space is mostly a few bytes away, so that looking at each byte is faster than `memchr`.
+    // The next space is usually a few bytes away, so checking byte by byte is faster than `memchr`.
     match line.iter().position(|&byte| byte == b' ') {
         Some(at) => (&line[..at], Some(&line[at + 1..])),
         None => (line, None),
     }
 }
 
-/// The parts of a line between its spaces, in order: k spaces separate k + 1 parts, some perhaps empty.
+/// Iterates over the parts of a line between its spaces, in order. A line with k spaces has k + 1 parts, some of which may be empty.
 #[derive(Debug, Drop)]
 pub struct Numbers<'a> {
     rest: Option<&'a [u8]>,
@@ -31,7 +31,7 @@ impl<'a> Model for Numbers<'a> {
 }
 
 impl<'a> Numbers<'a> {
-    /// Makes the iterator over all parts of the line.
+    /// Returns the iterator over all parts of the line.
     pub fn new(line: &'a [u8]) -> Numbers<'a>
         ensures { result ≡ parts 32 line.now }
     {

@@ -1,17 +1,17 @@
-// Numbers from their spelling.
+// Parses numbers.
 ghost use Rattle.std.specs.Prelude.{◌≡◌, ◌<◌, ◌≤◌, ◌^◌, ◌↔◌, ℕ, Option, Some, None};
 ghost use Rattle.std.specs.Prelude.{IfSome, IfNone, IsTrue, length, slice_index, decimal};
 ghost use Rattle.sas_lines.specs.Spelling.{SpellingIsDecimal, signed_decimal};
 
-/// Returns whether the digits begin with a zero and more stand behind it.
+/// Returns whether the digits begin with a zero that other digits follow.
 fn has_leading_zero(digits: &[u8]) -> bool
     ensures { IsTrue result ↔ (slice_index digits.now 0 ≡ 48) × (1 < length digits.now) }
 {
     matches!(digits, [b'0', _, ..])
 }
 
-/// Returns the value of at most 19 decimal digits without a leading zero, or `None` where they aren't such digits. The
-/// value fits, since 10 ^ 19 is below 2 ^ 64.
+/// Parses at most 19 decimal digits without leading zeros. Returns `None` for any other bytes. The value fits since 10 ^ 19 is below 2 ^
+/// 64.
 fn short_number(digits: &[u8]) -> Option<u64>
     requires { length digits.now ≤ 19 }
     ensures found { IfSome result (λ n. (n < 10 ^ 19) × (digits.now ≡ decimal n)) }
@@ -30,8 +30,7 @@ fn short_number(digits: &[u8]) -> Option<u64>
     Some(value)
 }
 
-/// Returns the number that the line spells: decimal digits without sign or leading zero, at most 2,147,483,647. Returns
-/// `None` where the line spells none.
+/// Parses a number: decimal digits without sign or leading zeros, at most 2,147,483,647. Returns `None` for any other line.
 pub fn number(line: &[u8]) -> Option<u32>
     ensures found { IfSome result (λ n. (n < 2 ^ 31) × (line.now ≡ decimal n)) }
     ensures none { IfNone result ((n : ℕ) → n < 2 ^ 31 → line.now ≡ decimal n → ⊥) }
@@ -47,8 +46,7 @@ pub fn number(line: &[u8]) -> Option<u32>
     }
 }
 
-/// Returns the signed number that the line spells: a number, or `-1` for none. Returns `None` where the line spells
-/// neither.
+/// Parses a number, or `-1`, which is returned as `Some(None)`. Returns `None` for any other line.
 pub fn signed(line: &[u8]) -> Option<Option<u32>>
     ensures found { IfSome result (λ n. IfSome n (λ k. k < 2 ^ 31)
         × (line.now ≡ signed_decimal n)) }
@@ -61,8 +59,8 @@ pub fn signed(line: &[u8]) -> Option<Option<u32>>
     number(line).map(Some)
 }
 
-/// Returns the plan cost that the line spells: decimal digits without sign or leading zero, at most
-/// 18,446,744,073,709,551,615. Returns `None` where the line spells none.
+/// Parses the cost of a plan: decimal digits without sign or leading zeros, at most 18,446,744,073,709,551,615. Returns `None` for any
+/// other line.
 pub fn cost(line: &[u8]) -> Option<u64>
     ensures found { IfSome result (λ n. (n < 2 ^ 64) × (line.now ≡ decimal n)) }
     ensures none { IfNone result ((n : ℕ) → n < 2 ^ 64 → line.now ≡ decimal n → ⊥) }
@@ -73,7 +71,7 @@ pub fn cost(line: &[u8]) -> Option<u64>
     if line.len() > 20 {
         return None;
     }
-    // 19 digits always fit 64 bits, and 20 only perhaps.
+    // 19 digits always fit into 64 bits. 20 digits may not.
     let last = line[19];
     if !last.is_ascii_digit() {
         return None;
@@ -86,7 +84,7 @@ pub fn cost(line: &[u8]) -> Option<u64>
     Some(value as u64)
 }
 
-/// States the law that `decimal`, which the clauses use, is decimal notation in plain recursion.
+/// Law: `decimal`, which the clauses use, is the usual decimal notation.
 pub fn spelling_is_decimal()
     ensures { SpellingIsDecimal }
 {}

@@ -10,7 +10,7 @@ use std::io;
 use std::io::{Error, ErrorKind, Read, Write};
 use std::marker::Model;
 
-/// A reader that returns its bytes and then fails at each read.
+/// A reader that returns its bytes and then fails on each read.
 #[derive(Drop)]
 pub struct Breaks<'a> {
     bytes: &'a [u8],
@@ -24,8 +24,7 @@ impl<'a> Model for Breaks<'a> {
 }
 
 impl<'a> Breaks<'a> {
-    /// Makes a reader of these bytes. Behind them it fails with `ErrorKind::Interrupted` if asked to, and else with
-    /// `ErrorKind::Other`.
+    /// Returns a reader of these bytes. After them it fails with `ErrorKind::Interrupted` if `interrupted`, else with `ErrorKind::Other`.
     pub fn new(bytes: &'a [u8], interrupted: bool) -> Breaks<'a>
         ensures { result ≡ record { bytes = bytes.entry.now; interrupted = interrupted } }
     {
@@ -39,13 +38,13 @@ impl<'a> Read for Breaks<'a> {
     fn read(&mut self, buf: &mut [u8]) -> io::Result<usize>
         ensures bound { ReadsAtMost result buf.new }
         ensures bytes { ReadConsumes (Some self.old.bytes) (Some self.new.bytes) result buf.new }
-        // It returns as many bytes as there are and as there is room for.
+        // It returns as many bytes as remain and fit into the buffer.
         ensures count { (self.old.bytes ≡ [] → ⊥)
             → result ≡ Ok (min (length self.old.bytes) (length buf.old)) }
         ensures copied { IfOk result (λ n. buf.new ≡ take n self.old.bytes ++ drop n buf.old) }
         ensures rest { IfOk result (λ n.
             self.new ≡ record self.old { bytes = drop n self.old.bytes }) }
-        // It fails when all bytes were returned, and changes nothing then.
+        // After the last byte it fails and changes nothing.
         ensures fails { self.old.bytes ≡ [] → IsErrAnd result
             (λ e. error_kind e ≡ break_kind self.old.interrupted) }
         ensures unchanged { OnErr result (self.new ≡ self.old) }
@@ -62,7 +61,7 @@ impl<'a> Read for Breaks<'a> {
     }
 }
 
-/// A writer into memory reserved beforehand, which takes little at a time, and only so much in all.
+/// A writer into preallocated memory that takes few bytes at a time and a limited number in total.
 #[derive(Drop)]
 pub struct Narrow {
     kept: Vec<u8>,
@@ -85,13 +84,13 @@ impl Model for Narrow {
       fails = n.fails;
     } };
 
-    // No write asks for memory.
+    // No write allocates memory.
     ghost invariant = { λ n. (length n.kept.items ≤ n.room) × (n.room ≤ vec_capacity n.kept) };
 }
 
 impl Narrow {
-    /// Makes a writer that takes at most `piece` bytes at a time, and `room` in all. It then fails if `fails`, and else
-    /// takes none. An `Err` is returned only for want of memory.
+    /// Returns a writer that takes at most `piece` bytes per write and `room` bytes in total. Once it is full, a write fails if `fails`,
+    /// else it takes no bytes. `Err` means out of memory.
     pub fn new(alloc: Global, piece: usize, room: usize, fails: bool) -> Result<Narrow, AllocError>
         ensures { IfOk result (λ n.
             n ≡ record { kept = []; piece = piece; room = room; fails = fails }) }
@@ -104,7 +103,7 @@ impl Narrow {
         })
     }
 
-    /// Returns the bytes that it took.
+    /// Returns the bytes that were written.
     pub fn kept(&self) -> &[u8]
         ensures { result.now ≡ self.now.kept }
     {

@@ -1,11 +1,11 @@
-// Appends to a text: numbers in decimal, and lines.
+// Appends numbers and lines to a text.
 ghost use Rattle.std.specs.Prelude.{◌≡◌, ◌+◌, ◌<◌, [], ◌∷◌, ◌++◌, length, OnOk, OnErr, decimal};
 ghost use Rattle.std.specs.Vec.{vec_len, vec_capacity};
 
 use itoa::Buffer;
 use std::alloc::AllocError;
 
-/// Appends the decimal digits of `n`. An `Err` is returned only for want of memory, and then the text is as it was.
+/// Appends `n` in decimal. On `Err` (out of memory) the text is unchanged.
 pub fn push_number(out: &mut Vec<u8>, n: u128) -> Result<(), AllocError>
     ensures ok { OnOk result (out.new.items ≡ out.old.items ++ decimal n) }
     ensures err { OnErr result (out.new.items ≡ out.old.items) }
@@ -15,13 +15,13 @@ pub fn push_number(out: &mut Vec<u8>, n: u128) -> Result<(), AllocError>
     out.extend_from_slice(buffer.format(n).as_bytes())
 }
 
-/// Appends the line and its end, LF. An `Err` is returned only for want of memory, and then the text is as it was.
+/// Appends the line and LF. On `Err` (out of memory) the text is unchanged.
 pub fn push_line(out: &mut Vec<u8>, line: &[u8]) -> Result<(), AllocError>
     ensures ok { OnOk result (out.new.items ≡ out.old.items ++ (line.now ++ 10 ∷ [])) }
     ensures err { OnErr result (out.new.items ≡ out.old.items) }
     ensures full { OnErr result (vec_capacity out.old < vec_len out.old + length line.now + 1) }
 {
-    // Room for both first, so that neither append can fail after the other.
+    // Reserves memory for both first, so that the second append can't fail after the first.
     out.reserve(line.len() + 1)?;
     out.extend_from_slice(line)?;
     out.push(b'\n')?;

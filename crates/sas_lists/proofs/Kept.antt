@@ -1,4 +1,4 @@
--- Lists whose parts are as they were, or have empty lists behind them.
+-- Lists whose block and ends are unchanged, or got empty lists at the end.
 use Rattle.std.proofs.Common.{◌≡◌, ℕ, zero, suc, ◌-◌, ◌≤◌, List, [], ◌∷◌, ◌++◌, length, take, replicate, sym, ap, subst, ◌∙◌, arith, append-nil, append_assoc, Result, Ok, Err}
 use Rattle.std.specs.Prelude.{OnOk, OnErr, IsErr}
 use Rattle.std.proofs.lemmas.Bool.{false≢true}

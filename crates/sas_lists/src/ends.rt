@@ -1,12 +1,12 @@
-// Where lists that are stored one after another end.
+// The ends of lists that are stored one after another.
 ghost use Rattle.std.specs.Prelude.{◌≡◌, ◌<◌, ◌≤◌, ◌+◌, ◌^◌, [], ◌∷◌, ◌++◌, length, take, map, replicate, OnOk, OnErr, EachIndex, slice_index};
 ghost use Rattle.sas_lists.specs.Lists.{start_of};
 
 use std::alloc::{AllocError, Global};
 use std::marker::Model;
 
-/// The places where lists in one block end, one for each list. They ascend in the lists of this crate. In a contract their
-/// value is the list of the places.
+/// The end of each list in one block of memory. The ends of the lists in this crate ascend. In a contract the value is the list of the
+/// ends.
 #[derive(Debug, Drop)]
 pub struct Ends {
     places: Vec<usize>,
@@ -20,7 +20,7 @@ impl Model for Ends {
     ghost view = { λ e. e.places.items };
 }
 
-/// Adds `by` to each place.
+/// Adds `by` to each of the ends.
 fn shift(places: &mut [usize], by: usize)
     requires { EachIndex places.old (λ index. slice_index places.old index + by < 2 ^ 64) }
     ensures { places.new ≡ map (λ place. place + by) places.old }
@@ -31,7 +31,7 @@ fn shift(places: &mut [usize], by: usize)
 }
 
 impl Ends {
-    /// Returns the ends of no list. It takes no memory.
+    /// Returns the ends of no lists. Allocates no memory.
     pub fn new(alloc: Global) -> Self
         ensures { result ≡ [] }
     {
@@ -40,7 +40,7 @@ impl Ends {
         }
     }
 
-    /// Returns the ends of lists that end at these places. It takes no memory.
+    /// Returns these ends. Allocates no memory.
     pub(crate) fn of_places(places: Vec<usize>) -> Self
         ensures { result ≡ places.items }
     {
@@ -54,8 +54,8 @@ impl Ends {
         self.places.len()
     }
 
-    /// Returns where the list at the index starts, which is where the one before it ends. At the index behind the last list
-    /// it returns where the next list would start.
+    /// Returns the start of the list at `index`, which is the end of the previous list. If `index` is the number of lists, returns where
+    /// the next list would start.
     pub fn start(&self, index: usize) -> usize
         requires { index ≤ length self.now }
         ensures { result ≡ start_of self.now index }
@@ -67,7 +67,7 @@ impl Ends {
         }
     }
 
-    /// Returns where the list at the index ends.
+    /// Returns the end of the list at `index`.
     pub fn end(&self, index: usize) -> usize
         requires { index < length self.now }
         ensures { result ≡ slice_index self.now index }
@@ -75,7 +75,7 @@ impl Ends {
         self.places.as_slice()[index]
     }
 
-    /// Adds a list that ends at this place. After an `Err` the lists are as they were.
+    /// Appends a list that ends at `place`. On `Err` (out of memory) the ends are unchanged.
     #[inline(always)]
     pub fn push(&mut self, place: usize) -> Result<(), AllocError>
         requires { start_of self.old (length self.old) ≤ place }
@@ -86,7 +86,7 @@ impl Ends {
         Ok(())
     }
 
-    /// Adds `count` lists that all end at this place. After an `Err` the lists are as they were.
+    /// Appends `count` lists that all end at `place`. On `Err` (out of memory) the ends are unchanged.
     pub fn push_same(&mut self, place: usize, count: usize) -> Result<(), AllocError>
         requires { start_of self.old (length self.old) ≤ place }
         ensures ok { OnOk result (self.new ≡ self.old ++ replicate count place) }
@@ -96,8 +96,7 @@ impl Ends {
         self.places.resize(self.places.len() + count, place)
     }
 
-    /// Adds a list for each of `more`. It ends `by` places behind the end that it has there. After an `Err` the lists are as
-    /// they were.
+    /// Appends the ends in `more`, each increased by `by`. On `Err` (out of memory) the ends are unchanged.
     pub fn push_shifted(&mut self, more: &Ends, by: usize) -> Result<(), AllocError>
         requires { EachIndex more.now (λ index. slice_index more.now index + by < 2 ^ 64) }
         ensures ok { OnOk result (self.new ≡ self.old ++ map (λ place. place + by) more.now) }
@@ -116,7 +115,7 @@ impl Ends {
         self.places.truncate(count);
     }
 
-    /// Removes all lists and keeps the memory.
+    /// Removes all ends but keeps the memory.
     pub fn clear(&mut self)
         ensures { self.new ≡ [] }
     {

@@ -7,7 +7,7 @@ use crate::ends::Ends;
 use std::alloc::{AllocError, Global};
 use std::marker::Model;
 
-/// Lists in one block of memory, and where each ends. In a contract their value is the list of these lists.
+/// Lists in one block of memory, with the end of each. In a contract the value is the list of these lists.
 #[derive(Debug)]
 pub struct Lists<T> {
     items: Vec<T>,
@@ -33,7 +33,7 @@ impl<T> Model for Lists<T> {
     ghost invariant = { λ l. AreEnds l.ends (length l.items.items) };
 }
 
-/// Returns the items from one place to another.
+/// Returns the items from `start` up to but not including `end`.
 fn part<T>(items: &[T], start: usize, end: usize) -> &[T]
     requires ordered { start ≤ end }
     requires within { end ≤ length items.now }
@@ -43,7 +43,7 @@ fn part<T>(items: &[T], start: usize, end: usize) -> &[T]
 }
 
 impl<T> Lists<T> {
-    /// Returns an empty list of lists. It takes no memory.
+    /// Returns an empty list of lists. Allocates no memory.
     pub fn new(alloc: Global) -> Self
         ensures { result ≡ [] }
     {
@@ -53,7 +53,7 @@ impl<T> Lists<T> {
         }
     }
 
-    /// Returns the lists that these items form one after another, and that end at these places. It takes no memory.
+    /// Returns the lists that are stored one after another in `items` and end at `ends`. Allocates no memory.
     pub(crate) fn of_parts(items: Vec<T>, ends: Ends) -> Self
         requires { AreEnds ends (length items.items) }
         ensures { result ≡ lists_of items.items ends }
@@ -68,7 +68,7 @@ impl<T> Lists<T> {
         self.ends.len()
     }
 
-    /// Returns the list at the index, counted from 0.
+    /// Returns the list at this index, counted from 0.
     pub fn get(&self, index: usize) -> &[T]
         requires { index < length self.now }
         ensures { result.now ≡ slice_index_or self.now index [] }
@@ -79,7 +79,7 @@ impl<T> Lists<T> {
 }
 
 impl<T: Copy> Lists<T> {
-    /// Adds a list. After an `Err` the lists are as they were.
+    /// Appends a list. On `Err` (out of memory) the lists are unchanged.
     #[inline(always)]
     pub fn push(&mut self, list: &[T]) -> Result<(), AllocError>
         ensures ok { OnOk result (self.new ≡ self.old ++ list.now ∷ []) }
@@ -96,7 +96,7 @@ impl<T: Copy> Lists<T> {
         }
     }
 
-    /// Adds empty lists at the end until there are `count` lists. After an `Err` the lists are as they were.
+    /// Appends empty lists until there are at least `count` lists. On `Err` (out of memory) the lists are unchanged.
     pub fn fill(&mut self, count: usize) -> Result<(), AllocError>
         ensures ok { OnOk result (self.new ≡ self.old ++ replicate (count - length self.old) []) }
         ensures err { OnErr result (self.new ≡ self.old) }
@@ -108,7 +108,7 @@ impl<T: Copy> Lists<T> {
         Ok(())
     }
 
-    /// Adds all of these lists at the end. After an `Err` the lists are as they were.
+    /// Appends all lists of `more`. On `Err` (out of memory) the lists are unchanged.
     #[inline(always)]
     pub fn append(&mut self, more: &Lists<T>) -> Result<(), AllocError>
         ensures ok { OnOk result (self.new ≡ self.old ++ more.now) }
@@ -134,7 +134,7 @@ impl<T: Copy> Lists<T> {
         self.ends.truncate(count);
     }
 
-    /// Removes all lists and keeps the memory.
+    /// Removes all lists but keeps the memory.
     pub fn clear(&mut self)
         ensures { self.new ≡ [] }
     {
