@@ -1,4 +1,4 @@
--- Effects in columns: the effect at a place, one effect more, and fewer.
+-- Effects in columns: the effect at an index, appending an effect, and truncating.
 use Rattle.std.proofs.Common.{◌≡◌, ℕ, zero, suc, ◌+◌, ◌-◌, ◌<◌, ◌≤◌, List, [], ◌∷◌, ◌++◌, length, take, replicate, get_or, Result, Ok, Err, OnErr, refl, sym, ap, ◌∙◌, arith, append-nil, append_assoc, length-append}
 use Rattle.std.specs.Prelude.{slice_range, drop}
 use Rattle.std.proofs.lemmas.List.{length-take-le, length-replicate, get_or-take, get_or-append-add, take-append-drop, take-map}

@@ -1,4 +1,4 @@
--- The variable at a place of the columns.
+-- The variable at an index of the columns.
 use Rattle.std.proofs.Common.{◌≡◌, ℕ, ◌+◌, ◌<◌, ◌≤◌, List, [], ◌∷◌, ◌++◌, length, get_or, sym, ap, ◌∙◌, arith}
 use Rattle.std.specs.Prelude.{slice_index, slice_get, None, Some, option_map}
 use Rattle.std.proofs.lemmas.Option.{slice_get-get_or}

@@ -1,4 +1,4 @@
--- Columns that only grow, and columns as they were.
+-- Columns to which items were only appended, and truncating them to what they were.
 use Rattle.std.proofs.Common.{◌≡◌, ℕ, ◌≤◌, List, [], ◌++◌, length, take, sym, ap, ◌∙◌, ◌+◌, refl, arith, length-append, Result, Ok, Err}
 use Rattle.std.specs.Prelude.{OnOk, OnErr, IsErr, slice_index}
 use Rattle.std.proofs.lemmas.Bool.{false≢true}

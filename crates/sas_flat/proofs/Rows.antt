@@ -1,4 +1,4 @@
--- Variables in columns: the one at a place, and one more.
+-- Variables in columns: the variable at an index, and appending a variable.
 use Rattle.std.proofs.Common.{◌≡◌, ℕ, ◌<◌, ◌≤◌, List, [], ◌∷◌, ◌++◌, length, get_or, refl, sym, ap, ◌∙◌, arith, length-append}
 use Rattle.std.proofs.lemmas.Option.{slice_get_past}
 use Rattle.std.specs.Prelude.{slice_get, Option, Some, None, option_map, option_and_then}

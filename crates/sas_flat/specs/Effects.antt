@@ -1,4 +1,4 @@
--- Effects in columns: what each changes, and its conditions.
+-- Effects in columns: the change and the conditions of each effect.
 use Rattle.std.specs.Prelude.{ℕ, List, [], length, slice_index_or, None}
 use Rattle.sas_core.specs.declared.grounded.Change.{Change}
 use Rattle.sas_core.specs.declared.parts.Fact.{Fact}
@@ -9,7 +9,7 @@ use Rattle.sas_lists.specs.Table.{table}
 abbrev pub effect : Change → List Fact → Effect
 effect c conditions = record { conditions = conditions; var = c.var; old = c.old; new = c.new }
 
--- the change at this place; behind the last change, one that sets variable 0 to value 0
+-- the change at this index; past the last change, one that sets variable 0 to value 0
 abbrev pub change_in : List Change → ℕ → Change
 change_in changes index = slice_index_or changes index (record { var = 0; old = None; new = 0 })
 
@@ -18,7 +18,7 @@ effects_of changes conditions =
     table (length changes)
     (λ index. effect (change_in changes index) (slice_index_or conditions index []))
 
--- the effect at this place; behind the last effect, one that sets variable 0 to value 0
+-- the effect at this index; past the last effect, one that sets variable 0 to value 0
 abbrev pub effect_in : List Effect → ℕ → Effect
 effect_in effects index =
     slice_index_or effects index (record { conditions = []; var = 0; old = None; new = 0 })

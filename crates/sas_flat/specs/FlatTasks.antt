@@ -1,8 +1,8 @@
--- The parts of a flat task.
+-- The contents of a flat task.
 use Rattle.sas_core.specs.declared.parts.Parts.{Parts}
 use Rattle.sas_flat.specs.declared.columns.TaskColumns.{TaskColumns}
 
--- the parts that the columns hold
+-- the contents that the columns represent
 abbrev pub parts_in : TaskColumns → Parts
 parts_in c = record {
   metric = c.metric;

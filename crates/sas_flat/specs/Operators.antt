@@ -1,4 +1,5 @@
--- Operators in columns: the items of all operators one after another, and the head of each.
+-- Operators in columns: the names, prevail conditions and effects of all operators, one after
+-- another, and the head of each operator.
 use Rattle.std.specs.Prelude.{ℕ, List, [], length, map, slice_index, slice_index_or}
 use Rattle.sas_core.specs.declared.parts.Fact.{Fact}
 use Rattle.sas_core.specs.declared.parts.Effect.{Effect}
@@ -12,7 +13,7 @@ abbrev pub operator : List ℕ → List Fact → List Effect → ℕ → Operato
 operator name prevail effects cost =
     record { name = name; prevail = prevail; effects = effects; cost = cost }
 
--- where the name, the prevail conditions and the effects of each operator end, and what each costs
+-- the ends of the names, prevail conditions and effects, and the costs
 abbrev pub name_ends : List Head → List ℕ
 name_ends heads = map (λ (h : Head). h.name) heads
 
@@ -25,7 +26,7 @@ effect_ends heads = map (λ (h : Head). h.effects) heads
 abbrev pub costs : List Head → List ℕ
 costs heads = map (λ (h : Head). h.cost) heads
 
--- the operators that have a head, each with its items
+-- the operators, one for each head
 abbrev pub operators_in : Columns → List Operator
 operators_in c = table (length c.heads.items) (λ index. operator
     (list_at c.names.items (name_ends c.heads.items) index)
@@ -33,13 +34,13 @@ operators_in c = table (length c.heads.items) (λ index. operator
     (list_at c.effects (effect_ends c.heads.items) index)
     (slice_index (costs c.heads.items) index))
 
--- the heads hold where the items of each operator end, and no item is behind the last of these ends
+-- the ends in the heads ascend, and the last ones are the ends of the columns
 pub record AreAligned (c : Columns) : Type 0 where
   pub names : AreEnds (name_ends c.heads.items) (length c.names.items)
   pub prevail : AreEnds (prevail_ends c.heads.items) (length c.prevail.items)
   pub effects : AreEnds (effect_ends c.heads.items) (length c.effects)
 
--- the head of an operator of this cost whose items end where all items end
+-- the head of an operator with this cost that ends at the current ends of all columns
 abbrev pub end_head : Columns → ℕ → Head
 end_head c cost = record {
   name = length c.names.items;
@@ -48,7 +49,7 @@ end_head c cost = record {
   cost = cost;
 }
 
--- the operator at this place; behind the last operator, one with no name and no effect
+-- the operator at this index; past the last operator, one without name and effects
 abbrev pub operator_in : List Operator → ℕ → Operator
 operator_in operators index =
     slice_index_or operators index (record { name = []; prevail = []; effects = []; cost = 0 })

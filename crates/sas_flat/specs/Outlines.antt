@@ -1,10 +1,10 @@
--- The outline of a task: what a summary shows of it.
+-- The outline of a task: the parts that a summary shows.
 use Rattle.std.specs.Prelude.{length}
 use Rattle.sas_core.specs.declared.parts.Parts.{Parts}
 use Rattle.sas_flat.specs.declared.outline.Outline.{Outline}
 
--- its metric, its variables, its state section and its goal, and how many
--- groups, operators and rules it has
+-- the metric, the variables, the state section and the goal, and the numbers of groups, operators
+-- and rules
 abbrev pub outline_of : Parts → Outline
 outline_of p = record {
   metric = p.metric;

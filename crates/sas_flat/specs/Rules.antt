@@ -1,4 +1,4 @@
--- Rules, which have the same parts as effects.
+-- Rules, which are stored as effects.
 use Rattle.std.specs.Prelude.{ℕ, List, [], map, slice_index_or, None}
 use Rattle.sas_core.specs.declared.grounded.Change.{Change}
 use Rattle.sas_core.specs.declared.parts.Fact.{Fact}
@@ -16,7 +16,7 @@ rules_of effects = map rule_of effects
 abbrev pub rule : Change → List Fact → Rule
 rule c conditions = record { conditions = conditions; var = c.var; old = c.old; new = c.new }
 
--- the rule at this place; behind the last rule, one that sets variable 0 to value 0
+-- the rule at this index; past the last rule, one that sets variable 0 to value 0
 abbrev pub rule_in : List Rule → ℕ → Rule
 rule_in rules index = slice_index_or rules index
     (record { conditions = []; var = 0; old = None; new = 0 })

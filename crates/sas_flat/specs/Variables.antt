@@ -8,7 +8,7 @@ use Rattle.sas_lists.specs.Table.{table}
 abbrev pub variable : List ℕ → Option ℕ → List (List ℕ) → Variable
 variable name layer values = record { name = name; layer = layer; values = values }
 
--- the variables with these names, layers and values, each at its place
+-- the variables with these names, layers and values; item i of each list belongs to variable i
 abbrev pub variables_of : List (List ℕ) → List (Option ℕ) → List (List (List ℕ)) → List Variable
 variables_of names layers values = table (length values) (λ index.
     variable (slice_index_or names index []) (slice_index_or layers index None)
@@ -17,13 +17,13 @@ variables_of names layers values = table (length values) (λ index.
 abbrev pub variables_in : Columns → List Variable
 variables_in c = variables_of c.names c.layers.items (lists_of c.values c.ends)
 
--- each variable has an item in each column, and the ends are those of the values
+-- the columns have one item per variable, and `ends` are the ends of its value names
 pub record AreAligned (c : Columns) : Type 0 where
   pub names : length c.names ≡ length c.ends
   pub layers : length c.layers.items ≡ length c.ends
   pub values : AreEnds c.ends (length c.values)
 
--- behind what it had, each column has what it stores of the variable
+-- each column got the items of one more variable
 pub record OneMore (old new : Columns) (v : Variable) : Type 0 where
   pub names : new.names ≡ old.names ++ v.name ∷ []
   pub layers : new.layers.items ≡ old.layers.items ++ v.layer ∷ []

@@ -1,11 +1,11 @@
-// The columns of a task.
+// The columns of a flat task.
 use crate::operators::Operators;
 use crate::rules::Rules;
 use crate::variables::Variables;
 use sas_core::{Fact, Items};
 use sas_lists::Lists;
 
-/// The parts of a task in a few blocks of memory. They need not be well ranged.
+/// The contents of a task in a few blocks of memory. They may violate the rules of the format.
 #[derive(Debug, Drop)]
 pub struct TaskColumns {
     pub metric: bool,

@@ -10,10 +10,9 @@ use sas_lists::Lists;
 use std::alloc::{AllocError, Global};
 use std::marker::Model;
 
-/// Effects. In a contract their value is the list of the effects.
+/// A list of effects. In a contract its value is that list.
 ///
-/// Most effects of most tasks have no conditions. So the lists of conditions reach only as far as there are some, and an
-/// effect behind the last list has none.
+/// Most effects have no conditions. So `conditions` may be shorter than `changes`; the effects past its end have none.
 #[derive(Debug)]
 pub struct Effects {
     changes: Vec<Change>,
@@ -44,7 +43,7 @@ impl Model for Effects {
 }
 
 impl Effects {
-    /// Returns an empty list of effects. It takes no memory.
+    /// Returns an empty list of effects. Allocates no memory.
     pub fn new(alloc: Global) -> Self
         ensures { result ≡ [] }
     {
@@ -61,7 +60,7 @@ impl Effects {
         self.changes.len()
     }
 
-    /// Returns what the effect changes.
+    /// Returns the change that the effect makes.
     pub(crate) fn change(&self, index: usize) -> Change
         requires { index < length self.now }
         ensures { result ≡ changes.effect_change (effect_in self.now index) }
@@ -81,7 +80,8 @@ impl Effects {
         }
     }
 
-    /// Returns what the effects of these places change, if none of them, nor of those behind them, has a condition.
+    /// Returns the changes of the effects from `start` up to but not including `end`, if neither these effects nor later ones have
+    /// conditions.
     #[inline(always)]
     pub(crate) fn plain(&self, start: usize, end: usize) -> Option<&[Change]>
         requires order { start ≤ end }
@@ -96,7 +96,7 @@ impl Effects {
         }
     }
 
-    /// Adds an effect. After an `Err` the effects are as they were.
+    /// Appends an effect. On `Err` (out of memory) the effects are unchanged.
     #[inline(always)]
     pub fn push(&mut self, conditions: &[Fact], change: Change) -> Result<(), AllocError>
         ensures ok { OnOk result (self.new ≡ self.old ++ effect change conditions.now ∷ []) }
@@ -111,7 +111,7 @@ impl Effects {
         Ok(())
     }
 
-    /// Adds effects that make these changes without conditions. After an `Err` the effects are as they were.
+    /// Appends effects without conditions that make these changes. On `Err` (out of memory) the effects are unchanged.
     pub(crate) fn append_plain(&mut self, changes: &[Change]) -> Result<(), AllocError>
         ensures ok { OnOk result (self.new ≡ self.old ++ plain_effects changes.now) }
         ensures err { OnErr result (self.new ≡ self.old) }
@@ -120,7 +120,7 @@ impl Effects {
         Ok(())
     }
 
-    /// Adds all of these effects at the end. After an `Err` the effects are as they were.
+    /// Appends all effects of `more`. On `Err` (out of memory) the effects are unchanged.
     pub(crate) fn append(&mut self, more: &Effects) -> Result<(), AllocError>
         ensures ok { OnOk result (self.new ≡ self.old ++ more.now) }
         ensures err { OnErr result (self.new ≡ self.old) }
@@ -145,7 +145,7 @@ impl Effects {
         }
     }
 
-    /// Removes all effects and keeps the memory.
+    /// Removes all effects but keeps the memory.
     pub fn clear(&mut self)
         ensures { self.new ≡ [] }
     {

@@ -1,4 +1,4 @@
-//! A task or a plan in a few blocks of memory: one or a few for each column, however large it is.
+//! Tasks and plans stored in few blocks of memory. The number of blocks doesn't depend on the size of the task or plan.
 #![tactic(auto)]
 
 mod columns;

@@ -13,8 +13,8 @@ use sas_core::{Change, Fact};
 use std::alloc::{AllocError, Global};
 use std::marker::Model;
 
-/// The part of an operator that has a fixed size: where its name, its prevail conditions and its effects end, each behind
-/// those of the operators before it, and its cost.
+/// The fixed-size data of an operator: its cost, and the ends of its name, its prevail conditions and its effects in the columns. Each
+/// starts at the end of the previous operator.
 #[derive(Clone, Copy, Debug)]
 struct Head {
     name: usize,
@@ -23,7 +23,7 @@ struct Head {
     cost: u32,
 }
 
-/// The columns of operators: the items of all operators one after another, and the head of each operator.
+/// The columns of operators: the names, prevail conditions and effects of all operators, one after another, and the head of each operator.
 #[derive(Debug)]
 pub struct Columns {
     names: Vec<u8>,
@@ -47,7 +47,7 @@ impl Drop for Columns {
     }
 }
 
-/// Operators. In a contract their value is the list of the operators.
+/// A list of operators. In a contract its value is that list.
 #[derive(Debug, Drop)]
 pub struct Operators {
     columns: Columns,
@@ -66,8 +66,7 @@ impl Model for Operators {
 }
 
 impl Columns {
-    /// Returns the head before the operator's, which holds where the operator's items start. Before the first operator it is
-    /// all 0, since its items start there.
+    /// Returns the head of the previous operator, whose ends are the starts of this operator. For the first operator all its numbers are 0.
     #[inline(always)]
     fn before(&self, operator: usize) -> Head
         requires { operator ≤ length self.now.heads.items }
@@ -87,7 +86,7 @@ impl Columns {
         }
     }
 
-    /// Returns the head of an operator of this cost whose items end where all items end.
+    /// Returns the head of an operator with this cost that ends at the current ends of all columns.
     #[inline(always)]
     fn end(&self, cost: u32) -> Head
         ensures { result ≡ end_head self.now cost }
@@ -100,8 +99,8 @@ impl Columns {
         }
     }
 
-    /// Adds the name, the prevail conditions and the head of an operator, whose effects are already behind those of the
-    /// others. After an `Err` some of its items may be there too, without a head.
+    /// Appends the name, the prevail conditions and the head of an operator. Its effects must already be appended. On `Err` (out of memory)
+    /// its name and its prevail conditions may have been appended, but no head.
     #[inline(always)]
     fn push(&mut self, name: &[u8], prevail: &[Fact], cost: u32) -> Result<(), AllocError>
         ensures names { Kept self.old.names.items self.new.names.items }
@@ -121,7 +120,7 @@ impl Columns {
         Ok(())
     }
 
-    /// Keeps the items up to the ends that the head holds.
+    /// Shortens the columns of items to the ends in `end`.
     fn truncate(&mut self, end: Head)
         requires { end.effects ≤ length self.old.effects }
         ensures names { self.new.names.items ≡ take end.name self.old.names.items }
@@ -136,7 +135,7 @@ impl Columns {
 }
 
 impl Operators {
-    /// Returns an empty list of operators. It takes no memory.
+    /// Returns an empty list of operators. Allocates no memory.
     pub fn new(alloc: Global) -> Self
         ensures { result ≡ [] }
     {
@@ -157,7 +156,7 @@ impl Operators {
         self.columns.heads.len()
     }
 
-    /// Adds an operator. After an `Err` the operators are as they were.
+    /// Appends an operator. On `Err` (out of memory) the operators are unchanged.
     pub fn push(
         &mut self,
         name: &[u8],
@@ -180,7 +179,7 @@ impl Operators {
         }
     }
 
-    /// Adds an operator whose effects make these changes without conditions. After an `Err` the operators are as they were.
+    /// Appends an operator whose effects make these changes and have no conditions. On `Err` (out of memory) the operators are unchanged.
     pub fn push_plain(
         &mut self,
         name: &[u8],
@@ -203,7 +202,7 @@ impl Operators {
         }
     }
 
-    /// Returns the operator's name.
+    /// Returns the name of the operator.
     pub(crate) fn name(&self, operator: usize) -> &[u8]
         requires { operator < length self.now }
         ensures { result.now ≡ (operator_in self.now operator).name }
@@ -213,7 +212,7 @@ impl Operators {
         &self.columns.names.as_slice()[start..end]
     }
 
-    /// Returns the operator's prevail conditions.
+    /// Returns the prevail conditions of the operator.
     pub(crate) fn prevail(&self, operator: usize) -> &[Fact]
         requires { operator < length self.now }
         ensures { result.now ≡ (operator_in self.now operator).prevail }
@@ -231,7 +230,7 @@ impl Operators {
         self.columns.heads[operator].cost
     }
 
-    /// Returns the number of the operator's effects.
+    /// Returns the number of effects of the operator.
     pub(crate) fn effects(&self, operator: usize) -> usize
         requires { operator < length self.now }
         ensures { result ≡ length (operator_in self.now operator).effects }
@@ -239,21 +238,21 @@ impl Operators {
         self.columns.heads[operator].effects - self.columns.before(operator).effects
     }
 
-    /// Returns what the operator's effect changes.
+    /// Returns the change that the operator's effect makes.
     pub(crate) fn change(&self, operator: usize, effect: usize) -> Change
         requires operator { operator < length self.now }
         requires effect { effect < length (operator_in self.now operator).effects }
         ensures { result
             ≡ changes.effect_change (effect_in (operator_in self.now operator).effects effect) }
     {
-        // There are no more effects than a `usize` counts, so the place of this one fits.
+        // The number of all effects fits into a `usize`, so this index doesn't overflow.
         let _effects = self.columns.effects.len();
         self.columns
             .effects
             .change(self.columns.before(operator).effects + effect)
     }
 
-    /// Returns what the operator's effects change, if none of them, nor of those of the operators behind it, has a condition.
+    /// Returns the changes of the operator's effects, if neither these effects nor those of later operators have conditions.
     #[inline(always)]
     pub(crate) fn plain_changes(&self, operator: usize) -> Option<&[Change]>
         requires { operator < length self.now }
@@ -272,7 +271,7 @@ impl Operators {
         ensures { result.now
             ≡ (effect_in (operator_in self.now operator).effects effect).conditions }
     {
-        // There are no more effects than a `usize` counts, so the place of this one fits.
+        // The number of all effects fits into a `usize`, so this index doesn't overflow.
         let _effects = self.columns.effects.len();
         self.columns
             .effects

@@ -2,15 +2,15 @@
 use crate::variables::Variables;
 use sas_core::{Fact, Items};
 
-/// What a summary shows of a task: all but its groups, operators and rules, and the numbers of these.
+/// The parts of a task that a summary shows: everything except its groups, operators and rules, of which only the numbers are kept.
 #[derive(Debug, Drop)]
 pub struct Outline {
-    /// Whether cost lines count (metric 1).
+    /// True for metric 1, false for metric 0.
     pub metric: bool,
     pub variables: Variables,
     /// The number of mutex groups.
     pub groups: u32,
-    /// The state section: a value for each variable.
+    /// The state section: one value for each variable.
     pub init: Items<u32>,
     pub goal: Items<Fact>,
     /// The number of operators.

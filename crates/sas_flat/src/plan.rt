@@ -7,7 +7,7 @@ use sas_core::{CostKind, Stepwise};
 use sas_lists::Lists;
 use std::marker::Model;
 
-/// A plan whose names are stored in one block of memory. In a contract its value is the plan's parts.
+/// A plan whose step names are stored in one block of memory. In a contract its value is the contents of the plan.
 #[derive(Debug, Drop)]
 pub struct FlatPlan {
     steps: Lists<u8>,
@@ -27,7 +27,7 @@ impl Model for FlatPlan {
 }
 
 impl FlatPlan {
-    /// Returns the plan of these steps, where each of them is known to be a name. It takes no memory and checks no step.
+    /// Returns the plan with these steps, which must all be names. Allocates no memory and checks no step.
     pub fn of_names(steps: Lists<u8>, cost: u64, kind: CostKind) -> FlatPlan
         requires { AllByRecursion IsName steps }
         ensures { result ≡ record { steps = steps; cost = cost; kind = kind } }
@@ -35,7 +35,7 @@ impl FlatPlan {
         FlatPlan { steps, cost, kind }
     }
 
-    /// Returns the words behind the cost.
+    /// Returns which text follows the cost on the last line.
     pub fn kind(&self) -> CostKind
         ensures { result ≡ self.now.kind }
     {
@@ -43,7 +43,7 @@ impl FlatPlan {
     }
 }
 
-/// Each call reads a fixed number of words.
+/// Each method takes constant time.
 impl Stepwise for FlatPlan {
     ghost says = { λ p. p };
 

@@ -9,8 +9,7 @@ use sas_core::{Change, Fact};
 use std::alloc::{AllocError, Global};
 use std::marker::Model;
 
-/// Rules. They are stored as effects with the same conditions and changes. In a contract their value is the list of the
-/// rules.
+/// A list of rules, stored as effects with the same conditions and changes. In a contract its value is the list of rules.
 #[derive(Debug, Drop)]
 pub struct Rules {
     effects: Effects,
@@ -27,7 +26,7 @@ impl Model for Rules {
 }
 
 impl Rules {
-    /// Returns an empty list of rules. It takes no memory.
+    /// Returns an empty list of rules. Allocates no memory.
     pub fn new(alloc: Global) -> Self
         ensures { result ≡ [] }
     {
@@ -43,7 +42,7 @@ impl Rules {
         self.effects.len()
     }
 
-    /// Returns what the rule changes.
+    /// Returns the change that the rule makes.
     pub(crate) fn change(&self, index: usize) -> Change
         requires { index < length self.now }
         ensures { result ≡ changes.rule_change (rule_in self.now index) }
@@ -59,7 +58,7 @@ impl Rules {
         self.effects.conditions(index)
     }
 
-    /// Adds a rule. After an `Err` the rules are as they were.
+    /// Appends a rule. On `Err` (out of memory) the rules are unchanged.
     #[inline(always)]
     pub fn push(&mut self, conditions: &[Fact], change: Change) -> Result<(), AllocError>
         ensures ok { OnOk result (self.new ≡ self.old ++ rule change conditions.now ∷ []) }

@@ -8,7 +8,7 @@ use crate::columns::TaskColumns;
 use sas_core::{Change, Fact, Grounded};
 use std::marker::Model;
 
-/// A task in a few blocks of memory: its parts are well ranged. In a contract its value is the task's parts.
+/// A task in a few blocks of memory. Its contents are well ranged. In a contract its value is these contents.
 #[derive(Debug)]
 pub struct FlatTask {
     columns: TaskColumns,
@@ -34,7 +34,7 @@ impl Model for FlatTask {
 }
 
 impl FlatTask {
-    /// Returns the task of these parts, where they are known to be well ranged. It takes no memory and checks no part.
+    /// Returns the task with these contents, which must be well ranged. Allocates no memory and checks nothing.
     pub fn of_parts(columns: TaskColumns) -> FlatTask
         requires { WellRanged (parts_in columns) }
         ensures { result ≡ parts_in columns }
@@ -42,14 +42,14 @@ impl FlatTask {
         FlatTask { columns }
     }
 
-    /// Returns the task's metric: whether the numbers on cost lines are costs.
+    /// Returns the metric: true if the costs are the numbers on the cost lines (metric 1), false if each operator costs 1 (metric 0).
     pub fn metric(&self) -> bool
         ensures { result ≡ self.now.metric }
     {
         self.columns.metric
     }
 
-    /// Returns the name of the fact's value, if the fact exists.
+    /// Returns the name of the fact, that is, of its value. `None` if the fact doesn't exist.
     pub fn value_name(&self, fact: Fact) -> Option<&[u8]>
         ensures { option_map (λ name. name.now) result
             ≡ spec.value_name self.now.variables fact.var fact.value }
@@ -59,7 +59,7 @@ impl FlatTask {
     }
 }
 
-/// Each call reads a fixed number of words.
+/// Each method takes constant time.
 impl Grounded for FlatTask {
     ghost says = { λ t. t };
 

@@ -10,8 +10,8 @@ use sas_lists::{Ends, Lists};
 use std::alloc::{AllocError, Global};
 use std::marker::Model;
 
-/// The columns of variables. The names of all values are stored one after another, and `ends` holds where those of each
-/// variable end.
+/// The columns of variables. The value names of all variables are stored one after another; `ends` contains the end of each variable's
+/// names.
 #[derive(Debug)]
 pub struct Columns {
     names: Lists<u8>,
@@ -35,7 +35,7 @@ impl Drop for Columns {
     }
 }
 
-/// Variables. In a contract their value is the list of the variables.
+/// A list of variables. In a contract its value is that list.
 #[derive(Debug, Drop)]
 pub struct Variables {
     columns: Columns,
@@ -54,7 +54,7 @@ impl Model for Variables {
 }
 
 impl Columns {
-    /// Adds what a variable has in each column. After an `Err` some columns may have it.
+    /// Appends a variable to each column. On `Err` (out of memory) some columns may contain it.
     #[inline(always)]
     fn push(
         &mut self,
@@ -75,7 +75,7 @@ impl Columns {
         self.ends.push(self.values.len())
     }
 
-    /// Keeps the first `variables` variables, whose values are the first `values` ones.
+    /// Keeps the first `variables` variables, which have `values` values in total.
     fn truncate(&mut self, variables: usize, values: usize)
         requires names { variables ≤ length self.old.names }
         requires values { values ≤ length self.old.values }
@@ -92,7 +92,7 @@ impl Columns {
 }
 
 impl Variables {
-    /// Returns an empty list of variables. It takes no memory.
+    /// Returns an empty list of variables. Allocates no memory.
     pub fn new(alloc: Global) -> Self
         ensures { result ≡ [] }
     {
@@ -113,7 +113,7 @@ impl Variables {
         self.columns.ends.len()
     }
 
-    /// Adds a variable with these names of its values. After an `Err` the variables are as they were.
+    /// Appends a variable whose values have these names. On `Err` (out of memory) the variables are unchanged.
     #[inline(always)]
     pub fn push(
         &mut self,
@@ -135,7 +135,7 @@ impl Variables {
         }
     }
 
-    /// Returns the number of the variable's values.
+    /// Returns the number of values of the variable.
     pub(crate) fn range(&self, var: usize) -> usize
         requires { var < length self.now }
         ensures { result ≡ spec.range_of self.now var }
@@ -143,7 +143,7 @@ impl Variables {
         self.columns.ends.end(var) - self.columns.ends.start(var)
     }
 
-    /// Returns the name of the variable at the index, counted from 0, if there is one.
+    /// Returns the name of the variable at this index (from 0), or `None` if there are fewer variables.
     pub fn name(&self, var: usize) -> Option<&[u8]>
         ensures { option_map (λ name. name.now) result
             ≡ option_map (λ (v : Variable). v.name) (slice_get self.now var) }
@@ -155,7 +155,7 @@ impl Variables {
         }
     }
 
-    /// Returns the layer of a derived variable. A basic variable has none.
+    /// Returns the layer of a derived variable, or `None` for a basic variable.
     pub fn layer(&self, var: usize) -> Option<u32>
         requires { var < length self.now }
         ensures { result ≡ spec.layer_of self.now var }
@@ -163,7 +163,7 @@ impl Variables {
         self.columns.layers.as_slice()[var]
     }
 
-    /// Returns the name of a variable's value, if there is this variable and it has this value.
+    /// Returns the name of a value of the variable, or `None` if the variable or the value doesn't exist.
     pub fn value_name(&self, var: usize, value: usize) -> Option<&[u8]>
         ensures { option_map (λ name. name.now) result ≡ spec.value_name self.now var value }
     {

@@ -1,4 +1,4 @@
--- Whether facts hold, and whether an effect sets a variable, can be told.
+-- Whether facts hold and whether an effect sets a variable is decidable.
 use Rattle.std.proofs.Common.{◌≡◌, ◌≢◌, ℕ, ◌⊎◌, List, [], ◌∷◌, get_or, refl, inl, inr, arith}
 use Rattle.std.proofs.lemmas.Bool.{cases_eq}
 use Rattle.std.specs.List.{All, Contains}

@@ -1,4 +1,5 @@
--- A rule that can fire: the tests of it by what is known of the rules before it, and which of its checks is the first to fail.
+-- A rule that can fire: what its tests mean, given the new values of the earlier rules, and which
+-- of its checks fails first.
 use Rattle.std.proofs.Common.{◌≡◌, ◌∙◌, ℕ, zero, suc, ◌+◌, ◌<◌, ◌==◌, Bool, true, false, List, [], ◌∷◌, ◌++◌, length, take, slice_index, slice_index_or, slice_set, Option, Some, None, refl, sym, ap, subst, arith}
 use Rattle.std.specs.Option.{option_map_or}
 use Rattle.sas_core.specs.declared.grounded.Change.{Change}

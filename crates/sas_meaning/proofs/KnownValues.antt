@@ -1,5 +1,5 @@
--- The new values that are known of the rules before a place: whether the rule there agrees with
--- them, and what is known behind it.
+-- The stored new values of the rules before an index: whether the rule at the index agrees with
+-- them, and what is stored after it.
 use Rattle.std.proofs.Common.{◌≡◌, ◌≢◌, ℕ, ◌+◌, ◌<◌, ◌≤◌, ◌⊎◌, inl, inr, ◌==◌, Bool, true, false, List, length, take, slice_index_or, slice_set, Option, Some, None, refl, sym, ap, ◌∙◌, arith, eqb-true, eq-eqb, below_more, length-set, get_or-set_same, get_or-set_other}
 use Rattle.std.proofs.lemmas.Bool.{false_from_ne_true}
 use Rattle.std.specs.Option.{option_map_or}

@@ -1,4 +1,4 @@
--- The conditions of a layered task as tests in order, each with the fault that it reports.
+-- The conditions for layered tasks as checks in order, each with the fault that it reports.
 use Rattle.std.specs.Prelude.{◌≡◌, ◌↔◌, ℕ, ◌==◌, ◌&&◌, ◌||◌, Bool, not, nat_lt, nat_le}
 use Rattle.std.specs.Prelude.{if◌then◌else◌, is_some, true, List, [], ◌++◌, take, flat_map, None}
 use Rattle.std.specs.List.{list_all, enumerate_from}
@@ -15,7 +15,7 @@ use Rattle.sas_meaning.specs.declared.layered.LayerFault.TheVariants.{EffectOnDe
 use Rattle.sas_meaning.specs.declared.layered.LayerFault.TheVariants.{OldValue, TwoValues, LayerOrder}
 use Rattle.sas_meaning.specs.Layers.{default_of, can_fire, IsLayered}
 
--- the checks of each item in turn; an item is named by its place
+-- the checks of all items in order; the checks of an item may use its index
 abbrev pub numbered : {A : Type 0} → (ℕ → A → List (Check LayerFault)) → List A
     → List (Check LayerFault)
 numbered checks_of items = flat_map (λ (place, item). checks_of place item) (enumerate_from 0 items)
@@ -31,13 +31,13 @@ operator_layer_checks p operator o = numbered (effect_layer_checks p operator) o
 
 -- ---- rules
 
--- whether no earlier rule of the variable that can fire has another new value
+-- whether all earlier rules of the same variable that can fire have the same new value
 abbrev pub agrees_with : Parts → List Rule → Rule → Bool
 agrees_with p earlier rule =
     list_all (λ (other : Rule). not ((other.var == rule.var) && can_fire p other)
     || (other.new == rule.new)) earlier
 
--- whether a condition of a rule for this variable looks down
+-- whether a condition of a rule for variable `var` follows the order of layers
 abbrev pub looks_down : Parts → ℕ → Fact → Bool
 looks_down p var condition =
     option_map_or (λ here.
@@ -59,11 +59,11 @@ rule_layer_checks p place rule =
     check (is_some (layer_of p.variables rule.var)) (RuleOnBasic place)
     ++ (if can_fire p rule then firing_checks p place rule else [])
 
--- all the checks of some parts: the operators first, then the rules
+-- all checks of a task: those of the operators, then those of the rules
 abbrev pub layer_checks : Parts → List (Check LayerFault)
 layer_checks p =
     numbered (operator_layer_checks p) p.operators ++ numbered (rule_layer_checks p) p.rules
 
--- the task is layered exactly where no check fails
+-- a task is layered if and only if all checks pass
 abbrev pub LayerChecksAreTheRules : Type 0
 LayerChecksAreTheRules = (p : Parts) → (first_fault (layer_checks p) ≡ None) ↔ IsLayered p

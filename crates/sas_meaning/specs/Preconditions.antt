@@ -1,4 +1,4 @@
--- The preconditions that an iterator over them has still to return.
+-- The remaining preconditions of an iterator.
 use Rattle.std.specs.Prelude.{◌≡◌, ℕ, ◌<◌, ◌≤◌, List, ◌++◌, length, drop, filter_map}
 use Rattle.sas_core.specs.declared.parts.Fact.{Fact}
 use Rattle.sas_core.specs.declared.parts.Operator.{Operator}
@@ -6,11 +6,11 @@ use Rattle.sas_core.specs.declared.parts.Parts.{Parts}
 use Rattle.sas_core.specs.Grounded.{operator_at}
 use Rattle.sas_meaning.specs.Steps.{old_fact}
 
--- these prevail conditions, and the old values that the operator's effects from this one on require
+-- the remaining prevail conditions, and the old values that effect `effect` and later ones require
 abbrev pub preconditions_left : List Fact → Operator → ℕ → List Fact
 preconditions_left prevail o effect = prevail ++ filter_map old_fact (drop effect o.effects)
 
--- the task has the operator, and this has so many effects, of which the iterator has passed some
+-- the operator exists and has `effects` effects; `effect` is at most their number
 pub record IsAtOperator (p : Parts) (operator effect effects : ℕ) : Type 0 where
   pub exists : operator < length p.operators
   pub passed : effect ≤ effects

@@ -1,17 +1,16 @@
--- Which states of a task are reachable.
+-- Reachable states of a task.
 use Rattle.std.specs.Prelude.{ℕ, List, Contains}
 use Rattle.sas_core.specs.declared.parts.Operator.{Operator}
 use Rattle.sas_core.specs.declared.parts.Parts.{Parts}
 use Rattle.sas_meaning.specs.Settled.{Settles}
 use Rattle.sas_meaning.specs.Steps.{Step}
 
--- The initial state has the values of the state section for the basic variables, those without a
--- layer. It is settled: the rules give the derived ones their values.
+-- The initial state: basic variables have their values in the state section, and derived variables
+-- the values that follow from the rules.
 abbrev pub IsInitial : Parts → List ℕ → Type 0
 IsInitial p s = Settles p p.init s
 
--- a state is reachable if it is the initial state, or if a step of an operator leads to it from a
--- reachable one
+-- a state is reachable if it is the initial state or if a step leads to it from a reachable state
 pub data Reachable (p : Parts) : List ℕ → Type 0 where
   Initial : {s : List ℕ} → IsInitial p s → Reachable p s
   Next : {s s' : List ℕ} (o : Operator) → Reachable p s → Contains p.operators o → Step p s o s'

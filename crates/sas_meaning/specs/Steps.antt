@@ -1,4 +1,4 @@
--- The steps of a task: from a state by an operator to the next state.
+-- Steps: how an operator leads from a state to the next state.
 use Rattle.std.specs.Prelude.{◌≡◌, ◌≢◌, ℕ, List, ◌++◌, All, slice_index, filter_map, Option, option_map}
 use Rattle.sas_core.specs.declared.parts.Fact.{Fact}
 use Rattle.sas_core.specs.declared.parts.Effect.{Effect}
@@ -9,35 +9,37 @@ use Rattle.sas_meaning.specs.States.{AllHold}
 use Rattle.sas_meaning.specs.Layers.{IsBasic}
 use Rattle.sas_meaning.specs.Settled.{IsSettled}
 
--- the old value that an effect asks of its variable, as a fact
+-- the old value that an effect requires, as a fact
 abbrev pub old_fact : Effect → Option Fact
 old_fact e = option_map (λ (value : ℕ). record { var = e.var; value = value }) e.old
 
--- the prevail conditions, and the old values of all effects, whether these fire or not
+-- the preconditions: the prevail conditions and the old values of all effects, even of those that
+-- don't fire
 abbrev pub preconditions : Operator → List Fact
 preconditions o = o.prevail ++ filter_map old_fact o.effects
 
--- an effect fires where its conditions hold
+-- an effect fires if its conditions hold
 abbrev pub Fires : List ℕ → Effect → Type 0
 Fires s e = AllHold (slice_index s) e.conditions
 
--- no two effects that fire set one variable to different values. Where two do, an operator has no
--- step; a planner in which the last of them wins reaches states that are not reachable here.
+-- No two effects that fire set a variable to different values. If two effects conflict, the
+-- operator has no step. A planner in which the last effect wins reaches states that are not
+-- reachable here.
 abbrev pub Agree : List ℕ → List Effect → Type 0
 Agree s effects = All (λ (e : Effect). All (λ (f : Effect). Fires s e → Fires s f
     → e.var ≡ f.var → e.new ≡ f.new) effects) effects
 
 -- the operator leads from s to s'
 pub record Step (p : Parts) (s : List ℕ) (o : Operator) (s' : List ℕ) : Type 0 where
-  -- its preconditions hold in s
+  -- the operator is applicable: its preconditions hold in s
   pub applicable : AllHold (slice_index s) (preconditions o)
-  -- its effects that fire in s agree, as `set` asks in other words
+  -- the effects that fire in s agree; `set` implies this, too
   pub agree : Agree s o.effects
   -- s' is a settled state of the task
   pub state : IsState p.variables s'
   pub settled : IsSettled p s'
-  -- each effect that fires sets its variable
+  -- the variable of each effect that fires has its new value
   pub set : All (λ (e : Effect). Fires s e → slice_index s' e.var ≡ e.new) o.effects
-  -- and a basic variable that none sets has its value in s
+  -- a basic variable that no firing effect sets keeps its value
   pub kept : (var : ℕ) → IsBasic p var → All (λ (e : Effect). Fires s e → e.var ≢ var) o.effects
       → slice_index s' var ≡ slice_index s var

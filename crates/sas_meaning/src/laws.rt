@@ -1,10 +1,9 @@
-// Laws of meaning.
+// Laws about layered tasks.
 ghost use Rattle.sas_meaning.specs.LayerChecks.{LayerChecksAreTheRules};
 ghost use Rattle.sas_meaning.specs.Laws.{SettledExists, SettledIsOne, InitialExists, InitialIsOne, StepIsOne};
 
-/// Ensures the laws of layered tasks. Each choice of basic values has exactly one settled state, so there is exactly one
-/// initial state. A step of an operator leads to one state at most. The checks of layers report a fault exactly where a task
-/// isn't layered.
+/// Laws of layered tasks. For all values of the basic variables there is exactly one settled state, so there is exactly one initial state.
+/// An operator leads from a state to at most one state. The layer checks report a fault if and only if the task isn't layered.
 pub fn meaning_laws()
     ensures checks { LayerChecksAreTheRules }
     ensures settled { SettledExists }

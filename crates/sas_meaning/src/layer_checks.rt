@@ -1,4 +1,4 @@
-// The conditions of a layered task, checked in order.
+// The conditions for layered tasks, checked in order.
 ghost use Rattle.std.specs.Prelude.{◌≡◌, ◌≢◌, ◌==◌, ◌<◌, ◌+◌, length, slice_index_or, true, Some, None, IfOk};
 ghost use Rattle.std.specs.Option.{option_map_or};
 ghost use Rattle.std.specs.Result.{result_err};
@@ -15,7 +15,7 @@ use crate::layered::LayerFault;
 use sas_core::{Change, Fact, Grounded, Items, check};
 use std::alloc::Global;
 
-/// Checks the operators and then the rules in turn, and returns the first fault.
+/// Checks the operators, then the rules, each in order. Returns the first fault.
 pub fn check_layers<T: Grounded>(alloc: Global, task: &T) -> Result<(), LayerFault>
     ensures first { result_err result ≢ Some LayerFault.Memory
         → result_err result ≡ first_fault (spec.layer_checks (T.says task.now)) }
@@ -27,7 +27,7 @@ pub fn check_layers<T: Grounded>(alloc: Global, task: &T) -> Result<(), LayerFau
     check_rules(task, &mut new_values)
 }
 
-/// Checks the operators in turn.
+/// Checks the operators in order.
 fn check_operators<T: Grounded>(task: &T) -> Result<(), LayerFault>
     requires { WellRanged (T.says task.now) }
     ensures { result_err result
@@ -40,7 +40,7 @@ fn check_operators<T: Grounded>(task: &T) -> Result<(), LayerFault>
     Ok(())
 }
 
-/// Checks the effects of an operator in turn.
+/// Checks the effects of an operator in order.
 fn check_operator<T: Grounded>(task: &T, operator: u32) -> Result<(), LayerFault>
     requires well_ranged { WellRanged (T.says task.now) }
     requires operator { operator < length (T.says task.now).operators }
@@ -59,7 +59,7 @@ fn check_operator<T: Grounded>(task: &T, operator: u32) -> Result<(), LayerFault
     Ok(())
 }
 
-/// Checks the rules in turn. At the start no rule's new value is known.
+/// Checks the rules in order. `new_values` must contain no values.
 fn check_rules<T: Grounded>(task: &T, new_values: &mut Items<Option<u32>>) -> Result<(), LayerFault>
     requires well_ranged { WellRanged (T.says task.now) }
     requires known { NewValues (T.says task.now) 0 new_values.old }
@@ -73,7 +73,7 @@ fn check_rules<T: Grounded>(task: &T, new_values: &mut Items<Option<u32>>) -> Re
     Ok(())
 }
 
-/// Checks a rule, where the new values of the rules before it are known.
+/// Checks a rule. `new_values` contains the new values of the earlier rules.
 fn check_rule<T: Grounded>(
     task: &T,
     rule: u32,
@@ -126,7 +126,7 @@ fn check_firing_rule<T: Grounded>(
     check_conditions(task, rule, change.var)
 }
 
-/// Checks the conditions of a rule for this variable in turn.
+/// Checks the conditions of a rule for variable `var` in order.
 fn check_conditions<T: Grounded>(task: &T, rule: u32, var: u32) -> Result<(), LayerFault>
     requires well_ranged { WellRanged (T.says task.now) }
     requires rule { rule < length (T.says task.now).rules }
@@ -149,7 +149,7 @@ fn check_conditions<T: Grounded>(task: &T, rule: u32, var: u32) -> Result<(), La
     Ok(())
 }
 
-/// Returns whether a condition of a rule for this variable looks down.
+/// Returns whether a condition of a rule for variable `var` follows the order of layers.
 fn looks_down<T: Grounded>(task: &T, var: u32, condition: Fact) -> bool
     requires var { var < length (T.says task.now).variables }
     requires condition { condition.var < length (T.says task.now).variables }
@@ -165,7 +165,7 @@ fn looks_down<T: Grounded>(task: &T, var: u32, condition: Fact) -> bool
     }
 }
 
-/// Returns the value that is known of the variable, if any.
+/// Returns the value stored for the variable, if any.
 fn value_of(values: &Items<Option<u32>>, var: u32) -> Option<u32>
     requires { var < length values.now }
     ensures { result ≡ slice_index_or values.now var None }
@@ -173,7 +173,7 @@ fn value_of(values: &Items<Option<u32>>, var: u32) -> Option<u32>
     values.as_slice()[var as usize]
 }
 
-/// Returns whether there is no value, or only this one.
+/// Returns whether `value` is `None` or `only`.
 fn is_none_or_just(value: Option<u32>, only: u32) -> bool
     ensures { result ≡ option_map_or (λ its. its == only) value true }
 {

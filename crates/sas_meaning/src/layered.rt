@@ -1,4 +1,4 @@
-// Which tasks are layered.
+// Layered tasks.
 ghost use Rattle.std.specs.Prelude.{◌≡◌, ◌≢◌, Some, IfOk, IfErr};
 ghost use Rattle.sas_core.specs.FirstFault.{first_fault};
 ghost use Rattle.sas_meaning.specs.LayerChecks.{layer_checks};
@@ -9,21 +9,21 @@ use sas_core::{Change, Fact, Grounded, Task};
 use std::alloc::{AllocError, Global};
 use std::marker::Model;
 
-/// Why a task isn't layered. Operators, effects, rules and conditions are named by their place, counted from 0.
+/// Why a task isn't layered. Operators, effects, rules and conditions are identified by their index, counted from 0.
 #[derive(Clone, Copy, Debug, PartialEq, Eq)]
 pub enum LayerFault {
     /// The operator has an effect on a derived variable.
     EffectOnDerived { operator: u32, effect: u32 },
-    /// The rule's variable is basic.
+    /// The variable of the rule is a basic variable.
     RuleOnBasic { rule: u32 },
-    /// The rule can fire, and requires an old value that isn't its variable's default.
+    /// The rule can fire, and it requires an old value other than the default of its variable.
     OldValue { rule: u32 },
-    /// The rule can fire, and so can an earlier rule of its variable with another new value.
+    /// The rule can fire, and an earlier rule that can fire sets the same variable to another value.
     TwoValues { rule: u32 },
-    /// The rule can fire, and this condition of it is on a derived variable of a higher layer. Or it is on one of the same
-    /// layer, and requires its default.
+    /// The rule can fire, and this condition is on a derived variable of a higher layer, or on the default of a derived variable of the
+    /// same layer.
     LayerOrder { rule: u32, condition: u32 },
-    /// Memory was refused.
+    /// Out of memory.
     Memory,
 }
 
@@ -37,7 +37,7 @@ impl From<AllocError> for LayerFault {
     }
 }
 
-/// A task that is layered. In a contract its value is the parts that the task represents.
+/// A layered task. In a contract its value is the contents that the task represents.
 #[derive(Drop)]
 pub struct Layered<T: Grounded = Task> {
     task: T,
@@ -58,14 +58,13 @@ impl<T: Grounded> Model for Layered<T> {
 impl<T: Grounded> Layered<T> {
     ghost use Rattle.sas_core.specs.WellRanged.{WellRanged};
 
-    /// Returns the layered task if the task is layered. Otherwise returns the task unchanged, and its first fault.
+    /// Returns the layered task if the task is layered. Otherwise returns the task unchanged and its first fault.
     ///
     /// The order of the checks is:
-    /// - For each operator, and for each of its effects, `EffectOnDerived`.
-    /// - For each rule `RuleOnBasic`, and then, where the rule can fire, `OldValue`, `TwoValues`, and `LayerOrder` for each
-    ///   of its conditions.
+    /// - For each operator and each of its effects, `EffectOnDerived`.
+    /// - For each rule `RuleOnBasic`; then, if the rule can fire, `OldValue`, `TwoValues`, and `LayerOrder` for each of its conditions.
     ///
-    /// `Memory` may be reported at any point.
+    /// `Memory` may be reported instead of any other result.
     pub fn new(alloc: Global, task: T) -> Result<Layered<T>, (T, LayerFault)>
         ensures task { IfOk result (λ l. l ≡ T.says task) }
         ensures layered { IfOk result (λ l. IsLayered l) }
@@ -79,7 +78,7 @@ impl<T: Grounded> Layered<T> {
         }
     }
 
-    /// Returns the task. It is well ranged and layered.
+    /// Returns the task, which is well ranged and layered.
     pub fn task(&self) -> &T
         ensures task { T.says result.now ≡ self.now }
         ensures well_ranged { WellRanged self.now }
@@ -88,7 +87,7 @@ impl<T: Grounded> Layered<T> {
         &self.task
     }
 
-    /// Turns the layered task into its task. It takes no memory.
+    /// Converts the layered task into its task. Allocates no memory.
     pub fn into_task(self) -> T
         ensures { T.says result ≡ self }
     {
@@ -97,8 +96,7 @@ impl<T: Grounded> Layered<T> {
     }
 }
 
-/// The calls of a layered task are those of its task. Where a layered task is at hand, it is known to be well ranged and
-/// layered.
+/// Each method calls that of the task. Its type shows that the task is well ranged and layered.
 impl<T: Grounded> Grounded for Layered<T> {
     ghost says = { λ l. l };
 

@@ -1,4 +1,4 @@
-//! What a task means: which tasks are layered, states, settled states, preconditions, steps, and which states are reachable.
+//! The semantics of tasks: layered tasks, states, settled states, preconditions, steps and reachable states.
 #![tactic(auto)]
 
 mod laws;

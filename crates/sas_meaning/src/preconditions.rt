@@ -1,4 +1,4 @@
-// The facts that an operator requires.
+// The preconditions of an operator.
 ghost use Rattle.std.specs.Prelude.{◌≡◌, ◌<◌, length};
 ghost use Rattle.sas_core.specs.Grounded.{operator_at};
 ghost use Rattle.sas_meaning.specs.Steps.{preconditions};
@@ -6,14 +6,14 @@ ghost use Rattle.sas_meaning.specs.Steps.{preconditions};
 use sas_core::{Fact, Grounded};
 use std::marker::Model;
 
-/// An iterator over an operator's preconditions: its prevail conditions, then the old values that its effects require. It
-/// takes no memory. In a contract its value is the facts that it has still to return.
+/// Iterates over the preconditions of an operator: its prevail conditions, then the old values that its effects require. Allocates no
+/// memory. In a contract its value is the list of the remaining facts.
 #[derive(Drop)]
 pub struct Preconditions<'a, T: Grounded> {
     task: &'a T,
     operator: u32,
     prevail: &'a [Fact],
-    /// The next effect whose old value is looked up.
+    /// The next effect to be examined.
     effect: u32,
     /// The number of effects.
     effects: u32,

@@ -1,10 +1,10 @@
-// Evaluators, which settle states.
+// Axiom evaluators, which settle states.
 use crate::layered::Layered;
 use crate::state::State;
 use crate::touched::Touched;
 use sas_core::{Fact, Grounded};
 
-/// An evaluator, which settles states of a task: it sets the derived variables to the values that follow by the rules.
+/// An axiom evaluator. It settles states of a task: it sets the derived variables to the values that follow from the rules.
 pub trait Settle<T: Grounded> {
     ghost use Rattle.std.specs.Prelude.{ℕ, List, ⊤};
     ghost use Rattle.sas_core.specs.declared.parts.Parts.{Parts};
@@ -16,10 +16,11 @@ pub trait Settle<T: Grounded> {
     /// The evaluator can settle states of this task.
     ghost ready: { Self → Parts → Type 0 };
 
-    /// The evaluator settled this state last, and can go on from there. One that never does need not say anything of it.
+    /// This is the state that the evaluator settled last, so `settle_on` can start from it. Evaluators without `settle_on` keep the
+    /// default.
     ghost follows: { Self → Parts → List ℕ → Type 0 } = { λ _ _ _. ⊤ };
 
-    /// Settles the state, which has to fit the task.
+    /// Settles the state, which must be a state of the task.
     fn settle(&mut self, layered: &Layered<T>, state: &mut State)
         requires ready { ready self.old layered.now }
         requires state { IsState layered.now.variables state.old }
@@ -27,9 +28,9 @@ pub trait Settle<T: Grounded> {
         ensures follows { follows self.new layered.now state.new }
         ensures settles { Settles layered.now state.old state.new };
 
-    /// Settles the state as `settle` does. It is the state that the evaluator settled last, but that these facts have gone. So
-    /// an evaluator need look only at what rests on them, and on those that came in their place. In the end `touched` tells which
-    /// derived variables may have changed since that state; what it told before is gone.
+    /// Settles the state like `settle`. The state must be the one that this evaluator settled last, except that the facts `gone` have
+    /// become false. So an evaluator need only re-evaluate what depends on these facts and on those that replaced them. Afterwards
+    /// `touched` contains the derived variables that may differ from the state settled last. Its previous contents are lost.
     fn settle_on(
         &mut self,
         layered: &Layered<T>,

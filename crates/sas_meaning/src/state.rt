@@ -9,7 +9,7 @@ use sas_core::{Fact, Grounded, Items};
 use std::alloc::{AllocError, Global};
 use std::marker::Model;
 
-/// A value for each variable. In a contract it is the list of the values.
+/// A state: a value for each variable. In a contract it is the list of these values.
 #[derive(Debug, PartialEq, Eq, Drop)]
 pub struct State {
     values: Items<u32>,
@@ -23,12 +23,12 @@ impl Model for State {
     ghost inverse = { λ values. record { values = values } };
 }
 
-/// Why some values make no state.
+/// Why a list of values is not a state.
 #[derive(Clone, Copy, Debug, PartialEq, Eq)]
 pub enum StateFault {
-    /// They aren't one for each variable, each in its range.
+    /// The number of values is wrong, or a value is out of range.
     BadState,
-    /// Memory was refused.
+    /// Out of memory.
     Memory,
 }
 
@@ -43,8 +43,8 @@ impl From<AllocError> for StateFault {
 }
 
 impl State {
-    /// The state with these values, if they are one for each variable of the task, each in its range. Whether they are
-    /// is tested before memory is asked for.
+    /// Returns the state with these values if there is one for each variable of the task, each in its range. Otherwise returns `BadState`.
+    /// The values are checked before memory is allocated.
     pub fn of<T: Grounded>(alloc: Global, task: &T, values: &[u32]) -> Result<State, StateFault>
         ensures values { IfOk result (λ s. s ≡ values.now) }
         ensures fits { IfOk result (λ s. IsState (T.says task.now).variables s) }
@@ -59,7 +59,7 @@ impl State {
         })
     }
 
-    /// The state of the state section, in which each derived variable has its default.
+    /// Returns the state in the state section, in which each derived variable has its default. `Err` means out of memory.
     pub fn of_section<T: Grounded>(alloc: Global, task: &T) -> Result<State, AllocError>
         ensures { IfOk result (λ s. s ≡ (T.says task.now).init) }
     {
@@ -70,14 +70,14 @@ impl State {
         Ok(State { values })
     }
 
-    /// The values of the variables in order.
+    /// Returns the values of all variables, in order.
     pub fn values(&self) -> &[u32]
         ensures { result.now ≡ self.now }
     {
         self.values.as_slice()
     }
 
-    /// The value of the variable.
+    /// Returns the value of the variable.
     pub fn value(&self, var: u32) -> u32
         requires { var < length self.now }
         ensures { result ≡ slice_index self.now var }
@@ -85,7 +85,7 @@ impl State {
         self.values.as_slice()[var as usize]
     }
 
-    /// Whether the fact holds: whether its variable exists and has its value.
+    /// Returns whether the fact holds: its variable exists and has this value.
     pub fn holds(&self, fact: Fact) -> bool
         ensures { IsTrue result
             ↔ (fact.var < length self.now) × Holds (slice_index self.now) fact }
@@ -96,7 +96,7 @@ impl State {
         }
     }
 
-    /// Whether all the facts hold.
+    /// Returns whether all facts hold.
     pub fn holds_all(&self, facts: &[Fact]) -> bool
         requires { All (λ (f : Fact). f.var < length self.now) facts.now }
         ensures { IsTrue result ↔ AllHold (slice_index self.now) facts.now }
@@ -104,7 +104,7 @@ impl State {
         facts.iter().all(|fact| self.value(fact.var) == fact.value)
     }
 
-    /// Gives the fact's variable the fact's value.
+    /// Makes the fact true.
     pub fn set(&mut self, fact: Fact)
         requires { fact.var < length self.old }
         ensures { self.new ≡ slice_set self.old fact.var fact.value }
@@ -113,7 +113,7 @@ impl State {
     }
 }
 
-/// Whether these are a value for each variable of the task, each in its range.
+/// Returns whether there is one value for each variable of the task, each in its range.
 fn fits<T: Grounded>(task: &T, values: &[u32]) -> bool
     ensures yes { IsTrue result → IsState (T.says task.now).variables values.now }
     ensures no { IsFalse result → IsState (T.says task.now).variables values.now → ⊥ }
@@ -121,7 +121,7 @@ fn fits<T: Grounded>(task: &T, values: &[u32]) -> bool
     values.len() == task.variables() as usize && are_in_range(task, values)
 }
 
-/// Whether each value is in the range of its variable.
+/// Returns whether each value is in the range of its variable.
 fn are_in_range<T: Grounded>(task: &T, values: &[u32]) -> bool
     requires { length values.now ≡ length (T.says task.now).variables }
     ensures yes { IsTrue result → IsState (T.says task.now).variables values.now }

@@ -1,22 +1,20 @@
-// What is told of a state that was settled: which of its derived variables may have changed.
+// The derived variables that may have changed while a state was settled.
 ghost use Rattle.std.specs.Prelude.{◌≡◌, vec_capacity, IsTrue, IsFalse, IfOk, IfSome, IfNone};
 ghost use Rattle.sas_meaning.specs.Touched.{IsCleared, Notes};
 
 use std::alloc::{AllocError, Global};
 
-/// The derived variables that may have changed: those on a list, or any. A list for which there was too little room tells that
-/// any may have changed. No memory is taken after it was made.
+/// The derived variables that may have changed: those on a list, or all if the list was too short. Only `with_room` allocates memory.
 #[derive(Debug, Drop)]
 pub struct Touched {
-    /// The variables that were noted. One that was set twice is on it twice.
+    /// The variables that were added. A variable may occur more than once.
     vars: Vec<u32>,
-    /// Whether any variable may have changed, on the list or not.
+    /// Whether any variable may have changed, even one that isn't listed.
     any: bool,
 }
 
 impl Touched {
-    /// Returns a list without room, on which no variable is noted. It takes no memory. Where a variable is noted on it, any may
-    /// have changed.
+    /// Returns an empty list without room. Allocates no memory. Once a variable is added, any variable may have changed.
     pub fn none(alloc: Global) -> Touched
         ensures { IsCleared result }
     {
@@ -26,7 +24,7 @@ impl Touched {
         }
     }
 
-    /// Returns a list with room for this many variables, on which none is noted.
+    /// Returns an empty list with room for `room` variables. `Err` means out of memory.
     pub fn with_room(alloc: Global, room: usize) -> Result<Touched, AllocError>
         ensures cleared { IfOk result IsCleared }
         ensures room { IfOk result (λ touched. vec_capacity touched.vars ≡ room) }
@@ -37,7 +35,7 @@ impl Touched {
         })
     }
 
-    /// Takes all variables off the list. None may have changed.
+    /// Empties the list: no variable may have changed.
     pub fn clear(&mut self)
         ensures cleared { IsCleared self.new }
         ensures room { vec_capacity self.new.vars ≡ vec_capacity self.old.vars }
@@ -46,7 +44,7 @@ impl Touched {
         self.any = false;
     }
 
-    /// Notes that the variable may have changed.
+    /// Adds a variable that may have changed.
     pub fn note(&mut self, var: u32)
         ensures { Notes var self.old self.new }
     {
@@ -60,7 +58,7 @@ impl Touched {
         }
     }
 
-    /// Notes that any variable may have changed.
+    /// Records that any variable may have changed.
     pub fn note_any(&mut self)
         ensures any { IsTrue self.new.any }
         ensures same { self.new.vars ≡ self.old.vars }
@@ -68,7 +66,7 @@ impl Touched {
         self.any = true;
     }
 
-    /// Returns the variables that may have changed. There is no list where any may have.
+    /// Returns the variables that may have changed, or `None` if any variable may have.
     pub fn vars(&self) -> Option<&[u32]>
         ensures some { IfSome result (λ vars. IsFalse self.now.any × (vars.now ≡ self.now.vars.items)) }
         ensures none { IfNone result (IsTrue self.now.any) }

@@ -1,4 +1,4 @@
--- The first of the conditions that fails decides.
+-- The first condition that fails determines the fault.
 use Rattle.std.proofs.Common.{rules, ◌≡◌, ◌∙◌, ℕ, Bool, List, length, get_or, Option, Some, None, ap, arith}
 use Rattle.std.specs.Result.{result_err}
 use Rattle.sas_core.specs.declared.parts.Fact.{Fact}

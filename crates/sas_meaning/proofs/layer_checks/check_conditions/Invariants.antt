@@ -1,4 +1,4 @@
--- The conditions so far pass.
+-- All conditions so far pass.
 use Rattle.sas_core.specs.FirstFault.{check}
 use Rattle.sas_core.specs.Grounded.{rule_at}
 use Rattle.sas_meaning.specs.declared.layered.LayerFault.TheVariants.{LayerOrder}

@@ -1,4 +1,5 @@
--- The rule's old value first, then the other rules of its variable by the value that is known, then its conditions.
+-- The checks in order: the old value, the new value of earlier rules of the variable, then the
+-- conditions.
 use Rattle.std.proofs.Common.{rules, ◌≡◌, ◌∙◌, Some, Result, Ok, Err, arith}
 use Rattle.std.specs.Result.{result_err, IfOk}
 use Rattle.sas_meaning.proofs.FiringRules.{var_exists, others_fail, conditions_decide, known_then}

@@ -1,4 +1,4 @@
--- The operators' checks come first, then the rules' checks decide.
+-- The checks of the operators come first, then those of the rules.
 use Rattle.std.proofs.Common.{rules, ◌≡◌, ◌∙◌, Some}
 use Rattle.std.specs.Result.{result_err}
 use Rattle.sas_core.proofs.FirstFaults.{fails_before, decides_after}

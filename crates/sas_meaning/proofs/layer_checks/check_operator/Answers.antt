@@ -1,4 +1,4 @@
--- The first of the effects that fails decides.
+-- The first effect that fails determines the fault.
 use Rattle.std.proofs.Common.{rules, ◌≡◌, ◌∙◌, ℕ, Bool, true, false, not, Option, Some, None, refl, ap, arith}
 use Rattle.std.specs.Option.{is_some}
 use Rattle.std.specs.Result.{result_err}

@@ -1,4 +1,4 @@
--- The effects so far pass.
+-- All effects so far pass.
 use Rattle.sas_core.specs.Grounded.{operator_at}
 use Rattle.sas_meaning.specs.LayerChecks.{effect_layer_checks}
 use Rattle.sas_meaning.proofs.NumberedChecks.{PassBefore}

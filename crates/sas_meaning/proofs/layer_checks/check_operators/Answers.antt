@@ -1,4 +1,4 @@
--- The first of the operators that fails decides.
+-- The first operator that fails determines the fault.
 use Rattle.std.proofs.Common.{rules, ◌≡◌, ◌∙◌, Some, arith, refl}
 use Rattle.std.specs.Result.{result_err}
 use Rattle.sas_meaning.specs.LayerChecks.{operator_layer_checks}

@@ -1,4 +1,4 @@
--- The operators so far pass.
+-- All operators so far pass.
 use Rattle.sas_meaning.specs.LayerChecks.{operator_layer_checks}
 use Rattle.sas_meaning.proofs.NumberedChecks.{PassBefore}
 use Rattle.sas_meaning.proofs.layer_checks.check_operators.Given as goal

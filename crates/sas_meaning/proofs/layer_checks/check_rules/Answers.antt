@@ -1,4 +1,4 @@
--- The first of the rules that fails decides.
+-- The first rule that fails determines the fault.
 use Rattle.std.proofs.Common.{rules, ◌≡◌, ◌∙◌, Some, arith, refl}
 use Rattle.std.specs.Result.{result_err}
 use Rattle.sas_meaning.specs.LayerChecks.{rule_layer_checks}

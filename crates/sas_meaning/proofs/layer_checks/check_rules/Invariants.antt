@@ -1,4 +1,4 @@
--- The rules so far pass, and their new values are known.
+-- All rules so far pass, and their new values are stored.
 use Rattle.sas_meaning.specs.LayerChecks.{rule_layer_checks}
 use Rattle.sas_meaning.specs.NewValues.{NewValues}
 use Rattle.sas_meaning.proofs.NumberedChecks.{PassBefore}

@@ -1,4 +1,4 @@
--- Where no check of layers fails, the task is layered.
+-- If all layer checks pass, the task is layered.
 use Rattle.std.proofs.Common.{sym, rules}
 use Rattle.sas_meaning.proofs.LayerChecksAreRules.{checks_are_rules}
 use Rattle.sas_meaning.proofs.layered.Layered.new.Goals as goal

@@ -1,4 +1,4 @@
--- The prevail conditions are given, and what is left is what was.
+-- All prevail conditions were returned, and the remaining facts are unchanged.
 use Rattle.std.proofs.Common.{◌≡◌, [], ◌-◌}
 use Rattle.sas_core.specs.Grounded.{operator_at}
 use Rattle.sas_meaning.specs.Preconditions.{preconditions_left, IsAtOperator}
