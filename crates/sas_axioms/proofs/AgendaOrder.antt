@@ -1,4 +1,4 @@
--- The first entry of an agenda is of the lowest layer, and what a change of the agenda keeps.
+-- The first noted rule is on the lowest layer, and what changes of the agenda preserve.
 use Rattle.std.proofs.Common.{◌≡◌, ◌⊎◌, ℕ, zero, suc, ◌+◌, ◌≤◌, false, List, [], ◌∷◌, ◌++◌, length, get_or, refl, sym, ◌∙◌, ap, subst, inl, inr, arith}
 use Rattle.std.specs.List.{All, Contains}
 use Rattle.std.specs.List.Sorted.{IsPermutation}

@@ -1,4 +1,4 @@
--- In the end the rules of all layers are counted.
+-- After all layers are settled, the counters of all rules are right.
 use Rattle.std.proofs.Common.{◌≡◌, ℕ, ◌+◌, ◌<◌, ◌≤◌, List, length, get_or, sym, ◌∙◌, subst, inl, inr, arith}
 use Rattle.std.proofs.lemmas.Bool.{cases_eq, cases_lt}
 use Rattle.sas_core.specs.declared.parts.Parts.{Parts}

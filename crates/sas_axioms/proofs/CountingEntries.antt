@@ -1,4 +1,4 @@
--- The entries of the rules that wait for a variable's values are counted, one after another.
+-- Updating the counters for the conditions on a variable, one entry at a time.
 use Rattle.std.proofs.Common.{◌≡◌, ◌≢◌, ◌⊎◌, ◌↔◌, ℕ, ◌+◌, ◌*◌, ◌<◌, ◌≤◌, Vec, Global, List, ◌∷◌, length, get_or, set, drop, refl, sym, ◌∙◌, ap, subst, inl, inr, arith}
 use Rattle.std.specs.List.{Contains}
 use Rattle.std.specs.BinaryHeap.{heap_items}

@@ -1,4 +1,4 @@
--- The basic variables that changed are counted anew, one after another.
+-- Updating the counters for the basic variables that changed, one at a time.
 use Rattle.std.proofs.Common.{◌≡◌, ◌≢◌, ℕ, zero, suc, ◌<◌, List, [], ◌∷◌, length, get_or, set, refl, sym, ◌∙◌, ap, subst, inl, inr, arith}
 use Rattle.std.specs.List.{All, AllPairs}
 use Rattle.std.specs.BinaryHeap.{heap_items}

@@ -1,4 +1,4 @@
--- A variable's value changes: what is counted anew, and what is noted.
+-- When the value of a variable changes: which counters change, and which rules are noted.
 use Rattle.std.proofs.Common.{◌≡◌, ℕ, zero, suc, ◌+◌, ◌<◌, ◌≤◌, List, [], ◌∷◌, length, get_or, set, refl, sym, subst, inl, inr, arith}
 use Rattle.std.specs.List.{Contains}
 use Rattle.std.specs.BinaryHeap.{heap_items}

@@ -1,4 +1,4 @@
--- The rules of a layer that hold set their variables, one after another.
+-- The rules of a layer that hold set their variables, one by one.
 use Rattle.std.proofs.Common.{◌≡◌, ◌≢◌, ◌⊎◌, ◌↔◌, ℕ, ◌+◌, ◌<◌, ◌≤◌, true, List, [], length, get_or, set, sym, ◌∙◌, ap, subst, inl, inr, arith}
 use Rattle.std.specs.BinaryHeap.{heap_items}
 use Rattle.std.proofs.lemmas.Bool.{cases_eq, cases_lt}

@@ -1,4 +1,4 @@
--- What a rule changes and asks about exists, as the calls of a task tell it.
+-- The variables and values in a rule of a task exist.
 use Rattle.std.proofs.Common.{◌≡◌, ℕ, ◌<◌, ◌^◌, not, nat_eq, List, length, refl, sym, subst}
 use Rattle.std.specs.Prelude.{slice_index}
 use Rattle.std.specs.List.{All}

@@ -1,4 +1,4 @@
--- What is counted and noted goes on to fit the state.
+-- Counters and noted rules continue to fit the state.
 use Rattle.std.proofs.Common.{◌≡◌, ℕ, ◌≤◌, List, [], ◌++◌, length, get_or, set, None, is_some, sym, ap, ◌∙◌, subst, inl, inr}
 use Rattle.std.specs.List.{All, Contains}
 use Rattle.std.specs.BinaryHeap.{heap_items}

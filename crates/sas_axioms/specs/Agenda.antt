@@ -1,4 +1,4 @@
--- Which rules are on an agenda.
+-- The rules on an agenda.
 use Rattle.std.specs.Prelude.{◌≡◌, ◌⊎◌, ℕ, ◌+◌, ◌*◌, ◌<◌, ◌≤◌, List, [], ◌∷◌, ◌++◌, length, All, Contains}
 use Rattle.std.specs.declared.cmp.Ordering.{Ordering}
 use Rattle.std.specs.declared.cmp.Reverse.{Reverse}
@@ -12,54 +12,54 @@ use Rattle.sas_axioms.specs.declared.layer_rules.LayerRule.{LayerRule}
 abbrev pub layer_cmp : LayerRule → LayerRule → Ordering
 layer_cmp a b = ordering_then (nat_cmp a.layer b.layer) (nat_cmp a.rule b.rule)
 
--- what stands for a rule of a layer
+-- the entry for a rule of a layer
 abbrev pub entry_for : ℕ → ℕ → Reverse LayerRule
 entry_for layer rule = record { 0 = record { layer = layer; rule = rule } }
 
--- the rule of the layer is noted
+-- the rule of this layer is noted
 abbrev pub IsNoted : Agenda → ℕ → ℕ → Type 0
 IsNoted a layer rule = Contains (heap_items a.noted) (entry_for layer rule)
 
--- the rule of the layer at hand is still to be looked at
+-- the rule of the current layer is noted or ready
 abbrev pub IsAwaited : Agenda → ℕ → ℕ → Type 0
 IsAwaited a layer rule = IsNoted a layer rule ⊎ Contains a.ready.items rule
 
--- the lowest layer comes first
+-- `noted` is a heap: the lowest layer comes first
 abbrev pub IsOrdered : Agenda → Type 0
 IsOrdered a = IsHeap (λ x y. layer_cmp y.0 x.0) (heap_items a.noted)
 
--- no rule of a lower layer than this one is noted
+-- no rule of a lower layer is noted
 abbrev pub AreFrom : ℕ → Agenda → Type 0
 AreFrom layer a = All (λ (e : Reverse LayerRule). layer ≤ e.0.layer) (heap_items a.noted)
 
--- nor one of this layer
+-- no rule of this layer or a lower one is noted
 abbrev pub AreBehind : ℕ → Agenda → Type 0
 AreBehind layer a = All (λ (e : Reverse LayerRule). layer < e.0.layer) (heap_items a.noted)
 
--- how much is left to do at most, where each entry that is gone through may note a rule, and each
--- rule that is noted may be made ready
+-- an upper bound of the remaining work: each list entry that is processed may note a rule, and each
+-- noted rule may be made ready
 abbrev pub work_left : Agenda → ℕ
 work_left a = 3 * a.left + 2 * length (heap_items a.noted) + length a.ready.items
 
--- no rule is on the agenda
+-- no rule is noted or ready
 pub record IsEmpty (a : Agenda) : Type 0 where
   pub ordered : IsOrdered a
   pub noted : heap_items a.noted ≡ []
   pub ready : a.ready.items ≡ []
 
--- a rule of this layer is noted, and none of a lower one
+-- this is the lowest layer with a noted rule
 pub record Lowest (a : Agenda) (layer : ℕ) : Type 0 where
   pub noted : (rule : ℕ) × IsNoted a layer rule
   pub from : AreFrom layer a
 
--- the rule of the layer is noted too
+-- adds this rule to the noted rules
 pub record Notes (layer rule : ℕ) (a a' : Agenda) : Type 0 where
   pub noted : IsPermutation (entry_for layer rule ∷ heap_items a.noted) (heap_items a'.noted)
   pub ordered : IsOrdered a'
   pub ready : a'.ready ≡ a.ready
   pub left : a'.left ≤ a.left
 
--- the rule of the layer was noted or ready, and is taken off; nothing else goes
+-- removes this rule, which was noted or ready; all other rules are kept
 pub record Takes (layer rule : ℕ) (a a' : Agenda) : Type 0 where
   pub was : IsAwaited a layer rule
   pub noted : (m other : ℕ) → IsNoted a m other → IsNoted a' m other ⊎ (other ≡ rule)
@@ -70,13 +70,13 @@ pub record Takes (layer rule : ℕ) (a a' : Agenda) : Type 0 where
   pub ordered : IsOrdered a'
   pub left : work_left a' < work_left a
 
--- the rule is ready too
+-- adds this rule to the ready rules
 pub record IsMadeReady (rule : ℕ) (a a' : Agenda) : Type 0 where
   pub ready : a'.ready.items ≡ a.ready.items ++ rule ∷ []
   pub noted : a'.noted ≡ a.noted
   pub left : a'.left ≡ a.left
 
--- these rules are ready too
+-- adds these rules to the ready rules
 pub record AreMadeReady (rules : List ℕ) (a a' : Agenda) : Type 0 where
   pub ready : a'.ready.items ≡ a.ready.items ++ rules
   pub noted : a'.noted ≡ a.noted

@@ -1,4 +1,4 @@
--- What settling one layer after another does to each layer.
+-- What settling one layer changes.
 use Rattle.std.specs.Prelude.{ℕ, ◌<◌, ◌≤◌, List, All}
 use Rattle.sas_core.specs.declared.parts.Rule.{Rule}
 use Rattle.sas_core.specs.declared.parts.Parts.{Parts}
@@ -11,13 +11,13 @@ use Rattle.sas_meaning.specs.Forced.{SameOff}
 abbrev pub IsIdle : Parts → ℕ → Type 0
 IsIdle p layer = All (λ (rule : Rule). IsOnLayer p layer rule.var → CanFire p rule → ⊥) p.rules
 
--- one layer was settled, and nothing else changed
+-- the layer was settled, and nothing else changed
 pub record SettlesLayer (p : Parts) (layer : ℕ) (s s' : List ℕ) : Type 0 where
   pub state : IsState p.variables s'
   pub off : SameOff p layer s s'
   pub settled : IsSettledAt p layer s'
 
--- a layer from `from` on was settled, and no rule can fire on those that were passed over
+-- this layer, at least `from`, was settled, and no rule can fire on the layers that were skipped
 pub record SettlesNext (p : Parts) (from : ℕ) (s s' : List ℕ) (layer : ℕ) : Type 0 where
   pub from_on : from ≤ layer
   pub idle : (below : ℕ) → from ≤ below → below < layer → IsIdle p below

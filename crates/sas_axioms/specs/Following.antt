@@ -1,4 +1,4 @@
--- How a settled state is followed where some of its basic variables change.
+-- Updating a settled state after some of its basic variables have changed.
 use Rattle.std.specs.Prelude.{◌≡◌, ◌⊎◌, ◌↔◌, ℕ, ◌+◌, ◌<◌, ◌≤◌, IsTrue, List, [], length, All, Contains, slice_index, slice_set}
 use Rattle.std.specs.declared.cmp.Reverse.{Reverse}
 use Rattle.std.specs.BinaryHeap.{heap_items}
@@ -18,35 +18,35 @@ use Rattle.sas_axioms.specs.LayerRules.{IsRuleOn}
 use Rattle.sas_axioms.specs.Sources.{IsHolding, HaveSources, SourcesHold, AreGiven}
 use Rattle.sas_axioms.specs.Waiting.{occurrences, released}
 
--- a condition of the rule is on the variable
+-- the rule has a condition on the variable
 abbrev pub AsksAbout : Parts → ℕ → ℕ → Type 0
 AsksAbout p var rule = (c : Fact) × Contains (rule_at p rule).conditions c × (c.var ≡ var)
 
--- from a layer on, each rule that holds in only one of two states is noted
+-- on this layer and higher ones, each rule that holds in exactly one of the two states is noted
 abbrev pub AreNoted : Parts → ℕ → List ℕ → List ℕ → Agenda → Type 0
 AreNoted p from s s' a = (layer rule : ℕ) → from ≤ layer → IsRuleOn p layer rule
     → IsNoted a layer rule ⊎ (IsHolding p s rule ↔ IsHolding p s' rule)
 
--- from a layer on, two states have the same derived values
+-- on this layer and higher ones, the derived variables have the same values in both states
 abbrev pub SameFrom : Parts → ℕ → List ℕ → List ℕ → Type 0
 SameFrom p from s s' = (layer var : ℕ) → from ≤ layer → IsOnLayer p layer var
     → slice_index s var ≡ slice_index s' var
 
--- the work is on the same layer, with as much room
+-- layer, stack and sizes are unchanged
 pub record KeepsRoom (w w' : Work) : Type 0 where
   pub layer : w'.layer ≡ w.layer
   pub stack : w'.stack ≡ w.stack
   pub one_each : length w'.counters ≡ length w.counters
   pub sources : length w'.sources ≡ length w.sources
 
--- and it has the same sources
+-- layer, stack, sizes and sources are unchanged
 pub record SameWork (w w' : Work) : Type 0 where
   pub layer : w'.layer ≡ w.layer
   pub stack : w'.stack ≡ w.stack
   pub one_each : length w'.counters ≡ length w.counters
   pub sources : w'.sources ≡ w.sources
 
--- on an agenda more rules are noted, of which each `May` be
+-- more rules are noted, and each of the new ones satisfies `May`
 pub record NotesMore (p : Parts) (May : ℕ → Type 0) (a a' : Agenda) : Type 0 where
   pub keeps : (layer rule : ℕ) → IsNoted a layer rule → IsNoted a' layer rule
   pub only : All (λ (e : Reverse LayerRule). Contains (heap_items a.noted) e
@@ -54,7 +54,7 @@ pub record NotesMore (p : Parts) (May : ℕ → Type 0) (a a' : Agenda) : Type 0
   pub ordered : IsOrdered a'
   pub ready : a'.ready ≡ a.ready
 
--- a rule's counter is n now, and the rule is noted if it holds by one of the counts alone
+-- the counter of the rule is now n, and the rule is noted if it became 0 or was 0
 pub record CountsTo (p : Parts) (rule n : ℕ) (w w' : Work) : Type 0 where
   pub same : SameWork w w'
   pub counters : w'.counters ≡ slice_set w.counters rule n
@@ -63,8 +63,8 @@ pub record CountsTo (p : Parts) (rule n : ℕ) (w w' : Work) : Type 0 where
   pub notes : NotesMore p (λ r. r ≡ rule) w.agenda w'.agenda
   pub left : work_left w'.agenda ≤ work_left w.agenda + 2
 
--- the rules that wait for the values of a variable are counted anew, where it had one and has
--- another one now
+-- the counters are updated for the rules with conditions on a variable that changed from the former
+-- value to the new one
 pub record Recounts (p : Parts) (waiting : List Waiting) (former value : ℕ) (w w' : Work)
     : Type 0 where
   pub counts : (rule : ℕ) → rule < length w.counters
@@ -77,8 +77,8 @@ pub record Recounts (p : Parts) (waiting : List Waiting) (former value : ℕ) (w
       (λ rule. (w : Waiting) × Contains waiting w × (w.rule ≡ rule)) w.agenda w'.agenda
   pub left : work_left w'.agenda ≤ work_left w.agenda
 
--- a variable changes: the rules are counted in the new state, and those that hold in only one of
--- the two states are noted
+-- a variable changed: the counters are those of the new state, and rules that hold in exactly one
+-- of the states are noted
 pub record Moves (p : Parts) (var : ℕ) (s : List ℕ) (w : Work) (s' : List ℕ) (w' : Work)
     : Type 0 where
   pub counts : AreCounted p s' w'.counters
@@ -86,7 +86,7 @@ pub record Moves (p : Parts) (var : ℕ) (s : List ℕ) (w : Work) (s' : List �
   pub notes : NotesMore p (AsksAbout p var) w.agenda w'.agenda
   pub left : work_left w'.agenda ≤ work_left w.agenda
 
--- what is counted and noted fits the state, and no rule of a lower layer is noted
+-- counters and noted rules fit the state, and no rule of a lower layer is noted
 pub record IsOnTrack (p : Parts) (layer : ℕ) (s : List ℕ) (w : Work) : Type 0 where
   pub state : IsState p.variables s
   pub counts : AreCounted p s w.counters
@@ -97,8 +97,8 @@ pub record IsOnTrack (p : Parts) (layer : ℕ) (s : List ℕ) (w : Work) : Type 
   pub from : AreFrom layer w.agenda
   pub ready : All (λ rule. IsRuleOn p layer rule) w.agenda.ready.items
 
--- Some of the basic variables of the settled state s0 are counted with the values that they have in
--- m. The rules are noted that hold in one of the two alone.
+-- The counters are those of the values m: the settled state s0 with some basic variables changed.
+-- The rules that hold in exactly one of s0 and m are noted.
 pub record CountedSoFar (p : Parts) (s0 m : List ℕ) (w : Work) : Type 0 where
   pub counts : AreCounted p m w.counters
   pub ordered : IsOrdered w.agenda
@@ -110,8 +110,8 @@ pub record CountedSoFar (p : Parts) (s0 m : List ℕ) (w : Work) : Type 0 where
   pub held : (layer : ℕ) → SourcesHold p layer w.sources m s0
   pub empty : w.agenda.ready.items ≡ []
 
--- Up to the layer the state s is settled. From there on it has the values of the settled state s0,
--- and the rules are noted that hold in one of the two alone.
+-- Layers below `layer` are settled in s. On the others, s has the derived values of the settled
+-- state s0, and the rules that hold in exactly one of s0 and s are noted.
 pub record IsBetween (p : Parts) (s0 : List ℕ) (layer : ℕ) (s : List ℕ) (w : Work) : Type 0 where
   pub track : IsOnTrack p layer s w
   pub settled : IsSettled p s0
@@ -123,8 +123,8 @@ pub record IsBetween (p : Parts) (s0 : List ℕ) (layer : ℕ) (s : List ℕ) (w
   pub held : (m : ℕ) → layer ≤ m → SourcesHold p m w.sources s s0
   pub empty : w.agenda.ready.items ≡ []
 
--- On the layer some variables have fallen to their default. The sources of the others hold, or are
--- noted. Each rule that holds has set its variable, or is noted or ready.
+-- Some variables of the current layer have been reset to their defaults. The sources of the others
+-- hold or are noted. Each rule that holds has set its variable, or is noted or ready.
 pub record IsFalling (p : Parts) (s0 s : List ℕ) (w : Work) : Type 0 where
   pub track : IsOnTrack p w.layer s w
   pub settled : IsSettled p s0
@@ -138,8 +138,8 @@ pub record IsFalling (p : Parts) (s0 s : List ℕ) (w : Work) : Type 0 where
   pub fired : (rule : ℕ) → IsRuleOn p w.layer rule → IsHolding p s rule
       → IsTrue (differs p s (rule_at p rule).var) ⊎ IsAwaited w.agenda w.layer rule
 
--- On the layer the variables that differ from their default are given by their sources. Each rule
--- that holds has set its variable, or is noted or ready.
+-- Each variable of the current layer that differs from its default was set by its source, which
+-- holds. Each rule that holds has set its variable, or is noted or ready.
 pub record IsRising (p : Parts) (s0 s : List ℕ) (w : Work) : Type 0 where
   pub track : IsOnTrack p w.layer s w
   pub settled : IsSettled p s0
@@ -151,7 +151,7 @@ pub record IsRising (p : Parts) (s0 s : List ℕ) (w : Work) : Type 0 where
   pub fired : (rule : ℕ) → IsRuleOn p w.layer rule → IsHolding p s rule
       → IsTrue (differs p s (rule_at p rule).var) ⊎ IsAwaited w.agenda w.layer rule
 
--- The layer is settled, and nothing of it is left to be looked at.
+-- The current layer is settled, and none of its rules is noted or ready.
 pub record HasRisen (p : Parts) (s0 s : List ℕ) (w : Work) : Type 0 where
   pub track : IsOnTrack p w.layer s w
   pub settled : IsSettled p s0
@@ -164,8 +164,8 @@ pub record HasRisen (p : Parts) (s0 s : List ℕ) (w : Work) : Type 0 where
   pub behind : AreBehind w.layer w.agenda
   pub empty : w.agenda.ready.items ≡ []
 
--- the state is settled, each rule is counted in it, and each derived variable that differs from its
--- default is given by its source
+-- the state is settled, the counters are those of the state, and each derived variable that differs
+-- from its default was set by its source
 pub record IsFollowed (p : Parts) (s : List ℕ) (w : Work) : Type 0 where
   pub state : IsState p.variables s
   pub settled : IsSettled p s

@@ -1,4 +1,4 @@
--- The rules that can fire, layer after layer.
+-- The rules that can fire, layer by layer.
 use Rattle.std.specs.Prelude.{◌≡◌, ℕ, ◌<◌, ◌≤◌, List, [], ◌∷◌, length, All, Contains, slice_index_or}
 use Rattle.std.specs.List.Sorted.{IsNonDecreasingBy}
 use Rattle.sas_core.specs.declared.parts.Parts.{Parts}
@@ -7,7 +7,7 @@ use Rattle.sas_meaning.specs.Layers.{IsOnLayer, CanFire}
 use Rattle.sas_axioms.specs.declared.layer_rules.LayerRule.{LayerRule}
 use Rattle.sas_axioms.specs.declared.layer_rules.LayerSpan.{LayerSpan}
 
--- the rule at this place is on the layer, and can fire
+-- the rule is on this layer and can fire
 pub record IsRuleOn (p : Parts) (layer rule : ℕ) : Type 0 where
   pub exists : rule < length p.rules
   pub on : IsOnLayer p layer (rule_at p rule).var
@@ -24,7 +24,8 @@ pub record AreLayerRules (p : Parts) (rules : List LayerRule) : Type 0 where
   pub firing : AreFiringRules p rules
   pub ascending : IsNonDecreasingBy (λ (r : LayerRule). r.layer) rules
 
--- the rules from `start` to `end` are on the layer, and the one at `end` isn't
+-- the rules from index `start` up to but not including `end` are on the layer, and the rule at
+-- `end` isn't
 pub record IsLayerEnd (rules : List LayerRule) (start layer end : ℕ) : Type 0 where
   pub from_start : start ≤ end
   pub within : end ≤ length rules
@@ -32,25 +33,26 @@ pub record IsLayerEnd (rules : List LayerRule) (start layer end : ℕ) : Type 0 
       → (slice_index_or rules place d).layer ≡ layer
   pub last : (d : LayerRule) → end < length rules → (slice_index_or rules end d).layer ≡ layer → ⊥
 
--- the rules from `start` to `end`, of which there is one, are those of the layer
+-- the rules from index `start` up to but not including `end` are those of the layer; there is at
+-- least one
 pub record IsLayerSpan (rules : List LayerRule) (start layer end : ℕ) : Type 0 where
   pub some : start < length rules
   pub first : (d : LayerRule) → (slice_index_or rules start d).layer ≡ layer
   pub ends : IsLayerEnd rules start layer end
 
--- these are the layers of the rules from one place to another, in order
+-- the spans of the layers between two indexes, in order
 abbrev pub AreSpans : List LayerRule → ℕ → List LayerSpan → ℕ → Type 0
 AreSpans rules start [] end = start ≡ end
 AreSpans rules start (span ∷ spans) end =
     IsLayerSpan rules start span.layer span.end × AreSpans rules span.end spans end
 
--- the rules of one layer that can fire
+-- the rules on one layer that can fire
 pub record AreRulesOn (p : Parts) (layer : ℕ) (rules : List LayerRule) : Type 0 where
   pub only : All (λ (r : LayerRule). IsRuleOn p layer r.rule) rules
   pub each : (rule : ℕ) → IsRuleOn p layer rule
       → Contains rules (record { layer = layer; rule = rule })
 
--- under each derived variable its rules that can fire are listed, and no other
+-- for each derived variable, its rules that can fire
 pub record AreRulesOf (p : Parts) (lists : List (List ℕ)) : Type 0 where
   pub one_each : length lists ≡ length p.variables
   pub only : (layer var : ℕ) → IsOnLayer p layer var

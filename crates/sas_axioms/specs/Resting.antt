@@ -9,18 +9,18 @@ use Rattle.sas_axioms.specs.declared.resting.Resting.{Resting}
 use Rattle.sas_axioms.specs.LayerRules.{IsRuleOn}
 use Rattle.sas_axioms.specs.Conditions.{AreAskedBasic, IsCounted}
 
--- the derived variables that the rule's conditions are on are all on the layer
+-- all conditions of the rule on derived variables are on this layer
 abbrev pub StaysOn : Parts → ℕ → ℕ → Type 0
 StaysOn p layer rule =
     All (λ (c : Fact). (its : ℕ) → IsOnLayer p its c.var → its ≡ layer) (rule_at p rule).conditions
 
--- for each rule, whether it looks below its layer
+-- for each rule, whether it has a condition on a lower layer
 pub record AreLooks (p : Parts) (below : List Bool) : Type 0 where
   pub one_each : length below ≡ length p.rules
   pub each : (layer rule : ℕ) (d : Bool) → IsRuleOn p layer rule
       → (slice_index_or below rule d ≡ false) ↔ StaysOn p layer rule
 
--- the rules are counted with each derived variable at its default
+-- the counters are those of a state in which each derived variable has its default
 pub record IsResting (p : Parts) (r : Resting) : Type 0 where
   pub asked : AreAskedBasic p r.asked.items
   pub counted : IsCounted p r.counted

@@ -1,4 +1,4 @@
--- How far a worklist has come on a layer, and what it needs.
+-- The progress of a worklist on a layer, and its data.
 use Rattle.std.specs.Prelude.{◌≡◌, ℕ, ◌+◌, ◌*◌, ◌<◌, ◌≤◌, ◌==◌, if◌then◌else◌, IsTrue, List, [], length, All, Contains, slice_index, slice_index_or, vec_capacity, drop}
 use Rattle.sas_core.specs.declared.parts.Parts.{Parts}
 use Rattle.sas_core.specs.Grounded.{rule_at}
@@ -16,12 +16,13 @@ use Rattle.sas_axioms.specs.Waiting.{occurrences, IsIndex}
 use Rattle.sas_axioms.specs.Conditions.{open_conditions, SameAsked}
 use Rattle.sas_axioms.specs.Resting.{IsResting}
 
--- a variable on the stack still counts with its default
+-- the value that the counters use: the default for a variable on the stack, else its value
 abbrev pub value_seen : Parts → List ℕ → List ℕ → ℕ → ℕ
 value_seen p s stack var =
     if occurrences var stack == 0 then slice_index s var else default_of p var
 
--- the stack has variables of the layer that have been given their rules' value, each once
+-- the stack contains variables of the layer that were set to the new value of their rules, each
+-- once
 pub record IsRunning (p : Parts) (layer : ℕ) (s stack : List ℕ) : Type 0 where
   pub state : IsState p.variables s
   pub forced : OnlyForced p layer s
@@ -30,29 +31,29 @@ pub record IsRunning (p : Parts) (layer : ℕ) (s stack : List ℕ) : Type 0 whe
   pub once : (var : ℕ) → occurrences var stack ≤ 1
   pub room : length stack + equal_places s p.init ≤ length s
 
--- each counter is the number of its rule's conditions that don't hold yet, and of its places in
--- `left`
+-- each counter is the number of open conditions of its rule plus the number of times the rule
+-- occurs in `left`, the rules still to be counted down
 abbrev pub AreCounted : Parts → ℕ → List ℕ → List ℕ → List ℕ → List ℕ → Type 0
 AreCounted p layer s stack counters left = (rule : ℕ) → IsRuleOn p layer rule
     → slice_index counters rule
     ≡ open_conditions (value_seen p s stack) (rule_at p rule).conditions + occurrences rule left
 
--- each rule with no open condition has given its variable its value
+-- each rule without open conditions has set its variable
 abbrev pub HaveFired : Parts → ℕ → List ℕ → List ℕ → Type 0
 HaveFired p layer s counters = (rule : ℕ) → IsRuleOn p layer rule
     → slice_index counters rule ≡ 0 → slice_index s (rule_at p rule).var ≡ (rule_at p rule).new
 
--- what is left to do
+-- an upper bound of the remaining work
 abbrev pub left_to_do : Parts → List ℕ → List ℕ → ℕ
 left_to_do p s stack = 2 * equal_places s p.init + length stack
 
--- a counter for each rule, and room on the stack for each variable
+-- there is a counter for each rule, and the stack has room for each variable
 pub record HasRoom (p : Parts) (w : Work) : Type 0 where
   pub one_each : length w.counters ≡ length p.rules
   pub variables : length p.variables ≤ vec_capacity w.stack
   pub sources : length w.sources ≡ length p.variables
 
--- the rules of a layer are at work
+-- the rules of the current layer are being fired; the rules in `left` are still to be counted down
 pub record IsAtWork (p : Parts) (s : List ℕ) (w : Work) (left : List ℕ) : Type 0 where
   pub room : HasRoom p w
   pub running : IsRunning p w.layer s w.stack.items
@@ -60,17 +61,17 @@ pub record IsAtWork (p : Parts) (s : List ℕ) (w : Work) (left : List ℕ) : Ty
   pub fired : HaveFired p w.layer s w.counters
   pub given : AreGiven p w.layer s w.sources
 
--- the counter of each rule of the layer is the number of its conditions that don't hold
+-- the counter of each rule of the layer is the number of its open conditions
 abbrev pub AreCountedOn : Parts → ℕ → List ℕ → List ℕ → Type 0
 AreCountedOn p layer s counters = (rule : ℕ) → IsRuleOn p layer rule
     → slice_index counters rule ≡ open_conditions (slice_index s) (rule_at p rule).conditions
 
--- the counters of the other layers' rules are as they were
+-- the counters of rules on other layers are unchanged
 abbrev pub SameCountsOff : Parts → ℕ → List ℕ → List ℕ → Type 0
 SameCountsOff p layer counters counters' = (m rule : ℕ) → (m ≡ layer → ⊥) → IsRuleOn p m rule
     → slice_index counters' rule ≡ slice_index counters rule
 
--- the work goes on, on its layer alone, and no more is left to do than before
+-- the work affects only its layer, and the bound of the remaining work doesn't grow
 pub record WorkGoesOn (p : Parts) (s : List ℕ) (w : Work) (s' : List ℕ) (w' : Work) : Type 0 where
   pub layer : w'.layer ≡ w.layer
   pub off : SameOff p w.layer s s'
@@ -78,7 +79,7 @@ pub record WorkGoesOn (p : Parts) (s : List ℕ) (w : Work) (s' : List ℕ) (w' 
   pub sources : SameSourcesOff p w.layer w.sources w'.sources
   pub left : left_to_do p s' w'.stack.items ≤ left_to_do p s w.stack.items
 
--- one rule fired, or had
+-- the rule fires, or had fired before
 pub record FiresRule (p : Parts) (rule : ℕ) (s : List ℕ) (w : Work) (s' : List ℕ) (w' : Work)
     : Type 0 where
   pub goes_on : WorkGoesOn p s w s' w'
@@ -91,7 +92,7 @@ pub record FiresRule (p : Parts) (rule : ℕ) (s : List ℕ) (w : Work) (s' : Li
   pub fired : slice_index s' (rule_at p rule).var ≡ (rule_at p rule).new
   pub kept : (var : ℕ) → IsTrue (differs p s var) → slice_index s' var ≡ slice_index s var
 
--- what settles layers fits the task, and nothing is left on its stack
+-- the data for settling layers fit the task, and the stack is empty
 pub record IsPrepared (p : Parts) (f : Firing) : Type 0 where
   pub index : IsIndex p f.index
   pub resting : IsResting p f.resting
@@ -104,21 +105,22 @@ pub record AreDerived (p : Parts) (variables : List ℕ) : Type 0 where
   pub only : All (IsDerived p.variables) variables
   pub each : (var : ℕ) → IsDerived p.variables var → Contains variables var
 
--- what a worklist holds fits the task
+-- the data of the worklist fit the task
 pub record IsReadyFor (p : Parts) (w : Worklist) : Type 0 where
   pub variables : AreDerived p w.derived.items
   pub rules : AreLayerRules p w.rules.items
   pub spans : AreSpans w.rules.items 0 w.spans.items (length w.rules.items)
   pub firing : IsPrepared p w.firing
 
--- the rules from this place on are those from the layer on
+-- the rules from index `place` on are those of `layer` and higher layers
 pub record StandsAt (rules : List LayerRule) (layer place : ℕ) : Type 0 where
   pub within : place ≤ length rules
   pub before : (k : ℕ) (d : LayerRule) → k < place → (slice_index_or rules k d).layer < layer
   pub behind : (k : ℕ) (d : LayerRule) → place ≤ k → k < length rules
       → layer ≤ (slice_index_or rules k d).layer
 
--- it is ready, the layers from this one on are left, and what it keeps are the state's values
+-- the worklist is ready, this layer and the higher ones remain, and the counters fit the values of
+-- the state
 pub record IsReadyFrom (p : Parts) (layer : ℕ) (s : List ℕ) (w : Worklist) : Type 0 where
   pub ready : IsReadyFor p w
   pub stands : StandsAt w.rules.items layer w.start

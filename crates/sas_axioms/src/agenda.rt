@@ -1,4 +1,4 @@
-// Which rules are to be looked at where a settled state has changed.
+// The rules that must be re-evaluated after a settled state has changed.
 ghost use Rattle.std.specs.Prelude.{◌≡◌, ◌+◌, ◌≤◌, [], IfOk, OnOk, IfSome, OnSome, IfNone};
 ghost use Rattle.std.specs.BinaryHeap.{heap_items};
 ghost use Rattle.sas_axioms.specs.Agenda.{IsEmpty, IsOrdered, AreFrom, AreBehind, Lowest, Notes, Takes, IsMadeReady, work_left};
@@ -8,23 +8,23 @@ use std::alloc::{AllocError, Global};
 use std::cmp::Reverse;
 use std::collections::BinaryHeap;
 
-/// To go on from a settled state takes too much: it is settled anew in less.
+/// Updating the settled state would take too long: it is faster to settle the state from scratch.
 #[derive(Clone, Copy, Debug, PartialEq, Eq)]
 pub struct TooMuch;
 
-/// The rules that are to be looked at, layer after layer, and how much may still be looked at.
+/// The rules that must be re-evaluated, layer by layer, and a limit on the work.
 pub struct Agenda {
-    /// Rules that began or ceased to hold, and haven't been looked at since. The lowest layer comes first.
+    /// Rules that became true or false (all conditions hold, or no longer) and haven't been processed since. The lowest layer comes first.
     pub noted: BinaryHeap<Reverse<LayerRule>>,
-    /// Rules of the layer at hand that may set their variable, once all that falls on it has fallen.
+    /// Rules of the current layer that may set their variable once all variables have been reset that must be.
     pub ready: Vec<u32>,
-    /// How many entries of lists may still be gone through. To note a rule counts as `NOTING` of them.
+    /// How many list entries may still be processed. Noting a rule counts as `NOTING` entries.
     pub left: usize,
-    /// How many may be for each state.
+    /// The limit for each state.
     pub share: usize,
-    /// How many of the next states are to be settled anew without a try.
+    /// How many of the next states are settled from scratch without trying an update.
     pub passes: usize,
-    /// How many it will be when a try takes too much again.
+    /// The value of `passes` after the next update that fails.
     pub next_passes: usize,
 }
 
@@ -43,14 +43,14 @@ impl Drop for Agenda {
     }
 }
 
-/// To note a rule, take it off again and set its variable takes about as long as to count so many rules anew.
+/// Noting a rule, removing it and setting its variable takes about as long as updating this many counters.
 const NOTING: usize = 8;
 
-/// At most so many states are settled anew before the next try.
+/// At most this many states are settled from scratch before the next try.
 const MOST_PASSES: usize = 16;
 
 impl Agenda {
-    /// Returns an empty agenda, with this share for each state. All memory that it needs is reserved here.
+    /// Returns an empty agenda with this limit for each state. Allocates all memory that it will need. `Err` means out of memory.
     pub fn new(alloc: Global, share: usize) -> Result<Agenda, AllocError>
         ensures { IfOk result IsEmpty }
     {
@@ -64,8 +64,7 @@ impl Agenda {
         })
     }
 
-    /// Empties the agenda, and allows the share of a state. A state that is passed over may still be one at which there is
-    /// nothing to do.
+    /// Empties the agenda and resets the limit. If updates are suspended, the limit is 0, so that only updates without any work succeed.
     pub fn begin(&mut self)
         ensures { IsEmpty self.new }
     {
@@ -74,8 +73,8 @@ impl Agenda {
         self.left = if self.passes == 0 { self.share } else { 0 };
     }
 
-    /// Takes note of how the try ended. After one that took too much, states are passed over, and twice as many each time that
-    /// the next one does so too. So the tries that fail cost little. A state at which there was nothing to do tells nothing.
+    /// Records whether an update succeeded. After a failure, updates are suspended for a number of states, which doubles with each failure
+    /// in a row. This bounds the cost of failures. Updates without any work are ignored.
     pub fn end(&mut self, tried: Result<(), TooMuch>) {
         if self.passes > 0 {
             if tried.is_err() {
@@ -89,7 +88,7 @@ impl Agenda {
         }
     }
 
-    /// Takes so many entries from what may still be gone through.
+    /// Subtracts `entries` from the remaining work.
     pub fn pay(&mut self, entries: usize) -> Result<(), TooMuch>
         ensures noted { self.new.noted ≡ self.old.noted }
         ensures ready { self.new.ready ≡ self.old.ready }
@@ -102,7 +101,7 @@ impl Agenda {
         Ok(())
     }
 
-    /// Notes the rule. It takes no memory.
+    /// Notes the rule and subtracts the work for it. Allocates no memory.
     pub fn note(&mut self, entry: LayerRule) -> Result<(), TooMuch>
         requires { IsOrdered self.old }
         ensures { OnOk result (Notes entry.layer entry.rule self.old self.new) }
@@ -111,7 +110,7 @@ impl Agenda {
         self.push(entry)
     }
 
-    /// Notes the rule, for which the price was paid.
+    /// Notes the rule. The work for it has been subtracted.
     fn push(&mut self, entry: LayerRule) -> Result<(), TooMuch>
         requires { IsOrdered self.old }
         ensures { OnOk result (Notes entry.layer entry.rule self.old self.new) }
@@ -125,7 +124,7 @@ impl Agenda {
         }
     }
 
-    /// Returns the lowest layer of which a rule is noted, if one is.
+    /// Returns the lowest layer with a noted rule, or `None` if no rule is noted.
     pub fn lowest(&self) -> Option<u32>
         requires { IsOrdered self.now }
         ensures some { IfSome result (λ layer. Lowest self.now layer) }
@@ -137,7 +136,7 @@ impl Agenda {
         }
     }
 
-    /// Takes a noted rule of the layer off the agenda, if there is one. No rule of a lower layer is noted.
+    /// Removes a noted rule of this layer and returns it, or `None` if there is none. Lower layers must have no noted rules.
     pub fn take(&mut self, layer: u32) -> Option<u32>
         requires ordered { IsOrdered self.old }
         requires lowest { AreFrom layer self.old }
@@ -155,7 +154,7 @@ impl Agenda {
         }
     }
 
-    /// Takes a rule of the layer off the agenda that is ready or noted, if there is one. No rule of a lower layer is noted.
+    /// Removes a ready or noted rule of this layer and returns it, or `None` if there is none. Lower layers must have no noted rules.
     pub fn next(&mut self, layer: u32) -> Option<u32>
         requires ordered { IsOrdered self.old }
         requires lowest { AreFrom layer self.old }
@@ -173,7 +172,7 @@ impl Agenda {
         }
     }
 
-    /// Notes that the rule may set its variable. It takes no memory.
+    /// Marks the rule as ready. Allocates no memory.
     pub fn make_ready(&mut self, rule: u32) -> Result<(), TooMuch>
         ensures { OnOk result (IsMadeReady rule self.old self.new) }
     {

@@ -1,11 +1,11 @@
-// From one layer to all layers: a state is settled by settling one layer after another.
+// Settles a state by settling its layers one by one.
 ghost use Rattle.sas_core.specs.Variables.{IsState};
 ghost use Rattle.sas_meaning.specs.Settled.{Settles};
 
 use sas_core::Grounded;
 use sas_meaning::{Layered, State};
 
-/// An evaluator that settles the layers of a task in turn, from the lowest one on.
+/// An evaluator that settles the layers of a task one by one, from the lowest to the highest.
 pub trait ByLayers<T: Grounded> {
     ghost use Rattle.std.specs.Prelude.{◌≡◌, ◌+◌, ◌≤◌, ℕ, List, ⊤, IfSome, IfNone};
     ghost use Rattle.sas_core.specs.declared.parts.Parts.{Parts};
@@ -17,13 +17,13 @@ pub trait ByLayers<T: Grounded> {
     /// The evaluator can settle states of this task.
     ghost ready: { Self → Parts → Type 0 };
 
-    /// And it can go on with a state of these values, where the layers from this one on are still to be settled.
+    /// The evaluator can continue with a state with these values, in which this layer and the higher ones aren't settled yet.
     ghost stands: { Self → Parts → ℕ → List ℕ → Type 0 };
 
-    /// It settled this state last, and can go on from there.
+    /// This is the state that the evaluator settled last, so that it can update it.
     ghost follows: { Self → Parts → List ℕ → Type 0 } = { λ _ _ _. ⊤ };
 
-    /// Sets the derived variables to their default.
+    /// Sets the derived variables to their defaults.
     fn begin(&mut self, layered: &Layered<T>, state: &mut State)
         requires ready { ready self.old layered.now }
         requires state { IsState layered.now.variables state.old }
@@ -32,8 +32,8 @@ pub trait ByLayers<T: Grounded> {
         ensures basic { SameBasic layered.now state.old state.new }
         ensures default { (layer : ℕ) → AtDefault layered.now layer state.new };
 
-    /// Settles one of the layers that are left, and returns which one. No rule can fire on the layers that it passes over.
-    /// Where it settles none, no rule can fire on any layer that is left.
+    /// Settles one of the remaining layers and returns it. It may skip layers on which no rule can fire. Returns `None` if no rule can fire
+    /// on any remaining layer.
     fn settle_next(&mut self, layered: &Layered<T>, from: u64, state: &mut State) -> Option<u32>
         requires stands { stands self.old layered.now from state.old }
         requires state { IsState layered.now.variables state.old }
@@ -49,7 +49,7 @@ pub trait ByLayers<T: Grounded> {
         ensures idle { IfNone result ((layer : ℕ) → from ≤ layer → IsIdle layered.now layer) };
 }
 
-/// Settles the state, layer after layer.
+/// Settles the state, layer by layer.
 pub fn settle_by_layers<T: Grounded, E: ByLayers<T>>(
     evaluator: &mut E,
     layered: &Layered<T>,
@@ -61,7 +61,7 @@ pub fn settle_by_layers<T: Grounded, E: ByLayers<T>>(
     ensures follows { E.follows evaluator.new layered.now state.new }
     ensures settles { Settles layered.now state.old state.new }
 {
-    // By its contract the task is well ranged and layered.
+    // The contract of `task` ensures that the task is well ranged and layered.
     let _ = layered.task();
     evaluator.begin(layered, state);
     let mut from: u64 = 0;

@@ -1,4 +1,4 @@
-// An index of all conditions, also of those on basic variables and on lower layers.
+// The index of all conditions of rules, including those on basic variables and on lower layers.
 ghost use Rattle.std.specs.Prelude.{◌≡◌, ◌<◌, ◌++◌, IfOk, OnOk, length};
 ghost use Rattle.sas_core.specs.Grounded.{rule_at};
 ghost use Rattle.sas_axioms.specs.LayerRules.{IsRuleOn};
@@ -11,7 +11,7 @@ use sas_lists::{Entry, Lists};
 use sas_meaning::Layered;
 use std::alloc::{AllocError, Global};
 
-/// Returns the index of all conditions of the rules that can fire.
+/// Returns the index of all conditions of rules that can fire. `Err` means out of memory.
 pub fn index_of_all<T: Grounded>(
     alloc: Global,
     task: &Layered<T>,
@@ -22,7 +22,7 @@ pub fn index_of_all<T: Grounded>(
     Lists::by_key(alloc, waiting.as_slice(), task.variables() as usize)
 }
 
-/// Returns the basic variables that conditions of rules that can fire are on.
+/// Returns the basic variables that occur in conditions of rules that can fire. `Err` means out of memory.
 pub fn asked_variables<T: Grounded>(
     alloc: Global,
     task: &Layered<T>,
@@ -40,14 +40,14 @@ pub fn asked_variables<T: Grounded>(
     Ok(variables)
 }
 
-/// Returns the conditions of the rules that can fire, rule after rule.
+/// Returns the conditions of the rules that can fire, rule by rule.
 fn all_conditions<T: Grounded>(
     alloc: Global,
     task: &Layered<T>,
 ) -> Result<Vec<Entry<Waiting>>, AllocError>
     ensures { IfOk result (λ waiting. AreAllConditions task.now waiting.items) }
 {
-    // By its contract the task is well ranged and layered.
+    // The contract of `task` ensures that the task is well ranged and layered.
     let _ = task.task();
     let mut waiting = Vec::new(alloc);
     for rule in 0..task.rules() {
@@ -58,7 +58,7 @@ fn all_conditions<T: Grounded>(
     Ok(waiting)
 }
 
-/// Adds the conditions of the rule.
+/// Appends the conditions of the rule.
 fn push_conditions<T: Grounded>(
     task: &Layered<T>,
     rule: u32,

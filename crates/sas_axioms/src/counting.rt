@@ -1,4 +1,4 @@
-// Counting open conditions anew where a variable's value changes.
+// Counters of open (false) conditions, which are updated when a variable changes.
 ghost use Rattle.std.specs.Prelude.{◌≡◌, ◌≢◌, ◌+◌, ◌<◌, ◌≤◌, ◌^◌, ℕ, IfOk, length, All, slice_index, slice_set};
 ghost use Rattle.sas_core.specs.declared.parts.Parts.{Parts};
 ghost use Rattle.sas_axioms.specs.declared.waiting.Waiting.{Waiting};
@@ -13,13 +13,13 @@ use sas_lists::Lists;
 use sas_meaning::{Layered, State};
 use std::alloc::{AllocError, Global};
 
-/// Values of the variables, and how many conditions of each rule they leave open.
+/// Values of the variables, and for each rule the number of its conditions that are open (false) under these values.
 pub struct Counted {
-    /// Which rules wait for which facts, on any layer and of any variable.
+    /// For each variable, the conditions on it. Includes conditions on basic variables and on lower layers.
     pub index: Lists<Waiting>,
     /// The values.
     pub values: State,
-    /// How many conditions of each rule the values leave open.
+    /// For each rule, the number of its open conditions.
     pub counters: Items<u32>,
 }
 
@@ -37,12 +37,12 @@ impl Drop for Counted {
 }
 
 impl Counted {
-    /// Returns the values of the state section, and how many conditions of each rule they leave open.
+    /// Returns the counters for the values in the state section. `Err` means out of memory.
     pub fn new<T: Grounded>(alloc: Global, task: &Layered<T>) -> Result<Counted, AllocError>
         ensures values { IfOk result (λ counted. counted.values ≡ task.now.init) }
         ensures counts { IfOk result (λ counted. IsCounted task.now counted) }
     {
-        // By its contract the task is well ranged and layered.
+        // The contract of `task` ensures that the task is well ranged and layered.
         let _ = task.task();
         let values = State::of_section(alloc, task)?;
         match index_and_counters(alloc, task, &values) {
@@ -58,7 +58,7 @@ impl Counted {
         }
     }
 
-    /// Sets the fact's variable to the fact's value, and updates the counters of the rules that wait for a value of it.
+    /// Sets the variable to the value, and updates the counters of the rules with a condition on it.
     pub fn recount(&mut self, fact: Fact)
         requires var { fact.var < length self.old.values }
         requires counts { (p : Parts) × IsCounted p self.old }
@@ -74,7 +74,7 @@ impl Counted {
     }
 }
 
-/// Returns the index of all conditions, and how many of each rule these values leave open.
+/// Returns the index of all conditions and, for each rule, the number of conditions that are open under these values.
 fn index_and_counters<T: Grounded>(
     alloc: Global,
     task: &Layered<T>,
@@ -94,7 +94,7 @@ fn index_and_counters<T: Grounded>(
     }
 }
 
-/// Returns how many conditions of each rule these values leave open.
+/// Returns for each rule the number of its conditions that are open under these values.
 fn open_counters<T: Grounded>(
     alloc: Global,
     task: &Layered<T>,
@@ -103,7 +103,7 @@ fn open_counters<T: Grounded>(
     requires known { length values.now ≡ length task.now.variables }
     ensures { IfOk result (λ counters. AreCounted task.now values.now counters) }
 {
-    // By its contract the task is well ranged and layered.
+    // The contract of `task` ensures that the task is well ranged and layered.
     let _ = task.task();
     let mut counters = Items::new(alloc);
     for rule in 0..task.rules() {
@@ -112,8 +112,8 @@ fn open_counters<T: Grounded>(
     Ok(counters)
 }
 
-/// Updates the counters where a variable's value changes: one condition more is open in each rule that waits for the former
-/// value, and one less in each rule that waits for the new value.
+/// Updates the counters after a variable changed: each condition on the former value becomes open, and each condition on the new value is
+/// no longer open.
 fn count_change(waiting: &[Waiting], former: u32, value: u32, counters: &mut Items<u32>)
     requires differ { former ≢ value }
     requires exist { All (λ (w : Waiting). w.rule < length counters.old) waiting.now }

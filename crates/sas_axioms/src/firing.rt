@@ -1,4 +1,4 @@
-// Settling one layer by counters: each rule counts its conditions that don't hold yet, and fires when none is left.
+// Settles one layer by counters: each rule counts its open conditions, and fires when none is left.
 ghost use Rattle.std.specs.Prelude.{◌≡◌, ℕ, ◌<◌, ◌^◌, [], ◌∷◌, List, length, All, IfOk, OnOk, slice_index};
 ghost use Rattle.sas_core.specs.Grounded.{rule_at};
 ghost use Rattle.sas_core.specs.Variables.{IsState};
@@ -29,17 +29,17 @@ use sas_lists::Lists;
 use sas_meaning::{Layered, State, Touched};
 use std::alloc::{AllocError, Global};
 
-/// The work on a layer.
+/// The data for settling a layer.
 pub struct Work {
     /// The layer.
     pub layer: u32,
-    /// For each of its rules, how many conditions don't hold yet.
+    /// For each rule of the layer, the number of its open conditions.
     pub counters: Items<u32>,
-    /// Variables that were set to their rules' value, and whose waiting rules haven't been counted down yet.
+    /// Variables that were set to the value of their rules. The counters of the rules that wait for them haven't been updated yet.
     pub stack: Vec<u32>,
-    /// For each derived variable that differs from its default, the rule that gave it its value.
+    /// For each derived variable that differs from its default, its source: the rule that set it.
     pub sources: Items<u32>,
-    /// The rules that are to be looked at where a settled state is followed.
+    /// The rules to be re-evaluated when a settled state is updated.
     pub agenda: Agenda,
 }
 
@@ -60,8 +60,8 @@ impl Drop for Work {
 }
 
 impl Work {
-    /// Returns the work before the first layer, with this share for each state that is followed. All memory that it needs is reserved
-    /// here.
+    /// Returns the data before the first layer, with this limit on the work of an update. Allocates all memory that will be needed. `Err`
+    /// means out of memory.
     fn new<T: Grounded>(alloc: Global, task: &Layered<T>, share: usize) -> Result<Work, AllocError>
         ensures room { IfOk result (λ work. HasRoom task.now work) }
         ensures empty { IfOk result (λ work. work.stack.items ≡ []) }
@@ -76,15 +76,15 @@ impl Work {
     }
 }
 
-/// An evaluator that settles the layers of a task, one at a time.
+/// Settles the layers of a task, one at a time.
 pub struct Firing {
-    /// Which rules wait for which facts.
+    /// For each variable, the conditions on it of rules on its own layer.
     index: Lists<Waiting>,
-    /// How many conditions of each rule are open where its layer begins.
+    /// For each rule, the number of open conditions before its layer is settled.
     pub resting: Resting,
     /// The rules of each derived variable.
     rules_of: Lists<u32>,
-    /// The work on a layer.
+    /// The data for settling a layer.
     work: Work,
 }
 
@@ -104,8 +104,8 @@ impl Drop for Firing {
 }
 
 impl Firing {
-    /// Returns an evaluator for the task, which follows a state as long as no more entries than its share are gone through. All
-    /// memory that it needs is reserved here.
+    /// Returns an evaluator for the task. `share` is the number of list entries that an update may process. Allocates all memory that will
+    /// be needed. `Err` means out of memory.
     pub fn new<T: Grounded>(
         alloc: Global,
         task: &Layered<T>,
@@ -122,7 +122,7 @@ impl Firing {
         })
     }
 
-    /// Settles a layer on which all variables have their default. `rules` are its rules that can fire.
+    /// Settles a layer. All its variables must have their defaults. `rules` are its rules that can fire.
     pub fn settle_layer<T: Grounded>(
         &mut self,
         task: &Layered<T>,
@@ -149,8 +149,8 @@ impl Firing {
         empty_stack(task, &self.index, &mut self.work, state);
     }
 
-    /// Settles the state, which was settled but that these facts have gone. It gives up where that takes too much. What it sets is
-    /// noted.
+    /// Updates the state, which was settled before the facts `gone` became false. The derived variables that it sets are added to
+    /// `touched`. Gives up if the update takes too much work.
     pub fn follow<T: Grounded>(
         &mut self,
         task: &Layered<T>,
@@ -174,7 +174,7 @@ impl Firing {
         followed
     }
 
-    /// Follows the state, with an empty agenda.
+    /// Updates the state. The agenda must be empty.
     fn follow_on<T: Grounded>(
         &mut self,
         task: &Layered<T>,
@@ -199,7 +199,7 @@ impl Firing {
     }
 }
 
-/// Sets the counters of the layer's rules.
+/// Sets the counters of the rules of the layer.
 fn count_conditions<T: Grounded>(
     task: &Layered<T>,
     rules: &[LayerRule],
@@ -227,7 +227,7 @@ fn count_conditions<T: Grounded>(
     }
 }
 
-/// Returns how many of the conditions don't hold.
+/// Returns the number of conditions that don't hold.
 pub fn open_of(state: &State, conditions: &[Fact]) -> u32
     requires exist { All (λ (c : Fact). c.var < length state.now) conditions.now }
     requires few { length conditions.now < 2 ^ 31 }
@@ -242,7 +242,7 @@ pub fn open_of(state: &State, conditions: &[Fact]) -> u32
     open
 }
 
-/// Fires the rules of the layer that have no open condition.
+/// Fires the rules of the layer that have no open conditions.
 fn fire_ready<T: Grounded>(
     task: &Layered<T>,
     rules: &[LayerRule],
@@ -258,7 +258,7 @@ fn fire_ready<T: Grounded>(
     ensures at_work { IsAtWork task.now state.new work.new [] }
     ensures goes_on { WorkGoesOn task.now state.old work.old state.new work.new }
 {
-    // By its contract the task is well ranged and layered.
+    // The contract of `task` ensures that the task is well ranged and layered.
     let _ = task.task();
     for entry in rules {
         if work.counters.as_slice()[entry.rule as usize] == 0 {
@@ -267,7 +267,7 @@ fn fire_ready<T: Grounded>(
     }
 }
 
-/// Sets the rule's variable to its new value, and puts the variable on the stack if that changes its value.
+/// Sets the variable of the rule to its new value. If this changes the variable, pushes it on the stack.
 fn fire<T: Grounded>(task: &Layered<T>, rule: u32, work: &mut Work, state: &mut State)
     requires rule { IsRuleOn task.now work.old.layer rule }
     requires room { HasRoom task.now work.old }
@@ -275,7 +275,7 @@ fn fire<T: Grounded>(task: &Layered<T>, rule: u32, work: &mut Work, state: &mut 
     requires hold { AllHold (slice_index state.old) (rule_at task.now rule).conditions }
     ensures { FiresRule task.now rule state.old work.old state.new work.new }
 {
-    // By its contract the task is well ranged and layered.
+    // The contract of `task` ensures that the task is well ranged and layered.
     let _ = task.task();
     let change = task.rule_change(rule);
     if state.value(change.var) != change.new {
@@ -288,7 +288,7 @@ fn fire<T: Grounded>(task: &Layered<T>, rule: u32, work: &mut Work, state: &mut 
     }
 }
 
-/// Counts down the rules that wait for the variables on the stack, until it is empty.
+/// Decrements the counters of the rules that wait for the variables on the stack, until the stack is empty.
 fn empty_stack<T: Grounded>(
     task: &Layered<T>,
     index: &Lists<Waiting>,
@@ -305,7 +305,7 @@ fn empty_stack<T: Grounded>(
     ensures sources { SameSourcesOff task.now work.old.layer work.old.sources work.new.sources }
     ensures others { SameCountsOff task.now work.old.layer work.old.counters work.new.counters }
 {
-    // By its contract the task is well ranged and layered.
+    // The contract of `task` ensures that the task is well ranged and layered.
     let _ = task.task();
     while let Some(var) = work.stack.pop() {
         let value = state.value(var);
@@ -313,7 +313,7 @@ fn empty_stack<T: Grounded>(
     }
 }
 
-/// Counts down the rules that wait for this value, and fires those that wait for nothing more.
+/// Decrements the counters of the rules that wait for this value, and fires the rules whose counter becomes 0.
 fn release<T: Grounded>(
     task: &Layered<T>,
     value: u32,
@@ -333,7 +333,7 @@ fn release<T: Grounded>(
     }
 }
 
-/// Counts the rule down, and fires it if it waits for nothing more.
+/// Decrements the counter of the rule, and fires the rule if the counter becomes 0.
 fn count_down<T: Grounded>(task: &Layered<T>, rule: u32, work: &mut Work, state: &mut State)
     requires rule { IsRuleOn task.now work.old.layer rule }
     requires waits { (left : List ℕ) × IsAtWork task.now state.old work.old (rule ∷ left) }
@@ -341,7 +341,7 @@ fn count_down<T: Grounded>(task: &Layered<T>, rule: u32, work: &mut Work, state:
         → IsAtWork task.now state.new work.new left }
     ensures goes_on { WorkGoesOn task.now state.old work.old state.new work.new }
 {
-    // By its contract the task is well ranged and layered.
+    // The contract of `task` ensures that the task is well ranged and layered.
     let _ = task.task();
     let open = work.counters.as_slice()[rule as usize] - 1;
     work.counters.set(rule as usize, open);

@@ -1,10 +1,9 @@
-// Settling a state that was settled, but that some of its basic variables have changed since. What the change reaches is looked
-// at, and nothing else.
+// Updates a settled state after some basic variables have changed. Only rules affected by the change are re-evaluated.
 //
-// It goes from layer to layer. On each one all falls first: a variable gets its default back if its source, the rule that gave
-// it its value, holds no longer. So does each variable whose source asked about that one, and so on. What is left is given by
-// sources that hold, none of which rests on itself. So no two rules hold each other up. Then the rules that hold set their
-// variables, also those of what fell.
+// The update processes layer by layer, in two phases. First it resets each variable whose source (the rule that set it) no longer holds to
+// its default, then each variable whose source depended on that one, and so on. The remaining variables have sources that hold, and no
+// source depends on its own variable, so no two rules support only each other. Then the rules that hold set their variables, including
+// those that were reset.
 ghost use Rattle.std.specs.Prelude.{◌≡◌, ◌≢◌, ◌+◌, ◌<◌, ◌≤◌, ◌^◌, ℕ, List, length, All, OnOk, IsTrue, IsFalse, slice_index, slice_set};
 ghost use Rattle.sas_core.specs.declared.parts.Parts.{Parts};
 ghost use Rattle.sas_core.specs.Grounded.{rule_at};
@@ -30,14 +29,14 @@ use sas_core::{Fact, Grounded};
 use sas_lists::Lists;
 use sas_meaning::{Layered, State, Touched};
 
-/// What a variable's value was, and what it is.
+/// The former and the new value of a variable.
 #[derive(Clone, Copy, Debug)]
 pub struct Moved {
     pub former: u32,
     pub value: u32,
 }
 
-/// Counts the rules anew that ask about the variables of these facts, which are gone.
+/// Updates the counters of the rules with conditions on the variables of `gone`, which are facts that may have become false.
 pub fn count_gone<T: Grounded>(
     task: &Layered<T>,
     index: &Lists<Waiting>,
@@ -54,7 +53,7 @@ pub fn count_gone<T: Grounded>(
     ensures between { OnOk result ((s : List ℕ) → IsFollowed task.now s work.old
         → HaveGone task.now gone.now s state.now → IsBetween task.now s 0 state.now work.new) }
 {
-    // By its contract the task is well ranged and layered.
+    // The contract of `task` ensures that the task is well ranged and layered.
     let _ = task.task();
     for fact in gone {
         let moved = Moved {
@@ -68,7 +67,7 @@ pub fn count_gone<T: Grounded>(
     Ok(())
 }
 
-/// Settles one layer after another of those on which a rule is noted.
+/// Settles the layers with noted rules, one by one.
 pub fn settle_noted<T: Grounded>(
     task: &Layered<T>,
     index: &Lists<Waiting>,
@@ -88,7 +87,7 @@ pub fn settle_noted<T: Grounded>(
     ensures sources { length work.new.sources ≡ length work.old.sources }
     ensures followed { OnOk result (IsFollowed task.now state.new work.new) }
 {
-    // By its contract the task is well ranged and layered.
+    // The contract of `task` ensures that the task is well ranged and layered.
     let _ = task.task();
     while let Some(layer) = work.agenda.lowest() {
         work.layer = layer;
@@ -98,7 +97,7 @@ pub fn settle_noted<T: Grounded>(
     Ok(())
 }
 
-/// Gives the variables of the layer their default whose source holds no longer. What may set them again is ready then.
+/// Resets the variables of the layer whose source no longer holds. Then marks the rules as ready that may set them again.
 fn fall<T: Grounded>(
     task: &Layered<T>,
     index: &Lists<Waiting>,
@@ -119,7 +118,7 @@ fn fall<T: Grounded>(
         → IsRising task.now s state.new work.new) }
     ensures left { OnOk result (work_left work.new.agenda < work_left work.old.agenda) }
 {
-    // By its contract the task is well ranged and layered.
+    // The contract of `task` ensures that the task is well ranged and layered.
     let _ = task.task();
     while let Some(rule) = work.agenda.take(work.layer) {
         if has_lost(task, rule, work, state) {
@@ -134,7 +133,7 @@ fn fall<T: Grounded>(
     Ok(())
 }
 
-/// Returns whether the rule gave its variable the value that it has, and holds no longer.
+/// Returns whether the rule is the source of its variable's value but no longer holds.
 fn has_lost<T: Grounded>(task: &Layered<T>, rule: u32, work: &Work, state: &State) -> bool
     requires rule { (layer : ℕ) × IsRuleOn task.now layer rule }
     requires state { IsState task.now.variables state.now }
@@ -146,7 +145,7 @@ fn has_lost<T: Grounded>(task: &Layered<T>, rule: u32, work: &Work, state: &Stat
         → IsTrue (differs task.now state.now (rule_at task.now rule).var)
         → slice_index work.now.counters rule ≡ 0 }
 {
-    // By its contract the task is well ranged and layered.
+    // The contract of `task` ensures that the task is well ranged and layered.
     let _ = task.task();
     let var = task.rule_change(rule).var;
     if work.counters.as_slice()[rule as usize] == 0
@@ -157,7 +156,7 @@ fn has_lost<T: Grounded>(task: &Layered<T>, rule: u32, work: &Work, state: &Stat
     state.value(var) != task.initial_value(var)
 }
 
-/// Makes all these rules ready.
+/// Marks all these rules as ready.
 fn make_ready(rules: &[u32], agenda: &mut Agenda) -> Result<(), TooMuch>
     ensures { OnOk result (AreMadeReady rules.now agenda.old agenda.new) }
 {
@@ -168,7 +167,7 @@ fn make_ready(rules: &[u32], agenda: &mut Agenda) -> Result<(), TooMuch>
     Ok(())
 }
 
-/// Lets the rules of the layer set their variables that are ready, and those that begin to hold by that.
+/// Lets the ready and noted rules of the layer that hold set their variables, including rules that start to hold because of this.
 fn rise<T: Grounded>(
     task: &Layered<T>,
     index: &Lists<Waiting>,
@@ -187,7 +186,7 @@ fn rise<T: Grounded>(
     ensures sources { SameSourcesOff task.now work.old.layer work.old.sources work.new.sources }
     ensures left { OnOk result (work_left work.new.agenda ≤ work_left work.old.agenda) }
 {
-    // By its contract the task is well ranged and layered.
+    // The contract of `task` ensures that the task is well ranged and layered.
     let _ = task.task();
     while let Some(rule) = work.agenda.next(work.layer) {
         if has_to_set(task, rule, work, state) {
@@ -203,7 +202,7 @@ fn rise<T: Grounded>(
     Ok(())
 }
 
-/// Returns whether the rule holds, and hasn't set its variable.
+/// Returns whether the rule holds but its variable doesn't have its value.
 fn has_to_set<T: Grounded>(task: &Layered<T>, rule: u32, work: &Work, state: &State) -> bool
     requires rule { (layer : ℕ) × IsRuleOn task.now layer rule }
     requires state { IsState task.now.variables state.now }
@@ -214,13 +213,13 @@ fn has_to_set<T: Grounded>(task: &Layered<T>, rule: u32, work: &Work, state: &St
     ensures no { IsFalse result → slice_index work.now.counters rule ≡ 0
         → slice_index state.now (rule_at task.now rule).var ≡ (rule_at task.now rule).new }
 {
-    // By its contract the task is well ranged and layered.
+    // The contract of `task` ensures that the task is well ranged and layered.
     let _ = task.task();
     let change = task.rule_change(rule);
     work.counters.as_slice()[rule as usize] == 0 && state.value(change.var) != change.new
 }
 
-/// Sets the variable to another value, notes that it may have changed, and counts the rules anew that ask about it.
+/// Sets the variable to another value, adds it to `touched`, and updates the counters of the rules with conditions on it.
 fn set_to<T: Grounded>(
     task: &Layered<T>,
     index: &Lists<Waiting>,
@@ -248,7 +247,7 @@ fn set_to<T: Grounded>(
     recount(task, index, fact.var, moved, work)
 }
 
-/// Counts the rules anew that ask about the variable, and notes those that begin or cease to hold.
+/// Updates the counters of the rules with conditions on the variable. Notes the rules that become true or false.
 fn recount<T: Grounded>(
     task: &Layered<T>,
     index: &Lists<Waiting>,
@@ -267,12 +266,12 @@ fn recount<T: Grounded>(
         → slice_index s var ≡ moved.former
         → Moves task.now var s work.old (slice_set s var moved.value) work.new) }
 {
-    // By its contract the task is well ranged and layered.
+    // The contract of `task` ensures that the task is well ranged and layered.
     let _ = task.task();
     recount_waiting(task, index.get(var as usize), moved, work)
 }
 
-/// Counts these rules anew, which wait for values of one variable, and notes those that begin or cease to hold.
+/// Updates the counters of these rules, which have conditions on one variable. Notes the rules that become true or false.
 fn recount_waiting<T: Grounded>(
     task: &Layered<T>,
     waiting: &[Waiting],
@@ -303,7 +302,7 @@ fn recount_waiting<T: Grounded>(
     Ok(())
 }
 
-/// Sets the rule's counter, and notes the rule if it begins or ceases to hold by that.
+/// Sets the counter of the rule. Notes the rule if it becomes true or false.
 fn count_to<T: Grounded>(
     task: &Layered<T>,
     rule: u32,

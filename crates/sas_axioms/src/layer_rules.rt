@@ -1,4 +1,4 @@
-// The rules that can fire, layer after layer.
+// The rules that can fire, layer by layer.
 ghost use Rattle.std.specs.Prelude.{◌≡◌, ◌<◌, ◌≤◌, ◌^◌, ℕ, length, IfOk, IfSome, IfNone};
 ghost use Rattle.sas_axioms.specs.LayerRules.{IsRuleOn, AreFiringRules, AreLayerRules, IsLayerEnd, IsLayerSpan, AreSpans, AreRulesOf};
 
@@ -14,7 +14,7 @@ pub struct LayerRule {
     pub rule: u32,
 }
 
-/// Returns the rules that can fire, in ascending order of their layers.
+/// Returns the rules that can fire, in ascending order of their layers. `Err` means out of memory.
 pub fn ranked_rules<T: Grounded>(
     alloc: Global,
     task: &Layered<T>,
@@ -39,14 +39,14 @@ fn firing_rules<T: Grounded>(alloc: Global, task: &Layered<T>) -> Result<Vec<Lay
     Ok(rules)
 }
 
-/// Returns the rules that can fire of each variable.
+/// Returns for each variable its rules that can fire. `Err` means out of memory.
 pub fn rules_of_variables<T: Grounded>(
     alloc: Global,
     task: &Layered<T>,
 ) -> Result<Lists<u32>, AllocError>
     ensures { IfOk result (λ lists. AreRulesOf task.now lists) }
 {
-    // By its contract the task is well ranged and layered.
+    // The contract of `task` ensures that the task is well ranged and layered.
     let _ = task.task();
     let mut entries = Vec::new(alloc);
     for rule in 0..task.rules() {
@@ -58,13 +58,13 @@ pub fn rules_of_variables<T: Grounded>(
     Lists::by_key(alloc, entries.as_slice(), task.variables() as usize)
 }
 
-/// Returns the layer of the rule's variable, if the rule can fire.
+/// Returns the layer of the rule's variable, or `None` if the rule can't fire.
 pub fn firing_layer<T: Grounded>(task: &Layered<T>, rule: u32) -> Option<u32>
     requires rule { rule < length task.now.rules }
     ensures some { IfSome result (λ layer. IsRuleOn task.now layer rule) }
     ensures none { IfNone result ((layer : ℕ) → IsRuleOn task.now layer rule → ⊥) }
 {
-    // By its contract the task is well ranged and layered.
+    // The contract of `task` ensures that the task is well ranged and layered.
     let _ = task.task();
     let change = task.rule_change(rule);
     if change.new == task.initial_value(change.var) {
@@ -73,14 +73,14 @@ pub fn firing_layer<T: Grounded>(task: &Layered<T>, rule: u32) -> Option<u32>
     task.layer(change.var)
 }
 
-/// A layer in a list of rules, and where its rules end.
+/// A layer in a list of rules, and the index after its last rule.
 #[derive(Clone, Copy, Debug, PartialEq, Eq)]
 pub struct LayerSpan {
     pub layer: u32,
     pub end: usize,
 }
 
-/// Returns the layer whose rules begin at this place, if there is a rule at it.
+/// Returns the layer whose rules begin at index `start`, or `None` at the end of the list.
 pub fn layer_at(rules: &[LayerRule], start: usize) -> Option<LayerSpan>
     ensures some { IfSome result (λ span. IsLayerSpan rules.now start span.layer span.end) }
     ensures none { IfNone result (length rules.now ≤ start) }
@@ -94,7 +94,7 @@ pub fn layer_at(rules: &[LayerRule], start: usize) -> Option<LayerSpan>
     }
 }
 
-/// Returns where the rules of the layer end that begin at this place.
+/// Returns the index after the last rule of the layer whose rules begin at `start`.
 fn layer_end(rules: &[LayerRule], start: usize, layer: u32) -> usize
     requires { start ≤ length rules.now }
     ensures { IsLayerEnd rules.now start layer result }
@@ -106,7 +106,7 @@ fn layer_end(rules: &[LayerRule], start: usize, layer: u32) -> usize
     end
 }
 
-/// Returns the layers of the rules, from the lowest one on.
+/// Returns the layers of the rules, from the lowest to the highest. `Err` means out of memory.
 pub fn spans_of(alloc: Global, rules: &[LayerRule]) -> Result<Vec<LayerSpan>, AllocError>
     ensures { IfOk result (λ spans. AreSpans rules.now 0 spans.items (length rules.now)) }
 {

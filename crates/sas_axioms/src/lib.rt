@@ -1,5 +1,5 @@
-//! Layers, states, and the evaluators that settle states. The definitions are in `sas_meaning`. This crate re-exports its
-//! layered tasks, states, evaluator trait and laws.
+//! Axiom evaluators, which settle states. Layered tasks, states, the evaluator trait and the laws are defined in `sas_meaning` and
+//! re-exported here.
 #![tactic(auto)]
 
 mod agenda;

@@ -1,4 +1,4 @@
-// How many conditions of each rule are open where its layer begins, kept from one state to the next.
+// The number of open conditions of each rule before its layer is settled, kept from state to state.
 ghost use Rattle.std.specs.Prelude.{◌≡◌, ℕ, IsTrue, IsFalse, IfOk, slice_index};
 ghost use Rattle.sas_core.specs.Grounded.{rule_at};
 ghost use Rattle.sas_core.specs.Variables.{IsState};
@@ -15,14 +15,13 @@ use sas_core::{Fact, Grounded};
 use sas_meaning::{Layered, State};
 use std::alloc::{AllocError, Global};
 
-/// How many conditions of each rule are open while all derived variables have their default. The variables of a layer have
-/// their default where the layer begins, so its rules begin with these counts. The exception is the rules that look below:
-/// those with a condition on a lower layer. The counts depend on basic variables alone, of which few change between two steps
-/// of a plan. They are counted anew only where one did.
+/// The number of open conditions of each rule while all derived variables have their defaults. When a layer is about to be settled, its
+/// variables have their defaults, so its rules start with these counts. The exception is rules with a condition on a lower layer. The
+/// counts depend only on basic variables, few of which change in a step of a plan. So they are only updated for variables that changed.
 pub struct Resting {
-    /// The basic variables that conditions of rules that can fire are on.
+    /// The basic variables that occur in conditions of rules that can fire.
     asked: Vec<u32>,
-    /// The counts, by the last values of the asked variables and the default of each derived variable.
+    /// The counters for the last values of the `asked` variables and the default of each derived variable.
     pub counted: Counted,
     /// For each rule, whether it has a condition on a derived variable of a lower layer.
     looks_below: Vec<bool>,
@@ -42,7 +41,7 @@ impl Drop for Resting {
 }
 
 impl Resting {
-    /// Returns the counts for the values of the state section.
+    /// Returns the counts for the values in the state section. `Err` means out of memory.
     pub fn new<T: Grounded>(alloc: Global, task: &Layered<T>) -> Result<Resting, AllocError>
         ensures { IfOk result (λ r. IsResting task.now r) }
     {
@@ -60,7 +59,7 @@ impl Resting {
         }
     }
 
-    /// Takes over the state's values of the basic variables that conditions are on, and updates the counts.
+    /// Updates the counts for the basic variables of the state.
     pub fn follow<T: Grounded>(&mut self, task: &Layered<T>, state: &State)
         requires resting { IsResting task.now self.old }
         requires state { IsState task.now.variables state.now }
@@ -70,8 +69,8 @@ impl Resting {
         follow_asked(task, self.asked.as_slice(), state, &mut self.counted);
     }
 
-    /// Returns how many conditions of the rule are open where its layer begins. For a rule that looks below they are counted
-    /// here, since lower layers have been settled by then.
+    /// Returns the number of open conditions of the rule before its layer is settled. A rule with a condition on a lower layer is counted
+    /// here, since the lower layers have been settled.
     pub fn count_of<T: Grounded>(
         &self,
         task: &Layered<T>,
@@ -87,7 +86,7 @@ impl Resting {
         ensures { result
             ≡ open_conditions (slice_index state.now) (rule_at task.now rule).conditions }
     {
-        // By its contract the task is well ranged and layered.
+        // The contract of `task` ensures that the task is well ranged and layered.
         let _ = task.task();
         if self.looks_below[rule as usize] {
             open_of(state, task.rule_conditions(rule))
@@ -97,7 +96,7 @@ impl Resting {
     }
 }
 
-/// Takes over the state's values of these variables, and updates the counts.
+/// Updates the counts for the values of the `asked` variables in the state.
 fn follow_asked<T: Grounded>(task: &Layered<T>, asked: &[u32], state: &State, counted: &mut Counted)
     requires asked { AreAskedBasic task.now asked.now }
     requires state { IsState task.now.variables state.now }
@@ -115,7 +114,7 @@ fn follow_asked<T: Grounded>(task: &Layered<T>, asked: &[u32], state: &State, co
     }
 }
 
-/// Returns the basic variables that conditions are on, and the counts for the values of the state section.
+/// Returns the basic variables that occur in conditions, and the counters for the values in the state section.
 fn asked_and_counted<T: Grounded>(
     alloc: Global,
     task: &Layered<T>,
@@ -134,7 +133,7 @@ fn asked_and_counted<T: Grounded>(
     }
 }
 
-/// Returns, for each rule, whether it looks below its layer.
+/// Returns for each rule whether it has a condition on a lower layer.
 fn looks_of<T: Grounded>(alloc: Global, task: &Layered<T>) -> Result<Vec<bool>, AllocError>
     ensures { IfOk result (λ below. AreLooks task.now below.items) }
 {
@@ -149,14 +148,13 @@ fn looks_of<T: Grounded>(alloc: Global, task: &Layered<T>) -> Result<Vec<bool>, 
     Ok(below)
 }
 
-/// Returns whether the rule, which is on this layer, has a condition on a derived variable of another layer, which is then
-/// lower.
+/// Returns whether the rule, which is on this layer, has a condition on a derived variable of another layer, which is always a lower one.
 fn looks_below<T: Grounded>(task: &Layered<T>, layer: u32, rule: u32) -> bool
     requires rule { IsRuleOn task.now layer rule }
     ensures yes { IsTrue result → StaysOn task.now layer rule → ⊥ }
     ensures no { IsFalse result → StaysOn task.now layer rule }
 {
-    // By its contract the task is well ranged and layered.
+    // The contract of `task` ensures that the task is well ranged and layered.
     let _ = task.task();
     for condition in task.rule_conditions(rule) {
         if let Some(its) = task.layer(condition.var) {

@@ -1,4 +1,4 @@
-// Settling in rounds: the rules of a layer are repeated until none changes a value.
+// Settles states in rounds: the rules of a layer are evaluated repeatedly until no value changes.
 ghost use Rattle.std.specs.Prelude.{ℕ, ◌<◌, ◌≤◌, ◌↔◌, length, All, IsTrue, IsFalse, IfSome, IfNone, slice_index};
 ghost use Rattle.sas_core.specs.Grounded.{rule_at};
 ghost use Rattle.sas_core.specs.Variables.{IsState};
@@ -11,8 +11,8 @@ use crate::by_layers::{ByLayers, settle_by_layers};
 use sas_core::{Fact, Grounded};
 use sas_meaning::{Layered, Settle, State};
 
-/// An evaluator that settles states of any layered task. It goes through the layers that occur, in ascending order, and
-/// repeats the rules of a layer until none changes a value. It takes no memory.
+/// An evaluator for any layered task. It processes the layers in ascending order and evaluates the rules of a layer until no value changes.
+/// Allocates no memory.
 #[derive(Clone, Copy, Debug, PartialEq, Eq)]
 pub struct Rounds;
 
@@ -40,7 +40,7 @@ impl<T: Grounded> ByLayers<T> for Rounds {
     }
 }
 
-/// Sets all derived variables to their default.
+/// Sets all derived variables to their defaults.
 fn set_defaults<T: Grounded>(task: &Layered<T>, state: &mut State)
     requires { IsState task.now.variables state.old }
     ensures state { IsState task.now.variables state.new }
@@ -55,7 +55,7 @@ fn set_defaults<T: Grounded>(task: &Layered<T>, state: &mut State)
     }
 }
 
-/// Returns the lowest layer of a variable from this one on, if there is one.
+/// Returns the lowest layer of a variable that is at least `from`, or `None` if there is none.
 fn next_layer<T: Grounded>(task: &Layered<T>, from: u64) -> Option<u32>
     ensures some { IfSome result (λ n. (from ≤ n) × Occurs task.now n
         × ((m : ℕ) → from ≤ m → Occurs task.now m → n ≤ m)) }
@@ -72,7 +72,7 @@ fn next_layer<T: Grounded>(task: &Layered<T>, from: u64) -> Option<u32>
     lowest
 }
 
-/// Settles a layer on which all variables have their default.
+/// Settles a layer. All its variables must have their defaults.
 fn settle_layer<T: Grounded>(task: &Layered<T>, layer: u32, state: &mut State)
     requires state { IsState task.now.variables state.old }
     requires default { AtDefault task.now layer state.old }
@@ -81,7 +81,7 @@ fn settle_layer<T: Grounded>(task: &Layered<T>, layer: u32, state: &mut State)
     while go_round(task, layer, state) {}
 }
 
-/// Goes once through the rules of a layer, and returns whether a value changed.
+/// Evaluates each rule of the layer once. Returns whether a value changed.
 fn go_round<T: Grounded>(task: &Layered<T>, layer: u32, state: &mut State) -> bool
     requires state { IsState task.now.variables state.old }
     requires forced { OnlyForced task.now layer state.old }
@@ -92,7 +92,7 @@ fn go_round<T: Grounded>(task: &Layered<T>, layer: u32, state: &mut State) -> bo
         → equal_places state.new task.now.init < equal_places state.old task.now.init }
     ensures done { IsFalse result → All (HasFired task.now layer state.new) task.now.rules }
 {
-    // By its contract the task is well ranged and layered.
+    // The contract of `task` ensures that the task is well ranged and layered.
     let _ = task.task();
     let mut changed = false;
     for rule in 0..task.rules() {
@@ -108,14 +108,14 @@ fn go_round<T: Grounded>(task: &Layered<T>, layer: u32, state: &mut State) -> bo
     changed
 }
 
-/// Returns whether the rule is on the layer and has to change its variable's value now.
+/// Returns whether the rule is on the layer, fires, and changes the value of its variable.
 fn changes<T: Grounded>(task: &Layered<T>, layer: u32, state: &State, rule: u32) -> bool
     requires state { IsState task.now.variables state.now }
     requires rule { rule < length task.now.rules }
     ensures yes { IsTrue result → Changes task.now layer state.now (rule_at task.now rule) }
     ensures no { IsFalse result → HasFired task.now layer state.now (rule_at task.now rule) }
 {
-    // By its contract the task is well ranged and layered.
+    // The contract of `task` ensures that the task is well ranged and layered.
     let _ = task.task();
     let change = task.rule_change(rule);
     task.layer(change.var) == Some(layer)

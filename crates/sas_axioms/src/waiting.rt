@@ -1,4 +1,4 @@
-// Which rules wait for which facts: an index from the variables of facts to the rules that have them as conditions.
+// An index from each variable to the conditions of rules on it.
 ghost use Rattle.std.specs.Prelude.{◌≡◌, IfOk, OnOk};
 ghost use Rattle.sas_axioms.specs.LayerRules.{IsRuleOn};
 ghost use Rattle.sas_axioms.specs.Waiting.{entry_of, IsWaiting, AddsWaiting, IsIndex};
@@ -9,16 +9,14 @@ use sas_lists::{Entry, Lists};
 use sas_meaning::Layered;
 use std::alloc::{AllocError, Global};
 
-/// A condition of a rule that can fire: the rule waits for this value of a variable. In an index it is stored under the
-/// variable.
+/// A condition of a rule that can fire: the rule waits for a variable to have this value. The index groups conditions by variable.
 #[derive(Clone, Copy, Debug, PartialEq, Eq)]
 pub struct Waiting {
     pub value: u32,
     pub rule: u32,
 }
 
-/// Returns, for each variable, which rules wait for its values: the conditions of rules that can fire, on variables of their
-/// own layer.
+/// Returns for each variable the conditions on it of rules on its own layer that can fire. `Err` means out of memory.
 pub fn index_of_own_layers<T: Grounded>(
     alloc: Global,
     task: &Layered<T>,
@@ -29,7 +27,7 @@ pub fn index_of_own_layers<T: Grounded>(
     Lists::by_key(alloc, waiting.as_slice(), task.variables() as usize)
 }
 
-/// Returns the entries of the index, rule after rule.
+/// Returns the entries of the index, rule by rule.
 fn all_waiting<T: Grounded>(
     alloc: Global,
     task: &Layered<T>,
@@ -45,7 +43,7 @@ fn all_waiting<T: Grounded>(
     Ok(waiting)
 }
 
-/// Adds the entries of the rule.
+/// Appends the entries of the rule.
 fn push_waiting<T: Grounded>(
     task: &Layered<T>,
     layer: u32,
@@ -55,7 +53,7 @@ fn push_waiting<T: Grounded>(
     requires rule { IsRuleOn task.now layer rule }
     ensures { OnOk result (AddsWaiting task.now layer rule waiting.old.items waiting.new.items) }
 {
-    // By its contract the task is well ranged and layered.
+    // The contract of `task` ensures that the task is well ranged and layered.
     let _ = task.task();
     for condition in task.rule_conditions(rule) {
         if task.layer(condition.var) == Some(layer) {
@@ -65,7 +63,7 @@ fn push_waiting<T: Grounded>(
     Ok(())
 }
 
-/// Returns the entry for this condition of the rule, under the condition's variable.
+/// Returns the entry for this condition of the rule. Its key is the variable of the condition.
 pub fn entry_of(condition: Fact, rule: u32) -> Entry<Waiting>
     ensures { result ≡ entry_of condition rule }
 {

@@ -1,4 +1,4 @@
-// Settling by counters: each rule is looked at when one of its conditions starts to hold, and not before.
+// Settles states by counters: a rule is evaluated only when the number of its open conditions changes.
 ghost use Rattle.std.specs.Prelude.{ℕ, IfOk};
 ghost use Rattle.sas_core.specs.Variables.{IsState};
 ghost use Rattle.sas_meaning.specs.Settled.{SameBasic};
@@ -12,20 +12,19 @@ use sas_core::{Fact, Grounded};
 use sas_meaning::{Layered, Settle, State, Touched};
 use std::alloc::{AllocError, Global};
 
-/// An evaluator that settles states of one layered task. From one state to the next it keeps the counts with which its layers
-/// begin, as far as these depend on basic variables. It settles any state of the task all the same. `new` reserves all memory
-/// that it needs, so `settle` takes no memory. Its space depends on the numbers of variables, rules and conditions, and not
-/// on which layers there are.
+/// An evaluator for the states of one layered task. It keeps counts of the previous state to settle the next one faster, but it can settle
+/// any state of the task. `new` allocates all memory, so `settle` allocates none. The memory depends on the numbers of variables, rules and
+/// conditions, but not on the numbers of the layers.
 pub struct Worklist {
     /// The derived variables.
     derived: Vec<u32>,
     /// The rules that can fire, in ascending order of their layers.
     rules: Vec<LayerRule>,
-    /// Where in `rules` each layer ends.
+    /// The layers in `rules`, in ascending order.
     spans: Vec<LayerSpan>,
-    /// Which of `spans` is the next layer.
+    /// The index of the next layer in `spans`.
     next: usize,
-    /// Where in `rules` the next layer begins.
+    /// The index of the first rule of the next layer in `rules`.
     start: usize,
     /// The evaluator of single layers.
     firing: Firing,
@@ -49,14 +48,14 @@ impl Drop for Worklist {
 }
 
 impl Worklist {
-    /// Returns a worklist that is ready for the task.
+    /// Returns an evaluator for this task. `Err` means out of memory.
     pub fn new<T: Grounded>(alloc: Global, layered: &Layered<T>) -> Result<Worklist, AllocError>
         ensures { IfOk result (λ w. IsReadyFor layered.now w) }
     {
         let rules = ranked_rules(alloc, layered)?;
         let spans = spans_of(alloc, rules.as_slice())?;
         let derived = derived_variables(alloc, layered)?;
-        // To settle a state anew each derived variable and each rule is looked at.
+        // Settling a state from scratch evaluates each derived variable and each rule, so an update may do as much work.
         let share = derived.len().saturating_add(rules.len());
         Ok(Worklist {
             derived,
@@ -88,11 +87,11 @@ impl<T: Grounded> Settle<T> for Worklist {
         state: &mut State,
         touched: &mut Touched,
     ) {
-        // By its contract the task is well ranged and layered.
+        // The contract of `task` ensures that the task is well ranged and layered.
         let _ = layered.task();
         touched.clear();
         if self.rules.is_empty() {
-            // No rule can fire, so the state is settled as it stands.
+            // No rule can fire, so the state is already settled.
             return;
         }
         if self.firing.follow(layered, gone, state, touched).is_err() {
@@ -120,7 +119,7 @@ impl<T: Grounded> ByLayers<T> for Worklist {
     }
 
     fn settle_next(&mut self, layered: &Layered<T>, _from: u64, state: &mut State) -> Option<u32> {
-        // By its contract the task is well ranged and layered.
+        // The contract of `task` ensures that the task is well ranged and layered.
         let _ = layered.task();
         let rules = self.rules.as_slice();
         let Some(span) = self.spans.as_slice().get(self.next) else {
@@ -134,7 +133,7 @@ impl<T: Grounded> ByLayers<T> for Worklist {
     }
 }
 
-/// Returns the derived variables.
+/// Returns the derived variables. `Err` means out of memory.
 pub fn derived_variables<T: Grounded>(
     alloc: Global,
     task: &Layered<T>,
@@ -150,7 +149,7 @@ pub fn derived_variables<T: Grounded>(
     Ok(variables)
 }
 
-/// Sets the derived variables, which are `derived`, to their default.
+/// Sets the derived variables, given as `derived`, to their defaults.
 fn set_defaults<T: Grounded>(task: &Layered<T>, derived: &[u32], state: &mut State)
     requires derived { AreDerived task.now derived.now }
     requires state { IsState task.now.variables state.old }
@@ -158,7 +157,7 @@ fn set_defaults<T: Grounded>(task: &Layered<T>, derived: &[u32], state: &mut Sta
     ensures basic { SameBasic task.now state.old state.new }
     ensures default { (layer : ℕ) → AtDefault task.now layer state.new }
 {
-    // By its contract the task is well ranged and layered.
+    // The contract of `task` ensures that the task is well ranged and layered.
     let _ = task.task();
     for var in derived {
         state.set(Fact {

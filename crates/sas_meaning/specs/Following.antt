@@ -6,8 +6,8 @@ use Rattle.sas_core.specs.declared.parts.Parts.{Parts}
 use Rattle.sas_meaning.specs.States.{AllHold}
 use Rattle.sas_meaning.specs.Layers.{IsBasic}
 
--- These facts hold in s and were replaced in s'. Each is on a basic variable, and no two are on the
--- same variable. All other variables have the same value in both.
+-- These facts held in s and may have been replaced in s'. Each is on a basic variable, and no two
+-- are on the same variable. All other variables have the same value in both.
 pub record HaveGone (p : Parts) (gone : List Fact) (s s' : List ℕ) : Type 0 where
   pub basic : All (λ (f : Fact). IsBasic p f.var) gone
   pub exist : All (λ (f : Fact). f.var < length p.variables) gone

@@ -28,8 +28,8 @@ pub trait Settle<T: Grounded> {
         ensures follows { follows self.new layered.now state.new }
         ensures settles { Settles layered.now state.old state.new };
 
-    /// Settles the state like `settle`. The state must be the one that this evaluator settled last, except that the facts `gone` have
-    /// become false. So an evaluator need only re-evaluate what depends on these facts and on those that replaced them. Afterwards
+    /// Settles the state like `settle`. The state must be the one that this evaluator settled last, except that the facts `gone` may
+    /// have become false. So an evaluator need only re-evaluate what depends on these facts and on those that replaced them. Afterwards
     /// `touched` contains the derived variables that may differ from the state settled last. Its previous contents are lost.
     fn settle_on(
         &mut self,

@@ -1,4 +1,4 @@
--- Each turn adds the conditions of a rule that can fire, or passes one that can't.
+-- Each iteration appends the conditions of a rule that can fire, or skips a rule that can't.
 use Rattle.std.proofs.Common.{arith}
 use Rattle.sas_axioms.proofs.AllConditions.{conditions_more, conditions_skip, conditions_all}
 use Rattle.sas_axioms.proofs.conditions.all_conditions.Goals as goal

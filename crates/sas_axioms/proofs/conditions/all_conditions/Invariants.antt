@@ -1,4 +1,4 @@
--- The conditions of the first rules.
+-- The list contains the conditions of the rules so far.
 use Rattle.sas_axioms.proofs.AllConditions.{ConditionsUpTo}
 use Rattle.sas_axioms.proofs.conditions.all_conditions.Given as goal
 

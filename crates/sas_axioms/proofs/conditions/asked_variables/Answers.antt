@@ -1,4 +1,4 @@
--- Each turn adds a basic variable that conditions ask about, or passes another one.
+-- Each iteration appends a basic variable that occurs in conditions, or skips another variable.
 use Rattle.std.proofs.Common.{◌≡◌, ℕ, ◌<◌, ◌==◌, ◌++◌, ◌∷◌, [], Option, None, Some, Bool, true, false, not, length, refl, sym, ap, ◌∙◌, inl, inr, arith}
 use Rattle.std.specs.Option.{is_some}
 use Rattle.std.proofs.lemmas.Bool.Decides.{eqb_tells}

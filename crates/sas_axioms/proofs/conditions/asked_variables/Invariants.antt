@@ -1,4 +1,4 @@
--- The basic variables so far that conditions ask about.
+-- The basic variables so far that occur in conditions.
 use Rattle.sas_axioms.proofs.Asked.{AskedUpTo}
 use Rattle.sas_axioms.proofs.conditions.asked_variables.Given as goal
 

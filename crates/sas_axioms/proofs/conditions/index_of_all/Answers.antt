@@ -1,4 +1,4 @@
--- By key, the conditions are an index.
+-- Grouped by variable, the conditions form an index.
 use Rattle.std.proofs.Common.{◌≡◌, sym, ap, subst, ◌∙◌}
 use Rattle.std.proofs.lemmas.Result.{IfOk-weaker}
 use Rattle.sas_lists.specs.ByKey.{by_key}

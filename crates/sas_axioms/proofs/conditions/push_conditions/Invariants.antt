@@ -1,4 +1,4 @@
--- The conditions so far.
+-- The list contains the entries of the conditions so far.
 use Rattle.std.proofs.Common.{◌≡◌, ◌++◌, drop}
 use Rattle.sas_core.specs.Grounded.{rule_at}
 use Rattle.sas_axioms.specs.Conditions.{entries}

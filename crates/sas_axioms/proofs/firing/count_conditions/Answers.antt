@@ -1,4 +1,4 @@
--- Each rule of the layer is among these.
+-- Each rule of the layer is among the given rules.
 use Rattle.std.proofs.Common.{◌≡◌, ◌<◌, length, ap, subst, get_or, ◌∙◌, inl, inr, arith}
 use Rattle.std.proofs.lemmas.Bool.{cases_eq}
 use Rattle.std.proofs.lemmas.List.{get_or_default, get_or-set_same, get_or-set_other, length-set}

@@ -1,4 +1,4 @@
--- The rule that was counted down.
+-- The counter of the rule was decremented.
 use Rattle.std.proofs.Common.{◌≡◌, ℕ, ◌-◌, ◌<◌, List, length, get_or, set, sym, ap, ◌∙◌, arith}
 use Rattle.std.proofs.lemmas.List.{get_or-set_same, length-set}
 use Rattle.sas_axioms.proofs.Counters.{ready, counted_down, waits, goes_on_counted, goes_on_more, at_work_fired, at_work_counted}

@@ -1,4 +1,4 @@
--- A variable comes off the stack, and what waits for it is released.
+-- A variable is popped, and the rules that wait for it are counted down.
 use Rattle.std.proofs.Common.{rules, ◌≡◌, ℕ, ◌<◌, List, [], ◌∷◌, ◌++◌, length, get_or, sym, subst, ap, ◌∙◌, arith}
 use Rattle.std.specs.List.{All}
 use Rattle.sas_core.specs.Grounded.{rule_at}

@@ -1,4 +1,4 @@
--- What is left stands on the stack.
+-- The remaining work is on the stack.
 use Rattle.std.proofs.Common.{◌≡◌, []}
 use Rattle.sas_meaning.specs.Forced.{SameOff}
 use Rattle.sas_axioms.specs.Worklist.{IsAtWork, SameCountsOff, left_to_do}

@@ -1,4 +1,4 @@
--- The two writes.
+-- Setting the variable and its source.
 use Rattle.std.proofs.Common.{◌≡◌, ◌≢◌, true, [], ◌∷◌, ◌++◌, get_or, set, refl, sym, ap, subst, ◌∙◌, arith}
 use Rattle.std.specs.Result.{is_ok}
 use Rattle.sas_core.specs.declared.grounded.Change.{Change}

@@ -1,4 +1,4 @@
--- One more rule that waits for nothing has fired.
+-- One more rule without open conditions has fired.
 use Rattle.std.proofs.Common.{◌≡◌, ℕ, List, [], length, get_or, sym, subst, ap, ◌∙◌, inl, inr, arith}
 use Rattle.std.proofs.lemmas.Bool.{cases_eq}
 use Rattle.std.proofs.lemmas.List.{get_or_default}

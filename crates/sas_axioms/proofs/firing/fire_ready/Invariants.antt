@@ -1,4 +1,4 @@
--- The rules so far that wait for nothing have fired.
+-- The rules so far that have no open conditions have fired.
 use Rattle.std.proofs.Common.{◌≡◌, ℕ, ◌<◌, [], get_or}
 use Rattle.sas_core.specs.Grounded.{rule_at}
 use Rattle.sas_axioms.specs.declared.layer_rules.LayerRule.{LayerRule}

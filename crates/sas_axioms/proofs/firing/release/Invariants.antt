@@ -1,4 +1,4 @@
--- The entries so far are released.
+-- The entries so far are processed.
 use Rattle.std.proofs.Common.{drop}
 use Rattle.sas_axioms.specs.Waiting.{released}
 use Rattle.sas_axioms.specs.Worklist.{IsAtWork, WorkGoesOn}

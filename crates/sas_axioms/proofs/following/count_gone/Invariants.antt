@@ -1,4 +1,4 @@
--- The facts so far are counted as gone.
+-- The facts so far are processed.
 use Rattle.std.proofs.Common.{ℕ, List, drop}
 use Rattle.sas_meaning.specs.Following.{HaveGone}
 use Rattle.sas_axioms.specs.Following.{SameWork, IsFollowed, CountedSoFar}

@@ -1,4 +1,4 @@
--- One rule after another is taken off: its variable falls, or it is made ready.
+-- The rules are removed one by one: each resets its variable or becomes ready.
 use Rattle.std.proofs.Common.{◌≡◌, ◌⊎◌, ℕ, ◌<◌, true, List, ◌∷◌, [], length, get_or, set, is_some, refl, sym, ap, subst, ◌∙◌, inl, inr, arith}
 use Rattle.std.specs.List.{All, Contains}
 use Rattle.std.specs.BinaryHeap.{heap_items}

@@ -1,4 +1,4 @@
--- What has fallen so far.
+-- The variables so far are reset.
 use Rattle.std.proofs.Common.{◌≡◌, ◌⊎◌, ℕ, ◌<◌, List}
 use Rattle.sas_core.specs.Variables.{IsState}
 use Rattle.sas_meaning.specs.Forced.{SameOff}

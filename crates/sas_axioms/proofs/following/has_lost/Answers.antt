@@ -1,4 +1,4 @@
--- The rule's variable exists, and its values are read in turn.
+-- The variable of the rule exists.
 use Rattle.std.proofs.Common.{length, sym, ap, ◌∙◌, arith}
 use Rattle.sas_axioms.proofs.RuleChanges.{change_within, differs_read}
 use Rattle.sas_axioms.proofs.following.has_lost.Goals as goal

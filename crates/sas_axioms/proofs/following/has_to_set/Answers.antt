@@ -1,4 +1,4 @@
--- The rule's variable exists.
+-- The variable of the rule exists.
 use Rattle.std.proofs.Common.{length, ap, arith}
 use Rattle.sas_axioms.proofs.RuleChanges.{change_within}
 use Rattle.sas_axioms.proofs.following.has_to_set.Goals as goal

@@ -1,4 +1,4 @@
--- The rules that were made ready so far.
+-- The rules so far are ready.
 use Rattle.std.proofs.Common.{◌≡◌, ◌+◌, ◌*◌, ◌≤◌, ◌++◌, length, take}
 use Rattle.sas_axioms.specs.Agenda.{work_left}
 use Rattle.sas_axioms.proofs.following.make_ready.Given as goal

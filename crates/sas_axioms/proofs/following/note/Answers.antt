@@ -1,4 +1,4 @@
--- The rule is noted under its layer.
+-- The rule is noted with its layer.
 use Rattle.std.proofs.Common.{subst}
 use Rattle.std.proofs.lemmas.Result.{on_ok_weaker}
 use Rattle.sas_axioms.specs.Agenda.{IsNoted, Notes}

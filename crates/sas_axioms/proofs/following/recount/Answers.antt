@@ -1,4 +1,4 @@
--- The rules that wait for values of the variable are counted anew.
+-- The counters of the rules with conditions on the variable are updated.
 use Rattle.std.proofs.Common.{sym, ◌∙◌}
 use Rattle.std.proofs.lemmas.Result.{on_ok_weaker}
 use Rattle.sas_axioms.proofs.AllConditions.{counters_exist, small, enough}

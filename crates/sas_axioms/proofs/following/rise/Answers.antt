@@ -1,4 +1,4 @@
--- One rule after another is taken off: it sets its variable, or has nothing to set.
+-- The rules are removed one by one: each sets its variable, or needs not.
 use Rattle.std.proofs.Common.{◌≡◌, ℕ, ◌<◌, true, List, length, get_or, set, is_some, refl, sym, ap, subst, ◌∙◌, arith}
 use Rattle.sas_core.specs.declared.grounded.Change.{Change}
 use Rattle.sas_core.specs.Grounded.{rule_at}

@@ -1,4 +1,4 @@
--- What has risen so far.
+-- The rules so far have set their variables.
 use Rattle.std.proofs.Common.{ℕ, ◌≤◌, List}
 use Rattle.sas_core.specs.Variables.{IsState}
 use Rattle.sas_meaning.specs.Forced.{SameOff}

@@ -1,4 +1,4 @@
--- The variable is derived, so that it exists.
+-- The variable is derived, so it exists.
 use Rattle.std.proofs.Common.{◌≡◌, List, ℕ, set, slice_index, sym, ◌∙◌, arith}
 use Rattle.std.proofs.lemmas.Result.{on_ok_weaker}
 use Rattle.sas_axioms.specs.Conditions.{AreCounted}

@@ -1,4 +1,4 @@
--- One layer after another is settled.
+-- The layers are settled one by one.
 use Rattle.std.proofs.Common.{ℕ, ◌+◌, ◌≤◌, List, length, get_or, refl, sym, ap, subst, ◌∙◌}
 use Rattle.std.specs.BinaryHeap.{heap_items}
 use Rattle.std.specs.declared.cmp.Reverse.{Reverse}

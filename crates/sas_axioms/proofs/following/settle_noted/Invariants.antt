@@ -1,4 +1,4 @@
--- The layers that are settled so far.
+-- The layers so far are settled.
 use Rattle.std.proofs.Common.{◌≡◌, ℕ, List, length}
 use Rattle.sas_core.specs.Variables.{IsState}
 use Rattle.sas_meaning.specs.Settled.{SameBasic}

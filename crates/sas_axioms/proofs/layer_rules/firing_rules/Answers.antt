@@ -1,4 +1,4 @@
--- Each turn adds a rule that can fire, or passes one that can't.
+-- Each iteration appends a rule that can fire, or skips a rule that can't.
 use Rattle.std.proofs.Common.{◌≡◌, ◌∷◌, [], ◌++◌, arith}
 use Rattle.sas_axioms.proofs.OneLayer.{firing_none, firing_more, firing_skip, firing_all}
 use Rattle.sas_axioms.proofs.layer_rules.firing_rules.Goals as goal

@@ -1,4 +1,4 @@
--- Those of the first rules that can fire.
+-- The rules so far that can fire.
 use Rattle.sas_axioms.proofs.OneLayer.{FiringUpTo}
 use Rattle.sas_axioms.proofs.layer_rules.firing_rules.Given as goal
 

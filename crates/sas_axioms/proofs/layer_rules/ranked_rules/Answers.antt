@@ -1,4 +1,4 @@
--- Sorting keeps the rules, and puts them in order.
+-- Sorting preserves the rules and puts them in order.
 use Rattle.std.proofs.Common.{rules}
 use Rattle.std.proofs.lemmas.List.Sorted.{IsNonDecreasingBy-from_sort_by_key, All-permutation, Contains-permutation}
 use Rattle.sas_axioms.specs.declared.layer_rules.LayerRule.{LayerRule}

@@ -1,4 +1,4 @@
--- Each turn adds the entry of a rule that can fire, or passes one that can't.
+-- Each iteration appends the entry of a rule that can fire, or skips a rule that can't.
 use Rattle.std.proofs.Common.{◌≡◌, sym, ap, subst, ◌∙◌, arith}
 use Rattle.std.proofs.lemmas.Result.{IfOk-weaker}
 use Rattle.sas_core.specs.declared.grounded.Change.{Change}

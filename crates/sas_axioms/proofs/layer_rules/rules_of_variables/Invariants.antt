@@ -1,4 +1,4 @@
--- The entries of the first rules.
+-- The entries of the rules so far.
 use Rattle.sas_axioms.proofs.RulesOf.{RulesUpTo}
 use Rattle.sas_axioms.proofs.layer_rules.rules_of_variables.Given as goal
 

@@ -1,4 +1,4 @@
--- One more variable: where it differs, it is counted.
+-- One more variable: its counters are updated if its value differs.
 use Rattle.std.proofs.Common.{◌≡◌, ◌<◌, length, get_or, set, sym, subst, ap, ◌∙◌, inl, inr, arith}
 use Rattle.std.proofs.lemmas.Bool.{cases_eq}
 use Rattle.std.proofs.lemmas.List.{get_or_default, get_or-set_same, get_or-set_other}

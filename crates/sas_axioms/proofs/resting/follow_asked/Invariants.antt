@@ -1,4 +1,4 @@
--- The variables so far have the state's values.
+-- The counters use the state's values of the variables so far.
 use Rattle.std.proofs.Common.{◌≡◌, ℕ, ◌<◌, get_or}
 use Rattle.sas_meaning.specs.Forced.{AtDefault}
 use Rattle.sas_axioms.specs.Conditions.{IsCounted}

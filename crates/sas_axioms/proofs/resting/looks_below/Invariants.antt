@@ -1,4 +1,4 @@
--- The conditions so far don't look below.
+-- The conditions so far aren't on lower layers.
 use Rattle.std.proofs.Common.{◌≡◌, ℕ, ◌<◌, get_or}
 use Rattle.sas_core.specs.declared.parts.Fact.{Fact}
 use Rattle.sas_core.specs.Grounded.{rule_at}

@@ -1,4 +1,4 @@
--- What the rule changes and asks about exists.
+-- The variables and values in the rule exist.
 use Rattle.std.proofs.Common.{arith, rules}
 use Rattle.sas_axioms.proofs.RuleChanges.{change_within, conditions_within}
 use Rattle.sas_axioms.proofs.rounds.changes.Goals as goal

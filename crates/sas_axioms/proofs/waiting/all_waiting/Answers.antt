@@ -1,4 +1,4 @@
--- Each turn adds the entries of a rule that can fire, or passes one that can't.
+-- Each iteration appends the entries of a rule that can fire, or skips a rule that can't.
 use Rattle.std.proofs.Common.{arith}
 use Rattle.sas_axioms.proofs.Entries.{waiting_none, waiting_more, waiting_skip, waiting_all}
 use Rattle.sas_axioms.proofs.waiting.all_waiting.Goals as goal

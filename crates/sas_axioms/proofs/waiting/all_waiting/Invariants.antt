@@ -1,4 +1,4 @@
--- The entries of the first rules.
+-- The entries of the rules so far.
 use Rattle.sas_axioms.proofs.Entries.{WaitingUpTo}
 use Rattle.sas_axioms.proofs.waiting.all_waiting.Given as goal
 

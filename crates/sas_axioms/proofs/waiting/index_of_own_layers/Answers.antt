@@ -1,4 +1,4 @@
--- By key, what waits is an index.
+-- Grouped by variable, the entries form an index.
 use Rattle.std.proofs.Common.{◌≡◌, sym, ap, subst, ◌∙◌}
 use Rattle.std.proofs.lemmas.Result.{IfOk-weaker}
 use Rattle.sas_lists.specs.ByKey.{by_key}

@@ -1,4 +1,4 @@
--- Each turn adds what one condition of the rule waits for.
+-- Each iteration appends the entry of a condition on the layer, or skips another condition.
 use Rattle.std.proofs.Common.{◌≡◌, ◌<◌, ◌≤◌, ◌+◌, ◌==◌, ℕ, List, ◌∷◌, [], ◌++◌, length, get_or, drop, Option, Some, true, false, inl, inr, ap, sym, ◌∙◌, subst, arith}
 use Rattle.std.proofs.lemmas.List.{drop_more, drop_all}
 use Rattle.std.specs.Option.{option_eq}

@@ -1,4 +1,4 @@
--- What the rule waits for, as far as its first conditions.
+-- The entries of the conditions so far.
 use Rattle.std.proofs.Common.{drop}
 use Rattle.sas_core.specs.Grounded.{rule_at}
 use Rattle.sas_axioms.proofs.Entries.{AddsUpTo}

@@ -1,4 +1,4 @@
--- Each turn adds a derived variable, or passes another one.
+-- Each iteration appends a derived variable, or skips a basic one.
 use Rattle.std.proofs.Common.{◌≡◌, ◌++◌, ◌∷◌, [], true, false, sym, ap, ◌∙◌, arith}
 use Rattle.std.specs.Option.{is_some}
 use Rattle.std.proofs.lemmas.Result.{IfOk-from_err}

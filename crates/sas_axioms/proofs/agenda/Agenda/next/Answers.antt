@@ -1,4 +1,4 @@
--- The last rule that is ready, or a noted one.
+-- The last ready rule, or else a noted one.
 use Rattle.std.proofs.Common.{◌≡◌, ◌∷◌, ◌++◌, [], length, arith, inl, inr, ap}
 use Rattle.std.proofs.Math.ListN.{length-append}
 use Rattle.std.specs.BinaryHeap.{heap_items}

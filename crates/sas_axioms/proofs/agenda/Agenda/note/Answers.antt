@@ -1,4 +1,4 @@
--- What is noted once the price is paid is noted.
+-- Subtracting the work doesn't change which rules are noted.
 use Rattle.std.proofs.Common.{ap}
 use Rattle.std.specs.BinaryHeap.{heap_items}
 use Rattle.std.proofs.lemmas.Result.{on_ok_weaker}

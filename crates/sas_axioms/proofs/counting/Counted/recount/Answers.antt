@@ -1,4 +1,5 @@
--- What opens is counted up, and what closes down.
+-- Counters of conditions that become open are incremented, those of conditions that become true
+-- decremented.
 use Rattle.std.proofs.Common.{◌<◌, length, sym, ◌∙◌, arith}
 use Rattle.sas_axioms.proofs.AllConditions.{counters_exist, small, enough, recounted, same_counts}
 use Rattle.sas_axioms.proofs.counting.Counted.recount.Goals as goal

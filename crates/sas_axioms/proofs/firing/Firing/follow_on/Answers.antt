@@ -1,4 +1,4 @@
--- What is ready stays ready.
+-- The data for settling layers stay valid.
 use Rattle.std.proofs.Common.{length, ap, ◌∙◌}
 use Rattle.sas_axioms.proofs.firing.Firing.follow_on.Goals as goal
 

@@ -1,4 +1,4 @@
--- On a layer at its default nothing runs yet.
+-- On a layer with only defaults, no rule has fired yet.
 use Rattle.sas_axioms.proofs.Counters.{running_at_default}
 use Rattle.sas_axioms.proofs.Sources.{given_at_default}
 use Rattle.sas_axioms.proofs.firing.Firing.settle_layer.Goals as goal

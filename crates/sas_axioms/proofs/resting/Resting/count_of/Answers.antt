@@ -1,4 +1,4 @@
--- What is kept, where the rule doesn't look below.
+-- A rule without conditions on lower layers has the stored count.
 use Rattle.std.proofs.Common.{◌≡◌, List, length, true, rules, arith, sym, ap, ◌∙◌, get_or}
 use Rattle.sas_core.specs.declared.parts.Fact.{Fact}
 use Rattle.sas_axioms.specs.Conditions.{open_conditions}

@@ -1,4 +1,4 @@
--- A state that was followed is settled.
+-- A state that was updated is settled.
 use Rattle.std.proofs.Common.{rules, ◌≡◌, ℕ, sym, ◌∙◌, arith}
 use Rattle.std.proofs.lemmas.Bool.{eqb-true}
 use Rattle.std.specs.Vec.{vec_len}
