@@ -1,4 +1,4 @@
--- The variable of a fact that exists is one of the task, and so are the groups that have the fact.
+-- If a fact exists, so do its variable and the groups that contain it.
 use Rattle.std.proofs.Common.{◌≡◌, ℕ, ◌<◌, length, get_or, subst, sym}
 use Rattle.std.proofs.lemmas.List.Elements.{Contains-get_or}
 use Rattle.sas_core.specs.declared.parts.Fact.{Fact}

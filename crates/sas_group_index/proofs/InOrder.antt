@@ -1,4 +1,4 @@
--- Lists in order that repeat nothing have the facts of those that they were made of.
+-- A sorted list without duplicates contains the same facts as the original list.
 use Rattle.std.proofs.Common.{replicate, ◌-◌, Ordering, Less, Equal, Greater, ◌≡◌, ◌≢◌, ℕ, zero, suc, get_or, ap, ◌+◌, ◌<◌, ◌≤◌, Bool, true, List, [], ◌∷◌, ◌++◌, length, refl, sym, ◌∙◌, subst, inl, inr, arith}
 use Rattle.std.specs.Cmp.{IsEquivalence, IsTotalOrder}
 use Rattle.std.specs.Ordering.{eq_by_cmp, nat_cmp, ordering_reverse, ordering_then}

@@ -1,4 +1,4 @@
--- Facts fall into runs of facts on one variable, one run after the other.
+-- Splitting facts into runs, one by one.
 use Rattle.std.proofs.Common.{◌≡◌, ℕ, ◌+◌, ◌<◌, ◌≤◌, length, get_or, take, drop, List, [], ◌∷◌, ◌++◌, sym, ap, subst, ◌∙◌, append_assoc, arith}
 use Rattle.std.specs.List.{All}
 use Rattle.std.proofs.lemmas.List.{take_more, take_all, take-append-drop, drop_all, length-append, take-append-le, drop-append-le}

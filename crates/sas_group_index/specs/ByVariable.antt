@@ -1,14 +1,14 @@
--- Effects of large operators under the variables that they set.
+-- The effects of large operators, grouped by the variables that they set.
 use Rattle.std.specs.Prelude.{◌≡◌, ℕ, ◌+◌, ◌*◌, ◌%◌, ◌<◌, List, [], length, slice_index_or, Contains}
 use Rattle.sas_core.specs.declared.parts.Parts.{Parts}
 use Rattle.sas_core.specs.Grounded.{operator_at, effect_at}
 use Rattle.sas_lists.specs.declared.by_key.Entry.{Entry}
 
--- the operator has more effects than are quickly gone through
+-- the operator is large: it has more than 16 effects
 abbrev pub IsLarge : Parts → ℕ → Type 0
 IsLarge p operator = 16 < length (operator_at p operator).effects
 
--- the place of an operator and a variable among so many; others may share it
+-- the hash of an operator and a variable, below `places`; other pairs may have the same hash
 abbrev pub place_of : ℕ → ℕ → ℕ → ℕ
 place_of operator var places = (operator * 2654435769 + var) % places
 
@@ -16,23 +16,24 @@ place_of operator var places = (operator * 2654435769 + var) % places
 abbrev pub variable_of : Parts → ℕ → ℕ → ℕ
 variable_of p operator effect = (effect_at (operator_at p operator) effect).var
 
--- the entry of an effect
+-- the entry for an effect
 abbrev pub entry_of : Parts → ℕ → ℕ → ℕ → Entry ℕ
 entry_of p places operator effect =
     record { key = place_of operator (variable_of p operator effect) places; item = effect }
 
--- the first effects of the operator have their entries, and no entry went
+-- the entries of the first effects of the operator were added, and no entry was removed
 pub record AreEntered (p : Parts) (places operator effects : ℕ) (before after : List (Entry ℕ))
     : Type 0 where
   pub each : (effect : ℕ) → effect < effects → Contains after (entry_of p places operator effect)
   pub still : (entry : Entry ℕ) → Contains before entry → Contains after entry
 
--- these have all effects of the operator that set the variable
+-- the list contains all effects of the operator that set the variable
 abbrev pub AreOn : Parts → ℕ → ℕ → List ℕ → Type 0
 AreOn p operator var effects = (effect : ℕ) → effect < length (operator_at p operator).effects
     → variable_of p operator effect ≡ var → Contains effects effect
 
--- under the place of each large operator and variable all its effects that set the variable
+-- for each large operator and each variable, the list contains all its effects that set the
+-- variable
 pub record AreByVariable (p : Parts) (lists : List (List ℕ)) : Type 0 where
   pub some : 0 < length lists
   pub are : (operator : ℕ) → operator < length p.operators → IsLarge p operator → (var : ℕ)

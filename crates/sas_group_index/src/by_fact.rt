@@ -1,4 +1,4 @@
-// Groups under the facts that they have.
+// The groups that contain each fact.
 ghost use Rattle.std.specs.Prelude.{◌≡◌, ◌<◌, ◌≤◌, ◌^◌, ◌++◌, [], ◌∷◌, ℕ, length, IfOk, OnOk, All};
 ghost use Rattle.sas_core.specs.declared.parts.Fact.{Fact};
 ghost use Rattle.sas_group_index.specs.Distinct.{AreOwnLists};
@@ -10,8 +10,8 @@ use sas_lists::{Entry, Lists};
 use sas_meaning::Layered;
 use std::alloc::{AllocError, Global};
 
-/// Returns, under the number of each fact, the groups of the task that have it, each once. `own` has the groups' own lists.
-/// `facts` is the number of all facts.
+/// Returns for each fact, by its number, the groups of the task that contain it, each once. `own` are the groups' own lists, `firsts` the
+/// number of each variable's first fact, and `facts` the number of all facts. `Err` means out of memory.
 pub fn groups_by_fact<T: Grounded>(
     alloc: Global,
     task: &Layered<T>,
@@ -26,7 +26,7 @@ pub fn groups_by_fact<T: Grounded>(
     ensures { IfOk result
         (λ groups. AreByFact task.now firsts.now groups) }
 {
-    // By its contract the task is well ranged.
+    // The contract of `task` ensures that the task is well ranged.
     let _ = task.task();
     let mut entries = Vec::new(alloc);
     for group in 0..task.groups() {
@@ -35,7 +35,7 @@ pub fn groups_by_fact<T: Grounded>(
     Lists::by_key(alloc, entries.as_slice(), facts)
 }
 
-/// Adds an entry of the group for each of the facts, under the fact's number.
+/// Appends an entry of the group for each of the facts; the key is the number of the fact.
 fn enter_facts(
     firsts: &[usize],
     group: u32,

@@ -1,4 +1,4 @@
-// Effects of large operators under the variables that they set.
+// The effects of large operators, grouped by the variables that they set.
 ghost use Rattle.std.specs.Prelude.{◌≡◌, ◌<◌, ℕ, length, IfOk, OnOk, All};
 ghost use Rattle.sas_core.specs.Grounded.{operator_at};
 ghost use Rattle.sas_lists.specs.declared.by_key.Entry.{Entry};
@@ -10,20 +10,20 @@ use sas_lists::{Entry, Lists};
 use sas_meaning::Layered;
 use std::alloc::{AllocError, Global};
 
-/// An operator of more effects is large. One of few is quicker gone through.
+/// An operator with more effects is large. For the others a scan of all effects is faster than the index.
 pub const FEW_EFFECTS: u32 = 16;
 
-/// What the number of an operator is multiplied by, so that its effects lie apart from those of others.
+/// A hash multiplier, which spreads the effects of different operators.
 const SPREAD: u64 = 2_654_435_769;
 
-/// Returns the effects of large operators, each under the place of its operator and variable.
+/// Returns the effects of large operators, grouped by the hash of operator and variable. `Err` means out of memory.
 pub fn effects_by_variable<T: Grounded>(
     alloc: Global,
     task: &Layered<T>,
 ) -> Result<Lists<u32>, AllocError>
     ensures { IfOk result (λ effects. AreByVariable task.now effects) }
 {
-    // By its contract the task is well ranged.
+    // The contract of `task` ensures that the task is well ranged.
     let _ = task.task();
     let places = number_of_places(task);
     let mut entries = Vec::new(alloc);
@@ -35,7 +35,7 @@ pub fn effects_by_variable<T: Grounded>(
     Lists::by_key(alloc, entries.as_slice(), places)
 }
 
-/// Returns the number of places: one for each effect of a large operator, and one more.
+/// Returns the number of hash values: one for each effect of a large operator, and one more.
 fn number_of_places<T: Grounded>(task: &Layered<T>) -> usize
     ensures { 0 < result }
 {
@@ -49,7 +49,7 @@ fn number_of_places<T: Grounded>(task: &Layered<T>) -> usize
     places
 }
 
-/// Adds an entry for each effect of the operator.
+/// Appends an entry for each effect of the operator.
 fn enter_effects<T: Grounded>(
     task: &Layered<T>,
     operator: u32,
@@ -70,7 +70,7 @@ fn enter_effects<T: Grounded>(
     Ok(())
 }
 
-/// Returns the place of the operator and the variable, which others may share.
+/// Returns the hash of the operator and the variable, below `places`. Other pairs may have the same hash.
 pub fn place_of(operator: u32, var: u32, places: usize) -> usize
     requires { 0 < places }
     ensures is { result ≡ spec.place_of operator var places }

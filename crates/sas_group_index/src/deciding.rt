@@ -1,31 +1,31 @@
-// Which groups decided tests: a guess on what an operator rests. No contract speaks of it.
+// Records which groups were used in tests: a hint on which groups an operator depends. No contract mentions it.
 use std::cell::Cell;
 
-/// How many groups are noted at most.
+/// At most this many groups are recorded.
 pub const MOST_GROUPS: usize = 4;
 
-/// Groups that decided tests in which one fact contradicted another, each once.
+/// Groups that were used in tests to show that two facts contradict each other, each once.
 #[derive(Clone, Copy)]
 pub struct Groups {
     groups: [u32; MOST_GROUPS],
-    /// How many they are, or one more than can be noted.
+    /// The number of groups, or one more than the maximum if there were too many.
     count: usize,
 }
 
-/// The groups that decided tests since this was cleared last, as long as they are few.
+/// The groups that were used in tests since the last call of `clear`, unless they are too many.
 #[derive(Drop)]
 pub struct Deciding {
     noted: Cell<Groups>,
 }
 
 impl Groups {
-    /// No group.
+    /// No groups.
     const NONE: Groups = Groups {
         groups: [0; MOST_GROUPS],
         count: 0,
     };
 
-    /// Returns the groups, or `None` if they are too many.
+    /// Returns the groups, or `None` if there were too many.
     pub fn as_slice(&self) -> Option<&[u32]> {
         self.groups.get(..self.count)
     }
@@ -50,24 +50,24 @@ impl Groups {
 }
 
 impl Deciding {
-    /// Returns a note of no group.
+    /// Returns an empty record.
     pub fn new() -> Deciding {
         Deciding {
             noted: Cell::new(Groups::NONE),
         }
     }
 
-    /// Notes that the group decided a test.
+    /// Records that the group was used in a test.
     pub fn decided_by(&self, group: u32) {
         self.noted.set(self.noted.get().with(group));
     }
 
-    /// Forgets all groups.
+    /// Removes all groups.
     pub fn clear(&self) {
         self.noted.set(Groups::NONE);
     }
 
-    /// Returns the groups that were noted.
+    /// Returns the recorded groups.
     pub fn groups(&self) -> Groups {
         self.noted.get()
     }

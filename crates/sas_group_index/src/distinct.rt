@@ -1,4 +1,4 @@
-// The facts of each group, each once.
+// The facts of each group without duplicates.
 ghost use Rattle.std.specs.Prelude.{◌≡◌, ◌<◌, length, IsTrue, IfOk};
 ghost use Rattle.sas_group_index.specs.Distinct.{facts_at, own_or, AreDistinct, AreOwnLists, IsBelow};
 
@@ -7,7 +7,7 @@ use sas_lists::Lists;
 use sas_meaning::Layered;
 use std::alloc::{AllocError, Global};
 
-/// Returns the facts of the group, each once: its own list, if it has one, and else the facts as the group lists them.
+/// Returns the facts of the group without duplicates: its own list, if it has one, else the list in the task.
 pub fn facts_of<'a, T: Grounded>(
     task: &'a Layered<T>,
     own: &'a Lists<Fact>,
@@ -24,12 +24,12 @@ pub fn facts_of<'a, T: Grounded>(
     }
 }
 
-/// Returns a list of its own for each group of the task. It is empty, or left out behind the last one, if the group lists its
-/// facts in ascending order, each once.
+/// Returns an own list for each group of the task. It is empty if the list in the task is ascending and has no duplicates. Empty lists at
+/// the end are left out. `Err` means out of memory.
 pub fn own_lists<T: Grounded>(alloc: Global, task: &Layered<T>) -> Result<Lists<Fact>, AllocError>
     ensures { IfOk result (λ own. AreOwnLists task.now own) }
 {
-    // By its contract the task is well ranged.
+    // The contract of `task` ensures that the task is well ranged.
     let _ = task.task();
     let mut own = Lists::new(alloc);
     for group in 0..task.groups() {
@@ -42,7 +42,7 @@ pub fn own_lists<T: Grounded>(alloc: Global, task: &Layered<T>) -> Result<Lists<
     Ok(own)
 }
 
-/// Returns the facts in ascending order, each once, or none if they are listed so.
+/// Returns the facts in ascending order without duplicates, or no facts if `facts` is already such a list.
 fn own_list(alloc: Global, facts: &[Fact]) -> Result<Vec<Fact>, AllocError>
     ensures { IfOk result (λ own. AreDistinct (own_or own.items facts.now) facts.now) }
 {
@@ -56,7 +56,7 @@ fn own_list(alloc: Global, facts: &[Fact]) -> Result<Vec<Fact>, AllocError>
     Ok(own)
 }
 
-/// Returns whether each of the facts is below the next one.
+/// Returns whether each fact is below the next one.
 fn is_ascending(facts: &[Fact]) -> bool
     ensures { IsTrue result → AreDistinct facts.now facts.now }
 {
@@ -68,7 +68,7 @@ fn is_ascending(facts: &[Fact]) -> bool
     true
 }
 
-/// Returns whether the fact is on a lower variable than the other, or on the same one and has a lower value.
+/// Returns whether the fact is below the other: on a lower variable, or on the same variable with a lower value.
 fn is_below(fact: Fact, other: Fact) -> bool
     ensures { IsTrue result → IsBelow fact other }
 {

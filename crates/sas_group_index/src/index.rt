@@ -1,4 +1,4 @@
-// Which groups have which facts.
+// The index of the groups of a task.
 ghost use Rattle.std.specs.Prelude.{◌≡◌, ◌<◌, ◌≤◌, ◌^◌, ◌↔◌, ℕ, [], length, IsTrue, IfOk, OnOk, IfSome, All, Contains};
 ghost use Rattle.std.specs.List.Sorted.{IsNonDecreasing};
 ghost use Rattle.sas_group_index.specs.Index as spec;
@@ -15,21 +15,22 @@ use sas_lists::Lists;
 use sas_meaning::Layered;
 use std::alloc::{AllocError, Global};
 
-/// Among so few groups one is sooner found by a look at each.
+/// Up to this many groups are searched one by one, which is faster than a binary search.
 const FEW_GROUPS: usize = 4;
 
-/// Which groups have which fact, and which effects of large operators set which variable. Facts are numbered, variable after
-/// variable, so one is looked up in a fixed time.
+/// The groups that contain each fact, and the effects of large operators on each variable. Facts are numbered, variable by variable, so a
+/// lookup takes constant time.
 pub struct Index {
-    /// The number of each variable's first fact.
+    /// For each variable, the number of its first fact.
     pub firsts: Vec<usize>,
-    /// The groups under the number of each fact of theirs.
+    /// For each fact, by its number, the groups that contain it.
     pub groups: Lists<u32>,
-    /// For each group its facts in ascending order, each once. A group that lists them so has none here, or no list.
+    /// For each group, its facts in ascending order without duplicates. The list is empty or missing if the list in the task already is in
+    /// that form.
     pub own_facts: Lists<Fact>,
-    /// For each group, the lengths of its runs, each of facts in a row on one variable.
+    /// For each group, the lengths of its runs. A run is a sequence of consecutive facts on the same variable.
     pub runs: Items<Items<u32>>,
-    /// The effects of large operators under the places of the operator and the variable.
+    /// The effects of large operators, by the hash of operator and variable.
     pub effects: Lists<u32>,
 }
 
@@ -51,7 +52,7 @@ impl Drop for Index {
 }
 
 impl Index {
-    /// Returns the index of the groups and operators of the task.
+    /// Returns the index of the task. `Err` means out of memory.
     pub fn new<T: Grounded>(alloc: Global, task: &Layered<T>) -> Result<Index, AllocError>
         ensures { IfOk result (λ index. IsIndexOf task.now index) }
     {
@@ -70,7 +71,7 @@ impl Index {
         })
     }
 
-    /// Returns the groups that have the fact.
+    /// Returns the groups that contain the fact.
     #[inline(always)]
     pub fn groups_of(&self, fact: Fact) -> &[u32]
         requires { All (λ (first : ℕ). first ≤ 2 ^ 62) self.now.firsts.items }
@@ -79,7 +80,7 @@ impl Index {
         under(&self.groups, self.number_of(fact))
     }
 
-    /// Returns the facts of the group, each once.
+    /// Returns the facts of the group without duplicates.
     pub fn facts_of<'a, T: Grounded>(&'a self, task: &'a Layered<T>, group: u32) -> &'a [Fact]
         requires { group < length task.now.groups }
         ensures { result.now ≡ facts_at task.now self.now.own_facts group }
@@ -87,7 +88,7 @@ impl Index {
         facts_of(task, &self.own_facts, group)
     }
 
-    /// Returns effects of the operator, if it is large: all that set the variable, and maybe others.
+    /// Returns all effects of a large operator that set the variable, and possibly others. Returns `None` if the operator isn't large.
     #[inline(always)]
     pub fn effects_on<T: Grounded>(
         &self,
@@ -106,7 +107,7 @@ impl Index {
         None
     }
 
-    /// Returns whether the group has the fact.
+    /// Returns whether the group contains the fact.
     #[inline(always)]
     pub fn has(&self, group: u32, fact: Fact) -> bool
         requires low { All (λ (first : ℕ). first ≤ 2 ^ 62) self.now.firsts.items }
@@ -121,8 +122,7 @@ impl Index {
         }
     }
 
-    /// Returns the number of the fact. A variable that doesn't exist has no first number. Its facts are numbered as if that
-    /// were 0.
+    /// Returns the number of the fact. If the variable doesn't exist, its first number is taken as 0.
     #[inline(always)]
     fn number_of(&self, fact: Fact) -> usize
         requires { All (λ (first : ℕ). first ≤ 2 ^ 62) self.now.firsts.items }
@@ -136,7 +136,7 @@ impl Index {
     }
 }
 
-/// Adds the number of each variable's first fact to the empty list, and returns the number of all facts.
+/// Appends the number of each variable's first fact to the empty list, and returns the number of all facts. `Err` means out of memory.
 fn number_facts<T: Grounded>(
     task: &Layered<T>,
     firsts: &mut Vec<usize>,
@@ -155,7 +155,7 @@ fn number_facts<T: Grounded>(
     Ok(facts)
 }
 
-/// Returns whether the group is one of these. A look at each, in place of a call.
+/// Returns whether the group is one of these. A linear search, which is inlined.
 #[inline(always)]
 fn is_among(groups: &[u32], group: u32) -> bool
     ensures { IsTrue result ↔ Contains groups.now group }
@@ -163,7 +163,7 @@ fn is_among(groups: &[u32], group: u32) -> bool
     groups.iter().any(|other| *other == group)
 }
 
-/// Returns the list under the key. Behind the last list it is empty.
+/// Returns the list with this key; past the last list, the empty list.
 #[inline(always)]
 fn under(lists: &Lists<u32>, key: usize) -> &[u32]
     ensures { result.now ≡ under lists.now key }

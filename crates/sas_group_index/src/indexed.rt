@@ -1,11 +1,10 @@
-// A task with the index that is used for it again and again.
+// A task together with its index.
 use crate::index::Index;
 use sas_core::Grounded;
 use sas_meaning::Layered;
 use std::marker::Model;
 
-/// A task, which groups have which of its facts, and which operators mention which. In a contract its value is the parts that
-/// the task represents.
+/// A task and the index of its groups and effects. In a contract its value is the contents that the task represents.
 #[derive(Drop)]
 pub struct IndexedTask<'a, 'b, T: Grounded> {
     pub task: &'a Layered<T>,

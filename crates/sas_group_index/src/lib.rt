@@ -1,6 +1,6 @@
-//! What the joint check of mutex groups looks things up in, and what it notes: which groups of a task have which facts, how the facts
-//! of a group fall into runs on one variable, which effects of large operators set which variable; and which facts are noted of each
-//! group, so that whether one more contradicts them is seen in a fixed time.
+//! Data structures for the joint check of mutex groups. An index: which groups contain which facts, the runs of each group's facts on one
+//! variable, and which effects of large operators set which variable. And notes: which facts of each group are recorded, so that it takes
+//! constant time per group to check whether another fact contradicts them.
 #![tactic(auto)]
 
 mod by_fact;

@@ -1,4 +1,4 @@
-// Facts noted by variable and by group, so that each further one is compared with all in a fixed time.
+// Facts recorded by variable and by group, so that another fact can be compared with all of them at once.
 ghost use Rattle.std.specs.Prelude.{◌≡◌, ◌≢◌, ◌<◌, ◌⊎◌, ◌↔◌, length, Some, None, IsTrue, IsFalse, IfOk, IfSome, All, Contains};
 ghost use Rattle.sas_core.specs.Variables.{FactExists};
 ghost use Rattle.sas_group_index.specs.Kept.{family_of};
@@ -17,22 +17,22 @@ use sas_core::{Fact, Grounded, Items};
 use sas_meaning::Layered;
 use std::alloc::{AllocError, Global};
 
-/// A fact that more groups have may stand apart: it is noted for none of them.
+/// A fact of more groups than this may be set apart: it isn't recorded for its groups.
 const FEW_GROUPS: usize = 8;
 
-/// Which facts of a group are noted.
+/// Which facts of a group are recorded.
 #[derive(Clone, Copy)]
 pub enum Noted {
-    /// None of them.
+    /// No fact.
     Nothing,
-    /// This one, and no other.
+    /// Only this fact.
     One(Fact),
-    /// Two at least. Where the group counts, they contradict each other.
+    /// At least two different facts. They contradict each other if the group is assumed to be exclusive.
     Several,
 }
 
 impl Noted {
-    /// Returns what is noted once this fact of the group is noted too.
+    /// Returns the record after this fact of the group is recorded, too.
     #[inline(always)]
     fn with(self, fact: Fact) -> Noted
         ensures { IsNotedToo self fact result }
@@ -44,7 +44,7 @@ impl Noted {
         }
     }
 
-    /// Returns the fact that is noted, if it is the only one.
+    /// Returns the recorded fact if it is the only one.
     #[inline(always)]
     pub fn only(self) -> Option<Fact>
         ensures some { (fact : Fact) → result ≡ Some fact → self ≡ One fact }
@@ -56,7 +56,7 @@ impl Noted {
         }
     }
 
-    /// Returns whether none is noted.
+    /// Returns whether no fact is recorded.
     #[inline(always)]
     pub fn is_nothing(self) -> bool
         ensures { IsTrue result ↔ (self ≡ Nothing) }
@@ -64,7 +64,7 @@ impl Noted {
         matches!(self, Noted::Nothing)
     }
 
-    /// Returns whether several are noted.
+    /// Returns whether at least two different facts are recorded.
     #[inline(always)]
     pub fn is_several(self) -> bool
         ensures { IsTrue result ↔ (self ≡ Several) }
@@ -73,19 +73,18 @@ impl Noted {
     }
 }
 
-/// Some facts, noted by variable and by group. What is noted for a group doesn't depend on whether it counts.
+/// Facts recorded by variable and by group. What is recorded for a group doesn't depend on whether the group is in the family.
 pub struct Notes {
-    /// For each variable, the value of a fact on it.
+    /// For each variable, the value of a recorded fact on it.
     pub values: Items<Option<u32>>,
-    /// For each group, which facts of it are noted, but for the one apart.
+    /// For each group, which of its facts are recorded, except the one set apart.
     pub groups: Items<Noted>,
-    /// A fact that is noted by its variable alone, since so many groups have it. Which of them a group has is asked of the
-    /// index.
+    /// A fact that is only recorded for its variable, since many groups contain it. Whether a group contains it is looked up in the index.
     pub apart: Option<Fact>,
-    /// What it takes to go through the facts again, and through the groups of each but the one apart. It is a hint, of which no
-    /// contract speaks.
+    /// The cost of processing all recorded facts and their groups (except those of the fact set apart). It is a hint that no contract
+    /// mentions.
     pub spread: usize,
-    /// Whether some fact of the task may stand apart: in most tasks none has so many groups. It is a hint, too.
+    /// Whether some fact of the task may be set apart. In most tasks no fact has so many groups. It is a hint, too.
     pub some_wide: bool,
 }
 
@@ -104,7 +103,7 @@ impl Drop for Notes {
 }
 
 impl Notes {
-    /// Returns notes of no facts.
+    /// Returns notes without facts. `Err` means out of memory.
     pub fn new<T: Grounded>(
         alloc: Global,
         task: &Layered<T>,
@@ -121,7 +120,7 @@ impl Notes {
         })
     }
 
-    /// Returns which facts of the group are noted, by its note and by the fact apart.
+    /// Returns which facts of the group are recorded, including the fact set apart.
     #[inline(always)]
     pub fn noted(&self, index: &Index, group: u32) -> Noted
         requires index { IsReadable index.now }
@@ -135,7 +134,7 @@ impl Notes {
         }
     }
 
-    /// Returns whether this is the fact apart.
+    /// Returns whether this is the fact set apart.
     #[inline(always)]
     pub fn is_apart(&self, fact: Fact) -> bool
         ensures { IsTrue result ↔ (self.now.apart ≡ Some fact) }
@@ -146,7 +145,7 @@ impl Notes {
         }
     }
 
-    /// Returns the spread, with this fact too.
+    /// Returns `spread` after this fact is recorded, too.
     fn spread_with(&self, index: &Index, fact: Fact) -> usize
         requires { IsReadable index.now }
     {
@@ -159,7 +158,7 @@ impl Notes {
     }
 }
 
-/// Returns whether many groups have some fact.
+/// Returns whether some fact has many groups.
 pub fn has_wide(index: &Index) -> bool {
     for key in 0..index.groups.len() {
         if index.groups.get(key).len() > FEW_GROUPS {
@@ -169,7 +168,7 @@ pub fn has_wide(index: &Index) -> bool {
     false
 }
 
-/// Returns the fact if many groups have it, and more than have the other fact. Otherwise returns the other.
+/// Returns `fact` if it has many groups, and more than `other`. Otherwise returns `other`.
 pub fn wider(index: &Index, fact: Fact, other: Option<Fact>) -> Option<Fact>
     requires { IsReadable index.now }
     ensures { (result ≡ Some fact) ⊎ (result ≡ other) }
@@ -185,7 +184,7 @@ pub fn wider(index: &Index, fact: Fact, other: Option<Fact>) -> Option<Fact>
     }
 }
 
-/// Notes the fact, if there is one, by its variable, and sets it apart.
+/// Sets the fact apart, if given, and records it for its variable.
 #[inline(always)]
 pub fn set_apart(apart: Option<Fact>, notes: &mut Notes)
     requires { IfSome apart (λ fact. fact.var < length notes.old.values) }
@@ -197,7 +196,7 @@ pub fn set_apart(apart: Option<Fact>, notes: &mut Notes)
     notes.apart = apart;
 }
 
-/// Notes the fact, and returns whether it contradicts none that is noted. If it does, it may be noted in part.
+/// Records the fact. Returns false if it contradicts a recorded fact; then it may be partly recorded.
 #[inline(always)]
 pub fn note(
     index: &Index,
@@ -231,7 +230,7 @@ pub fn note(
     }
 }
 
-/// Returns whether a group that is kept has this fact and the one apart.
+/// Returns whether a group of the family contains both this fact and the one set apart.
 #[inline(always)]
 pub fn shares_apart(
     index: &Index,
@@ -250,7 +249,7 @@ pub fn shares_apart(
     }
 }
 
-/// Returns whether a group that is kept has both facts. The groups of that fact are gone through which fewer groups have.
+/// Returns whether a group of the family contains both facts. Searches the groups of the fact that has fewer.
 fn share_kept(index: &Index, kept: &[bool], fact: Fact, other: Fact, deciding: &Deciding) -> bool
     requires { IsReadable index.now }
     ensures yes { IsTrue result → ShareKept index.now kept.now fact other }
@@ -263,7 +262,7 @@ fn share_kept(index: &Index, kept: &[bool], fact: Fact, other: Fact, deciding: &
     }
 }
 
-/// Returns whether a group that is kept has both facts. The groups of the first one are gone through.
+/// Returns whether a group of the family contains both facts. Searches the groups of `fact`.
 pub fn some_has(index: &Index, kept: &[bool], fact: Fact, other: Fact, deciding: &Deciding) -> bool
     requires { IsReadable index.now }
     ensures yes { IsTrue result → ShareKept index.now kept.now fact other }
@@ -289,7 +288,7 @@ fn is_kept(kept: &[bool], group: u32) -> bool
     }
 }
 
-/// Notes the fact for these groups, which have it. Returns whether no other fact is noted for one of them that is kept.
+/// Records the fact for these groups, which contain it. Returns false if another fact is recorded for one of them that is in the family.
 #[inline(always)]
 fn note_in_groups(
     groups: &[u32],
@@ -314,7 +313,7 @@ fn note_in_groups(
     true
 }
 
-/// Returns whether a fact is noted for one of these groups that is kept.
+/// Returns whether a fact is recorded for one of these groups that is in the family.
 pub fn has_noted(groups: &[u32], kept: &[bool], noted: &[Noted], deciding: &Deciding) -> bool
     requires { AreBelow (length noted.now) groups.now }
     ensures yes { IsTrue result → HasNotedGroup groups.now kept.now noted.now }
@@ -329,7 +328,7 @@ pub fn has_noted(groups: &[u32], kept: &[bool], noted: &[Noted], deciding: &Deci
     false
 }
 
-/// Takes back what is noted of the fact. For the groups of the one apart nothing is noted of it.
+/// Removes what is recorded for the fact: its variable, and its groups unless the fact is set apart.
 #[inline(always)]
 pub fn forget(index: &Index, fact: Fact, notes: &mut Notes)
     requires index { IsReadable index.now }
@@ -343,7 +342,7 @@ pub fn forget(index: &Index, fact: Fact, notes: &mut Notes)
     }
 }
 
-/// Takes back what is noted for these groups.
+/// Removes what is recorded for these groups.
 #[inline(always)]
 fn forget_groups(groups: &[u32], noted: &mut Items<Noted>)
     requires { AreBelow (length noted.old) groups.now }
@@ -354,7 +353,7 @@ fn forget_groups(groups: &[u32], noted: &mut Items<Noted>)
     }
 }
 
-/// Returns, of those of the facts that many groups have, one that most have, likewise.
+/// Returns the fact with the most groups among those with many groups. Returns `None` if there is none, or if `some_wide` is false.
 pub fn widest_of(index: &Index, facts: &[Fact], some_wide: bool) -> Option<Fact>
     requires { IsReadable index.now }
     ensures { IfSome result (Contains facts.now) }
@@ -369,7 +368,7 @@ pub fn widest_of(index: &Index, facts: &[Fact], some_wide: bool) -> Option<Fact>
     widest
 }
 
-/// Takes back what is noted of the facts.
+/// Removes what is recorded for these facts.
 pub fn forget_facts<T: Grounded>(
     indexed: &IndexedTask<'_, '_, T>,
     facts: &[Fact],

@@ -1,4 +1,4 @@
-// The facts of a group, each once, that are in a row on one variable.
+// The runs of a group: consecutive facts on the same variable.
 ghost use Rattle.std.specs.Prelude.{◌≡◌, ℕ, ◌<◌, ◌≤◌, ◌^◌, length, take, All, IfOk, slice_index_or};
 ghost use Rattle.sas_core.specs.declared.parts.Fact.{Fact};
 ghost use Rattle.sas_group_index.specs.Distinct.{AreOwnLists};
@@ -10,8 +10,8 @@ use sas_lists::Lists;
 use sas_meaning::Layered;
 use std::alloc::{AllocError, Global};
 
-/// Returns, for each group of the task, the lengths of its runs, each of facts in a row on one variable. `own` has the groups'
-/// own lists.
+/// Returns for each group of the task the lengths of its runs, which are consecutive facts on the same variable. `own` are the groups' own
+/// lists. `Err` means out of memory.
 pub fn runs_of_groups<T: Grounded>(
     alloc: Global,
     task: &Layered<T>,
@@ -20,7 +20,7 @@ pub fn runs_of_groups<T: Grounded>(
     requires { AreOwnLists task.now own.now }
     ensures { IfOk result (λ runs. AreRunsOf task.now own.now runs) }
 {
-    // By its contract the task is well ranged.
+    // The contract of `task` ensures that the task is well ranged.
     let _ = task.task();
     let mut runs = Items::from_vec(Vec::with_capacity(alloc, task.groups() as usize)?);
     for group in 0..task.groups() {
@@ -29,7 +29,7 @@ pub fn runs_of_groups<T: Grounded>(
     Ok(runs)
 }
 
-/// Returns the lengths of the runs of these facts, each of facts in a row on one variable.
+/// Returns the lengths of the runs of these facts.
 fn runs_in(alloc: Global, facts: &[Fact]) -> Result<Items<u32>, AllocError>
     requires { length facts.now < 2 ^ 31 }
     ensures { IfOk result (λ runs. AreRuns facts.now runs) }
@@ -44,7 +44,7 @@ fn runs_in(alloc: Global, facts: &[Fact]) -> Result<Items<u32>, AllocError>
     Ok(runs)
 }
 
-/// Returns how many facts at the front are on the variable.
+/// Returns the number of facts at the start that are on the variable.
 fn run_length(facts: &[Fact], var: u32) -> usize
     ensures within { result ≤ length facts.now }
     ensures on_it { All (λ (f : Fact). f.var ≡ var) (take result facts.now) }

@@ -1,4 +1,5 @@
--- What is said of each effect, said of the effect at a place, and of an operator that keeps a group.
+-- Properties of all effects as properties of the effect at each index, and when an operator
+-- preserves a group.
 use Rattle.std.proofs.Common.{◌≡◌, ℕ, ◌<◌, [], length, get_or, None, ◌∙◌, ap, subst}
 use Rattle.std.proofs.lemmas.List.{get_or_default}
 use Rattle.std.proofs.lemmas.List.Elements.{All-contains, Contains-get_or}

@@ -1,4 +1,5 @@
--- Families that are kept jointly unite; the greatest is one, has each group that is exclusive alone, and no place more.
+-- The union of families that are preserved jointly is preserved jointly. The greatest family is
+-- unique, contains each group that is exclusive alone, and no group can be added to it.
 use Rattle.std.proofs.Common.{◌≡◌, ℕ, ◌<◌, ◌⊎◌, Bool, true, false, List, [], ◌∷◌, ◌++◌, length, refl, sym, ap, subst, inl, inr}
 use Rattle.std.specs.Prelude.{◌||◌, ◌==◌, IsTrue}
 use Rattle.std.proofs.lemmas.Bool.{eq-eqb, eqb-true}

@@ -1,4 +1,5 @@
--- Groups that every operator keeps stay exclusive: one induction over the reachable states, for any condition on groups.
+-- Groups that every operator preserves stay exclusive, by induction over the reachable states, for
+-- any set of assumed groups.
 use Rattle.std.proofs.Common.{◌≡◌, ◌≢◌, ℕ, Bool, List, [], ◌∷◌, ◌++◌, get_or, refl, sym, ◌∙◌, ap, subst, inl, inr}
 use Rattle.std.proofs.lemmas.Bool.{cases_eq}
 use Rattle.std.proofs.lemmas.List.Elements.{All-nil, All-cons, All-append, All-contains}

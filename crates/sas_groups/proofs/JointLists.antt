@@ -1,5 +1,5 @@
--- A task has exactly one list of joint verdicts on its groups; that there is one is said doubly negated. The groups that it calls
--- exclusive are invariants.
+-- A task has exactly one list of joint verdicts on its groups; that it exists is stated as a double
+-- negation. The groups that are exclusive by it are invariants.
 use Rattle.std.proofs.Common.{◌≡◌, ℕ, zero, suc, ◌<◌, ◌≤◌, List, [], ◌∷◌, ◌++◌, length, refl, sym, ◌∙◌, subst, inl, inr, arith}
 use Rattle.std.proofs.lemmas.Bool.{cases_eq}
 use Rattle.std.proofs.lemmas.List.{ext_get_or, length_push, get_or_push, get_or_append_left}

@@ -1,4 +1,5 @@
--- Each group has exactly one joint verdict. That there is one is said doubly negated, and so is each step to it.
+-- Each group has exactly one joint verdict; that it exists is stated as a double negation, like
+-- each step of the proof.
 use Rattle.std.proofs.Common.{◌≡◌, ℕ, zero, suc, ◌<◌, ◌≤◌, Bool, false, List, length, refl, sym, ap, subst, inl, inr, arith}
 use Rattle.std.specs.Prelude.{◌||◌}
 use Rattle.std.proofs.lemmas.Bool.{cases_eq, cases_order, false≢true}

@@ -1,5 +1,5 @@
--- What the parts of the check of a group decide. A condition on groups, `Counts`, decides which
--- groups count.
+-- What the parts of the check of a group decide. The predicate `Counts` selects the groups that are
+-- assumed to be exclusive before a step.
 use Rattle.std.specs.Prelude.{◌≡◌, ◌≢◌, ◌⊎◌, ℕ, ◌<◌, length, List, [], ◌∷◌, All, Contains, slice_index}
 use Rattle.sas_core.specs.declared.parts.Fact.{Fact}
 use Rattle.sas_core.specs.declared.parts.Effect.{Effect}
@@ -14,22 +14,22 @@ use Rattle.sas_groups.specs.Groups.{IsExclusiveIn}
 use Rattle.sas_groups.specs.Families.{IsOnBasic, MayBeExclusive}
 use Rattle.sas_groups.specs.Lists.{known}
 
--- only this group counts
+-- only this group is assumed
 abbrev pub Alone : List Fact → List Fact → Type 0
 Alone group = λ (g : List Fact). g ≡ group
 
--- one of the facts has the property
+-- some fact in the list has the property
 abbrev pub Has : (Fact → Type 0) → List Fact → Type 0
 Has P facts = (f : Fact) × Contains facts f × P f
 
--- an effect whose conditions all lie in the facts sets the variable of this fact to another value
+-- the effect, all of whose conditions are in `facts`, sets the variable of `fact` to another value
 pub record Removes (facts : List Fact) (effect : Effect) (fact : Fact) : Type 0 where
   pub fires : All (Contains facts) effect.conditions
   pub var : effect.var ≡ fact.var
   pub other : effect.new ≢ fact.value
 
--- if the second effect sets a fact of the group on another variable than the first, what holds when
--- both fire clashes
+-- if the second effect sets a fact of the group on another variable than the first, the two effects
+-- can't fire together: their conditions and the preconditions clash
 abbrev pub NotBoth : (List Fact → Type 0) → Operator → List Fact → Effect → Effect → Type 0
 NotBoth Counts o group e f = Contains group (sets f) → e.var ≢ f.var
     → Clash Counts (known o e.conditions f.conditions)
@@ -39,24 +39,24 @@ abbrev pub IsGone : (List Fact → Type 0) → Operator → Effect → Fact → 
 IsGone Counts o e f = e.var ≢ f.var
     → Clash Counts (known o e.conditions (f ∷ [])) ⊎ IsRemoved o (known o e.conditions (f ∷ [])) f
 
--- each effect of the operator has the property
+-- all effects of the operator have the property
 abbrev pub OfEffects : Operator → (Effect → Type 0) → Type 0
 OfEffects o P = (effect : ℕ) → effect < length o.effects → P (effect_at o effect)
 
--- where an effect sets a fact of the group, no other effect sets another in the same step
+-- if the effect sets a fact of the group, no other effect sets another one in the same step
 abbrev pub IsSingle : (List Fact → Type 0) → Operator → List Fact → Effect → Type 0
 IsSingle Counts o group e = Contains group (sets e) → OfEffects o (NotBoth Counts o group e)
 
--- where an effect sets a fact of the group, no other fact of it stays
+-- if the effect sets a fact of the group, no other fact of the group remains
 abbrev pub RemovesAll : (List Fact → Type 0) → Operator → List Fact → Effect → Type 0
 RemovesAll Counts o group e = Contains group (sets e) → All (IsGone Counts o e) group
 
--- the second fact holds in the state section only if it is the first one
+-- if the second fact holds in the state section, it is the first fact
 abbrev pub IsOnlyOne : List ℕ → Fact → Fact → Type 0
 IsOnlyOne init f g = Holds (slice_index init) g → f ≡ g
 
--- the verdict on a group before operators are checked; `Exclusive` then means that no reason
--- against the group was found so far
+-- the verdict on a group before operators are checked; `Exclusive` means that the group may be
+-- exclusive
 abbrev pub IsFirstVerdict : Parts → List Fact → Verdict → Type 0
 IsFirstVerdict p group Derived = IsOnBasic p group → ⊥
 IsFirstVerdict p group Initial = IsOnBasic p group × (IsExclusiveIn p.init group → ⊥)

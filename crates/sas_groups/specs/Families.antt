@@ -1,4 +1,5 @@
--- Families of a task's groups that keep one another. A family is a test on the places of groups.
+-- Families of groups of a task that are preserved jointly. A family is a predicate on the indexes
+-- of groups.
 use Rattle.std.specs.Prelude.{◌≡◌, ◌⊎◌, ℕ, ◌<◌, Bool, IsTrue, List, length, All}
 use Rattle.sas_core.specs.declared.parts.Fact.{Fact}
 use Rattle.sas_core.specs.declared.parts.Operator.{Operator}
@@ -8,36 +9,36 @@ use Rattle.sas_groups.specs.Clashes.{Keeps}
 use Rattle.sas_meaning.specs.Layers.{IsBasic}
 use Rattle.sas_groups.specs.Groups.{IsExclusiveIn}
 
--- no fact of the group is on a derived variable
+-- all facts of the group are on basic variables
 abbrev pub IsOnBasic : Parts → List Fact → Type 0
 IsOnBasic p group = All (λ (f : Fact). IsBasic p f.var) group
 
--- what the criterion asks first: the facts are on basic variables, and no two different ones hold
--- in the state section
+-- the group may be exclusive: its facts are on basic variables, and no two different ones hold in
+-- the state section
 pub record MayBeExclusive (p : Parts) (group : List Fact) : Type 0 where
   pub basic : IsOnBasic p group
   pub initial : IsExclusiveIn p.init group
 
--- a place of the family
+-- the group with this index exists and is in the family
 pub record IsIn (p : Parts) (family : ℕ → Bool) (place : ℕ) : Type 0 where
   pub exists : place < length p.groups
   pub chosen : IsTrue (family place)
 
--- a group of the family
+-- the group is in the family
 abbrev pub IsGroupOf : Parts → (ℕ → Bool) → List Fact → Type 0
 IsGroupOf p family group = (place : ℕ) × IsIn p family place × (group ≡ group_at p place)
 
--- every operator keeps the group, where these groups count
+-- every operator preserves the group, given the assumed groups
 abbrev pub AllKeep : Parts → (List Fact → Type 0) → List Fact → Type 0
 AllKeep p Counts group = All (λ (o : Operator). Keeps Counts o group) p.operators
 
--- a family is kept jointly if each group of it may be exclusive, and every operator keeps each
--- under the family
+-- a family is preserved jointly if each of its groups may be exclusive and every operator preserves
+-- each of its groups, assuming the groups of the family
 pub record IsKeptJointly (p : Parts) (family : ℕ → Bool) : Type 0 where
   pub may : (place : ℕ) → IsIn p family place → MayBeExclusive p (group_at p place)
   pub kept : (place : ℕ) → IsIn p family place → AllKeep p (IsGroupOf p family) (group_at p place)
 
--- the greatest such family has the groups of every other
+-- the greatest such family contains the groups of every other one
 pub record IsGreatest (p : Parts) (family : ℕ → Bool) : Type 0 where
   pub jointly : IsKeptJointly p family
   pub greatest : (other : ℕ → Bool) → IsKeptJointly p other

@@ -1,4 +1,4 @@
--- The verdicts on all groups of a task.
+-- The joint verdicts on all groups of a task.
 use Rattle.std.specs.Prelude.{◌≡◌, ℕ, ◌<◌, List, length, slice_index_or}
 use Rattle.sas_core.specs.declared.parts.Parts.{Parts}
 use Rattle.sas_core.specs.Grounded.{group_at}
@@ -7,7 +7,7 @@ use Rattle.sas_groups.specs.declared.verdict.Verdict.TheVariants.{Exclusive}
 use Rattle.sas_groups.specs.Groups.{IsInvariant}
 use Rattle.sas_groups.specs.Verdicts.{IsJointVerdict}
 
--- the verdict on the group at this place; behind the last group it is exclusive
+-- the verdict on the group with this index; past the last group, `Exclusive`
 abbrev pub verdict_at : List Verdict → ℕ → Verdict
 verdict_at verdicts place = slice_index_or verdicts place Exclusive
 
@@ -17,7 +17,7 @@ pub record AreJointVerdicts (p : Parts) (verdicts : List Verdict) : Type 0 where
   pub are : (place : ℕ) → place < length p.groups
       → IsJointVerdict p place (verdict_at verdicts place)
 
--- the groups that are exclusive by these verdicts are invariants of the task
+-- the groups with the verdict `Exclusive` are invariants of the task
 abbrev pub AreInvariants : Parts → List Verdict → Type 0
 AreInvariants p verdicts = (place : ℕ) → place < length p.groups
     → verdict_at verdicts place ≡ Exclusive → IsInvariant p (group_at p place)

@@ -1,5 +1,4 @@
--- The facts that hold where effects of an operator fire, and those of them that an iterator has
--- still to return.
+-- The facts that hold when effects of an operator fire, and the remaining facts of their iterators.
 use Rattle.std.specs.Prelude.{List, [], ◌++◌, filter_map, Option, None, Some}
 use Rattle.std.specs.Option.{option_to_list}
 use Rattle.sas_core.specs.declared.parts.Fact.{Fact}
@@ -12,24 +11,24 @@ use Rattle.sas_groups.specs.declared.facts.Facts.{Facts}
 use Rattle.sas_groups.specs.declared.known.Known.{Known}
 use Rattle.sas_groups.specs.declared.known.Premises.{Premises}
 
--- the conditions of an effect, if there is one
+-- the conditions of an effect; none if there is no effect
 abbrev pub conditions_of : Option Effect → List Fact
 conditions_of None = []
 conditions_of (Some e) = e.conditions
 
--- the facts that `Facts` has still to return
+-- the remaining facts of `Facts`
 abbrev pub facts_left : Facts → List Fact
 facts_left it = it.prevail.now ++ (filter_map old_fact it.effects.now
     ++ (it.first.now ++ (it.second.now ++ option_to_list it.extra)))
 
--- an operator's preconditions, and two lists of facts
+-- the known facts: the preconditions of an operator and two lists of facts
 abbrev pub known : Operator → List Fact → List Fact → List Fact
 known o first second = preconditions o ++ first ++ second
 
--- the same for these premises
+-- the known facts of these premises
 abbrev pub known_on : Parts → Premises → List Fact
 known_on p premises = known (operator_at p premises.operator) premises.first.now premises.second.now
 
--- the facts that `Known` has still to return
+-- the remaining facts of `Known`
 abbrev pub known_left : {T : Type 0} → Known T → List Fact
 known_left it = it.preconditions ++ it.first.now ++ it.second.now

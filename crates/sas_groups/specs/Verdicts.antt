@@ -1,4 +1,4 @@
--- The verdicts on groups.
+-- The verdicts on mutex groups.
 use Rattle.std.specs.Prelude.{◌≡◌, ℕ, ◌<◌, Bool, List, length}
 use Rattle.sas_core.specs.declared.parts.Fact.{Fact}
 use Rattle.sas_core.specs.declared.parts.Parts.{Parts}
@@ -9,14 +9,14 @@ use Rattle.sas_groups.specs.Clashes.{Keeps}
 use Rattle.sas_groups.specs.Groups.{IsExclusiveIn}
 use Rattle.sas_groups.specs.Families.{IsIn, IsOnBasic, AllKeep, IsGreatest, IsGroupOfOr}
 
--- the lowest-numbered operator that doesn't keep the group
+-- the first operator that doesn't preserve the group
 pub record IsFirstBreaking (p : Parts) (Counts : List Fact → Type 0) (group : List Fact)
     (operator : ℕ) : Type 0 where
   pub exists : operator < length p.operators
   pub breaks : Keeps Counts (operator_at p operator) group → ⊥
   pub first : (lower : ℕ) → lower < operator → Keeps Counts (operator_at p lower) group
 
--- the verdict on a group by itself: the group alone counts
+-- the verdict on a group alone: only the group itself is assumed
 abbrev pub IsVerdictAlone : Parts → List Fact → Verdict → Type 0
 IsVerdictAlone p group Derived = IsOnBasic p group → ⊥
 IsVerdictAlone p group Initial = IsOnBasic p group × (IsExclusiveIn p.init group → ⊥)
@@ -27,10 +27,10 @@ IsVerdictAlone p group Exclusive = IsOnBasic p group
     × IsExclusiveIn p.init group
     × AllKeep p (λ g. g ≡ group) group
 
--- The joint verdict on the group at this place. It is derived or initial where the verdict on the
--- group by itself is. The groups of the greatest family that is kept jointly are exclusive. Any
--- other group is broken by the lowest operator that doesn't keep it under that family and the group
--- itself.
+-- The joint verdict on the group with this index. `Derived` and `Initial` are as for the group
+-- alone. The groups of the greatest family that is preserved jointly are `Exclusive`. Any other
+-- group is broken by the first operator that doesn't preserve it, assuming that family and the
+-- group itself.
 abbrev pub IsJointVerdict : Parts → ℕ → Verdict → Type 0
 IsJointVerdict p place Derived = IsOnBasic p (group_at p place) → ⊥
 IsJointVerdict p place Initial = IsOnBasic p (group_at p place)

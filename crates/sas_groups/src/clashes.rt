@@ -1,4 +1,4 @@
-// Which facts clash.
+// Which facts exclude each other.
 ghost use Rattle.std.specs.Prelude.{◌<◌, ◌↔◌, length, All, Contains, IsTrue, IsFalse};
 ghost use Rattle.sas_groups.specs.Clashes.{Contradict, Clash};
 ghost use Rattle.sas_groups.specs.Checks.{Alone, Has};
@@ -8,14 +8,14 @@ use crate::known::{Known, Premises};
 use sas_core::{Fact, Grounded};
 use sas_meaning::Layered;
 
-/// Returns whether the fact is one of the facts.
+/// Returns whether `facts` contains `fact`.
 pub fn contains(facts: &[Fact], fact: Fact) -> bool
     ensures { IsTrue result ↔ Contains facts.now fact }
 {
     facts.iter().any(|x| *x == fact)
 }
 
-/// Returns whether the two facts contradict each other.
+/// Returns whether the two facts contradict each other: two values of a variable, or two different facts of the group.
 fn contradict(group: &[Fact], f: Fact, g: Fact) -> bool
     ensures yes { IsTrue result → Contradict (Alone group.now) f g }
     ensures no { IsFalse result → Contradict (Alone group.now) f g → ⊥ }
@@ -27,7 +27,7 @@ fn contradict(group: &[Fact], f: Fact, g: Fact) -> bool
     }
 }
 
-/// Returns whether the fact contradicts one that is known.
+/// Returns whether the fact contradicts a known fact.
 fn contradicts_known<T: Grounded>(
     task: &Layered<T>,
     premises: &Premises<'_>,
@@ -48,7 +48,7 @@ fn contradicts_known<T: Grounded>(
     false
 }
 
-/// Returns whether the known facts clash.
+/// Returns whether two of the known facts contradict each other.
 pub fn clash<T: Grounded>(task: &Layered<T>, premises: &Premises<'_>, group: &[Fact]) -> bool
     requires { premises.now.operator < length task.now.operators }
     ensures yes { IsTrue result → Clash (Alone group.now) (known_on task.now premises.now) }

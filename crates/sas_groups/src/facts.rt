@@ -1,4 +1,4 @@
-// The facts that hold where effects of an operator fire, for tasks whose parts are at hand.
+// The facts that hold when effects of an operator fire. For tasks given as `Parts`.
 ghost use Rattle.std.specs.Prelude.{◌≡◌, ◌++◌, filter_map, option_map};
 ghost use Rattle.std.specs.Option.{option_to_list};
 ghost use Rattle.std.specs.Iterator.{YieldsFirst, item_count};
@@ -7,9 +7,9 @@ ghost use Rattle.sas_groups.specs.Lists.{facts_left, conditions_of};
 
 use sas_core::{Effect, Fact, Operator};
 
-/// An iterator over the facts that hold where up to two effects of an operator fire: its prevail conditions, the old values
-/// that its effects require, the conditions of the first effect and of the second, and one fact more. It copies nothing and
-/// takes no memory. The facts that it has still to return are `facts_left`.
+/// Iterates over the facts that hold before a step in which up to two effects of an operator fire: its prevail conditions, the old values
+/// of its effects, the conditions of the first and of the second effect, and one additional fact. Copies nothing and allocates no memory.
+/// `facts_left` are the remaining facts.
 #[derive(Clone, Copy)]
 pub struct Facts<'a> {
     prevail: &'a [Fact],
@@ -20,7 +20,7 @@ pub struct Facts<'a> {
 }
 
 impl<'a> Facts<'a> {
-    /// Returns an iterator over all of these facts.
+    /// Returns an iterator over all these facts.
     pub fn new(
         operator: &'a Operator,
         first: Option<&'a Effect>,
@@ -75,7 +75,7 @@ impl<'a> Iterator for Facts<'a> {
     }
 }
 
-/// Returns the conditions of the effect, and none if there is no effect.
+/// Returns the conditions of the effect, or no conditions for `None`.
 fn conditions<'a>(effect: Option<&'a Effect>) -> &'a [Fact]
     ensures { result.now ≡ conditions_of (option_map (λ e. e.now) effect.entry) }
 {

@@ -1,4 +1,4 @@
-// The check of one group by itself.
+// Checks a single group.
 ghost use Rattle.std.specs.Prelude.{◌≡◌, ◌<◌, ◌↔◌, length, All, Contains, IsTrue, IsFalse, IfSome, IfNone, slice_index};
 ghost use Rattle.sas_core.specs.Variables.{FactExists};
 ghost use Rattle.sas_meaning.specs.States.{Holds};
@@ -14,14 +14,14 @@ use crate::verdict::Verdict;
 use sas_core::{Fact, Grounded};
 use sas_meaning::Layered;
 
-/// Returns the verdict on a group by itself, where its facts alone are known to exclude each other. It takes no memory.
+/// Returns the verdict on a group, using only the group itself as an assumption. Allocates no memory.
 ///
-/// The order is: a fact on a derived variable; two different facts that hold in the state section; the first operator
-/// that doesn't keep the group.
+/// The checks are, in this order: a fact on a derived variable; two different facts that hold in the state section; the first operator that
+/// doesn't preserve the group.
 pub fn check_group<T: Grounded>(layered: &Layered<T>, group: &[Fact]) -> Verdict
     requires { All (FactExists layered.now.variables) group.now }
     ensures verdict { IsVerdictAlone layered.now group.now result }
-    // Of an exclusive group no reachable state holds two different facts.
+    // If the group is exclusive, no reachable state contains two different facts of it.
     ensures invariant { result ≡ Verdict.Exclusive → IsInvariant layered.now group.now }
 {
     match before_operators(layered, group) {
@@ -33,7 +33,7 @@ pub fn check_group<T: Grounded>(layered: &Layered<T>, group: &[Fact]) -> Verdict
     }
 }
 
-/// What is said of a group before operators are asked: that it is exclusive so far, or what speaks against that.
+/// Returns the verdict on a group before operators are checked: `Derived`, `Initial`, or `Exclusive` if neither applies.
 pub fn before_operators<T: Grounded>(task: &Layered<T>, group: &[Fact]) -> Verdict
     requires { All (λ f. f.var < length task.now.variables) group.now }
     ensures { IsFirstVerdict task.now group.now result }
@@ -47,7 +47,7 @@ pub fn before_operators<T: Grounded>(task: &Layered<T>, group: &[Fact]) -> Verdi
     Verdict::Exclusive
 }
 
-/// Whether all the facts are on basic variables.
+/// Returns whether all facts are on basic variables.
 fn is_on_basic<T: Grounded>(task: &Layered<T>, group: &[Fact]) -> bool
     requires { All (λ f. f.var < length task.now.variables) group.now }
     ensures yes { IsTrue result → IsOnBasic task.now group.now }
@@ -61,7 +61,7 @@ fn is_on_basic<T: Grounded>(task: &Layered<T>, group: &[Fact]) -> bool
     true
 }
 
-/// Whether no two different facts hold in the state section.
+/// Returns whether the state section contains no two different facts of the group.
 fn is_exclusive_in_section<T: Grounded>(task: &Layered<T>, group: &[Fact]) -> bool
     requires { All (λ f. f.var < length task.now.variables) group.now }
     ensures yes { IsTrue result → IsExclusiveIn task.now.init group.now }
@@ -73,7 +73,7 @@ fn is_exclusive_in_section<T: Grounded>(task: &Layered<T>, group: &[Fact]) -> bo
     }
 }
 
-/// The first fact that holds in the state section.
+/// Returns the first fact that holds in the state section, if any.
 fn first_holding<T: Grounded>(task: &Layered<T>, group: &[Fact]) -> Option<Fact>
     requires { All (λ f. f.var < length task.now.variables) group.now }
     ensures some { IfSome result
@@ -89,7 +89,7 @@ fn first_holding<T: Grounded>(task: &Layered<T>, group: &[Fact]) -> Option<Fact>
     None
 }
 
-/// Whether no other fact holds in the state section.
+/// Returns whether no fact of the group other than `fact` holds in the state section.
 fn is_only_one<T: Grounded>(task: &Layered<T>, group: &[Fact], fact: Fact) -> bool
     requires { All (λ f. f.var < length task.now.variables) group.now }
     ensures yes { IsTrue result → All (IsOnlyOne task.now.init fact) group.now }
@@ -103,7 +103,7 @@ fn is_only_one<T: Grounded>(task: &Layered<T>, group: &[Fact], fact: Fact) -> bo
     true
 }
 
-/// Whether the fact holds in the state section.
+/// Returns whether the fact holds in the state section.
 fn holds<T: Grounded>(task: &Layered<T>, fact: Fact) -> bool
     requires { fact.var < length task.now.variables }
     ensures { IsTrue result ↔ Holds (slice_index task.now.init) fact }
@@ -111,7 +111,7 @@ fn holds<T: Grounded>(task: &Layered<T>, fact: Fact) -> bool
     task.initial_value(fact.var) == fact.value
 }
 
-/// The first operator that doesn't keep the group.
+/// Returns the first operator that doesn't preserve the group, if any.
 fn first_breaking<T: Grounded>(task: &Layered<T>, group: &[Fact]) -> Option<u32>
     ensures some { IfSome result
         (λ operator. IsFirstBreaking task.now (Alone group.now) group.now operator) }

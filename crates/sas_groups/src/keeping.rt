@@ -1,4 +1,4 @@
-// Which operators keep a group.
+// Which operators preserve a group.
 ghost use Rattle.std.specs.Prelude.{◌≡◌, ◌<◌, length, IsTrue, IsFalse};
 ghost use Rattle.sas_core.specs.Grounded.{operator_at, effect_at};
 ghost use Rattle.sas_groups.specs.Clashes.{Keeps};
@@ -10,7 +10,7 @@ use crate::removal::is_removed;
 use sas_core::{Fact, Grounded};
 use sas_meaning::Layered;
 
-/// Returns whether the operator keeps the group.
+/// Returns whether the operator preserves the group.
 pub fn keeps<T: Grounded>(task: &Layered<T>, operator: u32, group: &[Fact]) -> bool
     requires { operator < length task.now.operators }
     ensures yes { IsTrue result
@@ -37,7 +37,7 @@ fn never_sets_two<T: Grounded>(task: &Layered<T>, operator: u32, group: &[Fact])
     true
 }
 
-/// Returns whether no effect that may fire together with this one sets a fact of the group too, on another variable.
+/// Returns whether no effect that may fire together with this one sets another fact of the group on another variable.
 fn is_single<T: Grounded>(task: &Layered<T>, operator: u32, group: &[Fact], effect: u32) -> bool
     requires operator { operator < length task.now.operators }
     requires effect { effect < length (operator_at task.now operator).effects }
@@ -59,7 +59,7 @@ fn is_single<T: Grounded>(task: &Layered<T>, operator: u32, group: &[Fact], effe
     true
 }
 
-/// Returns whether the other effect never sets a fact of the group on another variable in the same step as this effect fires.
+/// Returns whether the other effect can't set a fact of the group on another variable in the same step in which this effect fires.
 fn not_both<T: Grounded>(
     task: &Layered<T>,
     operator: u32,
@@ -93,7 +93,7 @@ fn not_both<T: Grounded>(
     clash(task, &both, group)
 }
 
-/// Returns whether no effect sets a fact of the group while another fact of it stays.
+/// Returns whether no effect sets a fact of the group while another fact of the group remains.
 fn removes_others<T: Grounded>(task: &Layered<T>, operator: u32, group: &[Fact]) -> bool
     requires { operator < length task.now.operators }
     ensures yes { IsTrue result → OfEffects (operator_at task.now operator)
@@ -109,7 +109,7 @@ fn removes_others<T: Grounded>(task: &Layered<T>, operator: u32, group: &[Fact])
     true
 }
 
-/// Returns whether no other fact of the group stays where this effect sets one.
+/// Returns whether no other fact of the group remains when this effect sets one.
 fn removes_all<T: Grounded>(task: &Layered<T>, operator: u32, group: &[Fact], effect: u32) -> bool
     requires operator { operator < length task.now.operators }
     requires effect { effect < length (operator_at task.now operator).effects }
@@ -131,7 +131,7 @@ fn removes_all<T: Grounded>(task: &Layered<T>, operator: u32, group: &[Fact], ef
     true
 }
 
-/// Returns whether this fact doesn't stay where the effect fires, if the fact is on another variable than the effect.
+/// Returns whether this fact can't remain when the effect fires. True if the fact is on the variable of the effect.
 fn is_gone<T: Grounded>(
     task: &Layered<T>,
     operator: u32,

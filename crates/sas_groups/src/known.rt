@@ -1,4 +1,4 @@
-// The facts that hold where effects of an operator of a task fire.
+// The facts that hold when effects of an operator of a task fire.
 ghost use Rattle.std.specs.Prelude.{◌≡◌, ◌<◌, length};
 ghost use Rattle.std.specs.Iterator.{YieldsFirst, item_count};
 ghost use Rattle.sas_groups.specs.Lists.{known_on, known_left};
@@ -6,7 +6,7 @@ ghost use Rattle.sas_groups.specs.Lists.{known_on, known_left};
 use sas_core::{Fact, Grounded};
 use sas_meaning::{Layered, Preconditions};
 
-/// What is known where effects fire: the preconditions of their operator, and the facts of two lists.
+/// An operator and two lists of facts. The known facts are the preconditions of the operator and the facts of the lists.
 #[derive(Clone, Copy)]
 pub struct Premises<'a> {
     pub operator: u32,
@@ -14,8 +14,7 @@ pub struct Premises<'a> {
     pub second: &'a [Fact],
 }
 
-/// An iterator over an operator's preconditions, then the facts of two lists. The facts that it has still to return are
-/// `known_left`.
+/// Iterates over the preconditions of an operator, then over two lists of facts. `known_left` are the remaining facts.
 #[derive(Drop)]
 pub struct Known<'a, 'b, T: Grounded> {
     preconditions: Preconditions<'a, Layered<T>>,
@@ -24,7 +23,7 @@ pub struct Known<'a, 'b, T: Grounded> {
 }
 
 impl<'a, 'b, T: Grounded> Known<'a, 'b, T> {
-    /// Returns an iterator over all facts that are known on these premises.
+    /// Returns an iterator over all known facts of these premises.
     pub fn new(task: &'a Layered<T>, premises: &Premises<'b>) -> Known<'a, 'b, T>
         requires { premises.now.operator < length task.now.operators }
         ensures { known_left result ≡ known_on task.now premises.now }

@@ -1,4 +1,4 @@
-//! Mutex groups: whether a group of facts is an invariant, by itself or jointly with others.
+//! Mutex groups: whether a group of facts is an invariant, alone or jointly with other groups.
 #![tactic(auto)]
 
 mod clashes;

@@ -1,4 +1,4 @@
-// Whether a fact is removed.
+// Whether an operator removes a fact.
 ghost use Rattle.std.specs.Prelude.{◌<◌, length, All, Contains, IsTrue, IsFalse};
 ghost use Rattle.sas_core.specs.Grounded.{operator_at, effect_at};
 ghost use Rattle.sas_groups.specs.Clashes.{IsRemoved};
@@ -9,7 +9,7 @@ use crate::known::{Known, Premises};
 use sas_core::{Fact, Grounded};
 use sas_meaning::Layered;
 
-/// Returns whether the fact is known.
+/// Returns whether the fact is a known fact.
 fn is_known<T: Grounded>(task: &Layered<T>, premises: &Premises<'_>, fact: Fact) -> bool
     requires { premises.now.operator < length task.now.operators }
     ensures yes { IsTrue result → Contains (known_on task.now premises.now) fact }
@@ -23,7 +23,7 @@ fn is_known<T: Grounded>(task: &Layered<T>, premises: &Premises<'_>, fact: Fact)
     false
 }
 
-/// Returns whether all the conditions are known.
+/// Returns whether all conditions are known facts.
 fn all_known<T: Grounded>(task: &Layered<T>, premises: &Premises<'_>, conditions: &[Fact]) -> bool
     requires { premises.now.operator < length task.now.operators }
     ensures yes { IsTrue result → All (Contains (known_on task.now premises.now)) conditions.now }
@@ -38,7 +38,7 @@ fn all_known<T: Grounded>(task: &Layered<T>, premises: &Premises<'_>, conditions
     true
 }
 
-/// Returns whether an effect of the operator whose conditions are all known sets the variable of the fact to another value.
+/// Returns whether some effect of the operator, all of whose conditions are known, sets the variable of the fact to another value.
 pub fn is_removed<T: Grounded>(task: &Layered<T>, premises: &Premises<'_>, fact: Fact) -> bool
     requires { premises.now.operator < length task.now.operators }
     ensures yes { IsTrue result → IsRemoved (operator_at task.now premises.now.operator)
@@ -54,7 +54,7 @@ pub fn is_removed<T: Grounded>(task: &Layered<T>, premises: &Premises<'_>, fact:
     false
 }
 
-/// Returns whether the effect's conditions are all known, and it sets the variable of the fact to another value.
+/// Returns whether all conditions of the effect are known and it sets the variable of the fact to another value.
 fn removes<T: Grounded>(task: &Layered<T>, premises: &Premises<'_>, effect: u32, fact: Fact) -> bool
     requires operator { premises.now.operator < length task.now.operators }
     requires effect { effect < length (operator_at task.now premises.now.operator).effects }

@@ -1,14 +1,14 @@
-// The verdict on a group.
+// The verdict on a mutex group.
 
-/// Whether a group is shown to be exclusive: that no reachable state holds two different facts of it.
+/// Whether a group is shown to be exclusive, that is, no reachable state contains two different facts of it.
 #[derive(Clone, Copy, Debug, PartialEq, Eq)]
 pub enum Verdict {
-    /// It is shown to be exclusive.
+    /// The group is shown to be exclusive.
     Exclusive,
-    /// A fact of it is on a derived variable. The criterion covers groups on basic variables alone.
+    /// The group has a fact on a derived variable. The criterion only covers groups on basic variables.
     Derived,
-    /// Two different facts of it hold in the state section.
+    /// The state section contains two different facts of the group.
     Initial,
-    /// This operator doesn't keep it, and every lower-numbered operator does.
+    /// This operator doesn't preserve the group, and all operators with lower numbers do.
     Broken { operator: u32 },
 }

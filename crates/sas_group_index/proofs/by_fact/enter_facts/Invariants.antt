@@ -1,4 +1,4 @@
--- The entries for the first facts.
+-- The list contains the entries of the facts so far.
 use Rattle.std.proofs.Common.{◌≡◌, ◌++◌, take}
 use Rattle.sas_group_index.specs.Index.{entries_of}
 use Rattle.sas_group_index.proofs.by_fact.enter_facts.Given as goal

@@ -1,4 +1,5 @@
--- Each turn enters a group. The numbers of facts are below how many there are, and so are the keys.
+-- Each iteration adds a group. The numbers of facts, which are the keys, are below the number of
+-- facts.
 use Rattle.std.proofs.Common.{◌≡◌, ◌<◌, ◌++◌, List, length, sym, ap, subst, ◌∙◌, arith}
 use Rattle.std.specs.List.{All}
 use Rattle.std.proofs.lemmas.Result.{IfOk-weaker}

@@ -1,4 +1,4 @@
--- The entries of the first groups.
+-- The list contains the entries of the groups so far.
 use Rattle.sas_group_index.specs.Distinct.{facts_at}
 use Rattle.sas_group_index.proofs.Entering.{EnteredUpTo}
 use Rattle.sas_group_index.proofs.by_fact.groups_by_fact.Given as goal

@@ -1,4 +1,4 @@
--- One operator more is gone through. In the end all large ones are entered.
+-- One more operator is processed. In the end all large operators have entries.
 use Rattle.std.proofs.Common.{◌≡◌, length, sym, ap, subst, ◌∙◌, arith}
 use Rattle.std.proofs.lemmas.Result.{IfOk-weaker}
 use Rattle.sas_lists.specs.ByKey.{by_key}

@@ -1,4 +1,4 @@
--- The effects of the large operators so far are entered.
+-- The large operators so far have entries.
 use Rattle.std.proofs.Common.{ℕ, ◌<◌}
 use Rattle.std.specs.List.{All}
 use Rattle.sas_lists.specs.declared.by_key.Entry.{Entry}

@@ -1,4 +1,4 @@
--- The effects so far are entered.
+-- The effects so far have entries.
 use Rattle.std.proofs.Common.{ℕ, ◌<◌}
 use Rattle.std.specs.List.{All}
 use Rattle.sas_lists.specs.declared.by_key.Entry.{Entry}

@@ -1,4 +1,4 @@
--- There is a place.
+-- The number is at least 1.
 use Rattle.std.proofs.Common.{◌<◌}
 use Rattle.sas_group_index.proofs.by_variable.number_of_places.Given as goal
 

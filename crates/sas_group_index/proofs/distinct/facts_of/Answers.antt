@@ -1,4 +1,4 @@
--- An own list that isn't empty stands for the listed one.
+-- A nonempty own list replaces the list in the task.
 use Rattle.std.proofs.Common.{◌≡◌, ◌<◌, List, [], length, get_or, rules, ap, subst, ◌∙◌, arith}
 use Rattle.std.proofs.Math.ListN.{get_or-eq_default}
 use Rattle.sas_core.specs.declared.parts.Fact.{Fact}

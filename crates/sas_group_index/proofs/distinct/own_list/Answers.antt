@@ -1,4 +1,4 @@
--- A list that is put in order and loses what it repeats has the same facts.
+-- Sorting a list and removing duplicates preserves its facts.
 use Rattle.std.proofs.Common.{rules}
 use Rattle.sas_group_index.proofs.InOrder.{none_own, own_once, in_order_once, fact_order}
 use Rattle.sas_group_index.specs.Distinct.{AreDistinct}

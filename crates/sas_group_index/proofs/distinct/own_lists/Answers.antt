@@ -1,4 +1,4 @@
--- One group more has its list, or needs none.
+-- One more group has an own list, or doesn't need one.
 use Rattle.std.proofs.Common.{rules, arith, ◌≡◌, ◌++◌, ◌∷◌, [], length}
 use Rattle.sas_core.specs.Grounded.{group_at}
 use Rattle.sas_group_index.specs.Distinct.{own_or, AreDistinct}

@@ -1,4 +1,4 @@
--- The first groups have their lists.
+-- The groups so far have their own lists.
 use Rattle.std.proofs.Common.{ℕ, ◌<◌, ◌≤◌, length}
 use Rattle.sas_core.specs.Grounded.{group_at}
 use Rattle.sas_group_index.specs.Distinct.{facts_at, AreDistinct}

@@ -1,4 +1,4 @@
--- One more fact is forgotten, and in the end all are.
+-- One more fact is removed; in the end all are.
 use Rattle.std.proofs.Common.{length, get_or, refl, subst, arith}
 use Rattle.sas_core.specs.declared.parts.Fact.{Fact}
 use Rattle.sas_core.specs.declared.parts.Parts.{Parts}

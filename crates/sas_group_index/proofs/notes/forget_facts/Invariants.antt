@@ -1,4 +1,4 @@
--- Nothing is noted of the facts so far.
+-- Nothing is recorded for the facts so far.
 use Rattle.std.proofs.Common.{ℕ, ◌<◌, get_or}
 use Rattle.sas_core.specs.declared.parts.Fact.{Fact}
 use Rattle.sas_group_index.specs.Notes.{AreFrom}

@@ -1,4 +1,4 @@
--- Nothing is noted for the groups so far.
+-- Nothing is recorded for the groups so far.
 use Rattle.std.proofs.Common.{◌≡◌, ◌⊎◌, ℕ, ◌<◌, get_or, length}
 use Rattle.sas_group_index.specs.declared.notes.Noted.TheVariants.{Nothing}
 use Rattle.sas_group_index.specs.Notes.{group_note}

@@ -1,4 +1,4 @@
--- No fact is noted for the groups so far that are kept.
+-- No fact is recorded for the groups so far that are in the family.
 use Rattle.std.proofs.Common.{◌≡◌, ℕ, ◌<◌, get_or, IsTrue}
 use Rattle.sas_group_index.specs.declared.notes.Noted.TheVariants.{Nothing}
 use Rattle.sas_group_index.specs.Kept.{family_of}

@@ -1,4 +1,4 @@
--- What is noted changes at the fact's variable and groups at most.
+-- Only the records of the fact's variable and groups change.
 use Rattle.std.proofs.Common.{ℕ, ◌≡◌, List, Option, None, Some, length, refl, sym, ap, subst, ◌∙◌, inl, inr, rules}
 use Rattle.std.specs.List.{Contains}
 use Rattle.std.proofs.lemmas.Bool.{true≢false, cases_eq, eqb-false}

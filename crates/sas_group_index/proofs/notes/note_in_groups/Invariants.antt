@@ -1,4 +1,4 @@
--- The groups so far took the fact.
+-- The fact is recorded for the groups so far.
 use Rattle.std.proofs.Common.{ℕ, ◌<◌, get_or}
 use Rattle.sas_group_index.specs.Noting.{TakenBySome, Takes}
 use Rattle.sas_group_index.proofs.notes.note_in_groups.Given as goal

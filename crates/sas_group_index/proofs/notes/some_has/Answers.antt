@@ -1,4 +1,4 @@
--- A group of the one fact, if it is kept, has the other fact or not.
+-- A group of the one fact that is in the family contains the other fact, or doesn't.
 use Rattle.std.proofs.Common.{ℕ, List, length, get_or, sym, ap, subst, ◌∙◌, below_more, arith, IsTrue}
 use Rattle.std.specs.List.{Contains}
 use Rattle.std.proofs.lemmas.Bool.{true≢false}

@@ -1,4 +1,4 @@
--- None of the groups so far that are kept has the other fact.
+-- None of the groups so far that are in the family contains the other fact.
 use Rattle.std.proofs.Common.{ℕ, ◌<◌, get_or, IsTrue}
 use Rattle.std.specs.List.{Contains}
 use Rattle.sas_group_index.specs.Index.{groups_of}

@@ -1,4 +1,4 @@
--- The fact that is chosen is one of them.
+-- The chosen fact is one of the facts.
 use Rattle.std.specs.List.{Contains}
 use Rattle.std.specs.Prelude.{IfSome}
 use Rattle.sas_group_index.proofs.notes.widest_of.Given as goal

@@ -1,4 +1,4 @@
--- One fact more is on the variable.
+-- One more fact is on the variable.
 use Rattle.sas_group_index.proofs.RunLengths.{on_more}
 use Rattle.sas_group_index.proofs.runs.run_length.Goals as goal
 

@@ -1,4 +1,4 @@
--- One run more.
+-- One more run.
 use Rattle.sas_group_index.proofs.RunLengths.{next_run}
 use Rattle.sas_group_index.proofs.runs.runs_in.Goals as goal
 

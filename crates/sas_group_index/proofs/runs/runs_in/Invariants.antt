@@ -1,4 +1,4 @@
--- The facts before those that are left fall into the runs so far.
+-- The facts so far consist of the runs so far.
 use Rattle.std.proofs.Common.{◌≡◌, ◌++◌, List, length}
 use Rattle.sas_core.specs.declared.parts.Fact.{Fact}
 use Rattle.sas_group_index.specs.Runs.{AreRuns}

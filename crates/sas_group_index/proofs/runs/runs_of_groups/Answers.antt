@@ -1,4 +1,4 @@
--- One group more has its runs.
+-- One more group has its runs.
 use Rattle.std.proofs.Common.{ℕ, ◌<◌, ◌+◌, List, [], length, get_or, sym, ap, subst, ◌∙◌, below_more, arith}
 use Rattle.std.proofs.lemmas.List.{get_or_append_left, get_or_push, length_push}
 use Rattle.sas_core.specs.declared.parts.Fact.{Fact}

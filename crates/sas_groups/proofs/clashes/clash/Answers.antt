@@ -1,4 +1,4 @@
--- One more fact came.
+-- One more fact is processed.
 use Rattle.std.specs.List.{All}
 use Rattle.std.proofs.lemmas.List.Elements.{All-contains}
 use Rattle.sas_core.specs.declared.parts.Fact.{Fact}

@@ -1,4 +1,4 @@
--- None of those that came contradicts any.
+-- The facts so far contradict no known fact.
 use Rattle.std.proofs.Common.{◌≡◌, ◌++◌}
 use Rattle.std.specs.List.{All}
 use Rattle.sas_groups.specs.Clashes.{Contradict}

@@ -1,4 +1,4 @@
--- One more fact came.
+-- One more fact is processed.
 use Rattle.sas_core.specs.declared.parts.Fact.{Fact}
 use Rattle.sas_groups.specs.Clashes.{Contradict}
 use Rattle.sas_groups.specs.Checks.{Alone}

@@ -1,4 +1,4 @@
--- The fact contradicts none of those that came.
+-- The fact contradicts none of the facts so far.
 use Rattle.std.proofs.Common.{◌≡◌, ◌++◌}
 use Rattle.std.specs.List.{All}
 use Rattle.sas_groups.specs.Clashes.{Contradict}

@@ -1,4 +1,4 @@
--- The verdict on a group is what speaks against it first.
+-- The verdict is the first reason against the group.
 use Rattle.std.proofs.Common.{◌≡◌, List, refl}
 use Rattle.sas_core.specs.declared.parts.Fact.{Fact}
 use Rattle.sas_core.specs.declared.parts.Parts.{Parts}

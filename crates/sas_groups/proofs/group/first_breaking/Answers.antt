@@ -1,4 +1,4 @@
--- One more operator keeps the group.
+-- One more operator preserves the group.
 use Rattle.std.proofs.Common.{ℕ, [], sym, subst, inl, inr, arith, rules}
 use Rattle.std.proofs.lemmas.Bool.{cases_eq}
 use Rattle.std.proofs.lemmas.List.Elements.{All-from_get_or}

@@ -1,4 +1,4 @@
--- The operators so far keep the group.
+-- The operators so far preserve the group.
 use Rattle.std.proofs.Common.{ℕ, ◌<◌}
 use Rattle.sas_core.specs.Grounded.{operator_at}
 use Rattle.sas_groups.specs.Clashes.{Keeps}

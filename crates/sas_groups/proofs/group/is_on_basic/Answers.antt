@@ -1,4 +1,4 @@
--- The facts are looked at one by one.
+-- The facts are checked one by one.
 use Rattle.std.proofs.Common.{◌≡◌, ℕ, false, Option, None, Some, get_or, refl, sym, ap, ◌∙◌, inl, inr, arith}
 use Rattle.std.specs.Option.{is_some}
 use Rattle.std.proofs.lemmas.Bool.{cases_eq}

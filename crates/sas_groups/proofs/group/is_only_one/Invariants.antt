@@ -1,4 +1,4 @@
--- None of the facts so far is another one that holds.
+-- No other fact so far holds.
 use Rattle.std.proofs.Common.{ℕ, ◌<◌, get_or}
 use Rattle.sas_core.specs.declared.parts.Fact.{Fact}
 use Rattle.sas_groups.specs.Checks.{IsOnlyOne}

@@ -1,4 +1,4 @@
--- The fact would stay.
+-- The fact would remain.
 use Rattle.std.proofs.Common.{List, sym, ◌∙◌, ap, subst, inl, inr}
 use Rattle.sas_core.specs.declared.grounded.Change.{Change}
 use Rattle.sas_core.specs.declared.parts.Fact.{Fact}

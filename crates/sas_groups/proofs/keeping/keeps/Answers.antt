@@ -1,4 +1,4 @@
--- Both parts make the whole.
+-- An operator preserves the group if and only if both parts hold.
 use Rattle.sas_core.specs.Grounded.{operator_at}
 use Rattle.sas_groups.proofs.Effects.{keeps_from}
 use Rattle.sas_groups.proofs.keeping.keeps.Goals as goal

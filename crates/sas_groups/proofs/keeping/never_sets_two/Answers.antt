@@ -1,4 +1,4 @@
--- An effect that isn't single.
+-- Some effect isn't single.
 use Rattle.std.proofs.Common.{arith}
 use Rattle.sas_groups.proofs.keeping.never_sets_two.Goals as goal
 

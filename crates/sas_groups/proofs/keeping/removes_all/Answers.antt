@@ -1,4 +1,4 @@
--- One more fact is gone.
+-- One more fact doesn't remain.
 use Rattle.std.proofs.Common.{sym, subst, arith}
 use Rattle.std.specs.List.{Contains}
 use Rattle.sas_core.specs.Grounded.{operator_at, effect_at}

@@ -1,4 +1,4 @@
--- One more fact came.
+-- One more fact is processed.
 use Rattle.std.proofs.Common.{◌≡◌, ◌==◌, ◌&&◌, true, false, refl, sym, ap, ◌∙◌, inl, inr, subst}
 use Rattle.std.specs.List.{Contains}
 use Rattle.std.proofs.lemmas.Bool.{eq-eqb}

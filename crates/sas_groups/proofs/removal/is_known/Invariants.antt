@@ -1,4 +1,4 @@
--- The fact is none of those that came.
+-- The fact is none of the known facts so far.
 use Rattle.std.proofs.Common.{◌≡◌, ◌++◌}
 use Rattle.std.specs.List.{All}
 use Rattle.sas_groups.specs.Lists.{known_on, known_left}

@@ -1,4 +1,4 @@
--- Under its place a large operator has all effects on the variable.
+-- The list of a large operator and a variable contains all effects on the variable.
 use Rattle.std.proofs.Common.{◌≡◌, ℕ, List, [], length, get_or, sym, ap, subst, ◌∙◌, arith}
 use Rattle.std.specs.List.{Contains}
 use Rattle.sas_group_index.specs.ByVariable.{IsLarge, place_of}

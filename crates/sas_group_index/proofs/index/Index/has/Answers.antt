@@ -1,4 +1,4 @@
--- A group that isn't found is above those before the place and below those behind it.
+-- A group that isn't found is above those before the index and below those after it.
 use Rattle.std.proofs.Common.{◌≡◌, ℕ, ◌<◌, ◌≤◌, ◌↔◌, List, length, get_or, Result, Ok, Err, true, false, refl, ◌∙◌, inl, inr, arith}
 use Rattle.std.specs.List.{Contains}
 use Rattle.std.specs.Result.{MatchResult, is_ok}

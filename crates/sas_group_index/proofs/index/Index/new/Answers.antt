@@ -1,4 +1,4 @@
--- Each part is what the call that makes it promises.
+-- Each field has the contract of the call that returned it.
 use Rattle.std.proofs.Common.{ℕ, List, subst}
 use Rattle.sas_group_index.specs.Index.{number, AreByFact}
 use Rattle.sas_group_index.proofs.index.Index.new.Goals as goal

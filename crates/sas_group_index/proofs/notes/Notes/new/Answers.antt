@@ -1,4 +1,4 @@
--- Nothing is noted at any place.
+-- Nothing is recorded at any index.
 use Rattle.std.proofs.Common.{ℕ, ◌≡◌, ◌<◌, List, Option, None, length, replicate, refl, sym, ap, subst, ◌∙◌, rules}
 use Rattle.std.proofs.lemmas.List.{length-replicate, get_or-replicate}
 use Rattle.sas_group_index.specs.declared.notes.Noted.{Noted}
