@@ -1,4 +1,5 @@
--- An operator doesn't keep a group exactly if it fails in some way. Then it has a first failure, and one only.
+-- An operator doesn't preserve a group if and only if it has a failure. Then it has exactly one
+-- first failure.
 use Rattle.std.proofs.Common.{◌≡◌, ℕ, ◌<◌, ◌⊎◌, List, [], ◌∷◌, length, Some, refl, sym, ◌∙◌, ap, subst, inl, inr}
 use Rattle.std.proofs.lemmas.Bool.{cases_order}
 use Rattle.std.proofs.lemmas.Option.{slice_get-get_or}

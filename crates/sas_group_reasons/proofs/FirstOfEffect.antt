@@ -1,4 +1,5 @@
--- The first failure of one effect, from the lowest effect that may set another fact and the first fact that may stay.
+-- The first failure of one effect, from the lowest effect that may set another fact and the first
+-- fact that may remain.
 use Rattle.std.proofs.Common.{◌≡◌, ℕ, ◌<◌, ◌≤◌, Bool, List, length, get_or, Option, None, Some, refl, sym, ap, subst, inl, inr, arith}
 use Rattle.std.proofs.lemmas.Option.{slice_get-get_or, get_or_from_slice_get, slice_get_within}
 use Rattle.std.specs.List.{Contains}

@@ -1,4 +1,4 @@
--- The groups that are exclusive by the joint verdicts are the greatest family.
+-- The groups with the joint verdict `Exclusive` are the greatest family.
 use Rattle.std.proofs.Common.{◌≡◌, ℕ, ◌<◌, Bool, List, length, refl, subst}
 use Rattle.std.specs.Prelude.{◌↔◌, IsTrue}
 use Rattle.sas_core.specs.declared.parts.Parts.{Parts}

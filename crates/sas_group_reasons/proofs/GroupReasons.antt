@@ -1,4 +1,5 @@
--- Each group that isn't exclusive has one reason; that it has one is said doubly negated.
+-- Each group that isn't exclusive has exactly one reason; that it exists is stated as a double
+-- negation.
 use Rattle.std.proofs.Common.{◌≡◌, ℕ, ◌<◌, Bool, List, length, get_or, Some, refl, sym, ◌∙◌, ap, subst, inl, inr}
 use Rattle.std.proofs.lemmas.Bool.{cases_order}
 use Rattle.std.proofs.lemmas.List.Elements.{All-contains}

@@ -1,5 +1,5 @@
--- What can't be missing: of properties each of which can't fail all hold, and of numbers that have a property one is the lowest.
--- What a list has, at a place and as an item.
+-- Double negations: if each of some properties can't fail, they can't all fail together, and a
+-- nonempty set of numbers can't lack a least one. Also items of lists and their indexes.
 use Rattle.std.proofs.Common.{◌≡◌, ℕ, zero, suc, ◌<◌, ◌≤◌, ◌⊎◌, List, length, get_or, sym, ◌∙◌, ap, subst, inl, inr, arith, Some}
 use Rattle.std.proofs.lemmas.Bool.{cases_eq, cases_order}
 use Rattle.std.proofs.lemmas.Option.{slice_get-get_or, get_or_from_slice_get, slice_get_within}

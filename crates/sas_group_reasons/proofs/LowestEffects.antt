@@ -1,4 +1,4 @@
--- The lowest effect that may set another fact of a group, as more effects are looked at.
+-- The lowest effect that may set another fact of a group, as more effects are checked.
 use Rattle.std.proofs.Common.{◌≡◌, ℕ, ◌+◌, ◌<◌, ◌≤◌, ◌⊎◌, min, Bool, List, length, get_or, Some, refl, sym, ◌∙◌, ap, subst, inl, inr, arith}
 use Rattle.std.proofs.lemmas.Bool.{cases_eq}
 use Rattle.std.proofs.lemmas.Option.{slice_get-get_or, get_or_from_slice_get}

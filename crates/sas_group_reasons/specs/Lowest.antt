@@ -1,5 +1,5 @@
--- The lowest effect, and the first fact, with which an effect fails to keep a group, as far as they
--- were looked for.
+-- The lowest effect and the first fact with which an effect fails to preserve a group, among those
+-- that were checked.
 use Rattle.std.specs.Prelude.{◌≡◌, ℕ, ◌<◌, ◌≤◌, Bool, List, length, Some, slice_get}
 use Rattle.sas_core.specs.declared.parts.Fact.{Fact}
 use Rattle.sas_core.specs.declared.parts.Operator.{Operator}
@@ -9,8 +9,8 @@ use Rattle.sas_group_index.specs.ByVariable.{variable_of}
 use Rattle.sas_group_reasons.specs.declared.reason.Failure.{Failure}
 use Rattle.sas_group_reasons.specs.Failures.{Fails, effect_of, IsEarlier}
 
--- The lowest effect, of those that are looked at, that may set a fact of the group at this place in
--- the same step, on another variable. It is the number of all effects if none may.
+-- The lowest effect, among those that were checked, that may set a fact of the group on another
+-- variable in the same step; the number of all effects if there is none.
 pub record IsLowest (f : EffectPlace) (kept : List Bool) (place : ℕ) (IsLookedAt : ℕ → Type 0)
     (lowest : ℕ) : Type 0 where
   pub within : lowest ≤ length (operator_of f).effects
@@ -25,13 +25,13 @@ IsAny effect = Unit {0}
 abbrev pub SetsVariable : EffectPlace → ℕ → ℕ → Type 0
 SetsVariable f var effect = variable_of f.task f.operator effect ≡ var
 
--- one of the first of these
+-- one of the first `count` of these effects
 pub record IsOneOfFirst (effects : List ℕ) (count effect : ℕ) : Type 0 where
   pub place : ℕ
   pub early : place < count
   pub here : slice_get effects place ≡ Some effect
 
--- the effects of the operator that set the variable of one of the first facts
+-- the effects of the operator that set the variable of one of the first `count` facts
 pub record SetsOneOfFirst (f : EffectPlace) (facts : List Fact) (count effect : ℕ) : Type 0 where
   pub place : ℕ
   pub early : place < count
@@ -39,14 +39,15 @@ pub record SetsOneOfFirst (f : EffectPlace) (facts : List Fact) (count effect : 
   pub here : slice_get facts place ≡ Some fact
   pub on : variable_of f.task f.operator effect ≡ fact.var
 
--- the fact at this place has one before it on the same variable
+-- an earlier fact is on the same variable as the fact at this index
 pub record FollowsOnVariable (facts : List Fact) (place : ℕ) : Type 0 where
   pub before : ℕ
   pub early : before < place
   pub same : (fact other : Fact) → slice_get facts before ≡ Some fact
       → slice_get facts place ≡ Some other → fact.var ≡ other.var
 
--- the place of the first fact of the group that may stay; the number of its facts if none may
+-- the index of the first fact of the group that may remain; the number of its facts if there is
+-- none
 pub record IsFirstStaying (f : EffectPlace) (kept : List Bool) (group : List Fact) (first : ℕ)
     : Type 0 where
   pub within : first ≤ length group
@@ -54,7 +55,7 @@ pub record IsFirstStaying (f : EffectPlace) (kept : List Bool) (group : List Fac
   pub below : (lower : ℕ) (fact : Fact) → lower < first → slice_get group lower ≡ Some fact
       → IsGoneAt f kept fact
 
--- the first failure of those of this effect
+-- the first failure of this effect
 pub record IsFirstOfEffect (Counts : List Fact → Type 0) (o : Operator) (group : List Fact)
     (effect : ℕ) (failure : Failure) : Type 0 where
   pub of : effect_of failure ≡ effect

@@ -1,4 +1,4 @@
--- Why a group isn't exclusive.
+-- The reason why a group isn't exclusive.
 use Rattle.std.specs.Prelude.{◌≡◌, ◌≢◌, ℕ, ◌<◌, Bool, List, length, Option, None, Some, slice_get, slice_index, slice_index_or}
 use Rattle.sas_core.specs.declared.parts.Fact.{Fact}
 use Rattle.sas_core.specs.declared.parts.Parts.{Parts}
@@ -21,8 +21,8 @@ pub record IsFirstSuch (P : Fact → Type 0) (facts : List Fact) (fact : Fact) :
   pub first : (lower : ℕ) (other : Fact) → lower < place → slice_get facts lower ≡ Some other
       → P other → ⊥
 
--- two different facts of the group hold in the state; they stand at these places, the second one
--- behind the first
+-- two different facts of the group, at these indexes, hold in the state; the second one comes after
+-- the first
 pub record HoldTwo (s : List ℕ) (group : List Fact) (place place' : ℕ) : Type 0 where
   pub fact : Fact
   pub other : Fact
@@ -33,8 +33,8 @@ pub record HoldTwo (s : List ℕ) (group : List Fact) (place place' : ℕ) : Typ
   pub holds : Holds (slice_index s) fact
   pub other_holds : Holds (slice_index s) other
 
--- the first fact of the group that holds in the state and has a different one behind it that does,
--- and the first such
+-- the first fact of the group that holds in the state and is followed by a different one that does,
+-- and the first such one
 pub record AreFirstHolding (s : List ℕ) (group : List Fact) (fact other : Fact) : Type 0 where
   pub place : ℕ
   pub place' : ℕ
@@ -50,8 +50,8 @@ verdict_of (OnDerived fact) = Derived
 verdict_of (HoldsTwo first second) = Initial
 verdict_of (Breaks operator failure) = Broken operator
 
--- What a reason says of the group at this place. An operator's failure is its first one where the
--- groups of the greatest family count, and the group itself.
+-- What a reason states about the group. The failure of an operator is its first one, assuming the
+-- groups of the greatest family and the group itself.
 abbrev pub Says : Parts → ℕ → Reason → Type 0
 Says p place (OnDerived fact) =
     IsFirstSuch (λ (f : Fact). IsBasic p f.var → ⊥) (group_at p place) fact
@@ -61,21 +61,21 @@ Says p place (Breaks operator failure) = (family : ℕ → Bool)
     × IsFirstFailure (IsGroupOfOr p family (group_at p place)) (operator_at p operator)
     (group_at p place) failure
 
--- the reason for this verdict on the group at this place
+-- the reason for this verdict on the group with this index
 pub record IsReason (p : Parts) (place : ℕ) (verdict : Verdict) (reason : Reason) : Type 0 where
   pub told : verdict ≡ verdict_of reason
   pub says : Says p place reason
 
--- the same; a group without a reason is exclusive
+-- the same, if there is a reason; a group without a reason is exclusive
 abbrev pub IsReasonIfAny : Parts → ℕ → Verdict → Option Reason → Type 0
 IsReasonIfAny p place verdict None = verdict ≡ Exclusive
 IsReasonIfAny p place verdict (Some reason) = IsReason p place verdict reason
 
--- the reason for the verdict on the group at this place, if there is one
+-- the reason of the group with this index, if any
 abbrev pub reason_at : List (Option Reason) → ℕ → Option Reason
 reason_at reasons place = slice_index_or reasons place None
 
--- for each group of the task, in order, the reason for the verdict on it, or none if it is exclusive
+-- for each group of the task, in order, the reason for the verdict on it; none if it is exclusive
 pub record AreReasons (p : Parts) (verdicts : List Verdict) (reasons : List (Option Reason))
     : Type 0 where
   pub one_each : length reasons ≡ length p.groups

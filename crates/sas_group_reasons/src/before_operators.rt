@@ -1,4 +1,4 @@
-// The reasons that are found without a look at operators.
+// The reasons that don't involve operators.
 ghost use Rattle.std.specs.Prelude.{◌<◌, ◌↔◌, length, All, IsTrue, IfSome, IfNone, IfOk, List, Bool, slice_index};
 ghost use Rattle.sas_core.specs.Grounded.{group_at};
 ghost use Rattle.sas_meaning.specs.Layers.{IsBasic};
@@ -17,7 +17,7 @@ use sas_groups::Verdict;
 use sas_meaning::Layered;
 use std::alloc::{AllocError, Global};
 
-/// Returns, for each group, the reason if it is one on a derived variable or in the state section, and else none.
+/// Returns for each group its reason if the verdict is `Derived` or `Initial`, else `None`. `Err` means out of memory.
 pub fn first_reasons<T: Grounded>(
     alloc: Global,
     task: &Layered<T>,
@@ -27,7 +27,7 @@ pub fn first_reasons<T: Grounded>(
     ensures { IfOk result (λ reasons. (kept : List Bool)
         → AreReasonsSoFar task.now kept 0 0 verdicts.now reasons) }
 {
-    // By the contract of this call the task is well ranged.
+    // The contract of `task` ensures that the task is well ranged.
     let _ = task.task();
     let mut reasons = Items::from_vec(Vec::with_capacity(alloc, task.groups() as usize)?);
     for group in 0..task.groups() {
@@ -36,7 +36,7 @@ pub fn first_reasons<T: Grounded>(
     Ok(reasons)
 }
 
-/// Returns the reason for the verdict on the group, if it is one on a derived variable or in the state section.
+/// Returns the reason for the verdict if it is `Derived` or `Initial`, else `None`.
 fn first_reason<T: Grounded>(task: &Layered<T>, group: u32, verdict: Verdict) -> Option<Reason>
     requires group { group < length task.now.groups }
     requires joint { IsJointVerdict task.now group verdict }
@@ -49,13 +49,13 @@ fn first_reason<T: Grounded>(task: &Layered<T>, group: u32, verdict: Verdict) ->
     }
 }
 
-/// Returns the first fact of the group that is on a derived variable, as a reason.
+/// Returns the first fact of the group on a derived variable, as a reason.
 fn on_derived<T: Grounded>(task: &Layered<T>, group: u32) -> Option<Reason>
     requires { group < length task.now.groups }
     ensures some { IfSome result (IsReason task.now group Derived) }
     ensures none { IfNone result (IsOnBasic task.now (group_at task.now group)) }
 {
-    // By the contract of this call the task is well ranged.
+    // The contract of `task` ensures that the task is well ranged.
     let _ = task.task();
     match first_derived(task, task.group(group)) {
         Some(fact) => Some(Reason::OnDerived { fact }),
@@ -63,7 +63,7 @@ fn on_derived<T: Grounded>(task: &Layered<T>, group: u32) -> Option<Reason>
     }
 }
 
-/// Returns the first of the facts that is on a derived variable.
+/// Returns the first of the facts on a derived variable.
 fn first_derived<T: Grounded>(task: &Layered<T>, facts: &[Fact]) -> Option<Fact>
     requires { All (λ f. f.var < length task.now.variables) facts.now }
     ensures some { IfSome result (IsFirstSuch (λ f. IsBasic task.now f.var → ⊥) facts.now) }
@@ -77,14 +77,14 @@ fn first_derived<T: Grounded>(task: &Layered<T>, facts: &[Fact]) -> Option<Fact>
     None
 }
 
-/// Returns the first fact of the group that holds in the state section and has a different one behind it that does, and the
-/// first such, as a reason.
+/// Returns, as a reason, the first fact of the group that holds in the state section and is followed by a different one that does, and the
+/// first such one.
 fn holds_two<T: Grounded>(task: &Layered<T>, group: u32) -> Option<Reason>
     requires { group < length task.now.groups }
     ensures some { IfSome result (IsReason task.now group Initial) }
     ensures none { IfNone result (IsExclusiveIn task.now.init (group_at task.now group)) }
 {
-    // By the contract of this call the task is well ranged.
+    // The contract of `task` ensures that the task is well ranged.
     let _ = task.task();
     let facts = task.group(group);
     let Some(first) = first_holding(task, facts) else {
@@ -110,7 +110,7 @@ fn first_holding<T: Grounded>(task: &Layered<T>, facts: &[Fact]) -> Option<Fact>
     None
 }
 
-/// Returns the first of the facts that is another than this one and holds in the state section.
+/// Returns the first of the facts that differs from `fact` and holds in the state section.
 fn first_beside<T: Grounded>(task: &Layered<T>, facts: &[Fact], fact: Fact) -> Option<Fact>
     requires { All (λ f. f.var < length task.now.variables) facts.now }
     ensures some { IfSome result (IsFirstSuch (HoldsBeside task.now.init fact) facts.now) }
@@ -124,7 +124,7 @@ fn first_beside<T: Grounded>(task: &Layered<T>, facts: &[Fact], fact: Fact) -> O
     None
 }
 
-/// Whether the fact holds in the state section.
+/// Returns whether the fact holds in the state section.
 fn holds<T: Grounded>(task: &Layered<T>, fact: Fact) -> bool
     requires { fact.var < length task.now.variables }
     ensures { IsTrue result ↔ Holds (slice_index task.now.init) fact }

@@ -1,4 +1,4 @@
-// The reasons of the groups that operators break.
+// The reasons of groups that an operator breaks.
 ghost use Rattle.std.specs.Prelude.{◌≡◌, ◌≢◌, ◌+◌, ◌<◌, ℕ, length, All, IsTrue, IsFalse};
 ghost use Rattle.sas_groups.specs.Clashes.{sets};
 ghost use Rattle.sas_groups.specs.Families.{IsGreatest};
@@ -19,7 +19,7 @@ use sas_group_index::IndexedTask;
 use sas_groups::{Premises, Verdict};
 use sas_mutex::{Firing, Marks, forget_known, note_known};
 
-/// The greatest family, and what is noted while effects are looked at.
+/// The greatest family, and the facts recorded while effects are checked.
 #[derive(Drop)]
 pub struct Greatest {
     /// For each group, whether it is in the family.
@@ -27,8 +27,8 @@ pub struct Greatest {
     pub marks: Marks,
 }
 
-/// Finds, for each group that an operator breaks, the operator's first failure to keep it under the family and the group itself.
-/// Each operator that breaks a group is marked.
+/// Finds, for each group that an operator breaks, the first way in which the operator fails to preserve it, assuming the family and the
+/// group itself. `marked` must contain each operator that breaks a group.
 pub fn tell_failures<T: Grounded>(
     indexed: &IndexedTask<'_, '_, T>,
     verdicts: &[Verdict],
@@ -53,7 +53,7 @@ pub fn tell_failures<T: Grounded>(
     }
 }
 
-/// Finds the first failure of the operator to keep each group that it breaks.
+/// Finds, for each group that the operator breaks, the first failure to preserve it.
 fn tell_failures_of<T: Grounded>(
     indexed: &IndexedTask<'_, '_, T>,
     operator: u32,
@@ -84,8 +84,8 @@ fn tell_failures_of<T: Grounded>(
     }
 }
 
-/// Finds the first failure of the effect to keep each group whose reason is to be found. What is known where it fires is noted once
-/// for all of them; if that clashes, it never fires.
+/// Finds the first failure of the effect to preserve each group whose reason is still missing. The known facts of the effect are recorded
+/// once for all groups. If they clash, the effect never fires.
 fn tell_failures_at<T: Grounded>(
     firing: &Firing<'_, '_, T>,
     verdicts: &[Verdict],
@@ -123,7 +123,7 @@ fn tell_failures_at<T: Grounded>(
     forget_known(firing.task, firing.index, &premises, &mut greatest.marks);
 }
 
-/// Returns whether the reason of one of these groups is to be found.
+/// Returns whether the reason of one of these groups is still missing.
 fn some_asked(
     groups: &[u32],
     operator: u32,
@@ -143,7 +143,7 @@ fn some_asked(
     false
 }
 
-/// Returns whether the reason of the group is to be found: the operator breaks it, and none was found yet.
+/// Returns whether the reason of the group is still missing: the operator breaks it, and no reason was found yet.
 fn is_asked(group: u32, operator: u32, verdicts: &[Verdict], reasons: &[Option<Reason>]) -> bool
     requires verdicts { group < length verdicts.now }
     requires reasons { group < length reasons.now }
@@ -153,8 +153,8 @@ fn is_asked(group: u32, operator: u32, verdicts: &[Verdict], reasons: &[Option<R
     verdicts[group as usize] == Verdict::Broken { operator } && reasons[group as usize].is_none()
 }
 
-/// Finds the first failure of the effect to keep each of these groups, which have the fact that it sets, if its reason is to be
-/// found, by what is noted.
+/// Finds the first failure of the effect to preserve each of these groups whose reason is still missing. The groups must contain the fact
+/// that the effect sets, and the known facts must be recorded.
 fn tell_groups<T: Grounded>(
     firing: &Firing<'_, '_, T>,
     groups: &[u32],
@@ -182,8 +182,8 @@ fn tell_groups<T: Grounded>(
     }
 }
 
-/// Finds the first failure of the effect to keep the group, which has the fact that it sets, if its reason is to be found, by what
-/// is noted.
+/// Finds the first failure of the effect to preserve the group, if its reason is still missing. The group must contain the fact that the
+/// effect sets, and the known facts must be recorded.
 fn tell_group<T: Grounded>(
     firing: &Firing<'_, '_, T>,
     group: u32,

@@ -1,4 +1,4 @@
-// The first failure of an effect to keep a group.
+// The first failure of an effect to preserve a group.
 ghost use Rattle.std.specs.Prelude.{◌≡◌, ◌<◌, length, Contains, IfSome, IfNone};
 ghost use Rattle.sas_core.specs.Grounded.{group_at};
 ghost use Rattle.sas_groups.specs.Clashes.{sets};
@@ -14,8 +14,8 @@ use crate::reason::Failure;
 use sas_core::{Grounded, Items};
 use sas_mutex::{Firing, Marks};
 
-/// Returns the first failure of the effect to keep the group, which has the fact that it sets, under the family and the group
-/// itself. The known facts where the effect fires are noted, and don't clash. In the end the family is as it was.
+/// Returns the first failure of the effect to preserve the group, assuming the family and the group itself. The group must contain the fact
+/// that the effect sets. The known facts must be recorded and must not clash. The family is unchanged on return.
 pub fn first_failure<T: Grounded>(
     firing: &Firing<'_, '_, T>,
     group: u32,
@@ -32,7 +32,7 @@ pub fn first_failure<T: Grounded>(
     ensures kept { kept.new ≡ kept.old }
     ensures notes { IsNotedAt firing.now kept.old marks.new }
 {
-    // Two facts of the group are known where the effect fires. Since the group counts, it never fires.
+    // Two different facts of the group are known. Since the group is assumed to be exclusive, the effect never fires.
     if firing.noted(group, marks).is_several() {
         return None;
     }
@@ -43,7 +43,8 @@ pub fn first_failure<T: Grounded>(
     failure
 }
 
-/// Returns the first failure of the effect to keep the group, which is in the family, by what is noted.
+/// Returns the first failure of the effect to preserve the group, which must be in the family. The known facts must be recorded and must
+/// not clash.
 fn failure_by_notes<T: Grounded>(
     firing: &Firing<'_, '_, T>,
     group: u32,
@@ -71,8 +72,7 @@ fn failure_by_notes<T: Grounded>(
     None
 }
 
-/// Returns the place of the first fact of the group that may stay where the effect fires, or the number of its facts if none
-/// may.
+/// Returns the index of the first fact of the group that may remain when the effect fires, or the number of its facts if none may.
 fn first_staying<T: Grounded>(
     firing: &Firing<'_, '_, T>,
     kept: &[bool],
@@ -83,10 +83,10 @@ fn first_staying<T: Grounded>(
     requires group { IsIn firing.now.task (family_of kept.now) group }
     ensures { IsFirstStaying firing.now kept.now (group_at firing.now.task group) result }
 {
-    // Naming a field makes the invariant of the effect available.
+    // For the proof: accessing a field makes the invariant of the effect available.
     let _ = &firing.task;
     let facts = firing.task.group(group);
-    // Mostly none may, which takes less time to see than which one may.
+    // Usually none may. Finding this out takes less time than finding the first one.
     if firing.removes_others(kept, group, marks) {
         return facts.len();
     }

@@ -1,11 +1,11 @@
-// Laws of reasons.
+// Laws about reasons.
 ghost use Rattle.sas_group_reasons.specs.Laws.{NotKeptIfFails, FailsIfNotKept, SomeFirstFailure, OneFirstFailure};
 ghost use Rattle.sas_group_reasons.specs.Laws.{SomeReason, OneReason};
 
-/// Ensures the laws of reasons. The groups of a family count, and the group itself.
-/// - An operator that fails to keep a group doesn't keep it. One that doesn't keep it can't be without a failure.
-/// - Where it doesn't keep a group, it can't be without a first failure, and has only one.
-/// - Each group that isn't exclusive has one reason at most, and can't be without one.
+/// Laws about reasons. The groups of a family and the group itself are assumed to be exclusive.
+/// - An operator that fails to preserve a group doesn't preserve it. If it doesn't preserve the group, it can't be that it has no failure.
+/// - If it doesn't preserve the group, it can't be that it has no first failure, and it has at most one.
+/// - Each group that isn't exclusive has at most one reason, and it can't be that it has none.
 pub fn reason_laws()
     ensures not_kept { NotKeptIfFails }
     ensures fails { FailsIfNotKept }

@@ -1,4 +1,4 @@
-//! Why groups aren't exclusive: the reason for each verdict on a group, as numbers.
+//! Why groups aren't exclusive: the reason for the verdict on each group, as data.
 #![tactic(auto)]
 
 mod before_operators;

@@ -8,9 +8,9 @@ ghost use Rattle.sas_group_reasons.specs.Lowest.{IsLowest, IsAny, SetsVariable, 
 use sas_core::{Fact, Grounded};
 use sas_mutex::{Firing, Marks};
 
-/// Returns the lowest effect that may set a fact of the group in the same step as this effect, on another variable, or the
-/// number of all effects if none may. All effects are looked at, or of a large operator those on variables of the group, if its
-/// facts are fewer.
+/// Returns the lowest effect that may set a fact of the group on another variable in the same step as this effect, or the number of all
+/// effects if there is none. For a large operator, only effects on variables of the group are checked if the group has fewer facts than the
+/// operator has effects.
 pub fn lowest_together<T: Grounded>(
     firing: &Firing<'_, '_, T>,
     kept: &[bool],
@@ -23,7 +23,7 @@ pub fn lowest_together<T: Grounded>(
     ensures lowest { IsLowest firing.now kept.now group IsAny result }
 {
     let facts = firing.index.facts_of(firing.task, group);
-    // The index has the effects of large operators alone.
+    // The index only contains the effects of large operators.
     let is_large = firing
         .index
         .effects_on(firing.task, firing.operator, 0)
@@ -35,7 +35,7 @@ pub fn lowest_together<T: Grounded>(
     }
 }
 
-/// Returns the same by a look at each effect.
+/// `lowest_together` by checking all effects.
 fn lowest_of_all<T: Grounded>(
     firing: &Firing<'_, '_, T>,
     kept: &[bool],
@@ -56,8 +56,8 @@ fn lowest_of_all<T: Grounded>(
     effects
 }
 
-/// Returns the same by a look at the effects on each variable of the group. Its facts are in ascending order, so those on one
-/// variable follow one another.
+/// `lowest_together` by checking the effects on each variable of the group. The facts of the group are sorted, so facts on the same
+/// variable are adjacent.
 fn lowest_by_facts<T: Grounded>(
     firing: &Firing<'_, '_, T>,
     kept: &[bool],
@@ -79,7 +79,7 @@ fn lowest_by_facts<T: Grounded>(
     lowest
 }
 
-/// Returns whether the fact at this place is the first of a run of facts on one variable.
+/// Returns whether the fact at this index is the first of a run of facts on one variable.
 fn begins_run(facts: &[Fact], place: usize) -> bool
     requires { place < length facts.now }
     ensures { IsFalse result → FollowsOnVariable facts.now place }
@@ -87,7 +87,7 @@ fn begins_run(facts: &[Fact], place: usize) -> bool
     place == 0 || facts[place - 1].var != facts[place].var
 }
 
-/// Returns the lowest such effect on the variable, or a lower one, or the number of all effects if no effect on it may.
+/// `lowest_together` for the effects on variable `var`. May return a lower effect on another variable.
 fn lowest_on<T: Grounded>(
     firing: &Firing<'_, '_, T>,
     kept: &[bool],
@@ -107,7 +107,7 @@ fn lowest_on<T: Grounded>(
     }
 }
 
-/// Returns the lowest such effect of these, or the number of all effects if none of them may.
+/// `lowest_together` for these effects.
 fn lowest_among<T: Grounded>(
     firing: &Firing<'_, '_, T>,
     kept: &[bool],

@@ -1,4 +1,4 @@
-// The reasons of all groups.
+// The reasons for the verdicts on all groups.
 ghost use Rattle.std.specs.Prelude.{◌≡◌, ◌<◌, ◌↔◌, ℕ, Bool, List, length, All, IfOk, IsTrue, IsFalse};
 ghost use Rattle.sas_groups.specs.declared.verdict.Verdict.{Verdict};
 ghost use Rattle.sas_groups.specs.declared.verdict.Verdict.TheVariants.{Broken};
@@ -17,8 +17,8 @@ use sas_meaning::Layered;
 use sas_mutex::{Marks, exclusive_of};
 use std::alloc::{AllocError, Global};
 
-/// Returns, for each group of the task, in their order, the reason for the joint verdict on it, or none if it is exclusive. All
-/// memory is allocated before the operators are gone through.
+/// Returns for each group of the task, in order, the reason for the joint verdict on it, or `None` if it is exclusive. All memory is
+/// allocated before the operators are checked. `Err` means out of memory.
 pub fn group_reasons<T: Grounded>(
     alloc: Global,
     layered: &Layered<T>,
@@ -27,10 +27,10 @@ pub fn group_reasons<T: Grounded>(
     requires { AreJointVerdicts layered.now verdicts.now }
     ensures { IfOk result (λ reasons. AreReasons layered.now verdicts.now reasons.items) }
 {
-    // By the contract of this call the task is well ranged.
+    // The contract of `task` ensures that the task is well ranged.
     let _ = layered.task();
     let mut reasons = first_reasons(alloc, layered, verdicts)?;
-    // Where no operator breaks a group, all is found.
+    // If no operator breaks a group, all reasons are found.
     if !some_broken(verdicts) {
         return Ok(reasons.into_vec());
     }
@@ -45,7 +45,7 @@ pub fn group_reasons<T: Grounded>(
     Ok(reasons.into_vec())
 }
 
-/// Finds the reason of each group that an operator breaks, over the index of the task.
+/// Finds the reason of each group that an operator breaks. Allocates the memory for this.
 fn tell_breaking<T: Grounded>(
     alloc: Global,
     indexed: &IndexedTask<'_, '_, T>,
@@ -67,7 +67,7 @@ fn tell_breaking<T: Grounded>(
     Ok(())
 }
 
-/// Returns whether one of the verdicts is that an operator breaks the group.
+/// Returns whether one of the verdicts is `Broken`.
 fn some_broken(verdicts: &[Verdict]) -> bool
     ensures { IsFalse result → All (λ (verdict : Verdict). IsBroken verdict → ⊥) verdicts.now }
 {
@@ -79,14 +79,14 @@ fn some_broken(verdicts: &[Verdict]) -> bool
     false
 }
 
-/// Whether an operator breaks the group.
+/// Returns whether the verdict is `Broken`.
 fn is_broken(verdict: Verdict) -> bool
     ensures { IsTrue result ↔ IsBroken verdict }
 {
     matches!(verdict, Verdict::Broken { .. })
 }
 
-/// Returns a mark for each operator: whether it breaks a group.
+/// Returns for each operator whether it breaks a group. `Err` means out of memory.
 fn breaking_operators(
     alloc: Global,
     operators: u32,
@@ -102,7 +102,7 @@ fn breaking_operators(
     Ok(marked)
 }
 
-/// Marks the operator that breaks the group, if there is one.
+/// Marks the operator that breaks the group, if any.
 fn mark(verdict: Verdict, marked: &mut Items<bool>)
     ensures as_many { length marked.new ≡ length marked.old }
     ensures marked { (operator : ℕ) → verdict ≡ Broken operator → operator < length marked.old

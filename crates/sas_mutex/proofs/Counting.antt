@@ -1,4 +1,4 @@
--- How many groups a list keeps, as one of them falls.
+-- The number of groups in the family after one is removed.
 use Rattle.std.proofs.Common.{◌≡◌, ℕ, ◌+◌, ◌≤◌, Bool, true, false, List, [], ◌∷◌, length, get_or, set, sym, zero, suc, arith}
 use Rattle.std.proofs.lemmas.Bool.{true≢false}
 use Rattle.sas_mutex.specs.Falling.{count}

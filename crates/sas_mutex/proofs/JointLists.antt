@@ -1,4 +1,4 @@
--- What is decided before operators are checked.
+-- The verdicts before operators are checked.
 use Rattle.std.proofs.Common.{◌≡◌, ◌≢◌, ℕ, ◌<◌, List, length, refl, sym, subst}
 use Rattle.std.specs.List.{All}
 use Rattle.sas_core.specs.declared.parts.Parts.{Parts}

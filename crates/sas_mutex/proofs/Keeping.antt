@@ -1,4 +1,5 @@
--- What an effect keeps as more groups count, or fewer, and what an operator keeps whose effects all do.
+-- What an effect preserves if more or fewer groups are assumed, and what an operator preserves if
+-- all its effects do.
 use Rattle.std.proofs.Common.{ℕ, ◌<◌, List, [], ◌∷◌, length, None, subst, inl, inr}
 use Rattle.std.proofs.lemmas.List.Elements.{Contains-get_or}
 use Rattle.std.specs.List.{Contains}

@@ -1,4 +1,4 @@
--- Which facts are known by what is noted, and that these don't clash.
+-- Which facts are known according to the notes, and that they don't clash.
 use Rattle.std.proofs.Common.{◌≡◌, ◌≢◌, ◌⊎◌, ℕ, ◌<◌, Bool, [], length, get_or, List, ◌∷◌, ◌++◌, Option, None, Some, subst, refl, sym, ap, ◌∙◌, inl, inr, arith}
 use Rattle.std.specs.List.{All, Contains}
 use Rattle.std.specs.Option.{option_to_list}

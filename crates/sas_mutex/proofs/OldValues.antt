@@ -1,4 +1,5 @@
--- Where an effect asks for an old value that is a fact of a group, no other fact of the group can have held.
+-- If an effect requires an old value that is a fact of a group, no other fact of the group can have
+-- held before.
 use Rattle.std.proofs.Common.{◌≡◌, ℕ, ◌<◌, length, List, [], ◌++◌, Bool, Option, Some, subst, refl, sym, ap, ◌∙◌, arith}
 use Rattle.std.specs.List.{Contains, filter_map}
 use Rattle.std.specs.Option.{option_to_list}

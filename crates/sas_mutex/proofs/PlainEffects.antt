@@ -1,4 +1,4 @@
--- Effects without conditions, by the changes that they make.
+-- Effects without conditions, in terms of their changes.
 use Rattle.std.proofs.Common.{◌≡◌, ℕ, ◌<◌, Bool, List, [], length, get_or, None, sym, ◌∙◌, ap, subst}
 use Rattle.std.proofs.lemmas.List.{length-map, get_or-map}
 use Rattle.std.specs.List.{Contains}

@@ -1,4 +1,5 @@
--- The facts that effects set exist, so that the index has their groups; and so do the facts of groups.
+-- The facts that effects set exist, so the index contains their groups. The facts of groups exist,
+-- too.
 use Rattle.std.proofs.Common.{◌≡◌, ℕ, ◌<◌, List, [], length, get_or, None, sym, ◌∙◌, ap, subst}
 use Rattle.std.specs.List.{All, Contains}
 use Rattle.std.specs.Prelude.{◌↔◌}

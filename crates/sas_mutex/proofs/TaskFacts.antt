@@ -1,4 +1,4 @@
--- The facts that a task mentions exist.
+-- All facts that a task mentions exist.
 use Rattle.std.proofs.Common.{ℕ, ◌<◌, [], length, List, ◌∷◌, ◌++◌, Option, None, Some}
 use Rattle.std.specs.Prelude.{filter_map}
 use Rattle.std.specs.List.{All, Contains, cons_option}

@@ -1,4 +1,4 @@
--- What the notes of facts that don't clash tell of one fact more.
+-- What the notes of facts that don't clash imply for another fact.
 use Rattle.std.proofs.Common.{◌≡◌, ◌≢◌, ◌⊎◌, ℕ, ◌<◌, Bool, [], length, get_or, List, ◌∷◌, ◌++◌, None, Some, subst, refl, sym, ap, ◌∙◌, inl, inr, append-nil}
 use Rattle.std.specs.List.{All, Contains}
 use Rattle.std.proofs.lemmas.Bool.{cases_eq}

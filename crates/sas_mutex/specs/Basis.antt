@@ -1,5 +1,5 @@
--- What an effect keeps where only the groups of a basis count, and the group itself. It keeps this
--- group whatever other groups fall.
+-- What an effect preserves, assuming only the groups of a basis and the group itself. It preserves
+-- the group whichever other groups are removed.
 use Rattle.std.specs.Prelude.{◌≡◌, ℕ, ◌<◌, Bool, IsTrue, IsFalse, List, length, Contains, All}
 use Rattle.sas_core.specs.declared.parts.Parts.{Parts}
 use Rattle.sas_core.specs.Grounded.{operator_at, effect_at, group_at}
@@ -9,19 +9,19 @@ use Rattle.sas_mutex.specs.declared.family.Family.{Family}
 use Rattle.sas_group_index.specs.Kept.{family_of}
 use Rattle.sas_mutex.specs.Effects.{KeepsWithItself, IsPlain}
 
--- the effect keeps the group under the basis and itself, if it is in the family
+-- if the group is in the family, the effect preserves it, assuming the basis and the group itself
 abbrev pub KeptByBasis : Parts → List Bool → List Bool → ℕ → ℕ → ℕ → Type 0
 KeptByBasis p basis kept operator effect place = IsIn p (family_of kept) place
     → KeepsWithItself p basis operator effect place
 
--- the effect keeps each group of the family that has the fact which it sets, under the basis and
--- that group
+-- the effect preserves each group of the family that contains the fact that it sets, assuming the
+-- basis and that group
 abbrev pub EffectKeepsByBasis : Parts → List Bool → List Bool → ℕ → ℕ → Type 0
 EffectKeepsByBasis p basis kept operator effect = (place : ℕ) → IsIn p (family_of kept) place
     → Contains (group_at p place) (sets (effect_at (operator_at p operator) effect))
     → KeepsWithItself p basis operator effect place
 
--- the same for those of the operator's first effects that have no conditions
+-- the same for the first `effects` effects of the operator, as far as they have no conditions
 abbrev pub PlainKeepByBasis : Parts → List Bool → List Bool → ℕ → ℕ → Type 0
 PlainKeepByBasis p basis kept operator effects = (effect : ℕ) → effect < effects
     → IsPlain p operator effect → EffectKeepsByBasis p basis kept operator effect
@@ -32,34 +32,34 @@ KeepsByBasis p basis kept operator = (effect : ℕ)
     → effect < length (operator_at p operator).effects
     → EffectKeepsByBasis p basis kept operator effect
 
--- no group of the family has the fact that the effect sets
+-- no group of the family contains the fact that the effect sets
 abbrev pub SetsNone : Parts → List Bool → ℕ → ℕ → Type 0
 SetsNone p kept operator effect = (place : ℕ) → IsIn p (family_of kept) place
     → Contains (group_at p place) (sets (effect_at (operator_at p operator) effect)) → ⊥
 
--- the same for those of the operator's first effects that have no conditions
+-- the same for the first `effects` effects of the operator, as far as they have no conditions
 abbrev pub PlainSetNone : Parts → List Bool → ℕ → ℕ → Type 0
 PlainSetNone p kept operator effects = (effect : ℕ) → effect < effects → IsPlain p operator effect
     → SetsNone p kept operator effect
 
--- a list with a place for each of this many groups, which keeps none of them
+-- the family without groups, as a list with an entry for each group
 pub record IsOfNone (groups : ℕ) (none : List Bool) : Type 0 where
   pub one_each : length none ≡ groups
   pub out : (place : ℕ) → IsFalse (family_of none place)
 
--- a list without these groups, and with no other than before
+-- the list without these groups, and without new ones
 pub record IsWithout (groups : List ℕ) (before after : List Bool) : Type 0 where
   pub as_many : length after ≡ length before
   pub out : (group : ℕ) → Contains groups group → IsFalse (family_of after group)
   pub less : (group : ℕ) → IsTrue (family_of after group) → IsTrue (family_of before group)
 
--- the basis of the family has a place for each of this many groups, and no group but the supports
+-- the basis has an entry for each group, and its groups are the supports
 pub record IsBasis (groups : ℕ) (family : Family) : Type 0 where
   pub one_each : length family.basis ≡ groups
   pub only : (place : ℕ) → IsTrue (family_of family.basis place) → Contains family.supports place
   pub low : All (λ (support : ℕ). support < groups) family.supports
 
--- each group of the basis is in the family
+-- all groups of the basis are in the family
 abbrev pub IsBasisKept : Family → Type 0
 IsBasisKept family =
     (place : ℕ) → IsTrue (family_of family.basis place) → IsTrue (family_of family.kept place)

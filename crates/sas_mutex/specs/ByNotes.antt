@@ -1,4 +1,4 @@
--- What follows from the notes for one effect.
+-- What the recorded facts imply for one effect.
 use Rattle.std.specs.Prelude.{◌≡◌, ◌≢◌, ◌⊎◌, ℕ, ◌<◌, Bool, Option, None, Some}
 use Rattle.std.specs.Prelude.{List, [], ◌∷◌, length, slice_index_or, All, Contains}
 use Rattle.sas_core.specs.declared.parts.Fact.{Fact}
@@ -22,30 +22,31 @@ use Rattle.sas_mutex.specs.Marks.{IsNotedFrom}
 use Rattle.sas_groups.specs.Families.{IsIn}
 use Rattle.sas_group_index.specs.Kept.{family_of}
 
--- a group of the task that is kept has both facts
+-- a group of the family contains both facts
 pub record ShareOne (p : Parts) (kept : List Bool) (f g : Fact) : Type 0 where
   pub place : ℕ
   pub in_family : IsIn p (family_of kept) place
   pub first : Contains (group_at p place) f
   pub second : Contains (group_at p place) g
 
--- the facts are noted and don't clash
+-- the facts are recorded and don't clash
 pub record AreKnown (p : Parts) (kept : List Bool) (facts : List Fact) (notes : Notes)
     : Type 0 where
   pub noted : AreNotesOf p facts notes
   pub apart : Clash (IsKept p kept) facts → ⊥
 
--- the change sets a fact of the group, and is on another variable than this one
+-- the change sets a fact of the group on a variable other than `var`
 pub record SetsBeside (index : Index) (change : Change) (var place : ℕ) : Type 0 where
   pub beside : change.var ≢ var
   pub has : Contains (groups_of index (record { var = change.var; value = change.new })) place
 
--- the condition is this fact, or noted
+-- the condition is this fact, or is recorded
 abbrev pub IsMet : Notes → Fact → Fact → Type 0
 IsMet notes fact condition =
     (condition ≡ fact) ⊎ (value_note notes.values condition.var ≡ Some condition.value)
 
--- an effect whose conditions are all met sets the variable of the fact to another value
+-- the effect removes the fact: all its conditions are met, and it sets the variable of the fact to
+-- another value
 pub record Removes (notes : Notes) (fact : Fact) (e : Effect) : Type 0 where
   pub fires : All (IsMet notes fact) e.conditions
   pub var : e.var ≡ fact.var
@@ -55,7 +56,7 @@ pub record Removes (notes : Notes) (fact : Fact) (e : Effect) : Type 0 where
 abbrev pub IsOther : Fact → Change → Type 0
 IsOther fact change = (change.var ≡ fact.var) × (change.new ≢ fact.value)
 
--- one of the changes does
+-- one of the changes does so
 abbrev pub SomeOther : List Change → Fact → Type 0
 SomeOther changes fact = (change : Change) × Contains changes change × IsOther fact change
 
@@ -65,70 +66,71 @@ SomeRemoves o notes fact = (effect : ℕ)
     × (effect < length o.effects)
     × Removes notes fact (effect_at o effect)
 
--- the known facts where the effect at this place of this operator fires
+-- the known facts of the effect: the preconditions of its operator and its own conditions
 abbrev pub known_at : Parts → ℕ → ℕ → List Fact
 known_at p operator effect =
     known (operator_at p operator) (effect_at (operator_at p operator) effect).conditions []
 
--- these facts are noted, and no others, and don't clash
+-- exactly these facts are recorded, and they don't clash
 pub record AreNoted (p : Parts) (kept : List Bool) (facts : List Fact) (marks : Marks)
     : Type 0 where
   pub are : AreKnown p kept facts marks.known
   pub from : IsNotedFrom p facts marks
 
--- the known facts where the effect fires are noted, and no others, and don't clash
+-- exactly the known facts of the effect are recorded, and they don't clash
 abbrev pub IsNotedFor : Parts → List Bool → ℕ → ℕ → Marks → Type 0
 IsNotedFor p kept operator effect marks = AreNoted p kept (known_at p operator effect) marks
 
--- no effect that may fire together with this one sets a fact of the group too, on another variable
+-- no effect that may fire together with this one sets another fact of the group on another variable
 abbrev pub IsSingle : (List Fact → Type 0) → Operator → List Fact → Effect → Type 0
 IsSingle Counts o group e = (other : ℕ) → other < length o.effects
     → NotBoth Counts o group e (effect_at o other)
 
--- no other fact of the group stays where the effect fires
+-- no other fact of the group remains when the effect fires
 abbrev pub AreGone : (List Fact → Type 0) → Operator → List Fact → Effect → Type 0
 AreGone Counts o group e = (f : Fact) → Contains group f → IsGone Counts o e f
 
--- the fact isn't known where the effect fires
+-- the fact isn't a known fact of the effect
 abbrev pub IsUnknown : Operator → Effect → Fact → Type 0
 IsUnknown o e fact = Contains (known o e.conditions []) fact → ⊥
 
--- the first of the facts, if there is one, is on the effect's variable, or a value is noted for its
+-- the first of the facts, if any, is on the variable of the effect, or a value is recorded for its
 -- variable
 abbrev pub IsDecidedByFirst : Effect → List Fact → Notes → Type 0
 IsDecidedByFirst e facts notes = (first : Fact) (d : Fact) → 0 < length facts
     → slice_index_or facts 0 d ≡ first
     → (e.var ≡ first.var) ⊎ (value_note notes.values first.var ≢ None)
 
--- ---- the same of an effect and a group of a task, where the groups of the family count
+-- ---- the same for an effect and a group of a task, assuming the groups of the family
 
--- the known facts where the effect fires are noted, and no others, and don't clash
+-- exactly the known facts of the effect are recorded, and they don't clash
 pub record IsNotedAt (f : EffectPlace) (kept : List Bool) (marks : Marks) : Type 0 where
   pub one_each : length kept ≡ length f.task.groups
   pub noted : IsNotedFor f.task kept f.operator f.effect marks
 
--- the effect keeps the group at this place, under the family, or under the family and itself
+-- the effect preserves the group with this index, assuming the family, or the family and the group
+-- itself
 abbrev pub KeepsGroup : EffectPlace → List Bool → ℕ → Type 0
 KeepsGroup f kept place = KeepsAt f.task kept f.operator f.effect place
 
 abbrev pub KeepsGroupItself : EffectPlace → List Bool → ℕ → Type 0
 KeepsGroupItself f kept place = KeepsWithItself f.task kept f.operator f.effect place
 
--- the known facts where both effects fire clash
+-- the known facts of both effects clash
 abbrev pub BothClashAt : EffectPlace → List Bool → ℕ → Type 0
 BothClashAt f kept other = Clash (IsKept f.task kept) (known (operator_of f)
     (effect_of f).conditions (effect_at (operator_of f) other).conditions)
 
--- the fact clashes with the known facts where the effect fires
+-- the fact clashes with the known facts of the effect
 abbrev pub ClashesAt : EffectPlace → List Bool → Fact → Type 0
 ClashesAt f kept fact =
     Clash (IsKept f.task kept) (known (operator_of f) (effect_of f).conditions (fact ∷ []))
 
--- one of these facts does
+-- one of these facts does so
 abbrev pub SomeClashesAt : EffectPlace → List Bool → List Fact → Type 0
 SomeClashesAt f kept facts = (fact : Fact) × Contains facts fact × ClashesAt f kept fact
 
--- a group of the family has this fact and a known one that isn't the one apart
+-- a group of the family contains both this fact and a known fact other than the one set apart
 abbrev pub SharesBesideAt : EffectPlace → List Bool → Fact → Option Fact → Type 0
 SharesBesideAt f kept fact apart = (known : Fact)
     × Contains (known_at f.task f.operator f.effect) known
@@ -143,21 +145,21 @@ abbrev pub IsSingleAt : EffectPlace → List Bool → ℕ → Type 0
 IsSingleAt f kept place =
     IsSingle (IsKept f.task kept) (operator_of f) (group_at f.task place) (effect_of f)
 
--- the effect at this place, if there is one, doesn't set a fact of the group so
+-- the effect with this index, if it exists, can't set another fact of the group in the same step
 abbrev pub IsApartAt : EffectPlace → List Bool → ℕ → ℕ → Type 0
 IsApartAt f kept place other = other < length (operator_of f).effects → NotBothAt f kept other place
 
--- none of the effects on the variable does
+-- the same for all effects on the variable
 abbrev pub IsSingleOn : EffectPlace → List Bool → ℕ → ℕ → Type 0
 IsSingleOn f kept place var = (other : ℕ) → variable_of f.task f.operator other ≡ var
     → IsApartAt f kept place other
 
--- none of the effects on the variable of one of the first facts does
+-- the same for all effects on the variables of the first `count` facts
 abbrev pub IsSingleOnFirst : EffectPlace → List Bool → ℕ → List Fact → ℕ → Type 0
 IsSingleOnFirst f kept place facts count = (k : ℕ) (d : Fact) → k < count
     → IsSingleOn f kept place (slice_index_or facts k d).var
 
--- the fact at this place has one before it on the same variable
+-- an earlier fact is on the same variable as the fact at this index
 pub record IsOnVariableBefore (facts : List Fact) (place : ℕ) : Type 0 where
   pub before : ℕ
   pub early : before < place

@@ -1,4 +1,4 @@
--- How groups fall out of the family of those that may be kept jointly.
+-- Removing groups from the family of those that may be preserved jointly.
 use Rattle.std.specs.Prelude.{◌≡◌, ℕ, ◌+◌, ◌<◌, ◌≤◌, ◌↔◌, Bool, if◌then◌else◌, IsTrue, List, [], ◌∷◌, ◌++◌, length, drop, All, Contains, vec_capacity}
 use Rattle.sas_core.specs.declared.parts.Parts.{Parts}
 use Rattle.sas_core.specs.Grounded.{operator_at, effect_at, group_at}
@@ -9,62 +9,61 @@ use Rattle.sas_group_index.specs.Kept.{family_of}
 use Rattle.sas_mutex.specs.Effects.{KeepsAt, IsPlain}
 use Rattle.sas_mutex.specs.Basis.{IsBasis}
 
--- the effect at this place of this operator keeps each group of the family that has the fact which
--- it sets
+-- the effect preserves each group of the family that contains the fact that it sets
 abbrev pub EffectKeepsAll : Parts → List Bool → ℕ → ℕ → Type 0
 EffectKeepsAll p kept operator effect = (place : ℕ) → IsIn p (family_of kept) place
     → Contains (group_at p place) (sets (effect_at (operator_at p operator) effect))
     → KeepsAt p kept operator effect place
 
--- the effect keeps the group at this place, if it is in the family, unless a group fell meanwhile
+-- if no group was removed meanwhile and the group is in the family, the effect preserves it
 pub record RestsAt (p : Parts) (kept : List Bool) (fell : List ℕ) (operator effect place : ℕ)
     : Type 0 where
   pub keeps : fell ≡ [] → IsIn p (family_of kept) place → KeepsAt p kept operator effect place
 
--- an effect is at rest: unless a group fell meanwhile, it keeps the groups of the family that have
--- the fact which it sets
+-- an effect is at rest: if no group was removed meanwhile, it preserves the groups of the family
+-- that contain the fact that it sets
 abbrev pub IsEffectAtRest : Parts → List Bool → List ℕ → ℕ → ℕ → Type 0
 IsEffectAtRest p kept fell operator effect = fell ≡ [] → EffectKeepsAll p kept operator effect
 
--- an operator is at rest if its effects are
+-- an operator is at rest if all its effects are
 abbrev pub IsAtRest : Parts → List Bool → List ℕ → ℕ → Type 0
 IsAtRest p kept fell operator = (effect : ℕ) → effect < length (operator_at p operator).effects
     → IsEffectAtRest p kept fell operator effect
 
--- those of the operator's first effects that have no conditions are at rest
+-- the first `effects` effects of the operator are at rest, as far as they have no conditions
 abbrev pub ArePlainAtRest : Parts → List Bool → List ℕ → ℕ → ℕ → Type 0
 ArePlainAtRest p kept fell operator effects = (effect : ℕ) → effect < effects
     → IsPlain p operator effect → IsEffectAtRest p kept fell operator effect
 
--- how many groups the list keeps
+-- the number of groups in the family
 abbrev pub count : List Bool → ℕ
 count [] = 0
 count (kept ∷ rest) = (if kept then 1 else 0) + count rest
 
--- The lists have a place for each group. Behind the groups that fell there is room for all that may
--- still fall. Together these are not more than all groups.
+-- The lists have an entry for each group. `fallen` has room for all groups that may still be
+-- removed. The removed and the remaining groups are at most all groups.
 pub record HasRoom (p : Parts) (family : Family) : Type 0 where
   pub one_each : length family.kept ≡ length p.groups
   pub room : count family.kept + length family.fallen.items ≤ vec_capacity family.fallen
   pub few : count family.kept + length family.fallen.items ≤ length p.groups
   pub basis : IsBasis (length p.groups) family
 
--- the same, and the basis has no group
+-- the same, and the basis is empty
 pub record IsReady (p : Parts) (family : Family) : Type 0 where
   pub room : HasRoom p family
   pub free : family.supports ≡ []
 
--- the family has exactly the groups that may be exclusive
+-- the family contains exactly the groups that may be exclusive
 abbrev pub AreCandidates : Parts → List Bool → Type 0
 AreCandidates p kept = (place : ℕ) → place < length p.groups
     → IsTrue (family_of kept place) ↔ MayBeExclusive p (group_at p place)
 
--- the groups that fell after `before`
+-- the groups that were removed after `before`
 abbrev pub newly : Family → Family → List ℕ
 newly before after = drop (length before.fallen.items) after.fallen.items
 
--- Some groups of the family fell, and these are noted. No family that is kept jointly, and lay in
--- the family before, has one of them.
+-- Some groups were removed from the family and appended to `fallen`. None of them is in a family
+-- that is preserved jointly and was contained in the family before.
 pub record Falls (p : Parts) (before after : Family) : Type 0 where
   pub one_each : length after.kept ≡ length before.kept
   pub same_basis : after.basis ≡ before.basis
@@ -82,12 +81,13 @@ pub record Falls (p : Parts) (before after : Family) : Type 0 where
       → ((place : ℕ) → IsIn p other place → IsIn p (family_of before.kept) place)
       → (place : ℕ) → IsIn p other place → IsIn p (family_of after.kept) place
 
--- each group of the first family is one of the second
+-- all groups of the first family are in the second one
 abbrev pub IsWithin : Parts → List Bool → List Bool → Type 0
 IsWithin p smaller kept =
     (place : ℕ) → IsIn p (family_of smaller) place → IsIn p (family_of kept) place
 
--- the operator keeps each group of the family, and of any family within it that has these groups
+-- the operator preserves each group of the family, and of any smaller family that contains these
+-- groups
 abbrev pub RestsOn : Parts → List Bool → List ℕ → ℕ → Type 0
 RestsOn p kept groups operator = (smaller : List Bool) → IsWithin p smaller kept
     → All (IsIn p (family_of smaller)) groups → IsAtRest p smaller [] operator

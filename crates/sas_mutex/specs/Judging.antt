@@ -1,4 +1,4 @@
--- How the verdicts on all groups of a task are found.
+-- How the verdicts on all groups of a task are determined.
 use Rattle.std.specs.Prelude.{Bool, ◌≡◌, ℕ, ◌<◌, List, length, Contains, IsFalse}
 use Rattle.sas_core.specs.declared.parts.Parts.{Parts}
 use Rattle.sas_core.specs.Grounded.{operator_at, effect_at, group_at}
@@ -18,14 +18,14 @@ pub record AreFirstVerdicts (p : Parts) (verdicts : List Verdict) : Type 0 where
   pub are : (place : ℕ) → place < length p.groups
       → IsFirstVerdict p (group_at p place) (verdict_at verdicts place)
 
--- the group at this place isn't in the family, and no operator was found yet that breaks it, which
--- `Exclusive` represents
+-- the group isn't in the family, and no operator that breaks it was found yet (which `Exclusive`
+-- represents)
 pub record IsUntold (kept : List Bool) (verdicts : List Verdict) (place : ℕ) : Type 0 where
   pub fell : IsFalse (family_of kept place)
   pub nothing : verdict_at verdicts place ≡ Exclusive
 
--- the operators below this one keep the group under the family and itself, and so do this one's
--- effects below this place
+-- all operators before this one preserve the group, assuming the family and the group itself, and
+-- so do the effects of this one before `effect`
 pub record KeptSoFar (p : Parts) (kept : List Bool) (operator effect place : ℕ) : Type 0 where
   pub operators : (lower : ℕ) → lower < operator
       → Keeps (IsGroupOfOr p (family_of kept) (group_at p place)) (operator_at p lower)
@@ -34,7 +34,7 @@ pub record KeptSoFar (p : Parts) (kept : List Bool) (operator effect place : ℕ
       → Contains (group_at p place) (sets (effect_at (operator_at p operator) lower))
       → KeepsWithItself p kept operator lower place
 
--- the verdict on the group at this place, as far as the operators and effects so far decide it
+-- the verdict on the group, as far as the operators and effects so far determine it
 abbrev pub IsVerdictSoFar : Parts → List Bool → ℕ → ℕ → ℕ → Verdict → Type 0
 IsVerdictSoFar p kept operator effect place Derived = IsJointVerdict p place Derived
 IsVerdictSoFar p kept operator effect place Initial = IsJointVerdict p place Initial
@@ -43,7 +43,7 @@ IsVerdictSoFar p kept operator effect place (Broken breaking) =
 IsVerdictSoFar p kept operator effect place Exclusive = MayBeExclusive p (group_at p place)
     × ((IsIn p (family_of kept) place → ⊥) → KeptSoFar p kept operator effect place)
 
--- one such verdict for each group
+-- such a verdict for each group
 pub record AreVerdictsSoFar (p : Parts) (kept : List Bool) (operator effect : ℕ)
     (verdicts : List Verdict) : Type 0 where
   pub one_each : length verdicts ≡ length p.groups

@@ -1,4 +1,4 @@
--- Which operators have to be looked at again where a group falls: those that watch it.
+-- Which operators must be checked again when a group is removed: those that watch it.
 use Rattle.std.specs.Prelude.{◌≡◌, ◌≢◌, ◌⊎◌, ℕ, ◌<◌, ◌≤◌, ◌^◌, Bool, true, Option, Some, None, List, [], ◌++◌, length, slice_index_or, All, Contains}
 use Rattle.sas_core.specs.declared.parts.Parts.{Parts}
 use Rattle.sas_groups.specs.Families.{IsIn}
@@ -8,17 +8,17 @@ use Rattle.sas_mutex.specs.declared.watches.Watches.{Watches}
 use Rattle.sas_group_index.specs.Kept.{family_of}
 use Rattle.sas_mutex.specs.Falling.{IsWithin, IsAtRest}
 
--- the watch at this place
+-- the watch with this index
 abbrev pub watch_at : List Watch → ℕ → Watch
 watch_at made place = slice_index_or made place (record { group = 0; operator = 0; before = None })
 
--- the place from which on the operator's watches count, if it isn't loose
+-- the index of the operator's first valid watch; none if the operator is loose
 abbrev pub since_of : List (Option ℕ) → ℕ → Option ℕ
 since_of since operator = slice_index_or since operator None
 
 -- ---- chains
 
--- of the watches below a place this is the last one of the group, if the group has one
+-- the last watch of the group among the watches before `below`, if any
 abbrev pub IsLastBelow : List Watch → ℕ → ℕ → Option ℕ → Type 0
 IsLastBelow made below group None =
     (place : ℕ) → place < below → (watch_at made place).group ≢ group
@@ -26,45 +26,47 @@ IsLastBelow made below group (Some last) = (last < below)
     × ((watch_at made last).group ≡ group)
     × ((place : ℕ) → last < place → place < below → (watch_at made place).group ≢ group)
 
--- each watch leads to the one of its group before it, and a group to its last watch
+-- the watches of each group form a linked list: the group refers to its last watch, and each watch
+-- to the previous one
 pub record AreChained (made : List Watch) (last : List (Option ℕ)) : Type 0 where
   pub of_groups : (group : ℕ) → group < length last
       → IsLastBelow made (length made) group (slice_index_or last group None)
   pub of_watches : (place : ℕ) → place < length made
       → IsLastBelow made place (watch_at made place).group (watch_at made place).before
 
--- ---- what watches are for
+-- ---- the purpose of watches
 
--- a watch of the operator, from this place on
+-- a watch of the operator at or after index `start`
 pub record IsWatchOf (made : List Watch) (operator start place : ℕ) : Type 0 where
   pub exists : place < length made
   pub from : start ≤ place
   pub its : (watch_at made place).operator ≡ operator
 
--- from this place on the operator has a watch of the group
+-- the operator has a watch of the group at or after index `start`
 abbrev pub HasWatchFrom : List Watch → ℕ → ℕ → ℕ → Type 0
 HasWatchFrom made operator start group =
     (place : ℕ) × IsWatchOf made operator start place × ((watch_at made place).group ≡ group)
 
--- as long as the groups that the operator watches from this place on are in the family, or in one
--- within it, the operator keeps each group that is
+-- the operator preserves each group of any smaller family that contains the groups that it watches
+-- at or after index `start`
 abbrev pub RestsBy : Parts → List Bool → List Watch → ℕ → ℕ → Type 0
 RestsBy p kept made operator start = (smaller : List Bool) → IsWithin p smaller kept
     → ((place : ℕ) → IsWatchOf made operator start place
     → IsIn p (family_of smaller) (watch_at made place).group)
     → IsAtRest p smaller [] operator
 
--- the watch at this place counts no longer: its operator was looked at since, or is loose
+-- the watch is no longer valid: its operator was checked again, or is loose
 abbrev pub IsOver : Watches → ℕ → Type 0
 IsOver w place = (start : ℕ) → since_of w.since (watch_at w.made place).operator ≡ Some start
     → start ≤ place → ⊥
 
--- no watch of the group counts any longer
+-- no watch of the group is valid any more
 abbrev pub IsTold : Watches → ℕ → Type 0
 IsTold w group = (place : ℕ) → place < length w.made → (watch_at w.made place).group ≡ group
     → IsOver w place
 
--- behind the watch at this place, or where there is none, no watch of the group counts any longer
+-- no watch of the group after index `at` is valid any more; for `None`, no watch of the group at
+-- all
 abbrev pub IsToldBehind : Watches → ℕ → Option ℕ → Type 0
 IsToldBehind w group None = IsTold w group
 IsToldBehind w group (Some at) = (at < length w.made)
@@ -72,7 +74,7 @@ IsToldBehind w group (Some at) = (at < length w.made)
     × ((place : ℕ) → at < place → place < length w.made → (watch_at w.made place).group ≡ group
     → IsOver w place)
 
--- nothing is watched, and all operators are loose
+-- there are no watches, and all operators are loose
 pub record AreUnwatched (groups operators : ℕ) (w : Watches) : Type 0 where
   pub made : w.made ≡ []
   pub each_group : length w.last ≡ groups
@@ -80,14 +82,14 @@ pub record AreUnwatched (groups operators : ℕ) (w : Watches) : Type 0 where
   pub no_last : (group : ℕ) → slice_index_or w.last group None ≡ None
   pub loose : (operator : ℕ) → since_of w.since operator ≡ None
 
--- what fell isn't in the family, and exists
+-- the removed groups exist and aren't in the family
 pub record AreFallen (p : Parts) (family : Family) : Type 0 where
   pub exist : All (λ (group : ℕ). group < length p.groups) family.fallen.items
   pub out : (group : ℕ) → Contains family.fallen.items group
       → family_of family.kept group ≡ true → ⊥
 
--- each operator that isn't loose rests on what it watches; a group that is watched is in the family,
--- or fell
+-- each operator that isn't loose depends only on the groups that it watches; a group that is
+-- watched is in the family, or was removed
 pub record AreWatched (p : Parts) (family : Family) (w : Watches) : Type 0 where
   pub each_group : length w.last ≡ length p.groups
   pub each_operator : length w.since ≡ length p.operators
@@ -103,14 +105,14 @@ pub record AreWatched (p : Parts) (family : Family) (w : Watches) : Type 0 where
 
 -- ---- steps
 
--- these watches, and behind them some of the operator, each of a group of the family
+-- these watches, followed by some of the operator, each of a group of the family
 pub record AreMore (operator : ℕ) (kept : List Bool) (before after : List Watch) : Type 0 where
   pub more : List Watch
   pub behind : after ≡ before ++ more
   pub its : All (λ (watch : Watch). watch.operator ≡ operator) more
   pub in_family : All (λ (watch : Watch). family_of kept watch.group ≡ true) more
 
--- such watches were made
+-- such watches were added
 pub record WatchesMore (operator : ℕ) (kept : List Bool) (before after : Watches) : Type 0 where
   pub made : AreMore operator kept before.made after.made
   pub chained : AreChained after.made after.last
@@ -118,24 +120,24 @@ pub record WatchesMore (operator : ℕ) (kept : List Bool) (before after : Watch
   pub few : length after.made < 2 ^ 32
   pub since : after.since ≡ before.since
 
--- an operator was looked at: what it watches now it has watched since
+-- the operator was checked: its valid watches, if it isn't loose, are new ones
 pub record IsWatchedAnew (operator : ℕ) (kept : List Bool) (before after : Watches) : Type 0 where
   pub made : AreMore operator kept before.made after.made
   pub now : (start : ℕ) → since_of after.since operator ≡ Some start → length before.made ≤ start
   pub others : (other : ℕ) → other ≢ operator
       → since_of after.since other ≡ since_of before.since other
 
--- who watches one of the first so many groups that fell is told
+-- no watch of the first `count` removed groups is valid any more
 abbrev pub AreTold : List ℕ → ℕ → Watches → Type 0
 AreTold fallen count w =
     (place : ℕ) → place < count → IsTold w (slice_index_or fallen place 0)
 
--- a group that isn't in the family stays told
+-- a group outside the family that had no valid watch still has none
 abbrev pub StayTold : List Bool → Watches → Watches → Type 0
 StayTold kept before after = (group : ℕ) → (family_of kept group ≡ true → ⊥)
     → IsTold before group → IsTold after group
 
--- the loose ones of the first so many operators are at rest, unless a group fell meanwhile
+-- the loose operators among the first `count` are at rest, if no group was removed meanwhile
 abbrev pub AreLooseAtRest : Parts → List Bool → List ℕ → Watches → ℕ → Type 0
 AreLooseAtRest p kept fell w count = (operator : ℕ) → operator < count
     → since_of w.since operator ≡ None → IsAtRest p kept fell operator

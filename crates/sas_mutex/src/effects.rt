@@ -1,4 +1,4 @@
-// Which effects keep a group.
+// Which groups an effect preserves.
 ghost use Rattle.std.specs.Prelude.{◌≡◌, ◌<◌, ◌≤◌, ◌^◌, ℕ, Bool, List, length, IsTrue, IsFalse, All};
 ghost use Rattle.sas_core.specs.Grounded.{operator_at, effect_at};
 ghost use Rattle.sas_core.specs.Changes.{plain_effects};
@@ -26,9 +26,9 @@ use sas_groups::{Known, Premises};
 use sas_meaning::Layered;
 use std::marker::Model;
 
-/// An effect of an operator of a task, with the index of the task's groups. Its calls are about a state in which it fires. In
-/// a contract its value is the task and the places of the operator and the effect. These places exist, and the index is that
-/// of the task's groups.
+/// An effect of an operator of a task, with the index of the task's groups. Its methods are about a step in which the effect fires. The
+/// known facts of the effect are the preconditions of its operator and its own conditions. In a contract its value is the task and the
+/// indexes of the operator and the effect, which exist. The index is that of the task.
 #[derive(Drop)]
 pub struct Firing<'a, 'b, T: Grounded> {
     pub task: &'a Layered<T>,
@@ -55,7 +55,7 @@ impl<'a, 'b, T: Grounded> Model for Firing<'a, 'b, T> {
 }
 
 impl<'a, 'b, T: Grounded> Firing<'a, 'b, T> {
-    /// Returns whether a group of the family has the fact that the effect sets.
+    /// Returns whether a group of the family contains the fact that the effect sets.
     #[inline(always)]
     pub fn sets_one_of(&self, kept: &[bool]) -> bool
         requires { length kept.now ≡ length self.now.task.groups }
@@ -71,8 +71,7 @@ impl<'a, 'b, T: Grounded> Firing<'a, 'b, T> {
         some_kept(groups, kept)
     }
 
-    /// Returns whether the effect keeps the group, which is in the family. The known facts where it fires are noted, and
-    /// don't clash.
+    /// Returns whether the effect preserves the group, which must be in the family. The known facts must be recorded and must not clash.
     #[inline(always)]
     pub fn keeps_by_notes(&self, kept: &[bool], group: u32, marks: &mut Marks) -> bool
         requires notes { IsNotedAt self.now kept.now marks.old }
@@ -84,8 +83,8 @@ impl<'a, 'b, T: Grounded> Firing<'a, 'b, T> {
         self.is_single(kept, group, marks) && self.removes_others(kept, group, marks)
     }
 
-    /// Returns whether the effect keeps the group under the family and the group itself, by what is noted. In the end the
-    /// family is as it was.
+    /// Returns whether the effect preserves the group, assuming the family and the group itself. The known facts must be recorded and must
+    /// not clash. The family is unchanged on return.
     #[inline(always)]
     pub fn keeps_with_itself(&self, group: u32, kept: &mut Items<bool>, marks: &mut Marks) -> bool
         requires notes { IsNotedAt self.now kept.old marks.old }
@@ -95,7 +94,7 @@ impl<'a, 'b, T: Grounded> Firing<'a, 'b, T> {
         ensures kept { kept.new ≡ kept.old }
         ensures notes { IsNotedAt self.now kept.old marks.new }
     {
-        // Two facts of the group are known where the effect fires. Since the group counts, it never fires.
+        // Two different facts of the group are known. Since the group is assumed to be exclusive, the effect never fires.
         if self.noted(group, marks).is_several() {
             return true;
         }
@@ -106,7 +105,7 @@ impl<'a, 'b, T: Grounded> Firing<'a, 'b, T> {
         keeps
     }
 
-    /// Returns which of the known facts where this effect fires the group has.
+    /// Returns which of the known facts the group contains.
     #[inline(always)]
     pub fn noted(&self, group: u32, marks: &Marks) -> Noted
         requires wide { IsWide self.now.task marks.now.known }
@@ -117,8 +116,8 @@ impl<'a, 'b, T: Grounded> Firing<'a, 'b, T> {
         marks.known.noted(self.index, group)
     }
 
-    /// Returns whether no effect that may fire together with this one sets a fact of the group too, on another variable. All
-    /// effects are looked at, or of a large operator those on variables of the group, if its facts are fewer.
+    /// Returns whether no effect that may fire together with this one sets another fact of the group on another variable. For a large
+    /// operator, only effects on variables of the group are checked if the group has fewer facts than the operator has effects.
     #[inline(always)]
     fn is_single(&self, kept: &[bool], group: u32, marks: &mut Marks) -> bool
         requires notes { IsNotedAt self.now kept.now marks.old }
@@ -136,7 +135,7 @@ impl<'a, 'b, T: Grounded> Firing<'a, 'b, T> {
         }
     }
 
-    /// Decides the same by what the operator's effects change, where none of them has conditions.
+    /// `is_single` for an operator without conditional effects.
     #[inline(always)]
     fn is_single_of_changes(
         &self,
@@ -160,12 +159,12 @@ impl<'a, 'b, T: Grounded> Firing<'a, 'b, T> {
         true
     }
 
-    /// Returns whether the operator is large, and has more effects than the group has facts.
+    /// Returns whether the operator is large and has more effects than the group has facts.
     #[inline(always)]
     fn has_more_effects(&self, group: u32) -> bool
         requires { group < length self.now.task.groups }
     {
-        // The index has the effects of large operators alone.
+        // The index only contains the effects of large operators.
         if self.index.effects_on(self.task, self.operator, 0).is_none() {
             return false;
         }
@@ -173,7 +172,7 @@ impl<'a, 'b, T: Grounded> Firing<'a, 'b, T> {
         facts.len() < self.task.effects(self.operator) as usize
     }
 
-    /// Decides the same by a look at each effect.
+    /// `is_single` by checking all effects.
     #[inline(always)]
     fn is_single_of_all(&self, kept: &[bool], group: u32, marks: &mut Marks) -> bool
         requires notes { IsNotedAt self.now kept.now marks.old }
@@ -191,8 +190,8 @@ impl<'a, 'b, T: Grounded> Firing<'a, 'b, T> {
         true
     }
 
-    /// Decides the same by a look at the effects on each variable of the group. Its facts are in ascending order, so those on
-    /// one variable follow one another.
+    /// `is_single` by checking the effects on each variable of the group. The facts of the group are sorted, so facts on the same variable
+    /// are adjacent.
     #[inline(never)]
     fn is_single_by_facts(&self, kept: &[bool], group: u32, marks: &mut Marks) -> bool
         requires notes { IsNotedAt self.now kept.now marks.old }
@@ -212,8 +211,7 @@ impl<'a, 'b, T: Grounded> Firing<'a, 'b, T> {
         true
     }
 
-    /// Returns whether no effect on the variable that may fire together with this one sets a fact of the group too, on another
-    /// variable.
+    /// Returns whether no effect on variable `var` that may fire together with this one sets another fact of the group on another variable.
     fn is_single_on(&self, kept: &[bool], group: u32, var: u32, marks: &mut Marks) -> bool
         requires notes { IsNotedAt self.now kept.now marks.old }
         requires group { IsIn self.now.task (family_of kept.now) group }
@@ -227,7 +225,7 @@ impl<'a, 'b, T: Grounded> Firing<'a, 'b, T> {
         }
     }
 
-    /// Returns whether none of these effects does so.
+    /// `is_single_on` for these effects.
     fn is_single_among(&self, kept: &[bool], group: u32, effects: &[u32], marks: &mut Marks) -> bool
         requires notes { IsNotedAt self.now kept.now marks.old }
         requires group { IsIn self.now.task (family_of kept.now) group }
@@ -245,8 +243,7 @@ impl<'a, 'b, T: Grounded> Firing<'a, 'b, T> {
         true
     }
 
-    /// Returns whether the other effect never sets a fact of the group on another variable in the same step as this effect
-    /// fires.
+    /// Returns whether the other effect can't set a fact of the group on another variable in the same step in which this effect fires.
     #[inline(always)]
     pub fn not_both(&self, kept: &[bool], other: u32, group: u32, marks: &mut Marks) -> bool
         requires notes { IsNotedAt self.now kept.now marks.old }
@@ -260,7 +257,7 @@ impl<'a, 'b, T: Grounded> Firing<'a, 'b, T> {
         self.is_apart(kept, var, other, group, marks)
     }
 
-    /// Returns the same. `var` is the variable of this effect.
+    /// `not_both`, given the variable of this effect.
     #[inline(always)]
     fn is_apart(&self, kept: &[bool], var: u32, other: u32, group: u32, marks: &mut Marks) -> bool
         requires notes { IsNotedAt self.now kept.now marks.old }
@@ -281,8 +278,8 @@ impl<'a, 'b, T: Grounded> Firing<'a, 'b, T> {
         self.both_clash(kept, other, marks)
     }
 
-    /// Returns whether the known facts where both effects fire clash. Those where this effect fires don't. So a condition of
-    /// the other effect clashes with them, or its conditions clash among themselves.
+    /// Returns whether the known facts of both effects clash, so that they can't fire together. The known facts of this effect don't clash.
+    /// So either a condition of the other effect clashes with them, or its conditions clash with each other.
     fn both_clash(&self, kept: &[bool], other: u32, marks: &mut Marks) -> bool
         requires notes { IsNotedAt self.now kept.now marks.old }
         requires other { other < length (operator_of self.now).effects }
@@ -301,14 +298,14 @@ impl<'a, 'b, T: Grounded> Firing<'a, 'b, T> {
         facts_clash(&indexed, kept, second, &mut marks.others, &marks.deciding)
     }
 
-    /// Returns whether one of these facts clashes with the known facts where this effect fires.
+    /// Returns whether one of these facts clashes with the known facts of this effect.
     fn some_clashes(&self, kept: &[bool], facts: &[Fact], marks: &Marks) -> bool
         requires notes { IsNotedAt self.now kept.now marks.now }
         requires exist { All (FactExists self.now.task.variables) facts.now }
         ensures yes { IsTrue result → SomeClashesAt self.now kept.now facts.now }
         ensures no { IsFalse result → SomeClashesAt self.now kept.now facts.now → ⊥ }
     {
-        // Naming a field makes the invariant of the effect available.
+        // For the proof: accessing a field makes the invariant of the effect available.
         let _ = &self.task;
         for fact in facts {
             if self.clashes(kept, *fact, marks) {
@@ -318,7 +315,7 @@ impl<'a, 'b, T: Grounded> Firing<'a, 'b, T> {
         false
     }
 
-    /// Returns whether the fact clashes with the known facts where this effect fires.
+    /// Returns whether the fact clashes with the known facts of this effect.
     #[inline(always)]
     fn clashes(&self, kept: &[bool], fact: Fact, marks: &Marks) -> bool
         requires notes { IsNotedAt self.now kept.now marks.now }
@@ -326,7 +323,7 @@ impl<'a, 'b, T: Grounded> Firing<'a, 'b, T> {
         ensures yes { IsTrue result → ClashesAt self.now kept.now fact }
         ensures no { IsFalse result → ClashesAt self.now kept.now fact → ⊥ }
     {
-        // Naming a field makes the invariant of the effect available.
+        // For the proof: accessing a field makes the invariant of the effect available.
         let _ = &self.task;
         match marks.known.values.as_slice()[fact.var as usize] {
             Some(value) => value != fact.value,
@@ -334,7 +331,7 @@ impl<'a, 'b, T: Grounded> Firing<'a, 'b, T> {
         }
     }
 
-    /// Returns whether a group of the family has the fact and a known one, where no fact is known on its variable.
+    /// Returns whether a group of the family contains both the fact and a known fact. No fact on its variable may be known.
     fn shares_known(&self, kept: &[bool], fact: Fact, marks: &Marks) -> bool
         requires notes { IsNotedAt self.now kept.now marks.now }
         requires fact { FactExists self.now.task.variables fact }
@@ -342,7 +339,7 @@ impl<'a, 'b, T: Grounded> Firing<'a, 'b, T> {
         ensures yes { IsTrue result → ClashesAt self.now kept.now fact }
         ensures no { IsFalse result → ClashesAt self.now kept.now fact → ⊥ }
     {
-        // Naming a field makes the invariant of the effect available.
+        // For the proof: accessing a field makes the invariant of the effect available.
         let _ = &self.task;
         if self.shares_beside(kept, fact, marks) {
             return true;
@@ -350,8 +347,8 @@ impl<'a, 'b, T: Grounded> Firing<'a, 'b, T> {
         shares_apart(self.index, kept, fact, marks.known.apart, &marks.deciding)
     }
 
-    /// Returns whether a group of the family has the fact and a known one that isn't the one apart. Either the groups of the
-    /// fact are gone through, or those of the known ones, if they are fewer.
+    /// Returns whether a group of the family contains both the fact and a known fact other than the one set apart. Searches the groups of
+    /// the fact, or those of the known facts if they are fewer.
     fn shares_beside(&self, kept: &[bool], fact: Fact, marks: &Marks) -> bool
         requires notes { IsNotedAt self.now kept.now marks.now }
         requires fact { FactExists self.now.task.variables fact }
@@ -367,7 +364,7 @@ impl<'a, 'b, T: Grounded> Firing<'a, 'b, T> {
         self.known_share(kept, fact, marks)
     }
 
-    /// Does the same by the groups of the known facts.
+    /// `shares_beside`, searching the groups of the known facts.
     fn known_share(&self, kept: &[bool], fact: Fact, marks: &Marks) -> bool
         requires fact { FactExists self.now.task.variables fact }
         ensures yes { IsTrue result → SharesBesideAt self.now kept.now fact marks.now.known.apart }
@@ -389,7 +386,7 @@ impl<'a, 'b, T: Grounded> Firing<'a, 'b, T> {
         false
     }
 
-    /// Returns whether no other fact of the group stays where this effect fires. Mostly an old value decides this at once.
+    /// Returns whether no other fact of the group can remain when this effect fires. Usually an old value decides this immediately.
     #[inline(always)]
     pub fn removes_others(&self, kept: &[bool], group: u32, marks: &Marks) -> bool
         requires notes { IsNotedAt self.now kept.now marks.now }
@@ -400,8 +397,8 @@ impl<'a, 'b, T: Grounded> Firing<'a, 'b, T> {
         self.asks_one_of(group) || self.none_stays(kept, group, marks)
     }
 
-    /// Returns whether the effect requires an old value that is a fact of the group. Then no other fact of the group on
-    /// another variable can have held.
+    /// Returns whether the effect requires an old value that is a fact of the group. Then no fact of the group on another variable can have
+    /// held before.
     #[inline(always)]
     fn asks_one_of(&self, group: u32) -> bool
         ensures { IsTrue result
@@ -421,16 +418,16 @@ impl<'a, 'b, T: Grounded> Firing<'a, 'b, T> {
         }
     }
 
-    /// Returns whether no other fact of the group stays, where the known facts are noted and don't clash.
+    /// `removes_others`, checking the facts of the group.
     fn none_stays(&self, kept: &[bool], group: u32, marks: &Marks) -> bool
         requires notes { IsNotedAt self.now kept.now marks.now }
         requires group { IsIn self.now.task (family_of kept.now) group }
         ensures yes { IsTrue result → AreGoneAt self.now kept.now group }
         ensures no { IsFalse result → AreGoneAt self.now kept.now group → ⊥ }
     {
-        // Naming a field makes the invariant of the effect available.
+        // For the proof: accessing a field makes the invariant of the effect available.
         let _ = &self.task;
-        // Where a fact of the group is known, it contradicts all the others.
+        // If a fact of the group is known, it contradicts all others.
         if let Some(fact) = self.noted(group, marks).only() {
             return self.is_gone(kept, fact, marks);
         }
@@ -445,8 +442,8 @@ impl<'a, 'b, T: Grounded> Firing<'a, 'b, T> {
         true
     }
 
-    /// Returns whether none of the facts stays. They are on one variable, and none of them is known. If that is the effect's
-    /// variable, or another value of it is known, this is decided at once.
+    /// Returns whether none of these facts can remain. They must be on one variable, and none of them may be known. If it is the variable
+    /// of the effect, or another value of it is known, no fact needs to be checked.
     fn run_is_gone(&self, kept: &[bool], run: &[Fact], marks: &Marks) -> bool
         requires notes { IsNotedAt self.now kept.now marks.now }
         requires exist { All (FactExists self.now.task.variables) run.now }
@@ -455,7 +452,7 @@ impl<'a, 'b, T: Grounded> Firing<'a, 'b, T> {
         ensures yes { IsTrue result → All (IsGoneAt self.now kept.now) run.now }
         ensures no { IsFalse result → All (IsGoneAt self.now kept.now) run.now → ⊥ }
     {
-        // Naming a field makes the invariant of the effect available.
+        // For the proof: accessing a field makes the invariant of the effect available.
         let _ = &self.index;
         if self.is_settled(run, &marks.known) {
             return true;
@@ -468,7 +465,7 @@ impl<'a, 'b, T: Grounded> Firing<'a, 'b, T> {
         true
     }
 
-    /// Returns whether the first of the facts is on the effect's variable, or a value of its variable is known.
+    /// Returns whether the first of the facts, if any, is on the variable of the effect, or a value of its variable is known.
     fn is_settled(&self, run: &[Fact], notes: &Notes) -> bool
         requires values { All (λ (f : Fact). f.var < length notes.now.values) run.now }
         ensures { IsTrue result → IsDecidedByFirst (effect_of self.now) run.now notes.now }
@@ -482,7 +479,7 @@ impl<'a, 'b, T: Grounded> Firing<'a, 'b, T> {
         }
     }
 
-    /// Returns whether the fact is on the effect's variable, or doesn't stay where the effect fires.
+    /// Returns whether the fact can't remain when the effect fires. True if the fact is on the variable of the effect.
     #[inline(always)]
     pub fn is_gone(&self, kept: &[bool], fact: Fact, marks: &Marks) -> bool
         requires notes { IsNotedAt self.now kept.now marks.now }
@@ -496,8 +493,8 @@ impl<'a, 'b, T: Grounded> Firing<'a, 'b, T> {
         self.clashes(kept, fact, marks) || self.is_removed(fact, &marks.known)
     }
 
-    /// Returns whether an effect of the operator, each of whose conditions is this fact or noted, sets the variable of the
-    /// fact to another value. Of a large operator only effects on that variable are looked at.
+    /// Returns whether some effect of the operator removes the fact: it sets the variable of the fact to another value, and each of its
+    /// conditions is this fact or is recorded. For a large operator, only effects on that variable are checked.
     #[inline(always)]
     fn is_removed(&self, fact: Fact, notes: &Notes) -> bool
         requires wide { IsWide self.now.task notes.now }
@@ -511,7 +508,7 @@ impl<'a, 'b, T: Grounded> Firing<'a, 'b, T> {
     }
 }
 
-/// Returns whether the fact at this place is the first of a run of facts on one variable.
+/// Returns whether the fact at this index is the first of a run of facts on one variable.
 fn begins_run(facts: &[Fact], place: usize) -> bool
     requires { place < length facts.now }
     ensures { IsFalse result → IsOnVariableBefore facts.now place }
@@ -519,7 +516,7 @@ fn begins_run(facts: &[Fact], place: usize) -> bool
     place == 0 || facts[place - 1].var != facts[place].var
 }
 
-/// Returns whether the change sets a fact of the group, and is on another variable than this one.
+/// Returns whether the change sets a fact of the group on a variable other than `var`.
 #[inline(always)]
 fn sets_beside(index: &Index, change: Change, var: u32, group: u32) -> bool
     requires { IsReadable index.now }
@@ -529,8 +526,8 @@ fn sets_beside(index: &Index, change: Change, var: u32, group: u32) -> bool
     change.var != var && index.has(group, change.fact())
 }
 
-/// Returns whether an effect of the operator, each of whose conditions is this fact or noted, sets the variable of the fact
-/// to another value.
+/// Returns whether some effect of the operator removes the fact: it sets the variable of the fact to another value, and each of its
+/// conditions is this fact or is recorded.
 #[inline(always)]
 fn some_removes<T: Grounded>(task: &Layered<T>, operator: u32, fact: Fact, notes: &Notes) -> bool
     requires wide { IsWide task.now notes.now }
@@ -558,7 +555,7 @@ fn one_changes(changes: &[Change], fact: Fact) -> bool
     false
 }
 
-/// Decides the same as `some_removes` by a look at each effect.
+/// `some_removes` by checking all effects.
 #[inline(always)]
 fn some_of_all_removes<T: Grounded>(
     task: &Layered<T>,
@@ -579,8 +576,7 @@ fn some_of_all_removes<T: Grounded>(
     false
 }
 
-/// Returns whether one of these effects removes the fact so. They are all effects of the operator on the fact's variable, and
-/// maybe others.
+/// `some_removes` by checking `effects`, which must contain all effects of the operator on the fact's variable.
 fn one_removes<T: Grounded>(
     task: &Layered<T>,
     operator: u32,
@@ -602,8 +598,8 @@ fn one_removes<T: Grounded>(
     false
 }
 
-/// Returns whether each of the effect's conditions is this fact or noted, and the effect sets the variable of the fact to
-/// another value.
+/// Returns whether the effect removes the fact: it sets the variable of the fact to another value, and each of its conditions is this fact
+/// or is recorded.
 #[inline(always)]
 fn removes<T: Grounded>(
     task: &Layered<T>,
@@ -620,7 +616,7 @@ fn removes<T: Grounded>(
     ensures no { IsFalse result
         → Removes notes.now fact (effect_at (operator_at task.now operator) effect) → ⊥ }
 {
-    // By its contract the task is well ranged.
+    // The contract of `task` ensures that the task is well ranged.
     let _ = task.task();
     let change = task.effect_change(operator, effect);
     if change.var != fact.var || change.new == fact.value {
@@ -629,7 +625,7 @@ fn removes<T: Grounded>(
     all_met(task.effect_conditions(operator, effect), fact, notes)
 }
 
-/// Returns whether each of the conditions is this fact or noted.
+/// Returns whether each condition is this fact or is recorded.
 #[inline(always)]
 fn all_met(conditions: &[Fact], fact: Fact, notes: &Notes) -> bool
     requires { All (λ (c : Fact). c.var < length notes.now.values) conditions.now }
@@ -644,7 +640,7 @@ fn all_met(conditions: &[Fact], fact: Fact, notes: &Notes) -> bool
     true
 }
 
-/// Returns whether the condition is this fact or noted.
+/// Returns whether the condition is this fact or is recorded.
 #[inline(always)]
 fn is_met(condition: Fact, fact: Fact, notes: &Notes) -> bool
     requires { condition.var < length notes.now.values }

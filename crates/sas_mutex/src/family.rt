@@ -1,4 +1,4 @@
-// The groups that may still be kept jointly.
+// The family: the groups that may still be preserved jointly.
 ghost use Rattle.std.specs.Prelude.{◌≡◌, ◌⊎◌, ◌≤◌, ◌+◌, ◌++◌, [], ◌∷◌, false, ℕ, ◌<◌, length, Contains, IsTrue, All, slice_set, vec_capacity};
 ghost use Rattle.sas_group_index.specs.Kept.{family_of};
 ghost use Rattle.sas_mutex.specs.Falling.{count};
@@ -6,16 +6,16 @@ ghost use Rattle.sas_mutex.specs.Basis.{IsBasis, IsBasisKept, IsOfNone, IsWithou
 
 use sas_core::Items;
 
-/// The groups that may still be kept jointly, and those that fell out of them.
+/// The groups that may still be preserved jointly, and those that were removed.
 pub struct Family {
     /// For each group, whether it is in the family.
     pub kept: Items<bool>,
-    /// The groups that fell, in the order in which they did.
+    /// The removed groups, in the order of their removal.
     pub fallen: Vec<u32>,
-    /// The groups that count beside a group itself, where an effect is checked for whether it keeps the group whatever
-    /// others fall: none, or those on which an operator may rest.
+    /// The groups that are assumed besides a group itself to check whether an effect preserves the group whichever others are removed:
+    /// none, or those on which an operator may depend.
     pub basis: Items<bool>,
-    /// The groups of the basis, which are few.
+    /// The groups of the basis as a list. They are few.
     pub supports: Items<u32>,
 }
 
@@ -34,7 +34,7 @@ impl Drop for Family {
     }
 }
 
-/// Takes these groups out of a list that has a place for each group.
+/// Removes these groups from a family.
 fn take_out(list: &mut Items<bool>, groups: &[u32])
     requires low { All (λ (group : ℕ). group < length list.old) groups.now }
     ensures { IsWithout groups.now list.old list.new }
@@ -56,7 +56,7 @@ impl Family {
         }
     }
 
-    /// Returns whether each group of the basis is in the family.
+    /// Returns whether all groups of the basis are in the family.
     #[inline(always)]
     pub fn has_basis(&self) -> bool
         ensures { IsTrue result → (groups : ℕ) → IsBasis groups self.now → IsBasisKept self.now }
@@ -69,7 +69,7 @@ impl Family {
         true
     }
 
-    /// Makes these groups the basis, which has none, or the first of them if memory isn't there for all.
+    /// Uses these groups as the basis; if memory runs out, only some of them. The basis must be empty.
     pub fn suppose(&mut self, groups: &[u32])
         requires none { self.old.supports ≡ [] }
         requires basis { IsBasis (length self.old.basis) self.old }
@@ -83,7 +83,7 @@ impl Family {
         }
     }
 
-    /// Adds the group to the basis, if it exists and memory is there.
+    /// Adds the group to the basis, unless the group doesn't exist or memory runs out.
     fn support(&mut self, group: u32)
         requires basis { IsBasis (length self.old.basis) self.old }
         ensures kept { self.new.kept ≡ self.old.kept }
@@ -101,7 +101,7 @@ impl Family {
         }
     }
 
-    /// Takes all groups out of the basis.
+    /// Removes all groups from the basis.
     pub fn suppose_nothing(&mut self)
         requires basis { IsBasis (length self.old.basis) self.old }
         ensures kept { self.new.kept ≡ self.old.kept }
@@ -113,7 +113,7 @@ impl Family {
         self.supports.clear();
     }
 
-    /// Removes the group from the family, and adds it to those that fell.
+    /// Removes the group from the family and appends it to the removed groups.
     pub fn take_away(&mut self, group: u32)
         requires kept { IsTrue (family_of self.old.kept group) }
         requires room { count self.old.kept + length self.old.fallen.items

@@ -1,4 +1,4 @@
-// The greatest family of groups that is kept jointly.
+// Finds the greatest family of groups that is preserved jointly.
 ghost use Rattle.std.specs.Prelude.{◌≡◌, ◌<◌, ◌≤◌, ℕ, [], length, All, Contains, IsTrue};
 ghost use Rattle.sas_groups.specs.Families.{IsIn, IsGreatest};
 ghost use Rattle.sas_group_index.specs.Kept.{family_of};
@@ -14,9 +14,8 @@ use crate::watches::Watches;
 use sas_core::Grounded;
 use sas_group_index::IndexedTask;
 
-/// Removes from the family, which has the groups that may be exclusive, each group that some operator doesn't keep, until
-/// every operator keeps each group that is left. After a group fell, only operators that watch it are looked at again, and
-/// then those that are loose.
+/// Removes groups from the family until every operator preserves each remaining group. At first the family must contain exactly the groups
+/// that may be exclusive. After a group is removed, only operators that watch it are checked again, and then those that are loose.
 pub fn find_greatest<T: Grounded>(
     indexed: &IndexedTask<'_, '_, T>,
     watches: &mut Watches,
@@ -43,7 +42,7 @@ pub fn find_greatest<T: Grounded>(
     }
 }
 
-/// Looks at each operator that is loose.
+/// Checks each loose operator.
 fn look_at_loose<T: Grounded>(
     indexed: &IndexedTask<'_, '_, T>,
     watches: &mut Watches,
@@ -71,8 +70,7 @@ fn look_at_loose<T: Grounded>(
     }
 }
 
-/// Goes through the groups that fell, from this place among them on, and looks again at the operators that watch one, until no
-/// more falls.
+/// For each removed group, starting with index `from`, checks the operators that watch it again, until no more groups are removed.
 fn tell_watching<T: Grounded>(
     indexed: &IndexedTask<'_, '_, T>,
     from: usize,
@@ -100,7 +98,7 @@ fn tell_watching<T: Grounded>(
     }
 }
 
-/// Looks again at the operators that watch the group, which fell.
+/// Checks the operators that watch this group again. The group was removed.
 fn tell_of<T: Grounded>(
     indexed: &IndexedTask<'_, '_, T>,
     group: u32,
@@ -130,7 +128,7 @@ fn tell_of<T: Grounded>(
     }
 }
 
-/// Looks at the operator. It is noted since when it watches the groups on which it rests, or that it is loose.
+/// Checks the operator. Afterwards it watches the groups on which it depends, or it is loose.
 fn look_once<T: Grounded>(
     indexed: &IndexedTask<'_, '_, T>,
     operator: u32,
@@ -158,8 +156,8 @@ fn look_once<T: Grounded>(
     watches.since.set(operator as usize, None);
 }
 
-/// Looks at the operator, and has it watch the groups on which it rests. Returns whether these are all, so that it stays at rest
-/// as long as they are in the family.
+/// Checks the operator and makes it watch the groups on which it depends. Returns true only if it preserves each remaining group as long as
+/// all watched groups are in the family.
 fn comes_to_rest<T: Grounded>(
     indexed: &IndexedTask<'_, '_, T>,
     operator: u32,
@@ -191,8 +189,8 @@ fn comes_to_rest<T: Grounded>(
         && watches.watch_all(operator, groups, family)
 }
 
-/// Looks at the operator until no group falls by it any more. Returns true only if the operator keeps each group that is left
-/// by that group alone.
+/// Removes every group that the operator may break, until none is left. Returns true only if each remaining group is preserved without help
+/// from another group.
 fn look_until_quiet<T: Grounded>(
     indexed: &IndexedTask<'_, '_, T>,
     operator: u32,
@@ -218,7 +216,8 @@ fn look_until_quiet<T: Grounded>(
     }
 }
 
-/// Returns true only if the operator keeps each group that is left by these groups and that group alone. More groups may fall.
+/// Checks the operator with these groups as the basis, which may remove more groups. Returns true only if it preserves each remaining
+/// group, assuming only these groups and that group.
 fn rests_on<T: Grounded>(
     indexed: &IndexedTask<'_, '_, T>,
     operator: u32,

@@ -1,4 +1,4 @@
-// The joint verdict on each group.
+// The joint verdicts on groups.
 ghost use Rattle.std.specs.Prelude.{◌≡◌, ◌≢◌, ℕ, ◌+◌, ◌<◌, ◌≤◌, ◌↔◌, [], length, All, IfOk, None, IsTrue, IsFalse, vec_capacity};
 ghost use Rattle.sas_groups.specs.Clashes.{sets};
 ghost use Rattle.sas_groups.specs.Families.{IsGreatest};
@@ -27,20 +27,20 @@ use sas_groups::{Premises, Verdict, before_operators};
 use sas_meaning::Layered;
 use std::alloc::{AllocError, Global};
 
-/// Returns the joint verdict on each group of the task, in their order. Exclusive are the groups of the greatest family that is kept
-/// jointly. All memory is asked for before the operators are gone through.
+/// Returns the joint verdict on each group of the task, in order. The groups of the greatest family that is preserved jointly are
+/// exclusive. All memory is allocated before the operators are checked. `Err` means out of memory.
 pub fn check_groups<T: Grounded>(
     alloc: Global,
     layered: &Layered<T>,
 ) -> Result<Vec<Verdict>, AllocError>
     ensures verdicts { IfOk result (λ verdicts. AreJointVerdicts layered.now verdicts.items) }
-    // Of an exclusive group no reachable state holds two different facts.
+    // If a group is exclusive, no reachable state contains two different facts of it.
     ensures invariants { IfOk result (λ verdicts. AreInvariants layered.now verdicts.items) }
 {
-    // By the contract of this call the task is well ranged.
+    // The contract of `task` ensures that the task is well ranged.
     let _ = layered.task();
     let mut verdicts = first_verdicts(alloc, layered)?;
-    // Where no group may be exclusive, all is said before an operator is looked at.
+    // If no group may be exclusive, no operator needs to be checked.
     if !some_exclusive(verdicts.as_slice()) {
         return Ok(verdicts.into_vec());
     }
@@ -55,7 +55,7 @@ pub fn check_groups<T: Grounded>(
     Ok(verdicts.into_vec())
 }
 
-/// Goes through the operators, over the index of the task.
+/// Allocates the memory for the check of the operators, and completes the verdicts.
 fn judge_indexed<T: Grounded>(
     alloc: Global,
     indexed: &IndexedTask<'_, '_, T>,
@@ -74,7 +74,7 @@ fn judge_indexed<T: Grounded>(
     Ok(())
 }
 
-/// Goes through the operators. Without an allocator it can ask for no memory.
+/// Completes the verdicts by checking the operators. Without an allocator it can't allocate memory.
 fn judge<T: Grounded>(
     indexed: &IndexedTask<'_, '_, T>,
     verdicts: &mut Items<Verdict>,
@@ -102,7 +102,7 @@ fn first_verdicts<T: Grounded>(
 ) -> Result<Items<Verdict>, AllocError>
     ensures { IfOk result (λ verdicts. AreFirstVerdicts task.now verdicts) }
 {
-    // By the contract of this call the task is well ranged.
+    // The contract of `task` ensures that the task is well ranged.
     let _ = task.task();
     let mut verdicts = Items::from_vec(Vec::with_capacity(alloc, task.groups() as usize)?);
     for group in 0..task.groups() {
@@ -111,7 +111,7 @@ fn first_verdicts<T: Grounded>(
     Ok(verdicts)
 }
 
-/// The family of the groups that may be exclusive.
+/// Returns the family of the groups that may be exclusive. `Err` means out of memory.
 fn candidates(alloc: Global, verdicts: &[Verdict]) -> Result<Family, AllocError>
     ensures one_each { IfOk result (λ family. length family.kept ≡ length verdicts.now) }
     ensures exclusive { IfOk result (λ family. (place : ℕ) → place < length verdicts.now
@@ -129,7 +129,7 @@ fn candidates(alloc: Global, verdicts: &[Verdict]) -> Result<Family, AllocError>
     })
 }
 
-/// Returns, for each verdict, whether it is `Exclusive`.
+/// Returns for each verdict whether it is `Exclusive`. `Err` means out of memory.
 pub fn exclusive_of(alloc: Global, verdicts: &[Verdict]) -> Result<Items<bool>, AllocError>
     ensures one_each { IfOk result (λ kept. length kept ≡ length verdicts.now) }
     ensures exclusive { IfOk result (λ kept. (place : ℕ) → place < length verdicts.now
@@ -142,7 +142,7 @@ pub fn exclusive_of(alloc: Global, verdicts: &[Verdict]) -> Result<Items<bool>, 
     Ok(kept)
 }
 
-/// Returns whether one of the verdicts is that nothing speaks against the group.
+/// Returns whether one of the verdicts is `Exclusive`.
 fn some_exclusive(verdicts: &[Verdict]) -> bool
     ensures { IsFalse result → All (λ (verdict : Verdict). verdict ≢ Exclusive) verdicts.now }
 {
@@ -154,7 +154,7 @@ fn some_exclusive(verdicts: &[Verdict]) -> bool
     false
 }
 
-/// Whether nothing speaks against the group.
+/// Returns whether the verdict is `Exclusive`.
 #[inline(always)]
 fn is_exclusive(verdict: Verdict) -> bool
     ensures { IsTrue result ↔ (verdict ≡ Exclusive) }
@@ -165,7 +165,8 @@ fn is_exclusive(verdict: Verdict) -> bool
     }
 }
 
-/// Tells of each group that fell the first operator that doesn't keep it under the family, which is the greatest, and itself.
+/// Finds, for each removed group, the first operator that doesn't preserve it, assuming the greatest family and the group itself. `kept`
+/// must be the greatest family.
 fn tell_breaking<T: Grounded>(
     indexed: &IndexedTask<'_, '_, T>,
     kept: &mut Items<bool>,
@@ -179,7 +180,7 @@ fn tell_breaking<T: Grounded>(
     ensures { AreJointVerdicts indexed.now verdicts.new }
 {
     let groups = indexed.task.groups();
-    // Mostly nothing is left to tell.
+    // Usually no group is left.
     if !some_fell(groups, kept.as_slice(), verdicts.as_slice()) {
         return;
     }
@@ -188,7 +189,7 @@ fn tell_breaking<T: Grounded>(
     }
 }
 
-/// Returns whether one of all groups fell, and has no verdict so far.
+/// Returns whether one of the groups was removed and no operator that breaks it was found yet.
 fn some_fell(groups: u32, kept: &[bool], verdicts: &[Verdict]) -> bool
     requires kept { groups ≡ length kept.now }
     requires verdicts { groups ≡ length verdicts.now }
@@ -203,7 +204,7 @@ fn some_fell(groups: u32, kept: &[bool], verdicts: &[Verdict]) -> bool
     false
 }
 
-/// Decides of each group that fell, and has no verdict so far, whether the operator keeps it.
+/// Checks whether the operator breaks any removed groups for which no such operator was found yet.
 fn tell_broken_by<T: Grounded>(
     indexed: &IndexedTask<'_, '_, T>,
     operator: u32,
@@ -231,8 +232,8 @@ fn tell_broken_by<T: Grounded>(
     }
 }
 
-/// Decides of each group that fell, and has no verdict so far, whether the effect keeps it. What is known where it
-/// fires is noted once for all of them; if that clashes, it never fires.
+/// Checks whether the effect breaks any removed groups for which no operator that breaks them was found yet. The known facts of the effect
+/// are recorded once for all groups. If they clash, the effect never fires.
 fn tell_broken_by_effect<T: Grounded>(
     firing: &Firing<'_, '_, T>,
     kept: &mut Items<bool>,
@@ -271,7 +272,7 @@ fn tell_broken_by_effect<T: Grounded>(
     forget_known(firing.task, firing.index, &premises, marks);
 }
 
-/// Returns whether one of these groups fell, and has no verdict so far.
+/// Returns whether one of these groups was removed and no operator that breaks it was found yet.
 #[inline(always)]
 fn some_untold(groups: &[u32], kept: &[bool], verdicts: &[Verdict]) -> bool
     requires kept { AreBelow (length kept.now) groups.now }
@@ -287,7 +288,7 @@ fn some_untold(groups: &[u32], kept: &[bool], verdicts: &[Verdict]) -> bool
     false
 }
 
-/// Returns whether the group fell, and has no verdict so far.
+/// Returns whether the group was removed and no operator that breaks it was found yet.
 #[inline(always)]
 fn is_untold(group: u32, kept: &[bool], verdicts: &[Verdict]) -> bool
     requires kept { group < length kept.now }
@@ -298,8 +299,8 @@ fn is_untold(group: u32, kept: &[bool], verdicts: &[Verdict]) -> bool
     is_exclusive(verdicts[group as usize]) && !kept[group as usize]
 }
 
-/// Decides of each of these groups, which have the fact that the effect sets, if it fell and has no verdict so far,
-/// whether the effect keeps it, by what is noted.
+/// Checks for each of these groups whether the effect breaks it, if it was removed and no operator that breaks it was found yet. The groups
+/// must contain the fact that the effect sets, and the known facts must be recorded.
 fn tell_groups<T: Grounded>(
     firing: &Firing<'_, '_, T>,
     groups: &[u32],
@@ -326,7 +327,8 @@ fn tell_groups<T: Grounded>(
     }
 }
 
-/// If the group fell and has no verdict so far, decides whether the effect keeps it, by what is noted.
+/// Checks whether the effect breaks the group, if it was removed and no operator that breaks it was found yet. The group must contain the
+/// fact that the effect sets, and the known facts must be recorded.
 fn tell_group<T: Grounded>(
     firing: &Firing<'_, '_, T>,
     group: u32,

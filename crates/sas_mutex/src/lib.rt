@@ -1,6 +1,6 @@
-//! Mutex groups judged jointly: which groups of a task are invariants, where each may depend on others. The definitions, the
-//! laws and the check of one group are in `sas_groups`. This crate re-exports the laws and that check. What looks at one effect
-//! where it fires is public too, for those that ask further.
+//! Joint check of mutex groups: which groups of a task are invariants, where each may depend on others. The definitions, the laws and the
+//! check of a single group are in `sas_groups`. This crate re-exports the laws and that check. The check of a single effect is public, too,
+//! so that the reasons for a verdict can be found.
 #![tactic(auto)]
 
 mod effects;

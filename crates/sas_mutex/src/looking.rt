@@ -1,4 +1,4 @@
-// What an operator keeps of the family: the groups that it doesn't keep fall.
+// Removes the groups from the family that an operator doesn't preserve.
 ghost use Rattle.std.specs.Prelude.{◌≡◌, ◌<◌, [], length, Contains, IsTrue, IsFalse, All};
 ghost use Rattle.sas_core.specs.Grounded.{operator_at, group_at};
 ghost use Rattle.sas_group_index.specs.Index.{IsIndexOf};
@@ -22,8 +22,8 @@ use sas_group_index::{Index, IndexedTask};
 use sas_groups::Premises;
 use sas_meaning::Layered;
 
-/// Removes from the family the groups that the operator doesn't keep. Returns true only if the operator keeps each group that
-/// is left by the basis and that group alone.
+/// Removes the groups from the family that the operator doesn't preserve. Returns true only if it preserves each remaining group, assuming
+/// only the basis and that group.
 pub fn look_at<T: Grounded>(
     indexed: &IndexedTask<'_, '_, T>,
     operator: u32,
@@ -55,8 +55,7 @@ pub fn look_at<T: Grounded>(
     alone
 }
 
-/// Removes from the family the groups that the operator's effects without conditions don't keep. Returns true only if they
-/// keep each group that is left by the basis and that group alone.
+/// `look_at` for the operator's effects without conditions.
 fn look_at_plain<T: Grounded>(
     indexed: &IndexedTask<'_, '_, T>,
     operator: u32,
@@ -85,9 +84,9 @@ fn look_at_plain<T: Grounded>(
     basis_decides || never_fires(indexed.task, indexed.index, basis, &premises, marks)
 }
 
-/// Removes from the family the groups that the operator's effects without conditions don't keep. Returns true only if they
-/// keep each group that is left by the basis and that group alone. The known facts where they fire are the same for all of them, and are
-/// noted once. If these clash, none of the effects ever fires.
+/// Removes the groups from the family that the operator's effects without conditions don't preserve. Returns true only if they preserve
+/// each remaining group, assuming only the basis and that group. The known facts are the same for all of them, and are recorded once. If
+/// they clash, none of these effects ever fires.
 fn look_where_plain_fire<T: Grounded>(
     indexed: &IndexedTask<'_, '_, T>,
     operator: u32,
@@ -128,7 +127,7 @@ fn look_where_plain_fire<T: Grounded>(
     alone
 }
 
-/// Returns whether the known facts clash where the groups of the basis count.
+/// Returns whether the known facts clash, assuming the groups of the basis. Then the effect never fires.
 fn never_fires<T: Grounded>(
     task: &Layered<T>,
     index: &Index,
@@ -151,8 +150,7 @@ fn never_fires<T: Grounded>(
     clash
 }
 
-/// Removes from the family the groups that the operator's effects without conditions don't keep, by what is noted. Returns
-/// true only if they keep each group that is left by the basis and that group alone.
+/// `look_where_plain_fire` after the known facts were recorded. They must not clash.
 fn look_at_each_plain<T: Grounded>(
     indexed: &IndexedTask<'_, '_, T>,
     operator: u32,
@@ -189,7 +187,7 @@ fn look_at_each_plain<T: Grounded>(
     alone
 }
 
-/// Returns whether some effect of the operator without conditions sets a fact of a group of the family.
+/// Returns whether some effect of the operator without conditions sets a fact of a group in the family.
 #[inline(always)]
 fn plain_sets_one<T: Grounded>(
     indexed: &IndexedTask<'_, '_, T>,
@@ -229,8 +227,8 @@ fn is_plain<T: Grounded>(task: &Layered<T>, operator: u32, effect: u32) -> bool
     task.effect_conditions(operator, effect).is_empty()
 }
 
-/// Removes from the family the groups that the effect doesn't keep. Returns true only if it keeps each group that is left by
-/// that group alone. Where no group of the family has the fact that the effect sets, nothing is noted.
+/// Removes the groups from the family that the effect doesn't preserve. Returns true only if it preserves each remaining group, assuming
+/// only the basis and that group. If no group of the family contains the fact that the effect sets, nothing is recorded.
 #[inline(always)]
 fn look_at_setting<T: Grounded>(
     firing: &Firing<'_, '_, T>,
@@ -253,8 +251,7 @@ fn look_at_setting<T: Grounded>(
     look_at_effect(firing, family, marks)
 }
 
-/// Removes from the family the groups that the effect doesn't keep. Returns true only if it keeps each group that is left by
-/// the basis and that group alone.
+/// `look_at_setting` for an effect that sets a fact of a group in the family.
 fn look_at_effect<T: Grounded>(
     firing: &Firing<'_, '_, T>,
     family: &mut Family,
@@ -282,8 +279,8 @@ fn look_at_effect<T: Grounded>(
     basis_decides || never_fires(firing.task, firing.index, basis, &premises, marks)
 }
 
-/// Removes from the family the groups that the effect doesn't keep. Returns true only if it keeps each group that is left by
-/// the basis and that group alone. The known facts where it fires are noted once for all groups. If these clash, the effect never fires.
+/// Removes the groups from the family that the effect doesn't preserve. Returns true only if it preserves each remaining group, assuming
+/// only the basis and that group. The known facts are recorded once for all groups. If they clash, the effect never fires.
 fn look_where_it_fires<T: Grounded>(
     firing: &Firing<'_, '_, T>,
     family: &mut Family,
@@ -320,8 +317,7 @@ fn look_where_it_fires<T: Grounded>(
     alone
 }
 
-/// Removes from the family the groups that the effect doesn't keep, by what is noted. Returns true only if it keeps each
-/// group that is left by that group alone.
+/// `look_where_it_fires` after the known facts were recorded. They must not clash.
 fn look_at_groups<T: Grounded>(
     firing: &Firing<'_, '_, T>,
     family: &mut Family,
@@ -350,9 +346,9 @@ fn look_at_groups<T: Grounded>(
     alone
 }
 
-/// Removes the group from the family if the effect doesn't keep it, by what is noted. Returns true only if the effect keeps
-/// it by the group alone, or it isn't in the family any more. An effect that keeps a group by the group alone keeps it under
-/// every family that has the group.
+/// Removes the group from the family if the effect doesn't preserve it. The known facts must be recorded and must not clash. Returns true
+/// only if the effect preserves the group, assuming only the basis and the group, or if the group isn't in the family any more. What is
+/// preserved under these assumptions is preserved in every family that contains these groups.
 #[inline(always)]
 fn look_at_group<T: Grounded>(
     firing: &Firing<'_, '_, T>,
@@ -372,7 +368,7 @@ fn look_at_group<T: Grounded>(
     ensures room { HasRoom firing.now.task family.new }
     ensures notes { IsNotedAt firing.now family.new.kept marks.new }
 {
-    // Naming a field makes the invariant of the effect available.
+    // For the proof: accessing a field makes the invariant of the effect available.
     let _ = &firing.task;
     if !family.kept.as_slice()[group as usize] {
         return true;
@@ -387,8 +383,8 @@ fn look_at_group<T: Grounded>(
     true
 }
 
-/// Returns true only if each group of the basis is in the family, and the effect keeps the group by these and the group
-/// alone. The family stays as it was.
+/// Returns true only if all groups of the basis are in the family and the effect preserves the group, assuming only these groups and the
+/// group itself. The family is unchanged on return.
 #[inline(always)]
 fn keeps_by_basis<T: Grounded>(
     firing: &Firing<'_, '_, T>,

@@ -1,4 +1,4 @@
-// What is noted while effects are looked at, and whether facts clash, which their notes tell.
+// Records facts while effects are checked, and decides whether facts clash.
 ghost use Rattle.std.specs.Prelude.{◌≡◌, ◌<◌, length, IsTrue, IsFalse, IfOk, IfSome, All, Contains};
 ghost use Rattle.sas_core.specs.Variables.{FactExists};
 ghost use Rattle.sas_groups.specs.Clashes.{Clash};
@@ -18,13 +18,13 @@ use sas_groups::{Known, Premises};
 use sas_meaning::Layered;
 use std::alloc::{AllocError, Global};
 
-/// What is noted while effects are looked at.
+/// The facts that are recorded while effects are checked.
 pub struct Marks {
-    /// The known facts where effects fire.
+    /// The known facts of the current effect.
     pub known: Notes,
-    /// Other facts for a short time, to see whether they clash.
+    /// Other facts, recorded only to check whether they clash.
     pub others: Notes,
-    /// Which groups decided tests.
+    /// The groups that were used in tests.
     pub deciding: Deciding,
 }
 
@@ -42,7 +42,7 @@ impl Drop for Marks {
 }
 
 impl Marks {
-    /// Returns marks in which nothing is noted.
+    /// Returns marks without recorded facts. `Err` means out of memory.
     pub fn new<T: Grounded>(
         alloc: Global,
         task: &Layered<T>,
@@ -59,8 +59,8 @@ impl Marks {
     }
 }
 
-/// Notes the known facts, and returns whether they clash. If they do, not all of them are noted. A fact that many groups have
-/// stands apart.
+/// Records the known facts and returns whether they clash. If they do, not all of them are recorded. A fact that many groups contain may be
+/// set apart.
 pub fn note_known<T: Grounded>(
     task: &Layered<T>,
     index: &Index,
@@ -82,10 +82,10 @@ pub fn note_known<T: Grounded>(
         → IsNoted task.now (known_on task.now premises.now) marks.new }
     ensures from { IsNotedFrom task.now (known_on task.now premises.now) marks.new }
 {
-    // By its contract the task is well ranged.
+    // The contract of `task` ensures that the task is well ranged.
     let _ = task.task();
     let widest = widest_known(task, index, premises, marks.known.some_wide);
-    // To find the preconditions, each effect is looked at.
+    // All effects are visited to find the preconditions.
     marks.known.spread = task.effects(premises.operator) as usize;
     set_apart(widest, &mut marks.known);
     for fact in Known::new(task, premises) {
@@ -96,8 +96,7 @@ pub fn note_known<T: Grounded>(
     false
 }
 
-/// Returns, of the known facts that many groups have, one that most have. If it is told that there is no such fact, none is
-/// looked for.
+/// Returns the known fact with the most groups among those with many groups. Returns `None` if there is none, or if `some_wide` is false.
 fn widest_known<T: Grounded>(
     task: &Layered<T>,
     index: &Index,
@@ -118,7 +117,7 @@ fn widest_known<T: Grounded>(
     widest
 }
 
-/// Takes back what is noted of the known facts.
+/// Removes what is recorded for the known facts.
 pub fn forget_known<T: Grounded>(
     task: &Layered<T>,
     index: &Index,
@@ -132,7 +131,7 @@ pub fn forget_known<T: Grounded>(
     requires from { IsNotedFrom task.now (known_on task.now premises.now) marks.old }
     ensures { IsClean task.now marks.new }
 {
-    // By its contract the task is well ranged.
+    // The contract of `task` ensures that the task is well ranged.
     let _ = task.task();
     for fact in Known::new(task, premises) {
         forget(index, fact, &mut marks.known);
@@ -141,7 +140,7 @@ pub fn forget_known<T: Grounded>(
     marks.known.spread = 0;
 }
 
-/// Returns whether the facts clash. Nothing is noted before and after.
+/// Returns whether the facts clash. `notes` must be empty, and is empty again on return.
 pub fn facts_clash<T: Grounded>(
     indexed: &IndexedTask<'_, '_, T>,
     kept: &[bool],
@@ -164,7 +163,7 @@ pub fn facts_clash<T: Grounded>(
     clash
 }
 
-/// Notes the facts, and returns whether they clash. If they do, not all of them are noted.
+/// Records the facts and returns whether they clash. If they do, not all of them are recorded.
 fn note_facts<T: Grounded>(
     indexed: &IndexedTask<'_, '_, T>,
     kept: &[bool],

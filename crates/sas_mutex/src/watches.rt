@@ -1,4 +1,4 @@
-// Which operators have to be looked at again where a group falls.
+// Which operators must be checked again when a group is removed.
 ghost use Rattle.std.specs.Prelude.{◌≡◌, ◌≢◌, ◌<◌, ◌≤◌, ◌++◌, ◌∷◌, ◌^◌, ℕ, [], length, IsTrue, IsFalse, IfOk, All, Some, None, slice_index_or, slice_set};
 ghost use Rattle.sas_mutex.specs.Watching.{AreChained, AreUnwatched, HasWatchFrom, WatchesMore, since_of};
 
@@ -6,25 +6,24 @@ use crate::family::Family;
 use sas_core::Items;
 use std::alloc::{AllocError, Global};
 
-/// A note that an operator has to be looked at again where a group falls.
+/// The operator must be checked again if the group is removed.
 #[derive(Clone, Copy)]
 pub struct Watch {
     pub group: u32,
     pub operator: u32,
-    /// The place of the watch of the same group that was made before this one.
+    /// The index of the previous watch of the same group.
     pub before: Option<u32>,
 }
 
-/// The watches that were made, one after another. Those of each group are a chain.
+/// All watches in the order in which they were added. The watches of each group form a linked list.
 pub struct Watches {
     pub made: Items<Watch>,
-    /// For each group, the place of its last watch.
+    /// For each group, the index of its last watch.
     pub last: Items<Option<u32>>,
-    /// For each operator, the place from which on its watches count. It rests on their groups: as long as these are in the
-    /// family, it keeps each group that is. An operator without such a place is loose: it rests on more groups than are noted,
-    /// or wasn't looked at yet.
+    /// For each operator, the index of its first valid watch. As long as all groups that it watches are in the family, it preserves each
+    /// group of the family. An operator without such an index is loose: it depends on more groups than are recorded, or wasn't checked yet.
     pub since: Items<Option<u32>>,
-    /// How many watches there is room for.
+    /// The maximum number of watches.
     pub room: usize,
 }
 
@@ -42,14 +41,15 @@ impl Drop for Watches {
     }
 }
 
-/// How many watches are reserved for each operator. Memory that isn't used isn't taken from the system.
+/// The number of watches reserved per operator. Reserved memory that isn't used isn't taken from the system.
 const WATCHES_EACH: usize = 2;
 
-/// Their places fit into a `u32`.
+/// The index of a watch must fit into a `u32`.
 const MOST_WATCHES: usize = u32::MAX as usize - 1;
 
 impl Watches {
-    /// Returns the watches of so many groups by so many operators, of which none was looked at. All memory is asked for here.
+    /// Returns no watches for this many groups and operators. All operators are loose. Allocates all memory that will be needed. `Err`
+    /// means out of memory.
     pub fn new(alloc: Global, groups: u32, operators: u32) -> Result<Watches, AllocError>
         ensures { IfOk result (λ watches. AreUnwatched groups operators watches) }
     {
@@ -62,7 +62,7 @@ impl Watches {
         })
     }
 
-    /// Has the operator watch the group. Returns whether there was room.
+    /// Makes the operator watch the group. Returns false if there is no room.
     fn watch(&mut self, operator: u32, group: u32) -> bool
         requires group { group < length self.old.last }
         ensures no { IsFalse result → self.new.made ≡ self.old.made }
@@ -92,7 +92,8 @@ impl Watches {
         true
     }
 
-    /// Has the operator watch these groups. Returns whether all are in the family and there was room.
+    /// Makes the operator watch these groups. Returns false if one of them isn't in the family or there is no room. Then some watches may
+    /// have been added.
     pub fn watch_all(&mut self, operator: u32, groups: &[u32], family: &Family) -> bool
         requires one_each { length self.old.last ≡ length family.now.kept }
         requires chained { AreChained self.old.made self.old.last }
@@ -117,7 +118,7 @@ impl Watches {
         self.since.as_slice()[operator as usize].is_none()
     }
 
-    /// Returns whether the watch at this place, of this operator, still counts.
+    /// Returns whether this watch of the operator is still valid.
     pub fn counts(&self, place: u32, operator: u32) -> bool
         requires { operator < length self.now.since }
         ensures { IsFalse result → (start : ℕ)

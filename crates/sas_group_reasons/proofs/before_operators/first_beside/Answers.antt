@@ -1,4 +1,4 @@
--- One more fact, which is another that holds or not.
+-- One more fact, which holds and differs or doesn't.
 use Rattle.std.proofs.Common.{arith}
 use Rattle.sas_group_reasons.proofs.before_operators.first_beside.Goals as goal
 

@@ -1,4 +1,4 @@
--- None of the facts so far is another one that holds.
+-- None of the facts so far holds and differs.
 use Rattle.std.proofs.Common.{ℕ, ◌<◌, get_or}
 use Rattle.sas_core.specs.declared.parts.Fact.{Fact}
 use Rattle.sas_group_reasons.specs.Telling.{HoldsBeside}

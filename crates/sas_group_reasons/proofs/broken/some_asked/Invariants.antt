@@ -1,4 +1,4 @@
--- No reason is asked for of the groups so far.
+-- None of the groups so far lacks its reason.
 use Rattle.std.proofs.Common.{ℕ, ◌<◌, get_or}
 use Rattle.sas_group_reasons.specs.Telling.{IsAsked}
 use Rattle.sas_group_reasons.proofs.broken.some_asked.Given as goal

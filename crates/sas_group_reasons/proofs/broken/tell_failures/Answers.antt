@@ -1,4 +1,4 @@
--- One operator more is told of; in the end all are.
+-- The reasons consider one more operator; in the end all of them.
 use Rattle.std.proofs.Common.{◌≡◌, ◌<◌, ◌+◌, Bool, List, length, sym, ◌∙◌, subst, arith}
 use Rattle.std.proofs.lemmas.Bool.{both_ways}
 use Rattle.sas_core.specs.declared.parts.Parts.{Parts}

@@ -1,4 +1,5 @@
--- Told of is each group that has the fact which the effect sets: by the notes, or since the effect never fires, or no reason is asked for.
+-- The reason of each group that contains the fact set by the effect considers the effect: the notes
+-- decide, the effect never fires, or the reason isn't missing.
 use Rattle.std.proofs.Common.{ℕ, ◌+◌, ◌<◌, Bool, List, [], Option, length, get_or, ap, subst, sym, ◌∙◌, arith}
 use Rattle.std.specs.List.{All, Contains}
 use Rattle.std.specs.Prelude.{◌↔◌}

@@ -1,4 +1,4 @@
--- All effects are told of.
+-- The reasons consider all effects.
 use Rattle.std.proofs.Common.{◌≡◌, length, subst, arith}
 use Rattle.sas_core.specs.declared.parts.Parts.{Parts}
 use Rattle.sas_core.specs.Grounded.{operator_at}

@@ -1,4 +1,4 @@
--- The effects so far are told of.
+-- The reasons consider the effects so far.
 use Rattle.std.proofs.Common.{◌≡◌}
 use Rattle.sas_mutex.specs.Marks.{IsClean}
 use Rattle.sas_group_reasons.specs.Telling.{AreReasonsSoFar}

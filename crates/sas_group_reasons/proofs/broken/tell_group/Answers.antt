@@ -1,4 +1,4 @@
--- The first failure is the reason, or the effect keeps the group.
+-- The first failure is the reason, or the effect preserves the group.
 use Rattle.std.proofs.Common.{ℕ, ◌+◌, List, Option, None, Some, get_or, sym, ap, ◌∙◌, subst, arith}
 use Rattle.std.proofs.lemmas.List.{get_or-set_same}
 use Rattle.sas_mutex.specs.Firing.{EffectPlace}

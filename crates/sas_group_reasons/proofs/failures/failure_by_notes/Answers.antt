@@ -1,5 +1,5 @@
--- The lowest effect that may set another fact, else the first fact that may stay, is the first failure; without either the effect keeps
--- the group.
+-- The first failure is the lowest effect that may set another fact, else the first fact that may
+-- remain. Without either the effect preserves the group.
 use Rattle.std.proofs.Common.{◌<◌, ◌≤◌, List, length, subst}
 use Rattle.sas_core.specs.declared.parts.Fact.{Fact}
 use Rattle.sas_group_reasons.proofs.FirstOfEffect.{no_other, two_first, stay_first, keeps_group}

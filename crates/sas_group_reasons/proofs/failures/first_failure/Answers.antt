@@ -1,4 +1,4 @@
--- The family with the group has the groups of the family, and this one.
+-- The family with the group consists of the groups of the family and this one.
 use Rattle.std.proofs.Common.{◌≢◌, Bool, true, false, List, length, get_or, set, sym, ap, ◌∙◌, subst}
 use Rattle.std.proofs.lemmas.Bool.{both_ways}
 use Rattle.std.proofs.lemmas.List.{length-set}

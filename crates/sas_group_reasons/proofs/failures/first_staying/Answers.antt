@@ -1,4 +1,4 @@
--- One more fact, which is gone or stays.
+-- One more fact, which can't remain or may.
 use Rattle.std.proofs.Common.{◌≡◌, ◌<◌, List, length, get_or, sym, ap, subst, ◌∙◌, arith}
 use Rattle.std.specs.List.{All, Contains}
 use Rattle.sas_core.specs.declared.parts.Fact.{Fact}

@@ -1,4 +1,4 @@
--- None of the facts so far may stay.
+-- None of the facts so far may remain.
 use Rattle.std.proofs.Common.{ℕ, ◌<◌, get_or}
 use Rattle.sas_core.specs.declared.parts.Fact.{Fact}
 use Rattle.sas_mutex.specs.ByNotes.{IsGoneAt}

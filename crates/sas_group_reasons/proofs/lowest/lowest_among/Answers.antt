@@ -1,4 +1,4 @@
--- One more effect, which is the lowest that may set one, or isn't.
+-- One more effect, which is the lowest that may set another fact, or isn't.
 use Rattle.std.proofs.Common.{arith}
 use Rattle.sas_group_reasons.proofs.LowestEffects.{lower_found, none_lower, all_looked_at}
 use Rattle.sas_group_reasons.proofs.lowest.lowest_among.Goals as goal

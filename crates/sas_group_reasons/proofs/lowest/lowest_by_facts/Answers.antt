@@ -1,4 +1,4 @@
--- One more fact, the first one on its variable or not.
+-- One more fact, which may be the first on its variable.
 use Rattle.std.proofs.Common.{List, sym, subst}
 use Rattle.sas_core.specs.declared.parts.Fact.{Fact}
 use Rattle.sas_core.specs.Grounded.{group_at}

@@ -1,4 +1,4 @@
--- Where no operator breaks a group, the first reasons are all.
+-- If no operator breaks a group, the first reasons are complete.
 use Rattle.std.proofs.Common.{◌<◌, [], List, sym, subst}
 use Rattle.std.specs.Prelude.{Option}
 use Rattle.sas_groups.specs.declared.verdict.Verdict.TheVariants.{Exclusive}

@@ -1,4 +1,4 @@
--- None of the changes so far does.
+-- None of the changes so far removes the fact.
 use Rattle.std.proofs.Common.{ℕ, ◌<◌, get_or}
 use Rattle.sas_core.specs.declared.grounded.Change.{Change}
 use Rattle.sas_mutex.specs.ByNotes.{IsOther}

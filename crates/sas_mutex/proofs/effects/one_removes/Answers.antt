@@ -1,4 +1,4 @@
--- An effect that removes the fact is on its variable, so it is one of these.
+-- An effect that removes the fact is on its variable, so it is one of these effects.
 use Rattle.std.proofs.Common.{ℕ, ◌<◌, length, sym, subst, ◌∙◌, arith}
 use Rattle.std.proofs.lemmas.List.{get_or_default}
 use Rattle.sas_core.specs.Grounded.{operator_at, effect_at}

@@ -1,4 +1,4 @@
--- The groups so far are out.
+-- The groups so far are removed.
 use Rattle.std.proofs.Common.{◌≡◌, ℕ, ◌<◌, true, false, length, get_or}
 use Rattle.sas_group_index.specs.Kept.{family_of}
 use Rattle.sas_mutex.proofs.family.take_out.Given as goal

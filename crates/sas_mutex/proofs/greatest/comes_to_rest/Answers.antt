@@ -1,4 +1,5 @@
--- The operator is at rest by what was looked at first, and stays so by the groups that it watches.
+-- The operator is at rest after the first check, and stays so while the groups that it watches are
+-- in the family.
 use Rattle.std.proofs.Common.{◌≡◌, ℕ, ◌<◌, ◌^◌, Bool, true, List, [], length, refl, sym, ◌∙◌}
 use Rattle.std.proofs.lemmas.Bool.{true≢false}
 use Rattle.std.proofs.lemmas.List.{append-nil}

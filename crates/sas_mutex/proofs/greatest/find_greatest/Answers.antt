@@ -1,4 +1,4 @@
--- Where no group fell by the loose operators, all operators are at rest.
+-- If no loose operator removed a group, all operators are at rest.
 use Rattle.std.proofs.Common.{◌≡◌, ℕ, ◌<◌, List, length, get_or, sym, ap, subst, ◌∙◌, arith}
 use Rattle.std.proofs.lemmas.List.{get_or_append_left}
 use Rattle.sas_mutex.specs.Falling.{newly}

@@ -1,4 +1,4 @@
--- Who watches a group that fell is told.
+-- All operators that watched a removed group were checked again.
 use Rattle.std.proofs.Common.{◌-◌, length}
 use Rattle.sas_mutex.specs.Falling.{IsReady, Falls}
 use Rattle.sas_mutex.specs.Watching.{AreWatched, AreTold}

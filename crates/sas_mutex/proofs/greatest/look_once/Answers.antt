@@ -1,4 +1,4 @@
--- The operator rests on what it watches from now on, or is loose.
+-- The operator depends on the groups that it now watches, or is loose.
 use Rattle.std.proofs.Common.{◌≡◌, ℕ, Option, Some, None, List, set, sym, ap, subst, ◌∙◌}
 use Rattle.sas_mutex.specs.Watching.{RestsBy}
 use Rattle.sas_mutex.proofs.Watched.{watched_anew}

@@ -1,4 +1,4 @@
--- Where no more groups fell than before, the operator is at rest.
+-- If no more groups were removed, the operator is at rest.
 use Rattle.std.proofs.Common.{[], sym, subst, ◌∙◌, arith}
 use Rattle.std.specs.List.{All, Contains}
 use Rattle.std.proofs.lemmas.List.Elements.{All-nil}

@@ -1,4 +1,4 @@
--- Some groups fell by the operator.
+-- The operator may have removed groups.
 use Rattle.std.proofs.Common.{◌-◌, length}
 use Rattle.sas_mutex.specs.Falling.{IsReady, Falls}
 use Rattle.sas_mutex.specs.Marks.{IsClean}

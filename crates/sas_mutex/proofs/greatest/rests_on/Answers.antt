@@ -1,4 +1,4 @@
--- The family is as look_at left it, and its basis as it was before.
+-- The family is that of look_at, and the basis is empty again.
 use Rattle.std.proofs.Common.{ℕ, Bool, List, length, sym, subst, ◌∙◌}
 use Rattle.sas_mutex.specs.Basis.{IsBasis, IsOfNone}
 use Rattle.sas_mutex.specs.Falling.{RestsOn}

@@ -1,4 +1,4 @@
--- One more watch of the group was told, or counts no longer.
+-- The operator of one more watch was checked again, or the watch wasn't valid any more.
 use Rattle.std.proofs.Common.{ℕ, List, sym, ◌∙◌, ap, subst}
 use Rattle.sas_mutex.specs.declared.watches.Watch.{Watch}
 use Rattle.sas_mutex.specs.Watching.{watch_at, since_of, IsLastBelow, IsToldBehind}

@@ -1,4 +1,4 @@
--- Behind the next watch of the group all are told.
+-- After the next watch of the group, no watch of the group is valid any more.
 use Rattle.std.proofs.Common.{ℕ, ◌+◌, Option, Some, None}
 use Rattle.sas_mutex.specs.Falling.{IsReady, Falls}
 use Rattle.sas_mutex.specs.Watching.{AreWatched, IsToldBehind, StayTold}

@@ -1,4 +1,4 @@
--- Who watches one more group that fell is told.
+-- All operators that watched one more removed group were checked again.
 use Rattle.std.proofs.Common.{ℕ, ◌+◌, ◌<◌, length, get_or, sym, ◌∙◌, subst, inl, inr, arith}
 use Rattle.std.proofs.lemmas.Bool.{cases_eq}
 use Rattle.std.proofs.lemmas.List.{get_or_default}

@@ -1,4 +1,4 @@
--- Who watches one of the groups so far is told.
+-- All operators that watched one of the removed groups so far were checked again.
 use Rattle.std.proofs.Common.{◌-◌, ◌≤◌, length}
 use Rattle.sas_mutex.specs.Falling.{IsReady, Falls}
 use Rattle.sas_mutex.specs.Watching.{AreWatched, AreTold}

@@ -1,4 +1,4 @@
--- The family has what was made for each of its parts.
+-- Each field of the family has the contract of the call that returned it.
 use Rattle.std.proofs.Common.{◌≡◌, Bool, false, List, length, replicate, ap, ◌∙◌, inl, inr, arith}
 use Rattle.std.proofs.Math.ListN.{get_or-eq_default}
 use Rattle.std.proofs.lemmas.Bool.{cases_lt}

@@ -1,4 +1,4 @@
--- Of the verdicts so far the exclusive ones are kept.
+-- The list contains the exclusive verdicts so far.
 use Rattle.std.proofs.Common.{◌≡◌, ℕ, ◌<◌, length}
 use Rattle.std.specs.Prelude.{◌↔◌, IsTrue}
 use Rattle.sas_groups.specs.declared.verdict.Verdict.TheVariants.{Exclusive}

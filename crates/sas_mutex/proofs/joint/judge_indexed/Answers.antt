@@ -1,4 +1,5 @@
--- The family begins with all groups that may be exclusive, and there is room for all that may fall.
+-- At first the family contains all groups that may be exclusive, with room for all that may be
+-- removed.
 use Rattle.std.proofs.Common.{◌≡◌, ◌<◌, ℕ, ◌∙◌, List, length, sym, ap, subst, arith}
 use Rattle.std.specs.Prelude.{◌↔◌, IsTrue}
 use Rattle.sas_groups.specs.declared.verdict.Verdict.{Verdict}

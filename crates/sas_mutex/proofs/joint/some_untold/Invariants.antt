@@ -1,4 +1,4 @@
--- Of none of the groups so far is anything left to tell.
+-- None of the groups so far lacks a verdict.
 use Rattle.std.proofs.Common.{ℕ, ◌<◌, get_or}
 use Rattle.sas_mutex.specs.Judging.{IsUntold}
 use Rattle.sas_mutex.proofs.joint.some_untold.Given as goal

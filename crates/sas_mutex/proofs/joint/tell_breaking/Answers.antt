@@ -1,4 +1,4 @@
--- All operators have told.
+-- All operators were checked.
 use Rattle.std.proofs.Common.{◌≡◌, length, subst, arith}
 use Rattle.sas_core.specs.declared.parts.Parts.{Parts}
 use Rattle.sas_mutex.proofs.Telling.{joint_in_the_end}

@@ -1,4 +1,4 @@
--- The operators so far have told of the groups; the family is as it was.
+-- The verdicts consider the operators so far; the family is unchanged.
 use Rattle.std.proofs.Common.{◌≡◌}
 use Rattle.sas_mutex.specs.Judging.{AreVerdictsSoFar}
 use Rattle.sas_mutex.specs.Marks.{IsClean}

@@ -1,4 +1,4 @@
--- All effects have told.
+-- All effects were checked.
 use Rattle.std.proofs.Common.{◌≡◌, ◌+◌, ◌<◌, Bool, List, length, refl, sym, ap, subst, ◌∙◌, arith}
 use Rattle.sas_core.specs.declared.parts.Parts.{Parts}
 use Rattle.sas_core.specs.Grounded.{operator_at}

@@ -1,4 +1,5 @@
--- Told is each group that has the fact which the effect sets: by the notes, or since the effect never fires, or before.
+-- The verdict on each group that contains the fact set by the effect considers the effect: the
+-- notes decide, the effect never fires, or the verdict was known before.
 use Rattle.std.proofs.Common.{ℕ, ◌+◌, ◌<◌, Bool, List, [], length, get_or, ap, subst, sym, ◌∙◌, arith}
 use Rattle.std.specs.List.{All, Contains}
 use Rattle.std.specs.Prelude.{◌↔◌}

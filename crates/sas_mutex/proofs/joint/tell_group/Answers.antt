@@ -1,4 +1,4 @@
--- The group is broken here, or stands as before.
+-- The effect breaks the group, or the verdict is unchanged.
 use Rattle.std.proofs.Common.{ℕ, ◌+◌, ◌<◌, length, Bool, List, get_or, sym, ap, ◌∙◌, subst, arith}
 use Rattle.std.proofs.lemmas.Bool.{both_ways}
 use Rattle.std.proofs.lemmas.List.{get_or-set_same}

@@ -1,4 +1,4 @@
--- The groups so far are told of; the family is as it was.
+-- The verdicts on the groups so far consider the effect; the family is unchanged.
 use Rattle.std.proofs.Common.{◌≡◌, ◌+◌, ℕ, ◌<◌, get_or}
 use Rattle.sas_groups.specs.Joint.{verdict_at}
 use Rattle.sas_mutex.specs.Judging.{IsVerdictSoFar, AreVerdictsSoFar}

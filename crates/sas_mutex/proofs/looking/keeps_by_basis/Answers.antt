@@ -1,4 +1,5 @@
--- What the effect keeps by the basis, it keeps under the family, which has the groups of the basis.
+-- What the effect preserves assuming the basis, it preserves assuming the family, which contains
+-- the basis.
 use Rattle.std.proofs.Common.{length}
 use Rattle.sas_mutex.proofs.FallingGroups.{basis_keeps}
 use Rattle.sas_mutex.proofs.ToldByNotes.{noted_fewer}

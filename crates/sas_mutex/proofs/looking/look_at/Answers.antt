@@ -1,4 +1,5 @@
--- One more effect is at rest: one without conditions was before, and stays so while others fall.
+-- One more effect is at rest. An effect without conditions was at rest before, and stays so while
+-- others remove groups.
 use Rattle.std.proofs.Common.{◌≡◌, ℕ, ◌<◌, Bool, List, length, sym, subst, below_more, arith}
 use Rattle.sas_core.specs.declared.parts.Parts.{Parts}
 use Rattle.sas_core.specs.Grounded.{operator_at}

@@ -1,4 +1,4 @@
--- The effects so far are at rest, and all those without conditions.
+-- The effects so far are at rest, and so are all effects without conditions.
 use Rattle.std.proofs.Common.{◌≡◌, ℕ, ◌<◌, true, length}
 use Rattle.sas_core.specs.Grounded.{operator_at}
 use Rattle.sas_mutex.specs.Falling.{HasRoom, Falls, newly, IsEffectAtRest, ArePlainAtRest}

@@ -1,4 +1,4 @@
--- An effect that never fires by the basis keeps all groups by it.
+-- An effect that never fires, assuming the basis, preserves all groups under this assumption.
 use Rattle.std.proofs.Common.{List, [], Bool, length, sym, ap, subst, ◌∙◌, arith}
 use Rattle.std.specs.List.{All}
 use Rattle.sas_core.specs.declared.parts.Fact.{Fact}

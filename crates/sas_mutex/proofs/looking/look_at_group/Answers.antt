@@ -1,4 +1,5 @@
--- A group that the effect doesn't keep falls. One that it keeps by the basis, it keeps.
+-- A group that the effect doesn't preserve is removed. One that it preserves assuming the basis
+-- isn't.
 use Rattle.std.specs.List.{All, Contains}
 use Rattle.std.proofs.Common.{◌≡◌, ◌<◌, ℕ, Bool, true, false, List, length, sym, ap, subst, ◌∙◌, arith, rules}
 use Rattle.std.proofs.lemmas.Bool.{true≢false, both_ways}

@@ -1,4 +1,4 @@
--- The groups so far rest.
+-- The effect is at rest for the groups so far.
 use Rattle.std.proofs.Common.{◌≡◌, ℕ, ◌<◌, true, get_or}
 use Rattle.sas_mutex.specs.Falling.{HasRoom, Falls, newly, RestsAt}
 use Rattle.sas_mutex.specs.Basis.{KeptByBasis}

@@ -1,4 +1,4 @@
--- Effects that never fire by the basis keep all groups by it.
+-- Effects that never fire, assuming the basis, preserve all groups under this assumption.
 use Rattle.std.proofs.Common.{List, [], Bool, subst, sym, ◌∙◌}
 use Rattle.sas_core.specs.declared.parts.Fact.{Fact}
 use Rattle.sas_core.specs.declared.parts.Parts.{Parts}

@@ -1,4 +1,4 @@
--- An effect that sets no fact of a group of the family keeps all of them.
+-- An effect that sets no fact of a group in the family preserves all of them.
 use Rattle.std.proofs.Common.{Bool, List, subst}
 use Rattle.sas_mutex.specs.Basis.{SetsNone}
 use Rattle.sas_mutex.proofs.FallingGroups.{none_fell}

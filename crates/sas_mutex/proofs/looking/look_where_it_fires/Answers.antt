@@ -1,4 +1,4 @@
--- An effect that never fires keeps all groups.
+-- An effect that never fires preserves all groups.
 use Rattle.std.proofs.Common.{List, [], Bool, length, sym, ap, subst, ◌∙◌, arith}
 use Rattle.std.proofs.lemmas.Bool.{true≢false}
 use Rattle.std.specs.Bool.{IsTrue}

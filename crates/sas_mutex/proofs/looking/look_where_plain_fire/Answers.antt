@@ -1,4 +1,4 @@
--- Effects that never fire keep all groups.
+-- Effects that never fire preserve all groups.
 use Rattle.std.proofs.Common.{◌<◌, List, [], Bool, length, sym, ap, subst, ◌∙◌, arith}
 use Rattle.std.proofs.lemmas.Bool.{true≢false}
 use Rattle.std.specs.Bool.{IsTrue}

@@ -1,4 +1,4 @@
--- One more effect sets no fact of a group of the family, or has conditions.
+-- One more effect sets no fact of a group in the family, or has conditions.
 use Rattle.std.proofs.Common.{◌≡◌, ◌<◌, length, sym, subst, below_more, arith}
 use Rattle.std.proofs.lemmas.Bool.{true≢false}
 use Rattle.sas_core.specs.declared.parts.Parts.{Parts}

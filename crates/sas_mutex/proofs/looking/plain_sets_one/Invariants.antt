@@ -1,4 +1,4 @@
--- None of the effects so far that have no conditions sets a fact of a group of the family.
+-- None of the effects so far without conditions sets a fact of a group in the family.
 use Rattle.sas_mutex.specs.Basis.{PlainSetNone}
 use Rattle.sas_mutex.proofs.looking.plain_sets_one.Given as goal
 

@@ -1,4 +1,4 @@
--- A fact alone doesn't clash.
+-- A single fact doesn't clash.
 use Rattle.sas_mutex.specs.Effects.{IsKept}
 use Rattle.sas_mutex.proofs.KnownFacts.{few_apart}
 use Rattle.sas_mutex.proofs.marks.facts_clash.Goals as goal

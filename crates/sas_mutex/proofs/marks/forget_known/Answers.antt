@@ -1,4 +1,4 @@
--- One more fact is forgotten.
+-- One more fact is removed from the notes.
 use Rattle.std.proofs.Common.{arith, length, refl}
 use Rattle.std.proofs.lemmas.List.Elements.{All-contains, All-weaker}
 use Rattle.sas_core.specs.Variables.{FactExists}

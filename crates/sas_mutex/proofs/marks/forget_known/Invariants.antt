@@ -1,4 +1,4 @@
--- Nothing is noted of those that came.
+-- The facts so far aren't recorded any more.
 use Rattle.std.proofs.Common.{◌≡◌, ◌++◌}
 use Rattle.std.specs.List.{All}
 use Rattle.sas_groups.specs.Lists.{known_on, known_left}

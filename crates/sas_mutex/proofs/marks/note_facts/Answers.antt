@@ -1,4 +1,4 @@
--- One more fact came.
+-- One more fact is recorded.
 use Rattle.std.proofs.Common.{◌<◌, List, get_or, length, take, sym, subst}
 use Rattle.std.proofs.lemmas.Bool.{true≢false}
 use Rattle.std.proofs.lemmas.List.{take_more, take_all}

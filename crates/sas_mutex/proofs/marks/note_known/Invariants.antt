@@ -1,4 +1,4 @@
--- Those that came are noted, and don't clash.
+-- The facts so far are recorded and don't clash.
 use Rattle.std.proofs.Common.{◌≡◌, ◌++◌}
 use Rattle.sas_groups.specs.Lists.{known_on, known_left}
 use Rattle.sas_group_index.specs.Notes.{AreBlank}

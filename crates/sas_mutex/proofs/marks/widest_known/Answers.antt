@@ -1,4 +1,4 @@
--- The fact that came is chosen, or what was before.
+-- This fact is chosen, or the previous choice.
 use Rattle.std.proofs.Common.{sym, subst, inl, inr}
 use Rattle.std.specs.List.{Contains}
 use Rattle.std.specs.Prelude.{IfSome, Option}

@@ -1,4 +1,4 @@
--- The fact that is chosen is one of those that are known.
+-- The chosen fact is one of the known facts.
 use Rattle.std.proofs.Common.{◌≡◌, ◌++◌}
 use Rattle.std.specs.List.{Contains}
 use Rattle.std.specs.Prelude.{IfSome}

@@ -1,4 +1,5 @@
--- One condition of the other effect clashes with what is known, or they clash among themselves.
+-- A condition of the other effect clashes with the known facts, or its conditions clash with each
+-- other.
 use Rattle.std.proofs.Common.{◌<◌, List, length, sym, subst, inl, inr}
 use Rattle.std.proofs.lemmas.Bool.{true≢false}
 use Rattle.std.specs.List.{All, Contains}

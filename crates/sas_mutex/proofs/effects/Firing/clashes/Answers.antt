@@ -1,4 +1,4 @@
--- What the notes tell of the fact decides whether it clashes.
+-- The record of the fact's variable decides whether the fact clashes.
 use Rattle.std.proofs.Common.{◌≡◌, ◌≢◌, ap, sym, ◌∙◌, arith}
 use Rattle.std.proofs.lemmas.Grind.{common_steps}
 use Rattle.std.specs.Prelude.{Some}

@@ -1,4 +1,4 @@
--- What the notes tell of the fact decides whether it is gone.
+-- The notes decide whether the fact can remain.
 use Rattle.std.proofs.Common.{ap, ◌∙◌, inl, inr}
 use Rattle.sas_core.specs.declared.grounded.Change.{Change}
 use Rattle.sas_core.specs.Grounded.{operator_at, effect_at}

@@ -1,4 +1,4 @@
--- One more effect sets no other fact of the group, or isn't there.
+-- One more effect sets no other fact of the group, or doesn't exist.
 use Rattle.std.proofs.Common.{◌≡◌, ◌<◌, length, get_or, below_more, sym, subst, arith}
 use Rattle.std.proofs.lemmas.Bool.{true≢false}
 use Rattle.std.proofs.lemmas.List.{get_or_default}

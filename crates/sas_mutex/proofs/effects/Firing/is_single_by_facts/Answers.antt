@@ -1,4 +1,5 @@
--- One more fact, the first one on its variable or not. An effect that sets a fact of the group is on the variable of one of them.
+-- One more fact, which may be the first on its variable. An effect that sets a fact of the group is
+-- on the variable of one of them.
 use Rattle.std.proofs.Common.{List, sym, subst, ap, inl, inr, get_or, ℕ, arith}
 use Rattle.std.proofs.lemmas.Bool.{cases_eq}
 use Rattle.std.proofs.lemmas.List.{get_or_default}

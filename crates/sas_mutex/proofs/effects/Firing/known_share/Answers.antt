@@ -1,4 +1,4 @@
--- One more known fact shares no group with the fact, or it is the one apart.
+-- One more known fact shares no group with the fact, or is the one set apart.
 use Rattle.std.proofs.Common.{◌≢◌, Some, subst}
 use Rattle.std.proofs.lemmas.Bool.{both_ways}
 use Rattle.std.specs.List.{Contains}

@@ -1,4 +1,5 @@
--- No group of the family has the fact and one of the known ones so far, but maybe the one apart.
+-- No group of the family contains the fact and one of the known facts so far, except perhaps the
+-- one set apart.
 use Rattle.std.proofs.Common.{◌≡◌, ◌≢◌, ◌++◌, Some}
 use Rattle.std.specs.List.{All}
 use Rattle.sas_core.specs.declared.parts.Fact.{Fact}

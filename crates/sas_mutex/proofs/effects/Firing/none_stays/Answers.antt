@@ -1,4 +1,4 @@
--- One more run is gone, or the fact that is known.
+-- One more run can't remain, or a fact of the group is known.
 use Rattle.std.proofs.Common.{◌≡◌, ◌<◌, ℕ, List, [], length, get_or, drop, sym, ap, subst, ◌∙◌, arith, refl}
 use Rattle.std.proofs.lemmas.List.{get_or_default, drop_all}
 use Rattle.sas_core.specs.declared.parts.Fact.{Fact}

@@ -1,4 +1,4 @@
--- The facts before those that are left are gone.
+-- The facts so far can't remain.
 use Rattle.std.proofs.Common.{drop}
 use Rattle.sas_core.specs.Grounded.{operator_at, effect_at, group_at}
 use Rattle.sas_groups.specs.Checks.{IsGone}

@@ -1,4 +1,4 @@
--- The note and the fact apart tell of all facts that are known.
+-- The record of the group and the fact set apart cover all known facts.
 use Rattle.sas_mutex.specs.ByNotes.{known_at}
 use Rattle.sas_mutex.proofs.TaskFacts.{known_at_exist}
 use Rattle.sas_group_index.proofs.NotesOfFacts.{completed}

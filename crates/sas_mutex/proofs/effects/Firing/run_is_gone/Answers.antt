@@ -1,4 +1,4 @@
--- A run that is settled is gone, or one fact more.
+-- The first fact decides for the whole run, or one more fact can't remain.
 use Rattle.std.proofs.Common.{◌<◌, get_or, sym, subst, arith}
 use Rattle.std.proofs.lemmas.Bool.{true≢false}
 use Rattle.sas_core.specs.Grounded.{operator_at, effect_at}

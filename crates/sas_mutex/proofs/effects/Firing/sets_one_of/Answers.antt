@@ -1,4 +1,4 @@
--- The groups under the fact that the effect sets are all that have it.
+-- The index contains all groups with the fact that the effect sets.
 use Rattle.std.proofs.Common.{◌≡◌, ℕ, true, false, sym, ◌∙◌, arith}
 use Rattle.std.specs.List.{Contains}
 use Rattle.std.specs.Prelude.{◌↔◌, IsFalse}

@@ -1,4 +1,4 @@
--- A known fact that isn't the one apart is noted for each group that has it.
+-- A known fact other than the one set apart is recorded for each group that contains it.
 use Rattle.std.proofs.Common.{ℕ, List, length, sym, subst, ◌∙◌, ap}
 use Rattle.sas_core.specs.Grounded.{operator_at, effect_at}
 use Rattle.sas_group_index.specs.Index.{groups_of}

@@ -1,4 +1,4 @@
--- The fact clashes if a group has it and the fact apart, or another known one.
+-- The fact clashes if a group contains it and the fact set apart, or it and another known fact.
 use Rattle.std.proofs.Common.{inl, inr}
 use Rattle.sas_core.specs.Grounded.{operator_at, effect_at}
 use Rattle.sas_mutex.proofs.TaskFacts.{known_at_exist}

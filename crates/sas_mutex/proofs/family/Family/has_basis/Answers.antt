@@ -1,4 +1,4 @@
--- A place of the basis is one of the supports, and all of these are in the family.
+-- Each group of the basis is one of the supports, and all of these are in the family.
 use Rattle.std.proofs.Common.{◌≡◌, ℕ, true, List, get_or, length, ap, subst, arith}
 use Rattle.sas_core.proofs.Places.{each_more}
 use Rattle.sas_group_index.specs.Kept.{family_of}

@@ -1,4 +1,4 @@
--- One more group is in the basis, or the family is as it was.
+-- One more group is added to the basis, or the family is unchanged.
 use Rattle.std.proofs.Common.{ℕ, ◌∷◌, [], get_or, refl, sym, subst, ◌∙◌, inl, inr}
 use Rattle.std.specs.List.{All, Contains}
 use Rattle.std.proofs.lemmas.List.Elements.{All-nil, All-cons, All-append, Contains-get_or}

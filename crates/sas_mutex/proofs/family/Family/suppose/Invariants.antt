@@ -1,4 +1,4 @@
--- The basis has some of the groups so far.
+-- The basis contains some of the groups so far.
 use Rattle.std.proofs.Common.{◌≡◌, length}
 use Rattle.std.specs.List.{All, Contains}
 use Rattle.sas_mutex.specs.Basis.{IsBasis}
