@@ -32,8 +32,8 @@ pub record AreAllConditions (p : Parts) (es : List (Entry Waiting)) : Type 0 whe
   pub each : (layer var value rule : ℕ) → IsRuleOn p layer rule
       → waits rule var value es ≡ asking var value (rule_at p rule).conditions
 
--- for each rule that can fire, the list of a variable contains as many entries with a value as the
--- rule has conditions with this variable and value
+-- the list of a variable contains, for each rule that can fire and each value, as many entries as
+-- the rule has conditions with this variable and value
 pub record IsFullIndex (p : Parts) (index : List (List Waiting)) : Type 0 where
   pub one_each : length index ≡ length p.variables
   pub only : (var : ℕ) → All (IsOfRule p) (waiting_at index var)

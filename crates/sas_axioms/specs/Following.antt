@@ -54,7 +54,8 @@ pub record NotesMore (p : Parts) (May : ℕ → Type 0) (a a' : Agenda) : Type 0
   pub ordered : IsOrdered a'
   pub ready : a'.ready ≡ a.ready
 
--- the counter of the rule is now n, and the rule is noted if it became 0 or was 0
+-- the counter of the rule is now n, and the rule is noted if either its old or its new counter is
+-- 0, but not both
 pub record CountsTo (p : Parts) (rule n : ℕ) (w w' : Work) : Type 0 where
   pub same : SameWork w w'
   pub counters : w'.counters ≡ slice_set w.counters rule n

@@ -61,8 +61,8 @@ occurrences n (x ∷ xs) = (if x == n then 1 else 0) + occurrences n xs
 abbrev pub waiting_at : List (List Waiting) → ℕ → List Waiting
 waiting_at index var = slice_index_or index var []
 
--- for each derived variable and each rule on its layer that can fire, the list contains as many
--- entries with a value as the rule has conditions with this variable and value
+-- the list of a derived variable contains, for each rule on its layer that can fire and each value,
+-- as many entries as the rule has conditions with this variable and value
 pub record IsIndex (p : Parts) (index : List (List Waiting)) : Type 0 where
   pub one_each : length index ≡ length p.variables
   pub only : (layer var : ℕ) → IsOnLayer p layer var

@@ -31,8 +31,8 @@ pub record IsRunning (p : Parts) (layer : ℕ) (s stack : List ℕ) : Type 0 whe
   pub once : (var : ℕ) → occurrences var stack ≤ 1
   pub room : length stack + equal_places s p.init ≤ length s
 
--- each counter is the number of open conditions of its rule plus the number of times the rule
--- occurs in `left`, the rules still to be counted down
+-- each counter is the number of conditions of its rule that are open under `value_seen`, plus the
+-- number of times the rule occurs in `left`, the rules still to be counted down
 abbrev pub AreCounted : Parts → ℕ → List ℕ → List ℕ → List ℕ → List ℕ → Type 0
 AreCounted p layer s stack counters left = (rule : ℕ) → IsRuleOn p layer rule
     → slice_index counters rule

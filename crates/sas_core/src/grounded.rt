@@ -121,8 +121,8 @@ pub trait Grounded {
         ensures { result
             ≡ effect_change (effect_at (operator_at (says self.now) operator) effect) };
 
-    /// Returns the changes of all effects of the operator, in order. `None` is always allowed. A task returns the changes if no effect has
-    /// conditions and they are stored consecutively, which makes steps faster.
+    /// Returns the changes of the operator's effects, in order, if none of them has conditions and the task stores them consecutively.
+    /// Steps are faster with them. The default returns `None`.
     fn plain_changes(&self, operator: u32) -> Option<&[Change]>
         requires { operator < length (says self.now).operators }
         ensures { IfSome result (λ changes.

@@ -45,7 +45,7 @@ pub record IsRemoved (o : Operator) (facts : List Fact) (fact : Fact) : Type 0 w
   pub other : effect.new ≢ fact.value
 
 -- (ii) if an effect sets a fact of the group, then each fact of the group on another variable can't
--- have held before (it clashes with the preconditions and conditions), or it is removed
+-- have held before (the preconditions, the conditions and this fact clash), or it is removed
 abbrev pub RemovesOthers : (List Fact → Type 0) → Operator → List Fact → Type 0
 RemovesOthers Counts o group = (e : Effect) (f : Fact) → Contains o.effects e
     → Contains group (sets e) → Contains group f → e.var ≢ f.var
