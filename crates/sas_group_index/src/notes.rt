@@ -196,7 +196,7 @@ pub fn set_apart(apart: Option<Fact>, notes: &mut Notes)
     notes.apart = apart;
 }
 
-/// Records the fact. Returns false if it contradicts a recorded fact; then it may be partly recorded.
+/// Records the fact and returns whether it contradicts no recorded fact. If it contradicts one, it may be partly recorded.
 #[inline(always)]
 pub fn note(
     index: &Index,

@@ -3,7 +3,7 @@ ghost use Rattle.sas_groups.specs.Laws.{JointlyKeptIsInvariant, ExclusiveAloneIs
 ghost use Rattle.sas_groups.specs.Laws.{ExclusiveJointlyIsInvariant, FamiliesUnite, GreatestExists, GreatestIsOne};
 ghost use Rattle.sas_groups.specs.Laws.{GreatestHasAlone, OutsideIsBroken, JointVerdictIsOne, SomeJointVerdict};
 
-/// Laws about mutex groups:
+/// Laws about mutex groups.
 /// - Invariance: no reachable state contains two different facts of a group that is exclusive (alone or jointly) or belongs to a family
 ///   that is preserved jointly.
 /// - The union of two families that are preserved jointly is preserved jointly.

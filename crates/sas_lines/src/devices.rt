@@ -68,8 +68,8 @@ impl<D> Watched<D> {
 }
 
 impl<R: Read> Watched<R> {
-    /// Reads once. Returns the number of bytes stored in `buffer`, which is 0 at the end of the input. `Err` means that the device failed,
-    /// which is recorded. Must not be called after a failure.
+    /// Reads once and returns the number of bytes stored in `buffer`, which is 0 at the end of the input. `Err` means that the device
+    /// failed, which is recorded. Must not be called after a failure.
     pub fn take(&mut self, buffer: &mut [u8]) -> Result<usize, Failed>
         requires { self.old.failed ≡ false }
         ensures bound { IfOk result (λ n. n ≤ length buffer.new) }
@@ -85,7 +85,7 @@ impl<R: Read> Watched<R> {
 }
 
 impl<W: Write> Watched<W> {
-    /// Writes once. Returns how many of the bytes the device took: at least one, unless `bytes` is empty. `Err` means that the device
+    /// Writes once and returns how many of the bytes the device took: at least one, unless `bytes` is empty. `Err` means that the device
     /// failed, which is recorded. Must not be called after a failure.
     pub fn give(&mut self, bytes: &[u8]) -> Result<usize, Failed>
         requires { self.old.failed ≡ false }
