@@ -14,9 +14,10 @@ pub struct TooMuch;
 
 /// The rules that must be re-evaluated, layer by layer, and a limit on the work.
 pub struct Agenda {
-    /// Rules that became true or false (all conditions hold, or no longer) and haven't been processed since. The lowest layer comes first.
+    /// Noted rules: those that began or ceased to hold (all conditions true) and haven't been processed since. The lowest layer comes
+    /// first.
     pub noted: BinaryHeap<Reverse<LayerRule>>,
-    /// Rules of the current layer that may set their variable once all variables have been reset that must be.
+    /// Ready rules: those of the current layer that may set their variables after its other variables were reset.
     pub ready: Vec<u32>,
     /// How many list entries may still be processed. Noting a rule counts as `NOTING` entries.
     pub left: usize,
@@ -88,7 +89,7 @@ impl Agenda {
         }
     }
 
-    /// Subtracts `entries` from the remaining work.
+    /// Subtracts `entries` from the remaining work. If less remains, returns an error and changes nothing.
     pub fn pay(&mut self, entries: usize) -> Result<(), TooMuch>
         ensures noted { self.new.noted ≡ self.old.noted }
         ensures ready { self.new.ready ≡ self.old.ready }
@@ -101,7 +102,7 @@ impl Agenda {
         Ok(())
     }
 
-    /// Notes the rule and subtracts the work for it. Allocates no memory.
+    /// Notes the rule and subtracts the work for it. Returns an error if too little work or memory remains. Allocates no memory.
     pub fn note(&mut self, entry: LayerRule) -> Result<(), TooMuch>
         requires { IsOrdered self.old }
         ensures { OnOk result (Notes entry.layer entry.rule self.old self.new) }
@@ -172,7 +173,7 @@ impl Agenda {
         }
     }
 
-    /// Marks the rule as ready. Allocates no memory.
+    /// Makes the rule ready. Returns an error if the reserved memory is full. Allocates no memory.
     pub fn make_ready(&mut self, rule: u32) -> Result<(), TooMuch>
         ensures { OnOk result (IsMadeReady rule self.old self.new) }
     {

@@ -149,8 +149,8 @@ impl Firing {
         empty_stack(task, &self.index, &mut self.work, state);
     }
 
-    /// Updates the state, which was settled before the facts `gone` became false. The derived variables that it sets are added to
-    /// `touched`. Gives up if the update takes too much work.
+    /// Updates the state, which must be settled except that the facts `gone` may have become false. The derived variables that it sets are
+    /// added to `touched`. Gives up if the update takes too much work.
     pub fn follow<T: Grounded>(
         &mut self,
         task: &Layered<T>,

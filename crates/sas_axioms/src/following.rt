@@ -97,7 +97,7 @@ pub fn settle_noted<T: Grounded>(
     Ok(())
 }
 
-/// Resets the variables of the layer whose source no longer holds. Then marks the rules as ready that may set them again.
+/// Resets the variables of the layer whose source no longer holds. Then the rules that may set them again are ready.
 fn fall<T: Grounded>(
     task: &Layered<T>,
     index: &Lists<Waiting>,
@@ -156,7 +156,7 @@ fn has_lost<T: Grounded>(task: &Layered<T>, rule: u32, work: &Work, state: &Stat
     state.value(var) != task.initial_value(var)
 }
 
-/// Marks all these rules as ready.
+/// Makes all these rules ready.
 fn make_ready(rules: &[u32], agenda: &mut Agenda) -> Result<(), TooMuch>
     ensures { OnOk result (AreMadeReady rules.now agenda.old agenda.new) }
 {
@@ -247,7 +247,7 @@ fn set_to<T: Grounded>(
     recount(task, index, fact.var, moved, work)
 }
 
-/// Updates the counters of the rules with conditions on the variable. Notes the rules that become true or false.
+/// Updates the counters of the rules with conditions on the variable. Notes the rules that begin or cease to hold.
 fn recount<T: Grounded>(
     task: &Layered<T>,
     index: &Lists<Waiting>,
@@ -271,7 +271,7 @@ fn recount<T: Grounded>(
     recount_waiting(task, index.get(var as usize), moved, work)
 }
 
-/// Updates the counters of these rules, which have conditions on one variable. Notes the rules that become true or false.
+/// Updates the counters of these rules, which have conditions on one variable. Notes the rules that begin or cease to hold.
 fn recount_waiting<T: Grounded>(
     task: &Layered<T>,
     waiting: &[Waiting],
@@ -302,7 +302,7 @@ fn recount_waiting<T: Grounded>(
     Ok(())
 }
 
-/// Sets the counter of the rule. Notes the rule if it becomes true or false.
+/// Sets the counter of the rule. Notes the rule if it begins or ceases to hold.
 fn count_to<T: Grounded>(
     task: &Layered<T>,
     rule: u32,
