@@ -109,7 +109,8 @@ one_condition value v c e = elim (eqb_tells (value c.var) c.value) [
   ]
 ]
 
--- where one variable's value changes, the conditions that asked for the old one open, and those that ask for the new one close
+-- where one variable's value changes, the conditions that asked for the old one open, and those
+-- that ask for the new one close
 pub open_changed : (value value' : ℕ → ℕ) (v : ℕ) (cs : List Fact) → ((u : ℕ) → u ≢ v → value u ≡ value' u)
     → open_conditions value' cs + asking v (value' v) cs ≡ open_conditions value cs + asking v (value v) cs
 open_changed value value' v [] same = refl

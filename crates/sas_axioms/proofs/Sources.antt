@@ -93,7 +93,8 @@ sources_same p m s s' sources sources' kept same have = record {
     differed : (v : ℕ) → IsOnLayer p m v → differs p s' v ≡ true → differs p s v ≡ true
     differed v on d = differs_true p s v (λ e. differs_not p s' v d (kept v on ∙ e))
 
--- a layer that was settled before is given as before, where what its rules ask about has kept its value
+-- a layer that was settled before is given as before, where what its rules ask about has kept its
+-- value
 pub given_off : (p : Parts) (layer m : ℕ) (s s' sources sources' : List ℕ) → IsLayered p → SameOff p layer s s' → ((v : ℕ) → (IsOnLayer p layer v → ⊥) → get_or sources' v 0 ≡ get_or sources v 0)
     → m < layer → AreGiven p m s sources → AreGiven p m s' sources'
 given_off p layer m s s' sources sources' layered off same lt given = record {
@@ -228,7 +229,8 @@ pub differs_where_holding : (p : Parts) (layer rule : ℕ) (s : List ℕ) → Is
 differs_where_holding p layer rule s settled on hold =
     settled.closed rule no_rule on.exists on.on on.can (λ j e lt. settled_value p layer s settled (get_or (rule_at p rule).conditions j e).var ∙ hold j e lt)
 
--- a layer that sources give is settled, where the variable of each rule that holds differs from its default
+-- a layer that sources give is settled, where the variable of each rule that holds differs from its
+-- default
 pub settled_when_given : (p : Parts) (layer : ℕ) (s sources : List ℕ) → IsLayered p → AreGiven p layer s sources
     → ((rule : ℕ) → IsRuleOn p layer rule → IsHolding p s rule → differs p s (rule_at p rule).var ≡ true) → IsSettledAt p layer s
 settled_when_given p layer s sources layered given fired = settled_when_fired p layer s (forced_when_given p layer s sources layered given) done

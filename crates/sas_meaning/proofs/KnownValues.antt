@@ -47,7 +47,8 @@ module _ (p : Parts) (place : ℕ) (values : List (Option ℕ)) (known : NewValu
         (agrees_with_earlier p rule place within).1 (λ k before can same. let impossible = value_of rule.var None is k before can same in absurd (cc))
     agrees_by (Some value) is = by_test value (value == rule.new) is refl
 
-    -- the test whether the rule agrees with the rules before the place, by the value that is known of its variable
+    -- the test whether the rule agrees with the rules before the place, by the value that is known
+    -- of its variable
     pub agrees_by_value : agrees_with p (take place p.rules) rule ≡ option_map_or (λ its. its == rule.new) (slice_index_or values rule.var None) true
     agrees_by_value = agrees_by (slice_index_or values rule.var None) refl
 

@@ -42,7 +42,8 @@ pub record AgreeBelow (t : Parts) (n : ℕ) (s s' : List ℕ) : Type 0 where
 pub looks_down : (t : Parts) (rule : Rule) (c : Fact) (below here : ℕ) → LooksDown t rule.var c → IsOnLayer t below c.var → IsOnLayer t here rule.var → below ≤ here
 looks_down t rule c below here h b r = (h here below r b).0
 
--- what a set gives to the conditions of a rule on the layer depends on the basic variables and the layers below alone
+-- what a set gives to the conditions of a rule on the layer depends on the basic variables and the
+-- layers below alone
 given_agrees : (t : Parts) (layer : ℕ) (s s' : List ℕ) (set : ℕ → Bool) (rule : Rule) (c : Fact) → AgreeBelow t layer s s' → IsOnLayer t layer rule.var → LooksDown t rule.var c
     → value_with t layer s set c.var ≡ value_with t layer s' set c.var
 given_agrees t layer s s' set rule c agree on down = elim (layer_tells t layer c.var) [

@@ -18,7 +18,8 @@ pub differs_tells : (t : Parts) (s : List ℕ) (v : ℕ) → ((get_or s v 0 ≡ 
 differs_tells t s v = elim (eqb_tells (get_or s v 0) (default_of t v)) [ inl w ↦ inl (w.1, ap not w.0) | inr w ↦ inr (w.1, ap not w.0) ]
 
 module _ (t : Parts) (layered : IsLayered t) where
-  -- where two states agree below a layer on which both are settled, a variable that differs in one differs in the other
+  -- where two states agree below a layer on which both are settled, a variable that differs in one
+  -- differs in the other
   both_differ : (layer : ℕ) (s s' : List ℕ) → AgreeBelow t layer s s' → IsSettledAt t layer s → IsSettledAt t layer s'
       → (v : ℕ) → IsOnLayer t layer v → differs t s v ≡ true → differs t s' v ≡ true
   both_differ layer s s' agree a b v on d =

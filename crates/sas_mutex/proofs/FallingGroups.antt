@@ -194,7 +194,8 @@ module _ (p : Parts) where
       → EffectKeepsByBasis p basis b.kept operator effect → EffectKeepsByBasis p basis c.kept operator effect
   effect_alone_still basis b c operator effect falls alone place w has = alone place (falls.less place w) has
 
-  -- an operator that was looked at with a basis is at rest as long as the groups of that are in the family
+  -- an operator that was looked at with a basis is at rest as long as the groups of that are in the
+  -- family
   pub rests_on : (family : Family) (kept : List Bool) (operator : ℕ) (groups : List ℕ) → IsBasis (length p.groups) family → All (Contains groups) family.supports
       → KeepsByBasis p family.basis kept operator → RestsOn p kept groups operator
   rests_on family kept operator groups is within keeps smaller inside all =

@@ -23,7 +23,8 @@ use Rattle.sas_group_index.proofs.Existing.{variable_below}
 use Rattle.sas_group_index.proofs.NotesOfFacts.{a_note, value_note_tells}
 use Rattle.sas_mutex.proofs.ToldByNotes.{other_value_clashes}
 
--- of the facts of a run that is settled none is known, so that what is noted for their variable is another value
+-- of the facts of a run that is settled none is known, so that what is noted for their variable is
+-- another value
 pub settled_are_gone : (p : Parts) (index : Index) (kept : List Bool) (notes : Notes) (o : Operator) (e : Effect) (run : List Fact)
     → IsIndexOf p index → AreKnown p kept (known o e.conditions []) notes → All (FactExists p.variables) run → AreOnOne run
     → All (IsUnknown o e) run → IsDecidedByFirst e run notes → All (IsGone (IsKept p kept) o e) run
@@ -44,7 +45,8 @@ settled_are_gone p index kept notes o e run indexed are exist (var, on_it) unkno
       ]
     ]
 
--- the facts of the group before those that are left are such; those that are left fall into these runs
+-- the facts of the group before those that are left are such; those that are left fall into these
+-- runs
 pub record SuchBefore (Such : Fact → Type 0) (group left : List Fact) (runs : List ℕ) : Type 0 where
   pub before : List Fact
   pub only : (f : Fact) → Contains (before ++ left) f → Contains group f

@@ -76,7 +76,8 @@ module _ (p : Parts) (index : Index) (kept : List Bool) (notes : Notes) (o : Ope
   pub noted_no_clash : value_note notes.values fact.var ≡ Some fact.value → Clash (IsKept p kept) with → ⊥
   noted_no_clash at = there_no_clash (value_note_tells before fact.var fact.value (value_note notes.values fact.var) (are.noted.values fact.var on_variable) at)
 
-  -- where no fact is known on its variable, the fact clashes if a group that is kept has it and a known one
+  -- where no fact is known on its variable, the fact clashes if a group that is kept has it and a
+  -- known one
   module _ (there : (f : Fact) → Contains before f → FactExists p.variables f) (none : value_note notes.values fact.var ≡ None) where
     not_on : (g : Fact) → Contains before g → fact.var ≢ g.var
     not_on g known_g e = no_value_note_tells before fact.var (value_note notes.values fact.var) (are.noted.values fact.var on_variable) none g known_g (sym e)
@@ -217,7 +218,8 @@ one_clashes Counts o conditions facts fact among clash = (clash.0, clash.1, ther
       | inr e ↦ subst (λ (f : Fact). Contains (known o conditions facts) f) e (Contains-append_right (preconditions o ++ conditions) facts fact among)
     ]
 
--- where what is known doesn't clash, it clashes with further facts if one of them clashes with it, or they clash themselves
+-- where what is known doesn't clash, it clashes with further facts if one of them clashes with it,
+-- or they clash themselves
 module _ (Counts : List Fact → Type 0) (o : Operator) (conditions facts : List Fact) where
   pub themselves_clash : Clash Counts facts → Clash Counts (known o conditions facts)
   themselves_clash clash = (clash.0, clash.1, there clash.0 clash.2, there clash.1 clash.3, clash.4)

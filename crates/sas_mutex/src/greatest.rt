@@ -70,7 +70,7 @@ fn look_at_loose<T: Grounded>(
     }
 }
 
-/// For each removed group, starting with index `from`, checks the operators that watch it again, until no more groups are removed.
+/// For each removed group, starting with index `from`, checks again each operator that watches it, until no more groups are removed.
 fn tell_watching<T: Grounded>(
     indexed: &IndexedTask<'_, '_, T>,
     from: usize,
@@ -98,7 +98,7 @@ fn tell_watching<T: Grounded>(
     }
 }
 
-/// Checks the operators that watch this group again. The group was removed.
+/// Checks again each operator that watches this group, which was removed.
 fn tell_of<T: Grounded>(
     indexed: &IndexedTask<'_, '_, T>,
     group: u32,

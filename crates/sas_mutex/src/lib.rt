@@ -1,4 +1,4 @@
-//! Joint check of mutex groups: which groups of a task are invariants, where each may depend on others. The definitions, the laws and the
+//! Joint check of mutex groups: which groups of a task are invariants if each may rely on the others. The definitions, the laws and the
 //! check of a single group are in `sas_groups`. This crate re-exports the laws and that check. The check of a single effect is public, too,
 //! so that the reasons for a verdict can be found.
 #![tactic(auto)]

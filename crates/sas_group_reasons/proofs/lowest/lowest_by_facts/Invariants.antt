@@ -1,4 +1,5 @@
--- The lowest effect, of those on variables of the facts so far, that may set another fact of the group.
+-- The lowest effect, of those on variables of the facts so far, that may set another fact of the
+-- group.
 use Rattle.sas_mutex.specs.ByNotes.{IsNotedAt}
 use Rattle.sas_group_reasons.specs.Lowest.{IsLowest, SetsOneOfFirst}
 use Rattle.sas_group_reasons.proofs.lowest.lowest_by_facts.Given as goal
