@@ -1,4 +1,4 @@
--- An execution goes on along its run.
+-- An execution advances along its run.
 use Rattle.std.proofs.Common.{◌≡◌, ℕ, ◌+◌, ◌<◌, ◌≤◌, List, [], length, get_or, Option, None, Result, Ok, Err, refl, sym, ◌∙◌, ap, subst, inl, inr, arith, rules}
 use Rattle.std.specs.Prelude.{vec_capacity}
 use Rattle.std.specs.Result.{IsOk}
@@ -71,7 +71,7 @@ module _ (run : Run) (e : Executed) (executes : Executes run e) where
           (subst (λ o. GoesOn e.task (state_at run e.made) (get_or run.steps e.made []) o next) (ap (λ (os : List ℕ). get_or os e.made 0) executes.operators)
           (run_goes e.task run executes.of_plan.through layered e.made within)))
 
-      -- and so does the execution
+      -- and so the execution advances
       pub goes_along : (operator : ℕ) (new : Executed) → Advances e operator new → Executes run new
       goes_along operator new advances = record {
         of_plan = subst (λ p. IsRunOf p new.plan run) (sym advances.task) (subst (λ plan. IsRunOf e.task plan run) (sym advances.of_plan) executes.of_plan);
@@ -111,7 +111,7 @@ module _ (run : Run) (e : Executed) (executes : Executes run e) where
 
 -- ---- where the plan ends
 
--- once its steps have been made up to the fault, the execution is back at its start
+-- after making its steps up to the fault, the execution is back at its start
 pub back : (e new : Executed) (fault : Option PlanFault) → IsLayered e.task → new.task ≡ e.task → new.plan ≡ e.plan → e.made ≡ 0 → new.made ≡ e.made
     → IsInitial e.task new.state → IsEnding e.task e.plan new.operators fault → IsFound e.task e.plan fault new
 back e new fault layered task plan none same starts (run, of_plan, ends, by) = record {
@@ -142,7 +142,7 @@ module _ {E : Type 0} {Ready : E → Parts → Type 0} {Follows : E → Parts �
   abbrev e : Executed
   e = executed_of p plan stepper progress made
 
-  -- the next step, by the operator that stands at its place
+  -- the next step, by the operator at its index
   module _ (left : made < length progress.operators.items) (operator : ℕ) (stands : operator ≡ get_or progress.operators.items made operator) where
     is_next : operator ≡ next_operator e
     is_next = stands ∙ get_or_default progress.operators.items made operator 0 left

@@ -1,4 +1,4 @@
--- What changes that are on different variables do, one after another.
+-- Making changes on different variables one after another.
 use Rattle.std.proofs.Common.{◌≡◌, ◌≢◌, ℕ, ◌+◌, ◌<◌, ◌≤◌, List, [], ◌∷◌, ◌++◌, length, get_or, set, Option, None, Some, refl, sym, ◌∙◌, ap, subst, inl, inr, arith}
 use Rattle.std.specs.Prelude.{filter_map, option_map}
 use Rattle.std.specs.List.{All, cons_option}
@@ -27,7 +27,7 @@ use Rattle.sas_run.proofs.Ranges.{no_effect, operator_fits}
 use Rattle.sas_run.proofs.NextStates.{effects_basic}
 use Rattle.sas_run.proofs.Deleted.{deleted_few, all_before, all_last}
 
--- what stands behind the last change
+-- a default for indices that are out of range
 abbrev pub no_change : Change
 no_change = record { var = 0; old = None; new = 0 }
 
@@ -72,7 +72,7 @@ all_made p s changes deleted s' made = record {
   lost = made.lost;
 }
 
--- one change more, on another variable than those before it
+-- one more change, on another variable than those before it
 module _ (p : Parts) (s s' : List ℕ) (changes : List Change) (n : ℕ) (deleted : List Fact) (made : MadeSoFar p s changes n deleted s') (apart : AreApart changes) (some : n < length changes)
     (change : Change) (at : (d : Change) → get_or changes n d ≡ change) (exists : change.var < length p.variables) (fits : HasValue p.variables change.var change.new) (basic : IsBasic p change.var) where
   fresh : Untouched changes n change.var
@@ -142,7 +142,7 @@ module _ (p : Parts) (s s' : List ℕ) (changes : List Change) (n : ℕ) (delete
     few = (let few = made.few in let more = deleted_few s' (record { var = change.var; value = change.new }) deleted deleted' replaces in omega arith);
   }
 
--- ---- what they do is what the effects do
+-- ---- making the changes is applying the effects
 
 module _ (o : Operator) (changes : List Change) (effects : o.effects ≡ plain_effects changes) where
   -- what holds of each change as an effect holds of each effect

@@ -1,4 +1,4 @@
--- The operators of a task and their effects fit, and the variables of these exist.
+-- The operators of a task and their effects are well ranged, and their variables exist.
 use Rattle.std.proofs.Common.{◌≡◌, ℕ, ◌<◌, List, [], ◌∷◌, length, Option, None, Some, sym, subst}
 use Rattle.std.specs.Prelude.{filter_map, option_map}
 use Rattle.std.specs.List.{All, AllByRecursion, cons_option}
@@ -16,11 +16,11 @@ use Rattle.sas_core.proofs.Places.{holds_at}
 use Rattle.sas_meaning.specs.Steps.{old_fact, preconditions}
 use Rattle.sas_meaning.proofs.Forced.{fact_within}
 
--- what stands behind the last effect
+-- a default for indices that are out of range
 abbrev pub no_effect : Effect
 no_effect = record { conditions = []; var = 0; old = None; new = 0 }
 
--- the old values that effects ask for exist
+-- the old values that effects require exist
 old_facts_exist : (variables : List Variable) (effects : List Effect) → AllByRecursion (EffectFits variables) effects
     → AllByRecursion (FactExists variables) (filter_map old_fact effects)
 old_facts_exist variables [] fit = tt
