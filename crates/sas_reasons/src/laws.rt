@@ -29,9 +29,9 @@ pub fn name_laws()
 /// - A derived variable has a rank exactly if it differs from its default, and at most one rank.
 /// - In this case exactly one rule gives the variable its value: its conditions hold in the state, and it sets this value.
 /// - Each condition of this rule is on a basic variable, or requires the default of a variable on a lower layer, or requires another value
-/// of a variable that comes before.
-/// - In a derivation each variable differs from its default, and all other variables come before the one that is derived. The order has no
-/// cycles.
+///   of a variable that comes before.
+/// - In a derivation each variable differs from its default, and all other variables come before the one that is derived. No variable comes
+///   before itself.
 /// - A derived variable that differs from its default has exactly one derivation, whose last rule gives it its value.
 pub fn derivation_laws()
     ensures rank { RankIfDiffers }
@@ -50,9 +50,9 @@ pub fn derivation_laws()
 
 /// Ensures the laws of causes.
 /// - If a rule can give a derived variable a value that it doesn't have, the variable has its default, and each of its rules that can fire
-/// has a condition that doesn't hold.
+///   has a condition that doesn't hold.
 /// - An operator that isn't applicable has a precondition that doesn't hold. The operators of a name have exactly this name. The first goal
-/// fact that is reported is the first that doesn't hold.
+///   fact that is reported is the first that doesn't hold.
 /// - If effects that fire don't agree, two of them conflict, and exactly one such pair is reported.
 /// - Removing repeated lines of rules loses no line, and leaves each line of a rule once.
 pub fn cause_laws()

@@ -26,11 +26,11 @@ pub fn task_laws()
 /// Ensures the laws about what is expected in task files, and about why a file is refused.
 /// - After the same first lines, there is one location and one expectation. There is an expectation wherever a task has a line.
 /// - A line has at most one first wrong word. It has one if a fact, a head or an effect is expected, the line has this shape, and no task
-/// may have the line there.
+///   may have the line there.
 /// - A fault is about at most one text and one list of accepted lines. It is about at least one text, unless a read failed, the bytes are
-/// too long, or memory ran out.
+///   too long, or memory ran out.
 /// - Each text that a fault is about has exactly one reason. The reason names the wrong word if a fact, a head or an effect is expected and
-/// the line is refused for a value.
+///   the line is refused for a value.
 pub fn mark_laws()
     ensures one_due { OneDue }
     ensures some_due { SomeDue }
