@@ -5,7 +5,7 @@ use std::alloc::{AllocError, Global};
 use std::io::Read;
 use test_words::{Asked, ToldReader, ToldWriter, cut, say, say_bytes, say_number, say_right};
 
-/// Makes the call if it is one of this file. Returns whether it is.
+/// Makes the call if it is defined in this file. Returns whether it is.
 pub fn call_of_devices<R: AllocGlobal + Print>(
     rt: &R,
     asked: &Asked<'_>,

@@ -6,7 +6,7 @@ use sas_lines::{
 use std::alloc::AllocError;
 use test_words::{Asked, cut, say, say_bytes, say_number, say_want, say_whole, spend, text_of};
 
-/// Makes the call if it is one of this file. Returns whether it is.
+/// Makes the call if it is defined in this file. Returns whether it is.
 pub fn call_of_lines<R: AllocGlobal + Print>(
     rt: &R,
     asked: &Asked<'_>,

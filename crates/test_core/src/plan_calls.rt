@@ -9,7 +9,7 @@ use test_words::{
     text_of,
 };
 
-/// Makes the call if it is one of this file. Returns whether it is.
+/// Makes the call if it is defined in this file. Returns whether it is.
 pub fn call_of_plans<R: AllocGlobal + Print>(
     rt: &R,
     asked: &Asked<'_>,

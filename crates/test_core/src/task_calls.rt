@@ -7,7 +7,7 @@ use test_words::{
     Asked, cut, fact_of, is_same_task, say, say_either, say_number, say_text, spend, task_of,
 };
 
-/// Makes the call if it is one of this file. Returns whether it is.
+/// Makes the call if it is defined in this file. Returns whether it is.
 pub fn call_of_tasks<R: AllocGlobal + Print>(
     rt: &R,
     asked: &Asked<'_>,

@@ -7,7 +7,7 @@ use sas_task_judge::TaskMachine;
 use sas_task_line::SoFar;
 use test_words::{Asked, say};
 
-/// Makes the call if it is one of this file. Returns whether it is. The kind of the call is the limit.
+/// Makes the call if it is defined in this file. Returns whether it is. The kind of the call is the limit.
 pub fn call_within_limits<R: AllocGlobal + Print>(rt: &R, asked: &Asked<'_>) -> bool {
     let limit = u64::from(asked.kind.parse::<u32>().unwrap_or(0));
     let alloc = rt.alloc();

@@ -4,7 +4,7 @@ use sas_core::{CostKind, Parts};
 use std::alloc::AllocError;
 use test_words::{Asked, plan_of, say, say_bytes, say_either, say_number, say_whole, task_of};
 
-/// Makes the call if it is one of this file. Returns whether it is.
+/// Makes the call if it is defined in this file. Returns whether it is.
 pub fn call_of_parts<R: AllocGlobal + Print>(
     rt: &R,
     asked: &Asked<'_>,

@@ -8,7 +8,7 @@ use std::alloc::{AllocError, Global};
 use std::cell::Cell;
 use test_words::{Asked, NotingReader, ToldReader, longer_than, say, say_either, say_right, spend};
 
-/// Makes the call if it is one of this file. Returns whether it is.
+/// Makes the call if it is defined in this file. Returns whether it is.
 pub fn call_of_readers<R: AllocGlobal + Print>(
     rt: &R,
     asked: &Asked<'_>,
