@@ -10,7 +10,7 @@ use std::alloc::{AllocError, Global};
 use std::collections::BTreeMap;
 use std::hash::BuildHasher;
 
-/// The table is made with so many groups that each has at most this many names on average.
+/// How many names each group of the map has on average, at most.
 const NAMES_A_GROUP: usize = 6;
 
 /// How many digests per group the map contains before it grows.

@@ -95,7 +95,7 @@ impl StepOperators {
         self.firsts.as_slice()
     }
 
-    /// Lends both lists. It takes no memory.
+    /// Returns both lists, borrowed. It takes no memory.
     pub fn found(&self) -> Found<'_>
         ensures firsts { result.firsts.now ≡ self.now.firsts.items }
         ensures nexts { result.nexts.now ≡ self.now.next.items }

@@ -65,7 +65,7 @@ plan_refusal_apart line steps cost w e = not_same 114 118 (omega arith) (sym (ap
 invalid_line_apart : (steps cost : ℕ) (w : List ℕ) → invalid_line w ≡ valid_line steps cost → ⊥
 invalid_line_apart steps cost w e = not_same 105 118 (omega arith) (sym (ap (λ (t : List ℕ). get_or t 5 0) e))
 
--- the refusal of a task for a fault of its layers isn't either, whatever follows it
+-- nor is the refusal of a task for a fault of its layers, whatever follows it
 line_begins : (words : Option (List ℕ)) (o : Output) → option_map (λ w. record { text = layers_line w; status = No }) words ≡ Some o → (get_or o.text 0 0 ≡ 116) × (o.status ≡ No)
 line_begins None o is = absurd (none-some o is)
 line_begins (Some w) o is =

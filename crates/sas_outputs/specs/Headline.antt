@@ -53,8 +53,7 @@ pub record HasInvariant (b : List ℕ) (place : ℕ) : Type 0 where
   pub exists : place < length task.groups
   pub invariant : IsInvariant task (group_at task place)
 
--- The promise of a run that judged the mutex groups of the task b. `Sent` holds for the bytes
--- written.
+-- The promise of a run about the mutex groups of the task b. `Sent` holds for the bytes written.
 pub record Invariants (b : List ℕ) (Sent : List ℕ → Type 0) : Type 0 where
   -- if `group K exclusive` is a line of the bytes written, group K is an invariant
   pub line : (place : ℕ) (out : List ℕ) → Sent out

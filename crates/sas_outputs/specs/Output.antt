@@ -24,7 +24,7 @@ use Rattle.sas_outputs.specs.declared.Request.{Request}
 use Rattle.sas_outputs.specs.declared.Request.TheVariants.{Show, Print, Steps, Check, Plan, Mutex}
 use Rattle.sas_summary.specs.Summary.{summary_lines}
 
--- the word for a kind of fault; with the kinds that have none, the file was not read to the end
+-- the word for a kind of fault; the kinds without a word mean that the file was not read as a whole
 abbrev pub word_of : Kind → Option (List ℕ)
 word_of Keyword = Some (codes "keyword")
 word_of Name = Some (codes "name")

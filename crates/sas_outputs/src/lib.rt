@@ -10,9 +10,9 @@ pub use refusals::refuse_file;
 pub enum Request {
     /// Print the summary of a task.
     Show,
-    /// Print a task in the format in which it was read.
+    /// Print a task again, as a task file.
     Print,
-    /// Print the steps of a plan and its cost in the format in which they were read.
+    /// Print a plan again, as a plan file.
     Steps,
     /// Check whether a task is layered.
     Check,

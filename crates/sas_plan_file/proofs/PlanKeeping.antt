@@ -72,6 +72,6 @@ text_follows ls m h = record {
   refuses = λ line k going_on j. refused h.state line k (λ d. going_on (h.closed.1 d)) j;
 }
 
--- the text of what was read, where all is read as a plan
+-- the text of what was read, if it was read as a plan
 pub text_is : (m : PlanText) (bytes : List ℕ) (p : PlanParts) → KeepsLines (lines bytes) m → Reads plan_format bytes p → m.text.items ≡ text (lines_of plan_format p)
 text_is m bytes p h r = h.kept ∙ ap text r.lines

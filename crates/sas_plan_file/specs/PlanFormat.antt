@@ -24,8 +24,7 @@ cost_words costs.General = codes " (general cost)"
 abbrev pub cost_front : List ℕ
 cost_front = codes "; cost = "
 
--- the line of a step is its name in parentheses; the line of the cost has a decimal number and
--- words
+-- a step is its name in parentheses; the cost is a decimal number between its first and last words
 abbrev pub plan_line_bytes : PlanLine → List ℕ
 plan_line_bytes (step name) = codes "(" ++ (name ++ codes ")")
 plan_line_bytes (cost n kind) = cost_front ++ (decimal n ++ cost_words kind)

@@ -24,7 +24,7 @@ pub struct StepAhead<'a> {
     pub taken: usize,
 }
 
-/// Returns the line without the front, or `None` if it doesn't begin with it.
+/// Returns the rest of the line after `front`, or `None` if the line doesn't begin with `front`.
 fn behind<'a>(line: &'a [u8], front: &[u8]) -> Option<&'a [u8]>
     ensures { MatchOption result (BeginsWith front.now line.now → ⊥)
         (λ rest. line.now ≡ front.now ++ rest.now) }
@@ -32,7 +32,7 @@ fn behind<'a>(line: &'a [u8], front: &[u8]) -> Option<&'a [u8]>
     line.strip_prefix(front)
 }
 
-/// Returns the line without the back, or `None` if it doesn't end with it.
+/// Returns the line without `back` at its end, or `None` if the line doesn't end with `back`.
 fn before<'a>(line: &'a [u8], back: &[u8]) -> Option<&'a [u8]>
     ensures { MatchOption result
         ((rest : List ℕ) → line.now ≡ rest ++ back.now → ⊥)

@@ -35,7 +35,7 @@ pub record Fed (pending : List ℕ) (next : Progress) (piece : List ℕ) (n : �
 fed_whole : (pending piece line : List ℕ) (n : ℕ) → pending ≡ [] → LineStandsFirst piece line n → Fed pending (record { line = line; pending = [] }) piece n true
 fed_whole pending piece line n p w = record { taken = w.taken; lines = rw p w.line; rest = rw p w.rest }
 
--- a front has at most as many lines as bytes, and at most all bytes
+-- a prefix has at most as many lines as bytes, and at most all bytes
 pub front_few : (first : List (List ℕ)) (bytes : List ℕ) (front : Front) → IsFront first bytes front → front.lines ≤ front.bytes
 front_few first bytes front h =
     let l = lines-few (take front.bytes bytes) in
@@ -59,16 +59,16 @@ rest_is i piece = take_all (length piece - i) (drop i piece) (omega (arith, leng
 whole_is : (i : ℕ) (piece : List ℕ) → take i piece ++ rest i piece ≡ piece
 whole_is i piece = ap (λ (x : List ℕ). take i piece ++ x) (rest_is i piece) ∙ take-append-drop i piece
 
--- bytes, a front of the piece, and a front of its rest
+-- bytes, a prefix of the piece, and a prefix of its rest
 joined : (bytes piece : List ℕ) (i n : ℕ) → (bytes ++ take i piece) ++ take n (rest i piece) ≡ bytes ++ take (i + n) piece
 joined bytes piece i n =
     ap (λ (x : List ℕ). (bytes ++ take i piece) ++ take n x) (rest_is i piece) ∙ append_assoc bytes (take i piece) (take n (drop i piece)) ∙ ap (λ (x : List ℕ). bytes ++ x) (sym (take-add i n piece))
 
--- the front of a piece that the limit leaves room for
+-- the prefix of a piece that the limit leaves room for
 pub within_fits : (limit taken : ℕ) (piece front : List ℕ) → front ≡ take (limit - taken) piece → taken ≤ limit → taken + length front ≤ limit
 within_fits limit taken piece front e l = let n = ap length e ∙ length-take (limit - taken) piece in omega (arith, n, l)
 
--- this front is empty only at the limit
+-- this prefix is empty only at the limit
 pub within_none : (limit taken : ℕ) (piece front : List ℕ) → front ≡ take (limit - taken) piece → taken ≤ limit → 0 < length piece → length front ≡ 0 → taken ≡ limit
 within_none limit taken piece front e l some none = let n = ap length e ∙ length-take (limit - taken) piece in omega (arith, n, l, some, none)
 
@@ -177,9 +177,9 @@ module _ {M : Type 0} (led_by : List (List ℕ) → M → Type 0) (ended : M →
     memory = λ e. absurd cc;
   }
 
-  -- ---- a front of a piece
+  -- ---- a prefix of a piece
 
-  -- what holds for the front of a piece holds for the piece
+  -- what holds for a prefix of a piece holds for the piece
   took_wider : (old new : Reader M) (piece : List ℕ) (room n : ℕ) → TookFront led_by ended rejects halted old new (take room piece) n → TookFront led_by ended rejects halted old new piece n
   took_wider old new piece room n h = record {
     within = omega (arith, h.within, length-take room piece);
@@ -204,7 +204,7 @@ module _ {M : Type 0} (led_by : List (List ℕ) → M → Type 0) (ended : M →
   pub advances_no_more : (old new : Reader M) (piece : List ℕ) (r : Result ℕ Kind) (k : Kind) → r ≡ Err k → Advances led_by ended rejects halted old piece new (Err k) → Advances led_by ended rejects halted old piece new r
   advances_no_more old new piece r k e h = subst (λ (x : Result ℕ Kind). Advances led_by ended rejects halted old piece new x) (sym e) h
 
-  -- ---- after a front of the piece that was taken
+  -- ---- after a prefix of the piece that was taken
 
   pub took_behind : (old mid new : Reader M) (piece : List ℕ) (i n : ℕ) → TookFront led_by ended rejects halted old mid piece i → TookFront led_by ended rejects halted mid new (rest i piece) n → TookFront led_by ended rejects halted old new piece (i + n)
   took_behind old mid new piece i n a b =

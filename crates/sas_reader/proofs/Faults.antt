@@ -26,7 +26,7 @@ abbrev fault_with : List ℕ → Kind → Fault
 fault_with front k = record { line = length (lines front) + 1; kind = k }
 
 module _ {T V I S : Type 0} (F : Format V I S) (Fits : I → Type 0) (node : T → Node T V I S) (start : T) (g : Grammar F Fits node start) where
-  -- the front has no fault, and so the whole has none
+  -- the prefix has no fault, and so the whole has none
   abbrev None : ℕ → List ℕ → Type 0
   None limit bytes = (f : Fault) → FaultOf F limit bytes f → ⊥
 

@@ -42,7 +42,7 @@ pub fewer : (bytes : List ℕ) → length (without_returns bytes) ≤ length byt
 fewer [] = omega arith
 fewer (b ∷ bytes) = omega (arith, some_stay (not (b == 13)) b (length bytes) (without_returns bytes) (fewer bytes))
 
--- ---- a front and its line end
+-- ---- a prefix and its line end
 
 module _ (bytes a : List ℕ) (byte : ℕ) (r : FrontOf bytes a byte) where
   line_end : byte ≡ 10 → EachEnds (r.between ++ 10 ∷ [])

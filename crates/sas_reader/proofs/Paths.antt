@@ -4,7 +4,7 @@ use Rattle.sas_reader.specs.Format.{Format}
 use Rattle.sas_lines.specs.Lines.{lines, unfinished}
 use Rattle.sas_reader.specs.System.{Node, ended, before, Takes, OneLine, After, LeadsToEnd, Leads, Grammar}
 
--- ---- lines of a list, cut where the front ends
+-- ---- the lines of a list, cut after a prefix
 
 pub record Cut {I : Type 0} (spelled : I → List ℕ) (is : List I) (front back : List (List ℕ)) : Type 0 where
   pub before : List I

@@ -12,7 +12,7 @@ use Rattle.sas_reader.specs.System.{Node, ended, After, LeadsToEnd, Grammar}
 use Rattle.sas_reader.specs.Laws.{OneValue, OneSlot, NoSlotAtEnd, FaultIsDead, OneFault, TextIsLive, FaultIsNoText, OneReading}
 use Rattle.sas_reader.proofs.Paths.{cut_at, ended_stops, same_path, ends_split, ends_after, slot_at, takes_at, one_ended}
 
--- ---- how bytes go on: with more lines, or a longer rest
+-- ---- how bytes can be extended: with more lines, or with a longer rest
 
 record Grown (b c : List ℕ) : Type 0 where
   more : List (List ℕ)
@@ -86,7 +86,7 @@ module _ {T V I S : Type 0} (F : Format V I S) (Fits : I → Type 0) (node : T �
   pub one_value : OneValue F
   one_value bytes v w r q = same_value v w r.good q.good (sym r.lines ∙ q.lines)
 
-  -- ---- a front of live bytes is live
+  -- ---- a prefix of live bytes is live
 
   ends : (p : T) (v w : V) (is : List I) (l : List ℕ) (more : List (List ℕ)) → node p ≡ ended v → LeadsToEnd F Fits node p is w → map F.spelled is ≡ l ∷ more → ⊥
   ends p v w [] l more e a k = absurd cc

@@ -103,14 +103,14 @@ module _ (before bytes : List ℕ) (whole : unfinished before ≡ []) (ends : Ea
       let at : (x : List ℕ) → unfinished (before ++ x) ≡ unfinished x = λ x. unfinished-append before x ∙ ap (λ (l : List ℕ). unfinished (l ++ x)) whole in
       at bytes ∙ same.rest ∙ sym (at (without_returns bytes))
 
--- ---- a front, and the byte behind it
+-- ---- a prefix, and the byte after it
 
 -- nothing, or a CR before LF
 pub data Between (byte : ℕ) (between : List ℕ) : Type 0 where
   nothing : between ≡ [] → Between byte between
   return : between ≡ 13 ∷ [] → byte ≡ 10 → Between byte between
 
--- the bytes begin with this front and then the byte; the front without its CRs is the other front
+-- the bytes begin with this prefix and then the byte; without its CRs it is the other prefix
 pub record FrontOf (bytes plain_front : List ℕ) (byte : ℕ) : Type 0 where
   pub front : List ℕ
   pub between : List ℕ

@@ -6,8 +6,7 @@ use Rattle.sas_reader.specs.declared.fault.Kind.{Kind}
 use Rattle.sas_reader.specs.declared.fault.Kind.TheVariants as kinds
 use Rattle.sas_reader.specs.Format.{Format, Reads, Next, FaultOf, EndOf}
 
--- there is a text at a fault of this kind: a read didn't fail, and there was no lack of room or
--- memory
+-- faults of this kind have a text; those of the kinds `Read`, `TooLong` and `Memory` have none
 abbrev pub IsTold : Kind → Type 0
 IsTold k = (k ≢ kinds.Read) × (k ≢ kinds.TooLong) × (k ≢ kinds.Memory)
 

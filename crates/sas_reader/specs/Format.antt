@@ -10,7 +10,7 @@ use Rattle.sas_reader.specs.declared.fault.Kind.TheVariants.{End, Trailing, TooL
 pub record Format (V I S : Type 0) : Type 1 where
   -- the lines of a value, in order
   pub layout : V → List I
-  -- which values a file may hold
+  -- which values a file may contain
   pub Good : V → Type 0
   -- the bytes of a line, without its line end
   pub spelled : I → List ℕ
@@ -83,8 +83,8 @@ module _ {V I S : Type 0} (F : Format V I S) where
     pub line : f.line ≡ length (lines bytes) + 1
     pub kind : f.kind ≡ End
 
-  -- More bytes are expected within the piece: after some front of it, but not after all of it, the
-  -- bytes are live, no text, and below the limit.
+  -- More bytes are expected within the piece: after some proper prefix of it, the bytes are live,
+  -- no text, and below the limit.
   pub record MoreIsDue (limit : ℕ) (bytes piece : List ℕ) : Type 0 where
     pub front : List ℕ
     pub rest : List ℕ

@@ -65,7 +65,7 @@ module _ {V I S : Type 0} (F : Format V I S) where
   SomeReading = (limit : ℕ) (bytes : List ℕ)
       → ((r : Result V Fault) → ReadsAs F limit bytes r → ⊥) → ⊥
 
-  -- What holds of a format with a grammar.
+  -- The laws of a format with a grammar.
   pub record Laws : Type 0 where
     pub one_value : OneValue
     pub texts_are_ended_lines : TextsAreEndedLines

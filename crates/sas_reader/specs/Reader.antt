@@ -39,8 +39,8 @@ module _ {M : Type 0} (led_by : List (List ℕ) → M → Type 0) (ended : M →
     pub kind : f.kind ≡ kinds.End
     pub rest : IsFoundOf (unfinished bytes) found
 
-  -- a line is expected within the piece: after some front of it, but not after all of it, the
-  -- machine has not ended, and the limit isn't reached
+  -- a line is expected within the piece: after some proper prefix of it, the machine has not ended,
+  -- and the limit isn't reached
   pub record LineIsDue (limit : ℕ) (bytes piece : List ℕ) : Type 0 where
     pub machine : M
     pub at : ℕ

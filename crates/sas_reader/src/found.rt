@@ -44,7 +44,7 @@ impl Found {
         &self.bytes[..self.count.min(FOUND)]
     }
 
-    /// Returns whether the text has more bytes than those.
+    /// Returns whether the text has more bytes than are kept.
     pub fn has_more(&self) -> bool
         ensures { result ≡ self.now.more }
     {

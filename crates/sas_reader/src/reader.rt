@@ -151,7 +151,8 @@ impl<M: Machine> Reader<M> {
         }
     }
 
-    /// Appends the bytes to the pending line, up to and including the first LF. Returns how many bytes it took.
+    /// Appends the bytes to the pending line, up to and including the first LF, and judges the line if it is complete. Returns how many
+    /// bytes it took.
     fn go_on(&mut self, piece: &[u8]) -> Result<usize, Kind>
         requires some { 0 < length piece.now }
         requires room { self.old.taken + length piece.now ≤ self.old.limit }

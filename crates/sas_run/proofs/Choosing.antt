@@ -104,6 +104,6 @@ first_missed_is_one value facts a b x y = elim (cases_lt a b) [
   ]
 ]
 
--- if all hold, none doesn't
+-- if all facts hold, there is no first that doesn't
 pub none_missed : (value : ℕ → ℕ) (facts : List Fact) (index : ℕ) → AllHold value facts → IsFirstMissed value facts index → ⊥
 none_missed value facts index hold missed = missed.missed no_fact (hold index no_fact missed.exists)

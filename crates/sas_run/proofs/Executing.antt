@@ -42,7 +42,7 @@ module _ (run : Run) (e : Executed) (executes : Executes run e) where
   pub executed_fits : IsState e.task.variables e.state
   executed_fits = subst (IsState e.task.variables) (sym executes.state) (state_fits e.task run executes.of_plan.through e.made (omega (arith, executes.within, as_many)))
 
-  -- where no step is known its state is the initial one
+  -- if no step is known to succeed, the state is the initial one
   module _ (none : e.operators ≡ []) where
     pub none_made : e.made ≡ 0
     none_made = omega (arith, executes.within, ap length none)
@@ -62,7 +62,7 @@ module _ (run : Run) (e : Executed) (executes : Executes run e) where
     name_is = ap (λ names. get_or names e.made []) executes.of_plan.front ∙ get_or-take (length run.steps) e.plan.steps e.made [] within
 
     module _ (layered : IsLayered e.task) where
-      -- the next step goes on, by its operator, to the next state of the run
+      -- the next step leads, by its operator, to the next state of the run
       pub next_goes : GoesOn e.task e.state (next_name e) (next_operator e) (state_at run (e.made + 1))
       next_goes =
           let next = state_at run (e.made + 1) in
@@ -109,7 +109,7 @@ module _ (run : Run) (e : Executed) (executes : Executes run e) where
             subst (λ name. IsNextNamed e.task name (other + 1) (get_or nexts other None)) (sym same)
             (chains e.made found_next other (subst (λ name. IsNamed e.task name other) same named))
 
--- ---- where the plan ends
+-- ---- the end of the plan
 
 -- after making its steps up to the fault, the execution is back at its start
 pub back : (e new : Executed) (fault : Option PlanFault) → IsLayered e.task → new.task ≡ e.task → new.plan ≡ e.plan → e.made ≡ 0 → new.made ≡ e.made

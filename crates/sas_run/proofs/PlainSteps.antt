@@ -145,7 +145,7 @@ module _ (p : Parts) (s s' : List ℕ) (changes : List Change) (n : ℕ) (delete
 -- ---- making the changes is applying the effects
 
 module _ (o : Operator) (changes : List Change) (effects : o.effects ≡ plain_effects changes) where
-  -- what holds of each change as an effect holds of each effect
+  -- a property of each change as an effect is a property of each effect
   pub of_effects : (P : Effect → Type 0) → All (λ c. P (plain_effect c)) changes → All P o.effects
   of_effects P each = subst (All P) (sym effects) (All-map P plain_effect changes each)
 
@@ -216,7 +216,7 @@ all_behind : {X : Type 0} (P : X → Type 0) (xs ys : List X) → All P (xs ++ y
 all_behind P [] ys h = h
 all_behind P (x ∷ xs) ys h = all_behind P xs ys (All-tail P x (xs ++ ys) h)
 
--- the old values hold exactly where they do as facts
+-- the old values hold exactly if they hold as facts
 pub olds_hold : (s : List ℕ) (changes : List Change) → All (OldHolds s) changes → AllHold (λ v. get_or s v 0) (filter_map old_fact (plain_effects changes))
 olds_hold s [] all = All-nil (Holds (λ v. get_or s v 0))
 olds_hold s (c ∷ changes) all = one_old_holds s c.var c.old (filter_map old_fact (plain_effects changes)) (All-head (OldHolds s) c changes all)

@@ -44,7 +44,7 @@ module _ (p : Parts) (ranged : WellRanged p) (operator : ℕ) (exists : operator
   pub effect_within : (effect : ℕ) → effect < length (operator_at p operator).effects → (effect_at (operator_at p operator) effect).var < length p.variables
   effect_within effect lt = fact_within p (effect_at (operator_at p operator) effect).var (effect_at (operator_at p operator) effect).new (effect_fits effect lt).new
 
-  -- also where it is read as a change
+  -- the same for the effect as a change
   pub change_within : (effect : ℕ) → effect < length (operator_at p operator).effects → (change : Change) → change ≡ effect_change (effect_at (operator_at p operator) effect)
       → change.var < length p.variables
   change_within effect lt change is = subst (λ (change : Change). change.var < length p.variables) (sym is) (effect_within effect lt)

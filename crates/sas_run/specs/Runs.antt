@@ -44,8 +44,7 @@ steps_before plan (GoalMissed index) = plan.steps
 steps_before plan (CostDiffers sum) = plan.steps
 steps_before plan Memory = plan.steps
 
--- the plan has this fault after exactly the steps of the run; or it is valid, and the run has all
--- its steps
+-- the plan has this fault after the steps of the run; or it is valid, and these are all its steps
 abbrev pub EndsBy : Parts → PlanParts → Run → Option PlanFault → Type 0
 EndsBy p plan run (Some fault) = IsFaultOf p plan fault × (run.steps ≡ steps_before plan fault)
 EndsBy p plan run None = IsValid p plan run.operators × (run.steps ≡ plan.steps)

@@ -147,7 +147,7 @@ slot_of_due due.Nothing = name_slot
 abbrev pub OneDue : Type 0
 OneDue = (begun : List (List ℕ)) (m n : Mark) → IsDue begun m → IsDue begun n → m ≡ n
 
--- where a task has a line of a slot, something is expected, which belongs to this slot
+-- if a task has a line of a slot there, something is expected, which belongs to this slot
 abbrev pub SomeDue : Type 0
 SomeDue = (begun : List (List ℕ)) (s : TaskSlot) → Next task_format begun s
     → (m : Mark) × IsDue begun m × (slot_of_due m.due ≡ s)

@@ -1,5 +1,4 @@
--- Why a line of a task file is refused: its location, what is expected there, and which word of it
--- is wrong.
+-- Why a line of a task file is refused: its location, what is expected, and which word is wrong.
 use Rattle.std.specs.Prelude.{◌≡◌, ◌≢◌, ℕ, List, Option, None, IfSome, IsSome}
 use Rattle.sas_reader.specs.declared.fault.Fault.{Fault}
 use Rattle.sas_reader.specs.declared.fault.Kind.{Kind}
