@@ -19,10 +19,10 @@ const LOAD: usize = 9;
 /// How many digests fit into a group of the map.
 const ROOM: u8 = 12;
 
-/// A table from names to values. It stores no names in its map: a value identifies its name, which is stored elsewhere. The map finds a
-/// name by its digest. An ordered map contains every other name of the same digest, and every name for which the map would have to search
-/// more than one group. So a look-up takes at most logarithmic time, whatever the names are. In ordinary tasks few names are in the ordered
-/// map.
+/// A table from names to values. A value identifies its name, which is stored elsewhere, so a hash map can find the name by its digest
+/// without storing it. An ordered map, which stores names, contains every other name of the same digest, and every name for which the hash
+/// map would have to search more than one group. So a look-up takes at most logarithmic time, whatever the names are. In ordinary tasks few
+/// names are in the ordered map.
 pub struct NameTable<V: Copy> {
     /// For each digest the value of one name with this digest.
     first: IndexMap<u64, V>,

@@ -174,7 +174,7 @@ abbrev pub OneOutput : Type 0
 OneOutput = (request : Request) (b c : List ℕ) (o p : Option Output) → Out request b c o
     → Out request b c p → o ≡ p
 
--- a request has some output (double negation)
+-- a request has some output (stated with a double negation)
 abbrev pub SomeOutput : Type 0
 SomeOutput = (request : Request) (b c : List ℕ) → ((o : Option Output) → Out request b c o → ⊥) → ⊥
 

@@ -17,14 +17,14 @@ pub struct PlanReader {
 impl PlanReader {
     ghost use Rattle.sas_plan_file.specs.PlanReader.{plan_view};
 
-    /// Returns a reader that has read nothing yet and reads at most 4 GiB. It takes no memory.
+    /// Returns a reader that has read nothing yet and refuses more than 4 GiB. It takes no memory.
     pub fn new(alloc: Global) -> Self
         ensures { Starts plan_view most_bytes result }
     {
         PlanReader::within(alloc, LIMIT)
     }
 
-    /// Returns a reader that reads at most `limit` bytes.
+    /// Returns a reader that has read nothing yet and refuses more than `limit` bytes.
     pub(crate) fn within(alloc: Global, limit: u64) -> Self
         requires { limit ≤ most_bytes }
         ensures { Starts plan_view limit result }

@@ -14,7 +14,7 @@ pub record Format (V I S : Type 0) : Type 1 where
   pub Good : V → Type 0
   -- the bytes of a line, without its line end
   pub spelled : I → List ℕ
-  -- where such a line belongs
+  -- the slot to which such a line belongs
   pub slot_of : I → S
   -- the kind of fault of a line that may not stand at a slot
   pub KindOf : S → List ℕ → Kind → Type 0

@@ -37,7 +37,7 @@ module _ {V I S : Type 0} (F : Format V I S) where
   FaultIsDead = (limit : ℕ) (bytes : List ℕ) (f : Fault) → FaultOf F limit bytes f
       → Live F limit bytes → ⊥
 
-  -- bytes without a fault are live (double negation)
+  -- bytes without a fault are live (stated with a double negation)
   abbrev pub FaultlessIsLive : Type 0
   FaultlessIsLive = (limit : ℕ) (bytes : List ℕ) → ((f : Fault) → FaultOf F limit bytes f → ⊥)
       → (Live F limit bytes → ⊥) → ⊥

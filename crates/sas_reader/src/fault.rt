@@ -6,7 +6,7 @@ use std::alloc::AllocError;
 /// The kinds of fault of an input.
 #[derive(Clone, Copy, Debug, PartialEq, Eq)]
 pub enum Kind {
-    /// A fixed word was expected, but the line is another one. In a plan: the line begins like neither a step nor the cost.
+    /// A fixed word was expected, but the line differs from it. In a plan: the line begins like neither a step nor the cost.
     Keyword,
     /// A name was expected, but the line isn't one. In a plan: the line begins with `(` but isn't a step line.
     Name,

@@ -59,7 +59,7 @@ pub trait Machine: Drop {
         ensures kind { IfErr result IsOfBytes };
 
     /// Accepts one or more of the first lines of the bytes if it can do so quickly. Returns how many lines and bytes it accepted. Otherwise
-    /// accepts nothing and returns an empty front; then `accept` has to judge the next line.
+    /// accepts nothing and returns `Front::EMPTY`; then `accept` has to judge the next line.
     fn accept_ahead(&mut self, bytes: &[u8]) -> Result<Front, Kind>
         requires { ended self.old → ⊥ }
         ensures { AcceptsAhead led_by self.old bytes.now self.new result }
@@ -105,7 +105,7 @@ impl<M: Drop> Refused<M> {
     }
 }
 
-/// Reads a text in pieces. It has the machine, the line that has begun, and the first fault.
+/// A reader of a text in pieces: the machine, the line that has begun, and the first fault.
 #[derive(Drop)]
 pub struct Reader<M> {
     pub alloc: Global,
@@ -130,7 +130,7 @@ impl<M: Machine> Reader<M> {
     ghost use Rattle.sas_reader.specs.Found.{IsFoundOf};
     ghost use Rattle.sas_reader.specs.Reader.{Stands, Advances, TakesPiece, ReachesEnd};
 
-    /// Returns a reader that has read nothing yet and reads at most `limit` bytes.
+    /// Returns a reader that has read nothing yet and refuses more than `limit` bytes.
     pub fn new(alloc: Global, machine: M, limit: u64) -> Self
         requires small { limit ≤ most_bytes }
         requires start { M.led_by [] machine }

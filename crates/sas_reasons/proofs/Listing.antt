@@ -80,7 +80,8 @@ asks_or_not p c = elim (cases_Bool (is_some (layer_of p.variables c.var))) [
 ]
 
 module _ (p : Parts) (s : List ℕ) where
-  -- a variable in a derivation is the first one, or in that of a variable on which the first one's rule rests
+  -- a variable in a derivation is the derived one, or is in the derivation of a variable on which
+  -- its rule rests
   inverted : (var rule : ℕ) → IsGivenBy p s var rule → (u : ℕ) → InDerivation p s var u
       → (u ≡ var) ⊎ ((w : ℕ) × RestsOn p rule w × InDerivation p s w u)
   inverted var rule given u Itself = inl refl

@@ -29,7 +29,7 @@ is_derived p var = is_some (layer_of p.variables var)
 abbrev pub actual_fact : List ℕ → ℕ → Fact
 actual_fact s var = record { var = var; value = slice_index s var }
 
--- the step since which the variable has its value; 0 is the initial state
+-- the line with the step since which the variable has its value; 0 is the initial state
 abbrev pub since_line : ℕ → Line
 since_line zero = line.SinceInitialState
 since_line (suc before) = line.SinceStep (suc before)

@@ -42,7 +42,7 @@ abbrev pub SameSince : Type 0
 SameSince = (run : Run) (var since : ℕ) → IsSince run var since → (later : ℕ) → since ≤ later
     → later < length run.states → value_at run later var ≡ value_at run since var
 
--- ---- names that are nearly the same
+-- ---- similar names
 
 -- folding ignores a space at the end of a name, and folding a folded name changes nothing
 abbrev pub SpaceFolds : Type 0
@@ -154,7 +154,7 @@ OwnRuleIsLast = (p : Parts) (s : List ℕ) (var rule : ℕ) (rules : List ℕ) �
 
 -- ---- causes
 
--- if a rule can give a derived variable a value that it doesn't have, it has its default
+-- if a rule can give a derived variable a value that it doesn't have, the variable has its default
 abbrev pub DefaultIfNotGiven : Type 0
 DefaultIfNotGiven = (p : Parts) (s : List ℕ) (fact : Fact) → IsLayered p → IsSettled p s
     → IsDerived p.variables fact.var → IsTrue (can_be_given p fact) → IsTrue (fails s fact)

@@ -14,7 +14,7 @@ use Rattle.sas_flat.specs.declared.outline.Outline.{Outline}
 abbrev pub number_line : List ℕ → ℕ → List ℕ
 number_line word n = line 0 (word ∷ decimal n ∷ [])
 
--- `metric M`, where M is 1 if operators have costs, else 0
+-- `metric M`, where M is 1 if the operators' cost lines are used, else 0
 abbrev pub metric_line : Bool → List ℕ
 metric_line metric = number_line (codes "metric") (if metric then 1 else 0)
 

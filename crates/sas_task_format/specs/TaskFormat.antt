@@ -123,7 +123,7 @@ counted lines items = line number (length items) ++ flat_map lines items
 abbrev pub version_lines : List TaskLine
 version_lines = between (codes "begin_version") (line number 3) (codes "end_version")
 
--- the metric is 1 if operators have costs, else 0
+-- the metric is 1 if the operators' cost lines are used, else 0
 abbrev pub metric_lines : Bool → List TaskLine
 metric_lines metric = between (codes "begin_metric") (line number (if metric then 1 else 0))
     (codes "end_metric")

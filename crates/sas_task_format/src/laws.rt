@@ -24,7 +24,7 @@ pub fn task_laws()
 {}
 
 /// Ensures the laws about what is expected in task files, and about why a file is refused.
-/// - After the same first lines, there is one location and one expectation. There is an expectation wherever a task has a line.
+/// - After the same first lines, one thing is expected, at one location. Something is expected wherever a task has a line.
 /// - A line has at most one first wrong word. It has one if a fact, a head or an effect is expected, the line has this shape, and no task
 ///   may have the line there.
 /// - A fault is about at most one text and one list of accepted lines. It is about at least one text, unless a read failed, the bytes are

@@ -133,7 +133,7 @@ pub record KnownTo (s : SoFar) (j : TaskJudge) : Type 0 where
   pub range : j.place ≡ at.VariableValues → j.range ≡ length s.values + j.more
 
 -- A part is expected that yields an A, the value of a line. After the line, the judge is `next a`
--- and the content is `adds a s`. The tracker follows.
+-- and the content is `adds a s`. The tracker moves accordingly.
 abbrev pub Due : {A : Type 0} → TaskJudge → (List Variable → TaskPart A) → (A → TaskLine)
     → (A → TaskJudge) → (A → SoFar → SoFar)
     → Type 0
@@ -141,7 +141,8 @@ Due {A} j part says next adds = (s : SoFar) → KnownTo s j
     → (state_of j s ≡ part s.parts.variables (λ a. state_of (next a) (adds a s)))
     × ((a : A) → step (tracker_of j) (says a) ≡ tracker_of (next a))
 
--- the line leads from the judge j after the content s to the judge k after t; the tracker follows
+-- the line leads from the judge j with content s to the judge k with t; the tracker moves
+-- accordingly
 pub record LeadsOn (j : TaskJudge) (s : SoFar) (line : List ℕ) (k : TaskJudge)
     (t : SoFar) : Type 0 where
   pub item : TaskLine

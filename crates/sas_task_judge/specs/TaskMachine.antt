@@ -25,7 +25,7 @@ module _ {K : Type 0} (keeps : List (List ℕ) → SoFar → K → Type 0) where
     pub tracked : track tracker_start leads.items ≡ tracker_of m.judge
     pub kept : keeps lines so_far m.kept
 
-  -- the keeper is right when nothing was read yet
+  -- the keeper before any line was read
   abbrev pub IsFresh : K → Type 0
   IsFresh kept = (alloc : Global) × keeps [] (nothing_yet alloc) kept
 

@@ -29,7 +29,7 @@ pub trait Keeper: Drop {
         ensures err { IfErr result (λ k. k ≡ Kind.Memory) };
 
     /// Stores a whole variable at the beginning of the bytes. Returns the extent of its lines and the number of its values. It may also
-    /// store nothing and return an empty front; then the variable is read line by line. This is what the default does.
+    /// store nothing and return `Front::EMPTY`, as the default does; then the variable is read line by line.
     fn keep_variable(&mut self, bytes: &[u8]) -> Result<VariableKept, Kind>
         ensures { KeepsVariable keeps bytes.now self.old self.new result }
     {
@@ -40,7 +40,7 @@ pub trait Keeper: Drop {
     }
 
     /// Stores a whole mutex group at the beginning of the bytes. Its facts must exist for variables with these ranges. Returns the extent
-    /// of its lines, or an empty front if it stored nothing.
+    /// of its lines, or `Front::EMPTY` if it stored nothing.
     fn keep_group(&mut self, ranges: &Items<u32>, bytes: &[u8]) -> Result<Front, Kind>
         ensures { KeepsGroup keeps ranges.now bytes.now self.old self.new result }
     {
@@ -48,7 +48,7 @@ pub trait Keeper: Drop {
     }
 
     /// Stores a whole operator at the beginning of the bytes. Its facts must exist for variables with these ranges. Returns the extent of
-    /// its lines, or an empty front if it stored nothing.
+    /// its lines, or `Front::EMPTY` if it stored nothing.
     fn keep_operator(&mut self, ranges: &Items<u32>, bytes: &[u8]) -> Result<Front, Kind>
         ensures { KeepsOperator keeps ranges.now bytes.now self.old self.new result }
     {
@@ -56,7 +56,7 @@ pub trait Keeper: Drop {
     }
 
     /// Stores a whole rule at the beginning of the bytes. Its facts must exist for variables with these ranges. Returns the extent of its
-    /// lines, or an empty front if it stored nothing.
+    /// lines, or `Front::EMPTY` if it stored nothing.
     fn keep_rule(&mut self, ranges: &Items<u32>, bytes: &[u8]) -> Result<Front, Kind>
         ensures { KeepsRule keeps ranges.now bytes.now self.old self.new result }
     {

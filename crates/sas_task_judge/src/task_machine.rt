@@ -119,7 +119,7 @@ impl<K: Keeper> TaskMachine<K> {
         Ok(front)
     }
 
-    /// If a whole section starts here and the keeper stores it at once, moves past it. Otherwise returns an empty front.
+    /// If a whole section starts here and the keeper stores it at once, moves past it. Otherwise returns `Front::EMPTY`.
     fn section_ahead(&mut self, bytes: &[u8]) -> Result<Front, Kind>
         ensures { AcceptsAhead (LedBy K.keeps) self.old bytes.now self.new result }
     {
@@ -132,7 +132,7 @@ impl<K: Keeper> TaskMachine<K> {
         }
     }
 
-    /// Accepts the first line of the bytes if the judge accepts it ahead. Otherwise returns an empty front.
+    /// Accepts the first line of the bytes if the judge accepts it ahead. Otherwise returns `Front::EMPTY`.
     fn line_ahead(&mut self, bytes: &[u8]) -> Result<Front, Kind>
         requires { HasEnded self.old.judge → ⊥ }
         ensures { AcceptsAhead (LedBy K.keeps) self.old bytes.now self.new result }

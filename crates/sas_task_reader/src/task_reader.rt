@@ -23,14 +23,14 @@ pub struct TaskReader {
 impl TaskReader {
     ghost use Rattle.sas_task_reader.specs.TaskReader.{task_view};
 
-    /// Returns a reader that has read nothing yet and reads at most 4 GiB. It takes no memory.
+    /// Returns a reader that has read nothing yet and refuses more than 4 GiB. It takes no memory.
     pub fn new(alloc: Global) -> Self
         ensures { Starts task_view most_bytes result }
     {
         TaskReader::within(alloc, LIMIT)
     }
 
-    /// Returns a reader that reads at most `limit` bytes.
+    /// Returns a reader that has read nothing yet and refuses more than `limit` bytes.
     pub(crate) fn within(alloc: Global, limit: u64) -> Self
         requires { limit ≤ most_bytes }
         ensures { Starts task_view limit result }
