@@ -35,7 +35,7 @@ module _ (o : Output) (Sent : List ℕ → Type 0) where
   pub ends_well : (P : Status → Type 0) (r : Result Status ToolFault) → Ends (λ output. output ≡ Some o) Sent r → ((status : Status) → status ≡ o.status → Sent o.text → P status) → IfOk r P
   ends_well P r ends = ends_counting_well P r (counting_ends (λ output. output ≡ Some o) Sent r ends)
 
--- if the run ends before an answer is known, nothing is written
+-- a run that ends before an answer is known claims at most that there is no output
 pub ends_err : (Out : Option Output → Type 0) (Sent : List ℕ → Type 0) (why : ToolFault) → (IsWrite why → ⊥) → (why ≡ tool_fault.TooLong → Out None) → EndsCounting Out Sent (Err why)
 ends_err Out Sent (tool_fault.Write written) other long = absurd (other tt)
 ends_err Out Sent tool_fault.TooLong other long = long refl

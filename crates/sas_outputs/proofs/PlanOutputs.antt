@@ -28,7 +28,7 @@ use Rattle.sas_answers.proofs.AnswerLaws.{OneAnswer, SomeAnswer}
 
 -- ---- lemmas for all answers about a plan
 
--- `plan` has no answer from the task alone
+-- no output is an answer about a task alone
 abbrev pub NoAnswer : Parts → Output → Type 0
 NoAnswer p output = ⊥
 

@@ -46,7 +46,7 @@ deleted_few s fact deleted deleted' (inl same) = omega (arith, ap length same.1)
 deleted_few s fact deleted deleted' (inr other) =
     omega (arith, ap length other.1, length-append deleted ((record { var = fact.var; value = get_or s fact.var 0 }) ∷ []))
 
--- of a list with one item more
+-- for a list with one more item
 pub all_before : {X : Type 0} (P : X → Type 0) (xs : List X) (x : X) → All P (xs ++ x ∷ []) → All P xs
 all_before P xs x h = λ k d lt. subst P (get_or_append_left xs (x ∷ []) d k lt) (h k d (omega (arith, length-append xs (x ∷ []))))
 

@@ -91,7 +91,7 @@ module _ (p : Parts) (layered : IsLayered p) where
   pub initial_is_one : (a b : List ℕ) → IsInitial p a → IsInitial p b → a ≡ b
   initial_is_one a b x y = settled_is_one p p.init a b layered x y
 
-  -- the same of steps from the initial state
+  -- the same for steps from the initial state
   pub leads_one_way : (steps : List (List ℕ)) (a b x y : List ℕ) → LeadsTo p steps a x → LeadsTo p steps b y → (a ≡ b) × (x ≡ y)
   leads_one_way steps a b x y g h =
       goes_one_way g.initial steps a b x y g.goes

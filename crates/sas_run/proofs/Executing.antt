@@ -85,7 +85,7 @@ module _ (run : Run) (e : Executed) (executes : Executes run e) where
       -- ---- the operators of its name
 
       module _ (found : List ℕ) (nexts : List (Option ℕ)) (firsts : AreFirsts e.task e.plan.steps found) (chains : HaveChains e.task found nexts) where
-        -- its name was found, as an operator has it
+        -- its name was found, since an operator has it
         found_next : e.made < length found
         found_next = elim (cases_lt e.made (length found)) [
           | inl lt ↦ lt
@@ -101,7 +101,7 @@ module _ (run : Run) (e : Executed) (executes : Executes run e) where
             many : length run.steps ≤ length e.plan.steps
             many = omega (arith, ap length executes.of_plan.front, length-take (length run.steps) e.plan.steps)
 
-        -- so the next operator of each that has it is known
+        -- so the next operator of the same name is known for each operator of this name
         pub chain_next : IsChain e.task (next_operator e) nexts
         chain_next other named =
             let same : (operator_at e.task (next_operator e)).name ≡ (operator_at e.task (get_or found e.made 0)).name =

@@ -21,7 +21,7 @@ same_inside a b is = cc
 not_both : (a : ℕ) (given : Option ℕ) → given ≡ None → given ≡ Some a → ⊥
 not_both a given none some = let e : None ≡ Some a = sym none ∙ some in absurd cc
 
--- no effect gives anything
+-- without effects no value is given
 pub gives_none : (p : Parts) (s : List ℕ) (o : Operator) (given : List (Option ℕ)) → IsClean p given → IsGiven p s o 0 given
 gives_none p s o given clean = record {
   one_each = clean.one_each;
@@ -30,7 +30,7 @@ gives_none p s o given clean = record {
 }
 
 module _ (p : Parts) (s : List ℕ) (o : Operator) (n : ℕ) (given : List (Option ℕ)) (is : IsGiven p s o n given) where
-  -- what the effects give is a value of its variable
+  -- each given value is in its variable's range
   pub given_on_effects : n ≤ length o.effects → ((k : ℕ) → k < length o.effects → EffectFits p.variables (effect_at o k)) → IsGivenTo p o given
   given_on_effects within fits = record {
     one_each = is.one_each;
@@ -39,7 +39,7 @@ module _ (p : Parts) (s : List ℕ) (o : Operator) (n : ℕ) (given : List (Opti
     effect = λ var value at. (let (k, lt, fires, on, new) = is.giver var value at in (k, omega arith, on));
   }
 
-  -- one more effect that doesn't fire gives nothing
+  -- one more effect that doesn't fire gives no value
   pub gives_nothing : (Fires s (effect_at o n) → ⊥) → IsGiven p s o (n + 1) given
   gives_nothing quiet = record {
     one_each = is.one_each;

@@ -44,6 +44,6 @@ pub conflict_stops : (p : Parts) (s name : List ℕ) (operator step : ℕ) (faul
     → fault ≡ Conflict step operator → (Agree s (operator_at p operator).effects → ⊥) → StopsAt p s name step fault
 conflict_stops p s name operator step fault chosen is none = subst (StopsAt p s name step) (sym is) (refl, chosen, none)
 
--- what a `?` passes on is the fault
+-- `?` passes on the fault
 pub passed_on : {A E : Type 0} (result : Result A E) (fault : E) → (f : E) × (result ≡ Err f) × (f ≡ fault) → result ≡ Err fault
 passed_on {E = E} result fault (f, is, same) = is ∙ ap (λ (x : E). Err x) same

@@ -109,7 +109,7 @@ module _ (p : Parts) (s : List ℕ) (state_s : IsState p.variables s) where
         }
       ]
 
--- what the effects of an operator of the task set are values of basic variables
+-- the effects of an operator of the task set basic variables to values in their ranges
 pub effects_fit : (p : Parts) (operator : ℕ) → WellRanged p → operator < length p.operators
     → All (λ (e : Effect). HasValue p.variables e.var e.new) (operator_at p operator).effects
 effects_fit p operator ranged lt k d within =

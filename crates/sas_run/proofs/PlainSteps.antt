@@ -93,7 +93,7 @@ module _ (p : Parts) (s s' : List ℕ) (changes : List Change) (n : ℕ) (delete
     | inr ne ↦ (let below : k < n = omega arith in get_or-set_other s' change.var (get_or changes k d).var change.new 0 (fresh k d below) ∙ made.set k d below)
   ]
 
-  -- a variable that the changes so far and this one leave alone
+  -- a variable that neither the changes so far nor this one change
   fewer : (var : ℕ) → Untouched changes (n + 1) var → Untouched changes n var
   fewer var not k d lt = not k d (omega arith)
 
@@ -207,7 +207,7 @@ one_old_held s var (Some old) facts all = (
   All-tail (Holds (λ v. get_or s v 0)) (record { var = var; value = old }) facts all,
 )
 
--- of a list in two parts
+-- for a list in two parts
 all_front : {X : Type 0} (P : X → Type 0) (xs ys : List X) → All P (xs ++ ys) → All P xs
 all_front P [] ys h = All-nil P
 all_front P (x ∷ xs) ys h = All-cons P x xs (All-head P x (xs ++ ys) h) (all_front P xs ys (All-tail P x (xs ++ ys) h))

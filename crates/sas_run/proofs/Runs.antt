@@ -20,7 +20,7 @@ use Rattle.sas_run.specs.Runs.{Run, state_at, last_state, GoesThrough, steps_bef
 use Rattle.sas_run.specs.Verdicts.{ComesTo, IsFaultOf}
 use Rattle.sas_run.specs.Laws.{SomeRun, OneRun}
 
--- the states that steps from s come to
+-- the states to which steps from s lead
 record Came (p : Parts) (s : List ℕ) (names : List (List ℕ)) (operators last : List ℕ) : Type 0 where
   states : List (List ℕ)
   one_more : length states ≡ length names + 1
@@ -168,7 +168,7 @@ module _ (p : Parts) (run : Run) (through : GoesThrough p run) (layered : IsLaye
 -- ---- up to a fault
 
 module _ (p : Parts) (plan : PlanParts) where
-  -- the run up to the step to which the plan comes
+  -- the run up to the step that is reached
   to_step : (step : ℕ) (s name : List ℕ) → ComesTo p plan.steps step s name → (run : Run) × GoesThrough p run × (run.steps ≡ take (step - 1) plan.steps)
   to_step step s name comes =
       let w = some_run p comes.before comes.operators s comes.leads in

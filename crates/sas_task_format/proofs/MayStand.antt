@@ -67,8 +67,7 @@ known_behind : (vs : List Variable) (p : TaskProcess) → Behind vs p → Known 
 known_behind vs (done v) h = tt
 known_behind vs (read s ok next) h = inl (vs, h)
 
--- ---- a property of processes that a part preserves: it holds for the part if it holds for what
--- follows
+-- ---- a property that a part preserves: it holds for the part if it holds for what follows
 
 record Keeps (P : TaskProcess → Type 0) {A : Type 0} (part : TaskPart A) : Type 0 where
   keeps : (k : A → TaskProcess) → ((a : A) → P (k a)) → P (part k)

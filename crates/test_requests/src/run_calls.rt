@@ -12,7 +12,7 @@ use test_words::{
     say_right, spend,
 };
 
-/// How many rooms `run-narrow-from` tries.
+/// `run-narrow-from` tries the rooms from a number up to this many more.
 const NEAR: usize = 20;
 
 /// Makes the call if it is defined in this file. Returns whether it is.
@@ -132,7 +132,7 @@ fn answer_over<T: Read + Drop, P: Read + Drop, W: Write>(
 }
 
 /// Answers a question over these inputs, with a writer that fails after `room` bytes. Detects a call that is always out of memory, writes
-/// before its answer is complete, or writes an empty answer.
+/// before its answer is complete, or writes although the answer is empty.
 fn run_whole<R: AllocGlobal + Print>(
     rt: &R,
     count: usize,
@@ -328,8 +328,8 @@ fn wrong_room(
     Ok(None)
 }
 
-/// Calls `wrong_room` for `NEAR` rooms from a number on: `FROM|` before the inputs. Detects a piece of a long answer that is written twice,
-/// not at all, or isn't counted.
+/// Calls `wrong_room` for the rooms from a number up to `NEAR` more: `FROM|` before the inputs. Detects a piece of a long answer that is
+/// written twice, not at all, or isn't counted.
 fn wrong_room_from(
     alloc: Global,
     question: Question,

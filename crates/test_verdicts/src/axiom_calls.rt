@@ -159,7 +159,7 @@ pub fn state_of(alloc: Global, task: &Task, words: &[u8]) -> Result<State, State
     State::of(alloc, task, values.as_slice())
 }
 
-/// Returns the settled state with these basic values.
+/// Returns the state with these values after settling it.
 pub fn settled<E: Settle<Task>>(
     alloc: Global,
     evaluator: &mut E,
